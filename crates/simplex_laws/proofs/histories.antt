@@ -1,7 +1,7 @@
-pub mod Leaving
+pub mod UnchangedHistories
 pub mod Following
 pub mod FollowingHanded
-pub mod FollowingQuiet
+pub mod FollowingUnchanged
 pub mod Scanned
 pub mod FollowingVotes
 pub mod FollowingReplays

@@ -1,5 +1,5 @@
 pub mod EntryTraces
-pub mod EntriesStand
+pub mod ShownVotesByEntries
 pub mod TracesShown
 pub mod RecoveredVotes
 pub mod RecordedVotes

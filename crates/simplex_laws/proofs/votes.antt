@@ -1,10 +1,10 @@
-pub mod Standing
-pub mod StandingRounds
+pub mod ShownVotes
+pub mod ShownVotesInRounds
 pub mod NullifyVotes
-pub mod StandingCalls
-pub mod StandingVotes
+pub mod ShownVotesByCalls
+pub mod ShownVotesByVotes
 pub mod LifeCalls
-pub mod StartStands
+pub mod ShownVotesAtStart
 pub mod UnchangedRounds
 pub mod UnchangedProposals
 pub mod Proposals
@@ -14,4 +14,4 @@ pub mod NotarizeVotesShown
 pub mod NotarizeVotesByWork
 pub mod NotarizeVotesByCalls
 pub mod NotarizeVotes
-pub mod StandingSteps
+pub mod ShownVotesBySteps

@@ -1,5 +1,5 @@
 -- A member that goes on from its journal, beside the runs of members.
-use Rattle.std.specs.Prelude.{◌≡◌, Bool, true, false, List}
+use Rattle.std.specs.Prelude.{◌≡◌, ◌↔◌, Bool, true, false, List}
 use Rattle.simplex_voter.specs.Facts.{Elect}
 use Rattle.simplex_record.specs.declared.record.error.RecoverError.{RecoverError}
 use Rattle.simplex_member.specs.declared.member.resume.ResumeError.TheVariants.{Recover}
@@ -12,26 +12,20 @@ use Rattle.simplex_member.specs.Runs.{StepFacts, Restarts, IsStep, IsRun, IsRefu
 use Rattle.simplex_record.specs.Start.{StartFacts, new_state}
 use Rattle.simplex_member.specs.Start.{started_member}
 
--- one holds just where the other does
-abbrev pub Alike : Type 0 → Type 0 → Type 0
-Alike P Q = (P → Q) × (Q → P)
-
 module _ {K L D : Type 0} (same : D → D → Bool) (elect : Elect L) where
   -- it goes on from what a journal holds of it just as it takes a restart that drops and prunes nothing for its next step
   abbrev pub ResumesByRestart : MemberFacts K L D → Type 0
   ResumesByRestart m =
       (start : StartFacts K L D) (next : MemberFacts K L D)
-      → Alike
-      (IsResumed same elect (stored_of m) m.entries start next)
-      (IsStep same elect m (Restarts (whole_restart start)) Restarted next)
+      → IsResumed same elect (stored_of m) m.entries start next
+      ↔ IsStep same elect m (Restarts (whole_restart start)) Restarted next
 
   -- it is refused just as that restart is, by the same error
   abbrev pub IsRefusedAsRestart : MemberFacts K L D → Type 0
   IsRefusedAsRestart m =
       (start : StartFacts K L D) (found : RecoverError)
-      → Alike
-      (IsNotResumed same elect (stored_of m) m.entries start (Recover found))
-      (IsRefused same elect m (Restarts (whole_restart start)) found)
+      → IsNotResumed same elect (stored_of m) m.entries start (Recover found)
+      ↔ IsRefused same elect m (Restarts (whole_restart start)) found
 
 module _ (K : Type 0) {L D : Type 0} (same : D → D → Bool) (elect : Elect L) where
   -- of each member that a run leads to, whatever the run

@@ -14,7 +14,7 @@ use Rattle.simplex_member.specs.CallSemantics.{answer, after_call, outstanding_w
 use Rattle.simplex_member.specs.OutstandingWork.{OutstandingWork}
 use Rattle.simplex_member.specs.Parts.{IsWant, IsLoss}
 use Rattle.simplex_member.specs.MethodContracts.{IsAnswered}
-use Rattle.simplex_member.proofs.GoingCalls.{goes}
+use Rattle.simplex_member.proofs.CallsKeepSettings.{goes}
 
 module _ {K L D : Type 0} (same : D → D → Bool) (elect : Elect L) (x : StateFacts K L D) where
   -- the state that is left goes on

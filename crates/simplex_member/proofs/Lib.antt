@@ -4,7 +4,7 @@ pub mod RestartExamples
 pub mod CallExamples
 pub mod Runs
 pub mod EventsMake
-pub mod GoingCalls
+pub mod CallsKeepSettings
 pub mod Answering
 pub mod MethodContracts
 pub mod Pruning

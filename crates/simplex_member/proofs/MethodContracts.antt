@@ -9,7 +9,7 @@ use Rattle.simplex_member.specs.Calls.{CallFacts, AddNotarization, AddNullificat
 use Rattle.simplex_member.specs.Lives.{MemberFacts, HasGrown, with_call, unless_refused, unless_kept, Answers, AnswersAlive, IsCall}
 use Rattle.simplex_member.specs.CallSemantics.{answer, recorded_by}
 use Rattle.simplex_member.specs.OutstandingWork.{OutstandingWork}
-use Rattle.simplex_member.specs.MethodContracts.{is_reply_to, IfAnswered, IfRefused, IsAnswered, Keeps}
+use Rattle.simplex_member.specs.MethodContracts.{is_reply_to, IfAnswered, IfRefused, IsAnswered, UnchangedButLife}
 use Rattle.simplex_member.specs.declared.member.refusal.Refusal.{Refusal}
 use Rattle.simplex_member.specs.declared.member.refusal.Refusal.TheVariants as refusal
 
@@ -21,7 +21,7 @@ module _ {K D : Type 0} where
   so_answered _ claim = claim
 
 module _ {K L D : Type 0} where
-  keeps_same : (m left : MemberFacts K L D) (refused : Refusal) → left ≡ m → Keeps m refused left
+  keeps_same : (m left : MemberFacts K L D) (refused : Refusal) → left ≡ m → UnchangedButLife m refused left
   keeps_same m left (refusal.Fault fault.OutOfMemory) same = inl same
   keeps_same m left (refusal.Fault fault.Failed) same = same
   keeps_same m left (refusal.Fault fault.ViewTooLarge) same = same
@@ -32,7 +32,7 @@ module _ {K L D : Type 0} where
   same_grown : (m left : MemberFacts K L D) → left ≡ m → HasGrown m left
   same_grown m left same = ([], ap (λ (n : MemberFacts K L D). n.entries) same ∙ sym (append-nil m.entries))
 
-  keeps_grown : (m left : MemberFacts K L D) (refused : Refusal) → Keeps m refused left → HasGrown m left
+  keeps_grown : (m left : MemberFacts K L D) (refused : Refusal) → UnchangedButLife m refused left → HasGrown m left
   keeps_grown m left (refusal.Fault fault.OutOfMemory) (inl same) = same_grown m left same
   keeps_grown m left (refusal.Fault fault.OutOfMemory) (inr fell) = ([], ap (λ (n : MemberFacts K L D). n.entries) fell ∙ sym (append-nil m.entries))
   keeps_grown m left (refusal.Fault fault.Failed) same = same_grown m left same
@@ -73,10 +73,10 @@ module _ {K L D : Type 0} (same : D → D → Bool) (elect : Elect L) where
     pub record Typed (told : Told K D) (left : MemberFacts K L D) : Type 0 where
       pub of_its_kind : is_reply_to told call ≡ true
       pub answered : IfAnswered told (IsAnswered same elect m call told left)
-      pub kept : IfRefused told (λ refused. Keeps m refused left)
+      pub kept : IfRefused told (λ refused. UnchangedButLife m refused left)
       pub grown : HasGrown m left
 
-    refused_so : (due : Fault) (left : MemberFacts K L D) → Keeps m (refusal.Fault due) left → Typed (Refused due) left
+    refused_so : (due : Fault) (left : MemberFacts K L D) → UnchangedButLife m (refusal.Fault due) left → Typed (Refused due) left
     refused_so due left keeps = record { of_its_kind = refl; answered = tt; kept = keeps; grown = keeps_grown m left (refusal.Fault due) keeps }
 
     module _ (x : StateFacts K L D) (alive : m.life ≡ Some x) where
@@ -87,7 +87,7 @@ module _ {K L D : Type 0} (same : D → D → Bool) (elect : Elect L) where
           record {
             of_its_kind = (of_kind x m.outstanding_work call).0;
             answered = so_answered told (record { state = x; alive = alive; allowed = allowed; not_due = not_due; told_so = refl; left_so = refl });
-            kept = (of_kind x m.outstanding_work call).1 (λ refused. Keeps m refused (with_call same elect x m call));
+            kept = (of_kind x m.outstanding_work call).1 (λ refused. UnchangedButLife m refused (with_call same elect x m call));
             grown = (recorded_by same elect x call, refl);
           }
       by_definition true allowed (Some due) is_due = refused_so due m (keeps_same m m (refusal.Fault due) refl)

@@ -19,8 +19,8 @@ use Rattle.simplex_member.specs.Calls.{CallFacts, Told, Refused, NotAllowed}
 use Rattle.simplex_member.specs.Lives.{MemberFacts, living, open_while, IsCall}
 use Rattle.simplex_member.specs.CallSemantics.{answer, after_call, outstanding_work_after, recorded_by}
 use Rattle.simplex_member.specs.OutstandingWork.{OutstandingWork}
-use Rattle.simplex_member.specs.Parts.{EndsCall, ended, is_lost, part_of, KeepsOpen}
-use Rattle.simplex_member.specs.MethodContracts.{told_of, IfAnswered, Keeps, IsAnswered}
+use Rattle.simplex_member.specs.Parts.{EndsCall, ended, is_lost, part_of, UnchangedUnlessLost}
+use Rattle.simplex_member.specs.MethodContracts.{told_of, IfAnswered, UnchangedButLife, IsAnswered}
 use Rattle.simplex_member.specs.declared.member.refusal.Refusal.{Refusal}
 use Rattle.simplex_member.specs.declared.member.refusal.Refusal.TheVariants as refusal
 use Rattle.simplex_member.specs.declared.member.call_error.CallError.{CallError}
@@ -58,7 +58,7 @@ same_on_err (Ok t) a = tt
 same_on_err (Err e) a = a
 
 -- what opens and closes nothing leaves it open
-pub kept_shut : {K D T : Type 0} (o : OutstandingWork K D) (r : Result T CallError) → IfErr r (KeepsOpen o o)
+pub kept_shut : {K D T : Type 0} (o : OutstandingWork K D) (r : Result T CallError) → IfErr r (UnchangedUnlessLost o o)
 kept_shut o (Ok t) = tt
 kept_shut o (Err (error.Refused due)) = refl
 kept_shut o (Err error.Lost) = tt
@@ -98,7 +98,7 @@ module _ {K L D T : Type 0} (same : D → D → Bool) (elect : Elect L) (m : Mem
       pub opened : OnOk r (o ≡ outstanding_work_after same elect x m.outstanding_work call)
       pub recorded : OnOk r (entries ≡ m.entries ++ recorded_by same elect x call)
       pub refused : IfErr r (EndsCall call x y)
-      pub kept_open : IfErr r (KeepsOpen m.outstanding_work o)
+      pub kept_open : IfErr r (UnchangedUnlessLost m.outstanding_work o)
       pub same_record : OnErr r (entries ≡ m.entries)
 
     -- so it is the call, with what is left of the member
@@ -123,7 +123,7 @@ module _ {K L D T : Type 0} (same : D → D → Bool) (elect : Elect L) (m : Mem
         rw (falls refl).0 (record { due = tt; answer = tt; after = tt; opened = tt; recorded = tt; refused = rw loses is; kept_open = tt; same_record = refl })
 
   -- what is told of a call says what its result is
-  pub told_kept : (r : Result T Refusal) (left : MemberFacts K L D) → IsCall same elect m call (told_of tell r) left → IfErr r (λ refusal. Keeps m refusal left)
+  pub told_kept : (r : Result T Refusal) (left : MemberFacts K L D) → IsCall same elect m call (told_of tell r) left → IfErr r (λ refusal. UnchangedButLife m refusal left)
   told_kept (Ok t) left made = tt
   told_kept (Err (refusal.Fault due)) left made = (typed same elect m call (Refused due) left made).kept
   told_kept (Err refusal.NotAllowed) left made = (typed same elect m call NotAllowed left made).kept

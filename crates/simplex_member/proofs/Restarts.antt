@@ -19,7 +19,7 @@ use Rattle.simplex_member.specs.OutstandingWork.{no_outstanding_work}
 use Rattle.simplex_member.specs.Lives.{MemberFacts, without_life}
 use Rattle.simplex_member.specs.Remade.{IsRefusedBy, IsRemadeBy}
 use Rattle.simplex_record.specs.Recovery.{recover_error, is_finalization, with_finalization_entry, with_floor}
-use Rattle.simplex_member.specs.Restarts.{IsByView, GoesOn}
+use Rattle.simplex_member.specs.Restarts.{IsByView, RecoversByView}
 use Rattle.simplex_record.specs.Start.{StartFacts, IsErrorDue, new_state}
 use Rattle.simplex_record.proofs.Seen.{entries_from, view_of_entry}
 
@@ -83,13 +83,13 @@ refused_by same start entries copy found by_view due = told (recover_error same 
 
 module _ {K L D : Type 0} (same : D → D → Bool) (elect : Elect L) (m : MemberFacts K L D) (start : StartFacts K L D) where
   -- a member whose new state is refused
-  pub not_gone_on : (found : RecoverError) → (found ≡ error.OutOfMemory) ⊎ IsRefusedBy same start m.entries found → GoesOn same elect m start (Err found) (without_life m)
+  pub not_gone_on : (found : RecoverError) → (found ≡ error.OutOfMemory) ⊎ IsRefusedBy same start m.entries found → RecoversByView same elect m start (Err found) (without_life m)
   not_gone_on found (inl memory) = inl (ap Err memory, refl)
   not_gone_on found (inr (copy, by_view, due)) = inr (copy, by_view, rw due (refl, refl))
 
   -- one whose new state is made
   pub gone_on : (x : StateFacts K L D) (entries : List (ArtifactFacts D)) → IsRemadeBy same elect start m.entries x → entries ≡ with_floor m.entries start.floor
-      → GoesOn same elect m start (Ok tt) (record m { life = Some x; outstanding_work = no_outstanding_work; entries = entries; retention = start.setup.settings.view_retention; least_retention = min m.least_retention start.setup.settings.view_retention })
+      → RecoversByView same elect m start (Ok tt) (record m { life = Some x; outstanding_work = no_outstanding_work; entries = entries; retention = start.setup.settings.view_retention; least_retention = min m.least_retention start.setup.settings.view_retention })
   gone_on x entries (copy, by_view, accepted, is) kept = inr (copy, by_view, rw (accepted, is, kept) (refl, refl))
 
 -- what is said of a value that is there, besides what holds where one is

@@ -66,9 +66,9 @@ module _ {K D : Type 0} where
 
 module _ {K L D : Type 0} where
   -- a refusal changes nothing; but after want of memory the member may have failed
-  abbrev pub Keeps : MemberFacts K L D → Refusal → MemberFacts K L D → Type 0
-  Keeps m (refusal.Fault fault.OutOfMemory) left = (left ≡ m) ⊎ (left ≡ without_life m)
-  Keeps m _ left = left ≡ m
+  abbrev pub UnchangedButLife : MemberFacts K L D → Refusal → MemberFacts K L D → Type 0
+  UnchangedButLife m (refusal.Fault fault.OutOfMemory) left = (left ≡ m) ⊎ (left ≡ without_life m)
+  UnchangedButLife m _ left = left ≡ m
 
 module _ {K L D : Type 0} (same : D → D → Bool) (elect : Elect L) where
   -- a call that is answered: the member lives, what the call asks is so, and no fault is due; it is told by its definition, and

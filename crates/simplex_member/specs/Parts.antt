@@ -62,6 +62,6 @@ module _ {K L D : Type 0} where
   EndsCall call x y error = Ends (needs_room x call) (may_fall x call) (fault_of x call) x y error
 
 -- what is open stays so, unless the state is lost
-abbrev pub KeepsOpen : {K D : Type 0} → OutstandingWork K D → OutstandingWork K D → CallError → Type 0
-KeepsOpen o left (Refused fault) = left ≡ o
-KeepsOpen o left Lost = Unit {0}
+abbrev pub UnchangedUnlessLost : {K D : Type 0} → OutstandingWork K D → OutstandingWork K D → CallError → Type 0
+UnchangedUnlessLost o left (Refused fault) = left ≡ o
+UnchangedUnlessLost o left Lost = Unit {0}

@@ -72,24 +72,24 @@ module _ {K L D : Type 0} (same : D → D → Bool) (elect : Elect L) where
   }
 
   -- how a member goes on from a copy of its record: refused by the error that is due, or else in a new life
-  abbrev pub GoesOnFrom : MemberFacts K L D → StartFacts K L D → List (ArtifactFacts D) → Result (Unit {0}) RecoverError → MemberFacts K L D → Type 0
-  GoesOnFrom m start copy result left =
+  abbrev pub RecoversFrom : MemberFacts K L D → StartFacts K L D → List (ArtifactFacts D) → Result (Unit {0}) RecoverError → MemberFacts K L D → Type 0
+  RecoversFrom m start copy result left =
       MatchOption
       (recover_error same (new_state start.setup) start.floor start.now copy)
       ((result ≡ Ok tt) × (left ≡ new_life m start copy))
       (λ e. (result ≡ Err e) × (left ≡ without_life m))
 
   -- how it goes on from its record by view; or a growth was refused
-  abbrev pub GoesOn : MemberFacts K L D → StartFacts K L D → Result (Unit {0}) RecoverError → MemberFacts K L D → Type 0
-  GoesOn m start result left =
+  abbrev pub RecoversByView : MemberFacts K L D → StartFacts K L D → Result (Unit {0}) RecoverError → MemberFacts K L D → Type 0
+  RecoversByView m start result left =
       ((result ≡ Err error.OutOfMemory) × (left ≡ without_life m))
-      ⊎ ((copy : List (ArtifactFacts D)) × IsByView m.entries copy × GoesOnFrom m start copy result left)
+      ⊎ ((copy : List (ArtifactFacts D)) × IsByView m.entries copy × RecoversFrom m start copy result left)
 
   -- refused at once, with nothing changed, where more views are to be kept of a pruned record; else it goes on from what
   -- is left of its record
   abbrev pub IsRestartWhere : Bool → MemberFacts K L D → RestartFacts K L D → Result (Unit {0}) RecoverError → MemberFacts K L D → Type 0
   IsRestartWhere true m r result left = (result ≡ Err error.RetentionGrown) × (left ≡ m)
-  IsRestartWhere false m r result left = GoesOn (cut_member m r.drop r.prune) r.start result left
+  IsRestartWhere false m r result left = RecoversByView (cut_member m r.drop r.prune) r.start result left
 
   -- a restart of a member, what it answers and what is left of the member
   unfoldable pub IsRestart : MemberFacts K L D → RestartFacts K L D → Result (Unit {0}) RecoverError → MemberFacts K L D → Type 0

@@ -1,13 +1,13 @@
 //! What a member records, what a restart asks of its record and leaves of it.
 
+mod broadcasts;
 mod call_error;
 mod calls;
-mod handing;
 mod journal;
 mod life;
 mod outstanding_work;
-mod parts;
 mod pruning;
+mod recorded_calls;
 mod refusal;
 mod restart;
 mod resume;

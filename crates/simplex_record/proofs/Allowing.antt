@@ -20,7 +20,7 @@ use Rattle.simplex_record.proofs.Recovery.{added_goes}
 use Rattle.simplex_record.proofs.Taking.{taken_goes}
 use Rattle.simplex_record.proofs.Seen.{view_of_entry, from_not_false, none_left}
 use Rattle.simplex_record.proofs.Growing.{round_of-same}
-use Rattle.simplex_record.proofs.Keeping.{added_kept}
+use Rattle.simplex_record.proofs.GrowingStates.{added_kept}
 use Rattle.simplex_record.proofs.EntryRules.{GoodRound, Allowed, entry_parent, allowed, round_of_entry, small_entry, none_first}
 use Rattle.simplex_record.proofs.Bearing.{Bears, BearsAll, bears_kept, bears_on, added_bears, replayed_bears, given_bears}
 

@@ -17,7 +17,7 @@ use Rattle.simplex_record.specs.Entries.{entry_view}
 use Rattle.simplex_record.specs.Check.{stands, is_notarization, is_verdict, is_nullify_vote as nullifies, is_finalize_vote as finalizes}
 use Rattle.simplex_record.specs.Recovery.{as_artifact, after_adding, after_replaying, after_verdict_of}
 use Rattle.simplex_record.proofs.Growing.{Grows, round_of-put, round_of-same, notarization_stands}
-use Rattle.simplex_record.proofs.Keeping.{Keeps, kept_along, event_kept, added_kept}
+use Rattle.simplex_record.proofs.GrowingStates.{GrowsUpTo, kept_along, event_kept, added_kept}
 use Rattle.simplex_record.specs.Events.{TryPropose, Replay}
 use Rattle.simplex_record.proofs.Steps.{Still}
 use Rattle.simplex_record.proofs.Paths.{from_notarized, from_judged}
@@ -65,7 +65,7 @@ module _ {K L D : Type 0} where
   BearsAll before x = (v : ℕ) → Bears x.me (min_active x) before v (round_of x v)
 
   -- what a state keeps bears the same entries
-  pub bears_kept : (u : ℕ) (before : List (ArtifactFacts D)) (x y : StateFacts K L D) → Keeps u x y → BearsAll before x → BearsAll before y
+  pub bears_kept : (u : ℕ) (before : List (ArtifactFacts D)) (x y : StateFacts K L D) → GrowsUpTo u x y → BearsAll before x → BearsAll before y
   bears_kept u before x y k bears v =
       let b = bears_grown x.me (min_active x) before v (round_of x v) (round_of y v) (k.rounds v) (bears v) in
       record { me = b.me ∙ sym k.me; notarized = λ low there. b.notarized (omega (arith, k.rises)) there; judged = b.judged; nullified = b.nullified; finalized = b.finalized }

@@ -5,13 +5,13 @@ pub mod Examples
 pub mod Rounds
 pub mod Steps
 pub mod Paths
-pub mod Going
+pub mod UnchangedSettings
 pub mod Start
 pub mod Recovery
 pub mod RecoveryExamples
 pub mod Taking
 pub mod Growing
-pub mod Keeping
+pub mod GrowingStates
 pub mod EntryRules
 pub mod Bearing
 pub mod Allowing

@@ -9,7 +9,7 @@ use Rattle.simplex_voter.specs.Replay.{after_replayed}
 use Rattle.simplex_record.specs.Entries.{entry_view}
 use Rattle.simplex_record.specs.Recovery.{after_adding, after_replaying, after_entry, after_kept_entry}
 use Rattle.simplex_record.specs.Events.{AddNotarization, AddNullification, AddFinalization}
-use Rattle.simplex_record.proofs.Going.{Goes, stays, event_goes}
+use Rattle.simplex_record.proofs.UnchangedSettings.{UnchangedSettings, stays, event_goes}
 
 pub replayed_entry : {S K L D G C : Type 0} (bytes_of : C → List ℕ) (same : D → D → Bool) (elect : Elect L) (x : StateFacts K L D) (a : Artifact S D K G C) → after_replayed same elect x a ≡ after_replaying same elect x (artifact_facts bytes_of a)
 replayed_entry bytes_of same elect x (artifact.Notarize _) = refl
@@ -21,7 +21,7 @@ replayed_entry bytes_of same elect x (artifact.Finalize _) = refl
 replayed_entry bytes_of same elect x (artifact.Finalization _) = refl
 
 module _ {K L D : Type 0} (same : D → D → Bool) (elect : Elect L) where
-  pub added_goes : (x : StateFacts K L D) (now : ℕ) (e : ArtifactFacts D) → Goes x (after_adding same elect x now e)
+  pub added_goes : (x : StateFacts K L D) (now : ℕ) (e : ArtifactFacts D) → UnchangedSettings x (after_adding same elect x now e)
   added_goes x now (Accepted (Notarized c)) = event_goes same elect x (AddNotarization c)
   added_goes x now (Accepted (Nullified c)) = event_goes same elect x (AddNullification c now)
   added_goes x now (Accepted (Finalized c)) = event_goes same elect x (AddFinalization c now)

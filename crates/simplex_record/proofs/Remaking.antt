@@ -13,11 +13,11 @@ use Rattle.simplex_record.specs.Entries.{entries_of}
 use Rattle.simplex_record.specs.Check.{first_error, recovery_floor_rules, first_broken_after, first_recover_error}
 use Rattle.simplex_record.specs.Recovery.{after_entries, recovered_state, recover_error, TakesEntries}
 use Rattle.simplex_record.specs.Start.{IsErrorDue}
-use Rattle.simplex_record.proofs.Going.{event_goes, floor_goes, still_in_time}
+use Rattle.simplex_record.proofs.UnchangedSettings.{event_goes, floor_goes, still_in_time}
 use Rattle.simplex_record.specs.Events.{SetFloor}
 use Rattle.simplex_record.proofs.Seen.{none_left}
 use Rattle.simplex_record.proofs.Taking.{all_taken_goes}
-use Rattle.simplex_record.proofs.Keeping.{floor_view, floor_kept}
+use Rattle.simplex_record.proofs.GrowingStates.{floor_view, floor_kept}
 use Rattle.simplex_record.proofs.EntryRules.{none_first}
 use Rattle.simplex_record.proofs.Bearing.{BearsAll, bears_kept}
 use Rattle.simplex_record.proofs.Allowing.{takes_entries}

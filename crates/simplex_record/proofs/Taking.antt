@@ -10,28 +10,28 @@ use Rattle.simplex_record.specs.Entries.{entries_of, entry_view}
 use Rattle.simplex_record.specs.Recovery.{after_adding, after_replaying, after_verdict_of, after_entry, after_kept_entry, after_entries, TakesEntries}
 use Rattle.std.proofs.lemmas.Bool.{cond_both}
 use Rattle.simplex_record.specs.Events.{Certified, Replay}
-use Rattle.simplex_record.proofs.Going.{Goes, stays, joined, event_goes, still_in_time}
+use Rattle.simplex_record.proofs.UnchangedSettings.{UnchangedSettings, stays, joined, event_goes, still_in_time}
 use Rattle.simplex_record.proofs.Recovery.{added_goes}
 
 module _ {K L D : Type 0} (same : D → D → Bool) (elect : Elect L) where
-  given_goes : (x : StateFacts K L D) (now : ℕ) (e : ArtifactFacts D) → Goes x (after_verdict_of elect x now e)
+  given_goes : (x : StateFacts K L D) (now : ℕ) (e : ArtifactFacts D) → UnchangedSettings x (after_verdict_of elect x now e)
   given_goes x now (Verdict round success) = event_goes same elect x (Certified round.view success now)
   given_goes x now (NotarizeVote _ _) = stays x
   given_goes x now (NullifyVote _ _) = stays x
   given_goes x now (FinalizeVote _ _) = stays x
   given_goes x now (Accepted _) = stays x
 
-  retaken_goes : (x : StateFacts K L D) (now : ℕ) (e : ArtifactFacts D) → Goes x (after_entry same elect x now e)
+  retaken_goes : (x : StateFacts K L D) (now : ℕ) (e : ArtifactFacts D) → UnchangedSettings x (after_entry same elect x now e)
   retaken_goes x now e =
       let y = after_adding same elect x now e in
       let z = after_replaying same elect y e in
       joined x z (after_verdict_of elect z now e) (joined x y z (added_goes same elect x now e) (event_goes same elect y (Replay e))) (given_goes z now e)
 
-  pub taken_goes : (x : StateFacts K L D) (now : ℕ) (e : ArtifactFacts D) → Goes x (after_kept_entry same elect x now e)
+  pub taken_goes : (x : StateFacts K L D) (now : ℕ) (e : ArtifactFacts D) → UnchangedSettings x (after_kept_entry same elect x now e)
   unfolding after_kept_entry
-  taken_goes x now e = cond_both (nat_lt (entry_view e) (min_active x)) x (after_entry same elect x now e) (Goes x) (λ _. stays x) (λ _. retaken_goes x now e)
+  taken_goes x now e = cond_both (nat_lt (entry_view e) (min_active x)) x (after_entry same elect x now e) (UnchangedSettings x) (λ _. stays x) (λ _. retaken_goes x now e)
 
-  pub all_taken_goes : (x : StateFacts K L D) (now : ℕ) (entries : List (ArtifactFacts D)) → Goes x (after_entries same elect x now entries)
+  pub all_taken_goes : (x : StateFacts K L D) (now : ℕ) (entries : List (ArtifactFacts D)) → UnchangedSettings x (after_entries same elect x now entries)
   all_taken_goes x now [] = stays x
   all_taken_goes x now (e ∷ rest) = let y = after_kept_entry same elect x now e in joined x y (after_entries same elect y now rest) (taken_goes x now e) (all_taken_goes y now rest)
 

@@ -64,12 +64,13 @@ is_certificate (Notarization v) = true
 is_certificate (Finalization v encoding) = true
 is_certificate call = false
 
-record Alike (c d : Call) : Type 0 where
+-- two calls hand in a certificate of the same views
+record IsSameCertificate (c d : Call) : Type 0 where
   certificate : is_certificate c ≡ true
   current : current_view c ≡ current_view d
   floor : floor_raised_to c ≡ floor_raised_to d
 
-alike : (c d : Call) → are_alike c d ≡ true → Alike c d
+alike : (c d : Call) → are_alike c d ≡ true → IsSameCertificate c d
 alike (Nullification v e) (Nullification u f) is = record { certificate = refl; current = grind (arith, nat_tests, is); floor = refl }
 alike (Nullification v e) (Notarization u) is = absurd (cc)
 alike (Nullification v e) (Finalization u f) is = absurd (cc)

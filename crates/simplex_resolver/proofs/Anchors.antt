@@ -4,7 +4,7 @@ use Rattle.std.specs.List.{range_with_len}
 use Rattle.std.proofs.lemmas.Bool.Decides.{nat_tests}
 use Rattle.std.proofs.lemmas.Bool.{cond-true, cond-false, cases_lt}
 use Rattle.simplex_types.specs.Terms.{term_start, term_end, next_term_start}
-use Rattle.simplex_sorted.specs.ByTerm.{is_covered, TermMap}
+use Rattle.simplex_sorted.specs.ByTerm.{is_covered, ByTermFacts}
 use Rattle.simplex_types.specs.declared.reasons.FetchReason.TheVariants.{MissingNullification}
 use Rattle.simplex_resolver.specs.declared.resolver.effect.Effect.{Effect}
 use Rattle.simplex_resolver.specs.declared.resolver.effect.Effect.TheVariants.{Fetch}
@@ -79,18 +79,18 @@ pub anchors-none : (t a end : ℕ) → end ≤ a → anchors t a end ≡ []
 anchors-none t a end h = ap (filter (λ v. (v == term_start t v) || v == a)) (range-none a end h)
 
 -- one turn of a scan
-pub uncovered-next : (m : TermMap (List ℕ)) (a end : ℕ) → 0 < m.term_length → 1 ≤ a → a < end
+pub uncovered-next : (m : ByTermFacts (List ℕ)) (a end : ℕ) → 0 < m.term_length → 1 ≤ a → a < end
     → uncovered_anchors m a end ≡ cond (not (is_covered m a)) (a ∷ uncovered_anchors m (next_term_start m.term_length a) end) (uncovered_anchors m (next_term_start m.term_length a) end)
 uncovered-next m a end h low more = ap (filter (λ v. not (is_covered m v))) (anchors-next m.term_length a end h low more)
 
-pub uncovered-none : (m : TermMap (List ℕ)) (a end : ℕ) → end ≤ a → uncovered_anchors m a end ≡ []
+pub uncovered-none : (m : ByTermFacts (List ℕ)) (a end : ℕ) → end ≤ a → uncovered_anchors m a end ≡ []
 uncovered-none m a end h = ap (filter (λ v. not (is_covered m v))) (anchors-none m.term_length a end h)
 
 pub end_of_scan-next : (t a end : ℕ) → 0 < t → 1 ≤ a → a < end → end_of_scan t (next_term_start t a) end ≡ end_of_scan t a end
 end_of_scan-next t a end h low more = end-next (term_start t) (term_end t) (terms t h) a end low more
 
 -- one turn of the loop of a scan: what it has and what is to come stays the same
-pub turn : (bare : Bool) (cause a next end : ℕ) (m : TermMap (List ℕ)) (items items' all : List Effect) → 0 < m.term_length → 1 ≤ a → a < end
+pub turn : (bare : Bool) (cause a next end : ℕ) (m : ByTermFacts (List ℕ)) (items items' all : List Effect) → 0 < m.term_length → 1 ≤ a → a < end
     → next ≡ next_term_start m.term_length a → not (is_covered m a) ≡ bare → items' ≡ items ++ cond bare (Fetch a cause MissingNullification ∷ []) []
     → items ++ missing_fetches cause (uncovered_anchors m a end) ≡ all
     → items' ++ missing_fetches cause (uncovered_anchors m next end) ≡ all

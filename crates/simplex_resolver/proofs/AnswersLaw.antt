@@ -7,7 +7,7 @@ use Rattle.std.specs.FinMap as finmap
 use Rattle.std.proofs.lemmas.Bool.Decides.{nat_tests}
 use Rattle.std.proofs.lemmas.Bool.{cases_eq, cases_lt, false≢true}
 use Rattle.simplex_types.specs.Terms.{term_start, term_end, covers}
-use Rattle.simplex_sorted.specs.ByTerm.{TermMap, is_covered, covering}
+use Rattle.simplex_sorted.specs.ByTerm.{ByTermFacts, is_covered, covering}
 use Rattle.simplex_types.specs.declared.reasons.Kind.{Kind}
 use Rattle.simplex_types.specs.declared.reasons.Kind.TheVariants.{Nullification as OfNullification, Notarization as OfNotarization}
 use Rattle.simplex_resolver.specs.Facts.{ResolverFacts, empty, term_length, last_finalized, covering_encoding, certified_encoding}
@@ -19,7 +19,7 @@ use Rattle.simplex_resolver.specs.Answers.{is_settled_by, is_failed_by, Source, 
 use Rattle.simplex_resolver.proofs.Terms.{covers_upto}
 use Rattle.simplex_resolver.proofs.Maps.{contains-empty, some_covering}
 use Rattle.simplex_resolver.proofs.Changes.{changed}
-use Rattle.simplex_resolver.proofs.RepairLaw.{Stands, stands, held}
+use Rattle.simplex_resolver.proofs.RepairLaw.{FollowsCalls, stands, held}
 use Rattle.simplex_resolver.proofs.Kept.{kept, is_nullification, is_certified, IsAbove}
 use Rattle.simplex_resolver.proofs.Last.{IsLastKept, last_kept}
 
@@ -47,7 +47,7 @@ still_certified : (succeeds fails before failed now was : Bool) → now ≡ (suc
     → ((succeeds || before) ≡ true → (fails || failed) ≡ false) → now ≡ (succeeds || before)
 still_certified succeeds fails before failed now was is same none = grind (arith, is, same, none)
 
-comes_next : (t : ℕ) (calls : List Call) (x : ResolverFacts) (c : Call) → 0 < t → NamesAView c → Stands t calls x → Comes t calls x → Comes t (c ∷ calls) (after x c)
+comes_next : (t : ℕ) (calls : List Call) (x : ResolverFacts) (c : Call) → 0 < t → NamesAView c → FollowsCalls t calls x → Comes t calls x → Comes t (c ∷ calls) (after x c)
 comes_next t calls x c long named st k =
     let y = before_scan x c in
     let h = changed x c (subst (λ n. 0 < n) (sym st.length) long) named st.low in
@@ -61,12 +61,12 @@ comes_next t calls x c long named st k =
         | inl old ↦ inl (k.final f e old)
         | inr new ↦ inr new
       ]);
-      nullified = λ u e at. either_made _ c calls (elim (n.nullified u e (sym (ap (λ (m : TermMap (List ℕ)). finmap.get m.by_view u) same.nullifications) ∙ at)) [
+      nullified = λ u e at. either_made _ c calls (elim (n.nullified u e (sym (ap (λ (m : ByTermFacts (List ℕ)). finmap.get m.by_view u) same.nullifications) ∙ at)) [
         | inl old ↦ inl (k.nullified u e old)
         | inr new ↦ inr new
       ]);
       held = λ u high.
-          ap (λ (m : TermMap (List ℕ)). finmap.contains_key m.by_view u) same.nullifications
+          ap (λ (m : ByTermFacts (List ℕ)). finmap.contains_key m.by_view u) same.nullifications
           ∙ n.held u (subst (λ n. last_finalized y < term_end n u) (sym st.length) (now (term_end t u) high))
           ∙ ap (λ b. is_nullification u c || b) (k.held u (was (term_end t u) (now (term_end t u) high)));
       notarized = λ v e at. either_made _ c calls (elim (n.notarized v e (sym (ap (λ m. finmap.get m v) same.notarizations) ∙ at)) [
@@ -187,7 +187,7 @@ last_resort false true t3 t4 s1 s2 s3 s4 is = search rules
 last_resort false false true t4 s1 s2 s3 s4 is = search rules
 last_resort false false false t4 s1 s2 s3 s4 is = rw is (search rules)
 
-module _ (t : ℕ) (calls : List Call) (x : ResolverFacts) (long : 0 < t) (named : AllByRecursion NamesAView calls) (st : Stands t calls x) (k : Comes t calls x) where
+module _ (t : ℕ) (calls : List Call) (x : ResolverFacts) (long : 0 < t) (named : AllByRecursion NamesAView calls) (st : FollowsCalls t calls x) (k : Comes t calls x) where
   settled_at : (v : ℕ) (kind : Kind) → is_settled x v kind ≡ is_settled_by t calls v kind
   settled_at v OfNullification = let final = st.final in let covered = st.covered v in by_cases (last_finalized x) (finalized_of calls) v (is_covered x.nullifications v) (list_any (is_covering t v) calls) final covered
     where

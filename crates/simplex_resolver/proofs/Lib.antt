@@ -15,7 +15,7 @@ pub mod Newest
 pub mod Noted
 pub mod ViewSets
 pub mod Sound
-pub mod Going
+pub mod CallLists
 pub mod Replayed
 pub mod Told
 pub mod Made

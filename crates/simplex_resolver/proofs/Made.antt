@@ -8,7 +8,7 @@ use Rattle.simplex_resolver.specs.Steps.{Call, after, effects}
 use Rattle.simplex_resolver.specs.Received.{NamesAView}
 use Rattle.simplex_resolver.specs.Repair.{IsApplied}
 use Rattle.simplex_resolver.specs.Told.{LawfulResolverFacts, IsMade, IsToldMore, IsBegun, IsLeftBy}
-use Rattle.simplex_resolver.proofs.Going.{same_terms}
+use Rattle.simplex_resolver.proofs.CallLists.{same_terms}
 use Rattle.simplex_resolver.proofs.Told.{still_told}
 
 -- the state has made the call, and its effects are applied

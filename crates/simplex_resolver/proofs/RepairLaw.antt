@@ -15,14 +15,14 @@ use Rattle.simplex_resolver.specs.Steps.{Call, Nullification, Notarization, Fina
 use Rattle.simplex_resolver.specs.Received.{finalized_view, current_view, floor_raised_to, finalized_of, current_of, floor_of, is_covering, is_false_verdict, is_notarizing, is_replayed, NamesAView}
 use Rattle.simplex_resolver.specs.Repair.{has, settles, is_outstanding, facts_of, effects_of, OutstandingIsWanted}
 use Rattle.simplex_resolver.proofs.Terms.{AreTerms, terms}
-use Rattle.simplex_resolver.proofs.Scan.{QuietAt, ReadyAt, ChangesAt, EndsAt, is_found_by, is_wanted_by, ready_after_change, failed_after_change, quiet_after_scan, quiet_after_failure}
+use Rattle.simplex_resolver.proofs.Scan.{IsBetweenCallsAt, ReadyAt, ChangesAt, EndsAt, is_found_by, is_wanted_by, ready_after_change, failed_after_change, quiet_after_scan, quiet_after_failure}
 use Rattle.simplex_resolver.proofs.Views.{has-filter, has-range, fetches-map, settles-map, is_outstanding-append}
 use Rattle.simplex_resolver.proofs.Maps.{has_keys, keys-empty, contains-empty}
 use Rattle.simplex_resolver.proofs.Changes.{Changed, changed}
 
 -- what stands between two calls
-abbrev Quiet : ResolverFacts → (ℕ → Bool) → Type 0
-Quiet x out = (v : ℕ) → QuietAt x.floor x.current x.scanned v (is_term_start (term_length x) v) (is_covered x.nullifications v) (finmap.contains_key x.uncertifiable v) (out v)
+abbrev IsBetweenCalls : ResolverFacts → (ℕ → Bool) → Type 0
+IsBetweenCalls x out = (v : ℕ) → IsBetweenCallsAt x.floor x.current x.scanned v (is_term_start (term_length x) v) (is_covered x.nullifications v) (finmap.contains_key x.uncertifiable v) (out v)
 
 -- what stands before a scan
 abbrev Ready : ResolverFacts → (ℕ → Bool) → Type 0
@@ -67,7 +67,7 @@ ends_by false first last ts start current v low is = record {
 -- a scan of y, with what it finds and the false verdicts that need it
 scanned : (y : ResolverFacts) (out out' : ℕ → Bool) → 0 < term_length y → Ready y out
     → ((v : ℕ) → out' v ≡ ((out v || found y v) || unmet y v))
-    → Quiet (record y { scanned = scan_end y }) out'
+    → IsBetweenCalls (record y { scanned = scan_end y }) out'
 scanned y out out' long ready is v =
     let t = term_length y in
     quiet_after_scan y.floor y.current y.scanned (scan_end y) v (is_term_start t v) (is_covered y.nullifications v) (finmap.contains_key y.uncertifiable v) (out v) (out' v) (ready v)
@@ -96,7 +96,7 @@ adds_failed es fs us v none =
 
 -- a call that is no false verdict, on a live resolver
 module _ (x : ResolverFacts) (c : Call) (y : ResolverFacts) (s : List Effect) (out : ℕ → Bool) (low : last_finalized y ≤ y.floor)
-    (h : Changed x c y s) (fails_none : (v : ℕ) → is_false_verdict v c ≡ false) (q : Quiet x out) where
+    (h : Changed x c y s) (fails_none : (v : ℕ) → is_false_verdict v c ≡ false) (q : IsBetweenCalls x out) where
   change_at : (v : ℕ) → ChangesAt x.floor y.floor x.current y.current x.scanned y.scanned v (is_term_start (term_length x) v)
       (is_covered x.nullifications v) (is_covered y.nullifications v) (finmap.contains_key x.uncertifiable v) (finmap.contains_key y.uncertifiable v) (out v) (list_any (settles v) s)
   change_at v = record {
@@ -136,7 +136,7 @@ module _ (x : ResolverFacts) (c : Call) (y : ResolverFacts) (s : List Effect) (o
 -- ---- one call
 
 -- what is known of the facts after the calls, the last one first
-pub record Stands (t : ℕ) (calls : List Call) (x : ResolverFacts) : Type 0 where
+pub record FollowsCalls (t : ℕ) (calls : List Call) (x : ResolverFacts) : Type 0 where
   pub length : term_length x ≡ t
   pub current : x.current ≡ current_of calls
   pub floor : x.floor ≡ floor_of calls
@@ -173,7 +173,7 @@ held x Replayed = record { current = refl; floor = refl; finalization = refl; nu
 -- how the fetches stand
 pub record Fetched (x : ResolverFacts) (es : List Effect) : Type 0 where
   pub at_rest : x.replaying ≡ true → (x.scanned ≡ 0) × ((v : ℕ) → is_outstanding es v ≡ false)
-  pub quiet : x.replaying ≡ false → Quiet x (is_outstanding es)
+  pub quiet : x.replaying ≡ false → IsBetweenCalls x (is_outstanding es)
 
 absorb : (all out found missing unmet : Bool) → all ≡ (out || missing) → missing ≡ found → (unmet ≡ true → out ≡ true) → all ≡ ((out || found) || unmet)
 absorb all out found missing unmet sums finds met = grind (arith, sums, finds, met)
@@ -239,8 +239,8 @@ pub fails : (x : ResolverFacts) (u : ℕ) (b : List ℕ) → Fails x (before_sca
 fails x u b = fails-if (nat_lt (last_finalized x) u) x _ (record { floor = refl; current = refl; scanned = refl; nullifications = refl; replaying = refl })
 
 quiet_alike : (x y : ResolverFacts) (out : ℕ → Bool) → Fails x y
-    → ((v : ℕ) → QuietAt x.floor x.current x.scanned v (is_term_start (term_length x) v) (is_covered x.nullifications v) (finmap.contains_key y.uncertifiable v) (out v))
-    → Quiet y out
+    → ((v : ℕ) → IsBetweenCallsAt x.floor x.current x.scanned v (is_term_start (term_length x) v) (is_covered x.nullifications v) (finmap.contains_key y.uncertifiable v) (out v))
+    → IsBetweenCalls y out
 quiet_alike x y out f q v = rw (f.floor, f.current, f.scanned, f.nullifications) (q v)
 
 -- a false verdict
@@ -294,7 +294,7 @@ ready_at_rest x out none quiet v = record {
   only = λ left. absurd (let not_out = quiet v in cc);
 }
 
-ready_live : (x : ResolverFacts) (out : ℕ → Bool) → Quiet x out → Ready x out
+ready_live : (x : ResolverFacts) (out : ℕ → Bool) → IsBetweenCalls x out → Ready x out
 ready_live x out q v = record {
   begins = λ at behind. (q v).begins at behind;
   below = λ under above anchor. (q v).below under above anchor;
@@ -349,7 +349,7 @@ view_under Replayed = omega arith
 under_floor : (x y : ResolverFacts) (c : Call) (s : List Effect) → Changed x c y s → last_finalized x ≤ x.floor → last_finalized y ≤ y.floor
 under_floor x y c s h low = let here = view_under c in omega (arith, here, h.final, h.floor, low)
 
-next : (t : ℕ) (calls : List Call) (x : ResolverFacts) (c : Call) → 0 < t → NamesAView c → Stands t calls x → Stands t (c ∷ calls) (after x c)
+next : (t : ℕ) (calls : List Call) (x : ResolverFacts) (c : Call) → 0 < t → NamesAView c → FollowsCalls t calls x → FollowsCalls t (c ∷ calls) (after x c)
 next t calls x c long named st =
     let y = before_scan x c in
     let s = settle_effects x c in
@@ -379,7 +379,7 @@ next t calls x c long named st =
     last : Option (ℕ × List ℕ) → ℕ
     last f = last_finalized (record (empty 1) { finalization = f })
 
-pub stands : (t : ℕ) (calls : List Call) → 0 < t → AllByRecursion NamesAView calls → Stands t calls (facts_of t calls)
+pub stands : (t : ℕ) (calls : List Call) → 0 < t → AllByRecursion NamesAView calls → FollowsCalls t calls (facts_of t calls)
 stands t [] long named = record {
   length = refl;
   current = refl;

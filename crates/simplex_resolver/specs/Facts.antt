@@ -8,7 +8,7 @@ use base.Stored.{coded_unit}
 use Rattle.std.specs.FinMap as map
 use Rattle.std.specs.FinMap.{FinMap}
 use Rattle.simplex_types.specs.Terms.{term_start, next_term_start}
-use Rattle.simplex_sorted.specs.ByTerm.{TermMap, term_map_code, is_covered}
+use Rattle.simplex_sorted.specs.ByTerm.{ByTermFacts, by_term_code, is_covered}
 use Rattle.simplex_sorted.specs.ByTerm as by_term
 
 -- all that a resolver's later answers and effects depend on
@@ -17,7 +17,7 @@ pub record ResolverFacts : Type 0 where
   pub floor : ℕ  -- the highest view of a finalization or a true verdict
   pub scanned : ℕ  -- scans have passed the anchors below this view
   pub finalization : Option (ℕ × List ℕ)  -- the highest one's view and encoding
-  pub nullifications : TermMap (List ℕ)  -- their encodings, in the terms that end above the last finalized view
+  pub nullifications : ByTermFacts (List ℕ)  -- their encodings, in the terms that end above the last finalized view
   -- views above the last finalized one that are notarized or judged, each with its encoding where the last verdict was true
   pub notarizations : FinMap nat_cmp (Option (List ℕ))
   pub uncertifiable : FinMap nat_cmp (Unit {0})  -- views above the last finalized one that a verdict has failed
@@ -47,7 +47,7 @@ abbrev pub last_finalized : ResolverFacts → ℕ
 last_finalized x = option_map_or (λ f. f.0) x.finalization 0
 
 -- the encoding of the nullification of the highest view that covers v
-abbrev pub covering_encoding : TermMap (List ℕ) → ℕ → Option (List ℕ)
+abbrev pub covering_encoding : ByTermFacts (List ℕ) → ℕ → Option (List ℕ)
 covering_encoding m v = option_map (λ e. e.1) (by_term.covering m v)
 
 -- the encoding of the notarization at v, where its last verdict was true
@@ -69,7 +69,7 @@ abbrev pub anchors : ℕ → ℕ → ℕ → List ℕ
 anchors t first end = filter (λ v. is_term_start t v || v == first) (range_with_len first (end - first))
 
 -- the anchors among these that no nullification covers
-abbrev pub uncovered_anchors : TermMap (List ℕ) → ℕ → ℕ → List ℕ
+abbrev pub uncovered_anchors : ByTermFacts (List ℕ) → ℕ → ℕ → List ℕ
 uncovered_anchors m first end = filter (λ v. not (is_covered m v)) (anchors m.term_length first end)
 
 -- where a scan ends: at the first anchor that is not below end
@@ -82,9 +82,9 @@ end_of_scan t first end = if nat_lt first end then next_term_start t (end - 1) e
 abbrev pub facts_code : Coded ResolverFacts
 facts_code =
     code_by
-    (((ℕ × ℕ) × (ℕ × Option (ℕ × List ℕ))) × ((TermMap (List ℕ) × FinMap nat_cmp (Option (List ℕ))) × (FinMap nat_cmp (Unit {0}) × (Bool × Bool))))
+    (((ℕ × ℕ) × (ℕ × Option (ℕ × List ℕ))) × ((ByTermFacts (List ℕ) × FinMap nat_cmp (Option (List ℕ))) × (FinMap nat_cmp (Unit {0}) × (Bool × Bool))))
     (coded× (coded× (coded× coded_ℕ coded_ℕ) (coded× coded_ℕ (coded_option (coded× coded_ℕ (coded_list coded_ℕ)))))
-    (coded× (coded× (term_map_code (coded_list coded_ℕ)) (map.code coded_ℕ (coded_option (coded_list coded_ℕ))))
+    (coded× (coded× (by_term_code (coded_list coded_ℕ)) (map.code coded_ℕ (coded_option (coded_list coded_ℕ))))
     (coded× (map.code coded_ℕ coded_unit) (coded× coded_bool coded_bool))))
     (λ x. (((x.current, x.floor), (x.scanned, x.finalization)), ((x.nullifications, x.notarizations), (x.uncertifiable, (x.replaying, x.is_failed)))))
     (λ p. record {

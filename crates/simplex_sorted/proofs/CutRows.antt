@@ -6,7 +6,7 @@ use Rattle.std.specs.List.{insert, remove}
 use Rattle.std.proofs.lemmas.List.{append_assoc, set-get_or, get_or_append_left, get_or-append_right, get_or-set_other, set-append_left, set-append_right}
 use Rattle.std.proofs.lemmas.List.Edits.{insert-append_left, insert-append_right, remove-append_left, remove-append_right}
 use Rattle.std.proofs.lemmas.Bool.{false≢true}
-use Rattle.simplex_sorted.specs.Rows.{row_size, row_entries, StandsBefore, IsCut, HasRoomAt, IsFull, EndsShort, IsInRows}
+use Rattle.simplex_sorted.specs.Rows.{row_size, row_entries, MayPrecede, IsCut, HasRoomAt, IsFull, EndsShort, IsInRows}
 
 pub on_err : {T E P : Type 0} (r : Result T E) → P → OnErr r P
 on_err (Ok x) p = tt
@@ -133,7 +133,7 @@ module _ {X A : Type 0} where
       new_spot_within (next ∷ rows) k o row room.1 small (omega (arith, within, room.0, first.ok.0, length-append first.items (row_entries (next ∷ rows)))) read
 
   -- the shape of the rows, where a row takes the place of another
-  stands-set : (rows : List (VecDeque X A)) (k : ℕ) (row : VecDeque X A) (count : ℕ) → StandsBefore rows count → StandsBefore (set rows k row) count
+  stands-set : (rows : List (VecDeque X A)) (k : ℕ) (row : VecDeque X A) (count : ℕ) → MayPrecede rows count → MayPrecede (set rows k row) count
   stands-set [] k row count stands = stands
   stands-set (next ∷ rows) zero row count stands = stands
   stands-set (next ∷ rows) (suc k) row count stands = stands
@@ -145,17 +145,17 @@ module _ {X A : Type 0} where
 
   pub cut-set : (rows : List (VecDeque X A)) (k : ℕ) (old new : VecDeque X A) → IsCut rows → old ≡ get_or rows k old → deque_len new ≡ deque_len old → IsCut (set rows k new)
   cut-set [] k old new cut read same = tt
-  cut-set (first ∷ rows) zero old new cut read same = (subst (StandsBefore rows) (sym (same ∙ ap deque_len read)) cut.0, cut.1)
+  cut-set (first ∷ rows) zero old new cut read same = (subst (MayPrecede rows) (sym (same ∙ ap deque_len read)) cut.0, cut.1)
   cut-set (first ∷ rows) (suc k) old new cut read same = (stands-set rows k new _ cut.0, cut-set rows k old new cut.1 read same)
 
   pub cut_filled : (rows : List (VecDeque X A)) (k : ℕ) (old new : VecDeque X A) → HasRoomAt k rows → old ≡ get_or rows k old → deque_len new ≡ suc (deque_len old) → IsCut (set rows k new)
   cut_filled [] k old new room read more = absurd room
-  cut_filled (first ∷ rows) zero old new room read more = (subst (StandsBefore rows) (sym (more ∙ ap (λ r. suc (deque_len r)) read)) room.0, room.1.1)
+  cut_filled (first ∷ rows) zero old new room read more = (subst (MayPrecede rows) (sym (more ∙ ap (λ r. suc (deque_len r)) read)) room.0, room.1.1)
   cut_filled (first ∷ rows) (suc k) old new room read more = (stands-set rows k new _ room.0, cut_filled rows k old new room.1 read more)
 
   pub room_made : (rows : List (VecDeque X A)) (k : ℕ) (old new : VecDeque X A) → IsCut rows → k < length rows → old ≡ get_or rows k old → suc (deque_len new) ≡ deque_len old → deque_len new < deque_capacity new → HasRoomAt k (set rows k new)
   room_made [] k old new cut within read less fits = absurd (omega arith)
-  room_made (first ∷ rows) zero old new cut within read less fits = (subst (StandsBefore rows) (sym (less ∙ ap deque_len read)) cut.0, (fits, cut.1))
+  room_made (first ∷ rows) zero old new cut within read less fits = (subst (MayPrecede rows) (sym (less ∙ ap deque_len read)) cut.0, (fits, cut.1))
   room_made (first ∷ rows) (suc k) old new cut within read less fits = (stands-set rows k new _ cut.0, room_made rows k old new cut.1 (omega arith) read less fits)
 
   -- the row before the one with room is full
@@ -187,7 +187,7 @@ module _ {X A : Type 0} where
     handed_room [] k room at next = absurd room
     handed_room (first ∷ []) k room at next = absurd room.1
     handed_room (first ∷ second ∷ rows) zero room at next =
-        (shorter ∙ ap deque_len at ∙ room.0, (fits, (subst (StandsBefore rows) (sym (longer ∙ ap (λ r. suc (deque_len r)) next)) room.1.0, room.1.1.1)))
+        (shorter ∙ ap deque_len at ∙ room.0, (fits, (subst (MayPrecede rows) (sym (longer ∙ ap (λ r. suc (deque_len r)) next)) room.1.0, room.1.1.1)))
     handed_room (first ∷ second ∷ rows) (suc k) room at next =
         (stands-set (set (second ∷ rows) k less) (suc k) more _ (stands-set (second ∷ rows) k less _ room.0), handed_room (second ∷ rows) k room.1 at next)
 

@@ -12,7 +12,7 @@ use Rattle.std.proofs.Math.Nat.{lt-div-mul-add}
 use Rattle.std.proofs.lemmas.Nat.{div-mul-add}
 use Rattle.simplex_sorted.specs.Tracked.{below, last_entry}
 use Rattle.simplex_types.specs.Terms.{term_start, next_term_start, covers}
-use Rattle.simplex_sorted.specs.ByTerm.{TermMap, is_covered, Gapless}
+use Rattle.simplex_sorted.specs.ByTerm.{ByTermFacts, is_covered, Gapless}
 use Rattle.simplex_types.proofs.Covers.{same_start}
 use Rattle.simplex_sorted.proofs.Maps.{entries-retain_keys}
 
@@ -66,7 +66,7 @@ next_above T c t one = let d : (c - 1) < (c - 1) / T * T + T = lt-div-mul-add t 
 raised : (u c w : ℕ) (b : Bool) → c ≤ w → (leb u c && b) ≡ true → (leb u w && b) ≡ true
 raised u c w b up h = grind (arith, nat_tests)
 
-module _ {V : Type 0} (m : TermMap V) where
+module _ {V : Type 0} (m : ByTermFacts V) where
   -- a view that covers one covers the rest of its term
   pub covered_on : (c w : ℕ) → 1 ≤ c → c ≤ w → w < next_term_start m.term_length c → is_covered m c ≡ true → is_covered m w ≡ true
   covered_on c w one up below h = any_on (λ u. covers m.term_length u c) (λ u. covers m.term_length u w) (fin.keys m.by_view) (λ u covered. rw (same_start m.term_length c w one up below) (raised u c w _ up covered)) h

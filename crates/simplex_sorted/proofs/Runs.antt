@@ -9,7 +9,7 @@ use Rattle.std.proofs.lemmas.Bool.{cases_eq, cases_lt, le-leb, lt-ltb, eq-eqb, n
 use Rattle.simplex_sorted.specs.Tracked.{after_insert, at_or_above}
 use Rattle.simplex_types.specs.declared.types.fault.AllocFailed.{AllocFailed}
 use Rattle.simplex_types.specs.Terms.{next_term_start, term_end, covers}
-use Rattle.simplex_sorted.specs.ByTerm.{TermMap, is_covered, not_ended}
+use Rattle.simplex_sorted.specs.ByTerm.{ByTermFacts, is_covered, not_ended}
 use Rattle.simplex_sorted.specs.Runs.{AreIn}
 use Rattle.simplex_sorted.proofs.Maps.{find_at_key, find_other, stood, get-insert, get-kept}
 use Rattle.simplex_sorted.proofs.Terms.{start_monotone}
@@ -40,7 +40,7 @@ module _ {V : Type 0} (p : ℕ → Bool) where
     | inr other ↦ or_any (p e.0) _ (passed es u (sym (ap is_some (find_other u e es other)) ∙ there) passes)
   ]
 
-module _ {V : Type 0} (m : TermMap V) where
+module _ {V : Type 0} (m : ByTermFacts V) where
   -- a view stays covered where what covers it stays
   still_covered : (b : FinMap nat_cmp V) (w : ℕ) → ((u : ℕ) → covers m.term_length u w ≡ true → is_some (fin.get m.by_view u) ≡ true → is_some (fin.get b u) ≡ true) → is_covered m w ≡ true → is_covered (record m { by_view = b }) w ≡ true
   still_covered b w stays h =
@@ -67,7 +67,7 @@ module _ {V : Type 0} (m : TermMap V) where
   -- and the rest of the view's term
   pub insert_covers : (v : ℕ) (x : V) (back : Option V) → 1 ≤ v → back ≡ cond (fin.contains_key m.by_view v) (Some x) None → AreIn (is_covered (record m { by_view = after_insert m.by_view v x (Ok back) })) v (next_term_start m.term_length v)
   insert_covers v x back one is w low high =
-      let n : TermMap V = record m { by_view = after_insert m.by_view v x (Ok back) } in
+      let n : ByTermFacts V = record m { by_view = after_insert m.by_view v x (Ok back) } in
       let b = fin.entries n.by_view in
       let there = sym (ap is_some (fin.get-entries n.by_view v)) ∙ stands v x back is in
       let here : is_covered n v ≡ true = passed (λ u. covers m.term_length u v) b v there (covers_from m.term_length v v (omega arith) refl) in
@@ -85,7 +85,7 @@ covers_behind length v u w some behind h =
 kept_some : {V : Type 0} (b : Bool) (o : Option V) → b ≡ true → is_some o ≡ true → is_some (cond b o None) ≡ true
 kept_some b o keep there = rw keep there
 
-module _ {V : Type 0} (m : TermMap V) (v : ℕ) (some : 0 < m.term_length) where
+module _ {V : Type 0} (m : ByTermFacts V) (v : ℕ) (some : 0 < m.term_length) where
   -- views behind the term stay covered
   pub ended_covers : (w : ℕ) → next_term_start m.term_length v ≤ w → is_covered m w ≡ true → is_covered (record m { by_view = not_ended m v }) w ≡ true
   ended_covers w behind h = still_covered m (not_ended m v) w (λ u covered there.

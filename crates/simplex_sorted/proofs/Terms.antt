@@ -8,7 +8,7 @@ use Rattle.std.proofs.lemmas.Bool.{cases_lt, lt-ltb, le-ltb, le-leb, lt-leb, eq-
 use Rattle.simplex_types.specs.Terms.{term_start, term_end, covers}
 use Rattle.simplex_types.proofs.Covers.{same_start, same_start_back, start_below, end_above}
 use Rattle.simplex_sorted.specs.Tracked.{below, at_or_above, last_entry}
-use Rattle.simplex_sorted.specs.ByTerm.{TermMap, not_ended}
+use Rattle.simplex_sorted.specs.ByTerm.{ByTermFacts, not_ended}
 use Rattle.simplex_sorted.proofs.RisingEntries.{AllAbove, Rises}
 use Rattle.simplex_sorted.proofs.Maps.{entries-retain_keys, map_rises, same_maps, get-kept}
 
@@ -181,7 +181,7 @@ ends_above length v u some later = elim (cases_lt u (term_start length (v + 1)))
       | inr none ↦ let zero_index = div-mul-le_self (u - 1) length in omega (arith, zero_index, none, later)
     ]
 
-module _ {V : Type 0} (m : TermMap V) (v : ℕ) where
+module _ {V : Type 0} (m : ByTermFacts V) (v : ℕ) where
   pub all_open : v < m.term_length → m.by_view ≡ not_ended m v
   all_open first = same_maps _ _ (λ q. sym (get-kept m.by_view (λ u. ltb v (term_end m.term_length u)) q ∙ rw (none_ended m.term_length v q first) refl))
 
@@ -189,5 +189,5 @@ module _ {V : Type 0} (m : TermMap V) (v : ℕ) where
   dropped some later = ap (map.retain_keys m.by_view) (λ k u. sym (ends_above m.term_length v u some later) k)
 
 -- the values of two containers by terms, by the maps of their entries
-pub alike : {V : Type 0} (length : ℕ) {m n : FinMap nat_cmp V} → m ≡ n → ◌≡◌ {A = TermMap V} (record { term_length = length; by_view = m }) (record { term_length = length; by_view = n })
+pub alike : {V : Type 0} (length : ℕ) {m n : FinMap nat_cmp V} → m ≡ n → ◌≡◌ {A = ByTermFacts V} (record { term_length = length; by_view = m }) (record { term_length = length; by_view = n })
 alike length same i = record { term_length = length; by_view = same i }

@@ -14,20 +14,20 @@ module _ {X A : Type 0} where
   row_entries (row ∷ rows) = row.items ++ row_entries rows
 
   -- a row of so many entries may stand before these rows: only the last row may have fewer than a full one
-  abbrev pub StandsBefore : List (VecDeque X A) → ℕ → Type 0
-  StandsBefore [] count = count ≤ row_size
-  StandsBefore (next ∷ rows) count = count ≡ row_size
+  abbrev pub MayPrecede : List (VecDeque X A) → ℕ → Type 0
+  MayPrecede [] count = count ≤ row_size
+  MayPrecede (next ∷ rows) count = count ≡ row_size
 
   -- each row is full but the last
   abbrev pub IsCut : List (VecDeque X A) → Type 0
   IsCut [] = Unit {0}
-  IsCut (row ∷ rows) = StandsBefore rows (deque_len row) × IsCut rows
+  IsCut (row ∷ rows) = MayPrecede rows (deque_len row) × IsCut rows
 
   -- the same once the k-th row has one entry more, for which there is room in it
   abbrev pub HasRoomAt : ℕ → List (VecDeque X A) → Type 0
   HasRoomAt k [] = ⊥
-  HasRoomAt zero (row ∷ rows) = StandsBefore rows (suc (deque_len row)) × ((deque_len row < deque_capacity row) × IsCut rows)
-  HasRoomAt (suc k) (row ∷ rows) = StandsBefore rows (deque_len row) × HasRoomAt k rows
+  HasRoomAt zero (row ∷ rows) = MayPrecede rows (suc (deque_len row)) × ((deque_len row < deque_capacity row) × IsCut rows)
+  HasRoomAt (suc k) (row ∷ rows) = MayPrecede rows (deque_len row) × HasRoomAt k rows
 
   -- each row is full
   abbrev pub IsFull : List (VecDeque X A) → Type 0

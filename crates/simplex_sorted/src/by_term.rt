@@ -21,12 +21,12 @@ pub struct ByTerm<V> {
 }
 
 impl<V> Model for ByTerm<V> {
-    ghost use Rattle.simplex_sorted.specs.ByTerm.{TermMap, term_map_code, is_covered};
+    ghost use Rattle.simplex_sorted.specs.ByTerm.{ByTermFacts, by_term_code, is_covered};
     ghost use Rattle.simplex_sorted.specs.Runs.{AreIn};
 
-    ghost Value = { TermMap V };
+    ghost Value = { ByTermFacts V };
 
-    ghost coded = { term_map_code V.code };
+    ghost coded = { by_term_code V.code };
 
     ghost view = { λ t. t.table };
 

@@ -22,11 +22,11 @@ pub(super) struct TermTable<V> {
 }
 
 impl<V> Model for TermTable<V> {
-    ghost use Rattle.simplex_sorted.specs.ByTerm.{TermMap, term_map_code};
+    ghost use Rattle.simplex_sorted.specs.ByTerm.{ByTermFacts, by_term_code};
 
-    ghost Value = { TermMap V };
+    ghost Value = { ByTermFacts V };
 
-    ghost coded = { term_map_code V.code };
+    ghost coded = { by_term_code V.code };
 
     ghost view = { λ t. record { term_length = t.term_length; by_view = t.by_view } };
 }

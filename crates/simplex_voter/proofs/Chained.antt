@@ -111,16 +111,16 @@ module _ {K L D : Type 0} (same : D → D → Bool) (elect : Elect L) (x : State
       by_below (Some d) = by_test (holds same bound d)
 
   -- the walk from v has come to what rests on this, and what v offers is decided there
-  abbrev pub Stands : ℕ → Basis D → Basis D → Type 0
-  Stands v top b = optimistic_ancestry_payload same elect x v ≡ cond (is_some (rests b)) (Some (payload_of top)) None
+  abbrev pub WalkHasReached : ℕ → Basis D → Basis D → Type 0
+  WalkHasReached v top b = optimistic_ancestry_payload same elect x v ≡ cond (is_some (rests b)) (Some (payload_of top)) None
 
   pub nothing : (v : ℕ) → None ≡ basis_at elect x v → None ≡ offers v
   nothing v none = sym (offers-rests v ∙ ap (option_and_then rests) (sym none))
 
-  pub begins : (v : ℕ) (b : Basis D) → Some b ≡ basis_at elect x v → Stands v b b
+  pub begins : (v : ℕ) (b : Basis D) → Some b ≡ basis_at elect x v → WalkHasReached v b b
   begins v b is = offers-rests v ∙ ap (option_and_then rests) (sym is) ∙ rests-one b
 
-  module _ (v : ℕ) (top : Basis D) (p : Proposal D) (bound : Option D) (stands : Stands v top (Vote p bound)) where
+  module _ (v : ℕ) (top : Basis D) (p : Proposal D) (bound : Option D) (stands : WalkHasReached v top (Vote p bound)) where
     -- what v offers, by what the parent does
     abbrev above : Option D → Option D
     above o = cond (is_some (option_and_then (λ d. cond (holds same bound d) (Some p.payload) None) o)) (Some (payload_of top)) None
@@ -144,12 +144,12 @@ module _ {K L D : Type 0} (same : D → D → Bool) (elect : Elect L) (x : State
           never true = refl
           never false = refl
 
-      pub goes_on : (d : D) → d ≡ payload_of b → true ≡ holds same bound d → Stands v top b
+      pub goes_on : (d : D) → d ≡ payload_of b → true ≡ holds same bound d → WalkHasReached v top b
       goes_on d is test = by_hold true (ap (holds same bound) (sym is) ∙ sym test) ∙ ap (λ t. cond t (Some (payload_of top)) None) (itself (is_some (rests b)))
         where
           itself : (t : Bool) → cond t true false ≡ t
           itself true = refl
           itself false = refl
 
-  pub ends : (v : ℕ) (top : Basis D) (d : D) → Stands v top (Certain d) → Some (payload_of top) ≡ offers v
+  pub ends : (v : ℕ) (top : Basis D) (d : D) → WalkHasReached v top (Certain d) → Some (payload_of top) ≡ offers v
   ends v top d stands = sym stands

@@ -20,7 +20,7 @@ use Rattle.simplex_voter.specs.Rounds.{RoundsFacts, round_at, round_of, round_nu
 use Rattle.simplex_voter.specs.declared.voter.rounds.Bounds.{Bounds}
 use Rattle.simplex_voter.proofs.Containers.{entries-insert}
 use Rattle.simplex_voter.proofs.RoundsKept.{find_entries, insert-same}
-use Rattle.simplex_voter.proofs.Alike.{IsAlike}
+use Rattle.simplex_voter.proofs.RoundChanges.{IsAlike}
 
 module _ {V : Type 0} where
   found_put : (v : ℕ) (x : V) (es : List (ℕ × V)) → find nat_cmp v (put nat_cmp v x es) ≡ Some x

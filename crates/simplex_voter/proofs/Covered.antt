@@ -14,7 +14,7 @@ mapped_some : {A B : Type 0} (f : A → B) (o : Option A) → is_some (option_ma
 mapped_some f None = refl
 mapped_some f (Some a) = refl
 
-module _ {K L D : Type 0} (x : StateFacts K L D) (m : by.TermMap (Unit {0})) (shown : x.nullified ≡ fin.keys m.by_view) (same : m.term_length ≡ x.terms.term_length) where
+module _ {K L D : Type 0} (x : StateFacts K L D) (m : by.ByTermFacts (Unit {0})) (shown : x.nullified ≡ fin.keys m.by_view) (same : m.term_length ≡ x.terms.term_length) where
   covered_alike : (w : ℕ) → by.is_covered m w ≡ is_covered x w
   covered_alike w = rw (shown, ← same) refl
 

@@ -6,7 +6,7 @@ use Rattle.std.specs.Option.{option_map_or}
 use Rattle.std.specs.Ordering.{nat_cmp, is_gt}
 use Rattle.std.specs.FinMap as fin
 use Rattle.std.proofs.lemmas.Bool.Decides.{nat_tests}
-use Rattle.simplex_sorted.specs.ByTerm.{TermMap, covering_below}
+use Rattle.simplex_sorted.specs.ByTerm.{ByTermFacts, covering_below}
 use Rattle.simplex_sorted.specs.Tracked.{last_entry}
 use Rattle.simplex_types.specs.Terms.{covers}
 use Rattle.simplex_sorted.proofs.RisingEntries.{Rises}
@@ -50,7 +50,7 @@ module _ {V : Type 0} where
       sym (ap (λ es. list_any (λ u. ltb t u) (map (λ e. e.0) es)) (entries-retain_keys m p) ∙ any_kept p (λ u. ltb t u) (fin.entries m))
       ∙ above_by_last t (fin.entries k) (map_rises k)
 
-module _ {K L D : Type 0} (x : StateFacts K L D) (m : TermMap (Unit {0})) (v : ℕ) (shown : x.nullify_votes ≡ fin.keys m.by_view) (same : m.term_length ≡ x.terms.term_length) where
+module _ {K L D : Type 0} (x : StateFacts K L D) (m : ByTermFacts (Unit {0})) (v : ℕ) (shown : x.nullify_votes ≡ fin.keys m.by_view) (same : m.term_length ≡ x.terms.term_length) where
   gate_is : (found : Option (ℕ × Unit {0})) → found ≡ covering_below m v → option_map_or (λ e. ltb x.finalized e.0) found false ≡ has_conflicting_nullify x v
   unfolding has_conflicting_nullify
   gate_is found is =

@@ -3,7 +3,7 @@ use Rattle.std.proofs.Common.{◌≡◌, ℕ, suc, ◌-◌, List, [], ◌∷◌,
 use Rattle.std.specs.Prelude.{map, option_map}
 use Rattle.std.specs.List.{last_or}
 use Rattle.std.specs.FinMap as fin
-use Rattle.simplex_sorted.specs.ByTerm.{TermMap, covering}
+use Rattle.simplex_sorted.specs.ByTerm.{ByTermFacts, covering}
 use Rattle.simplex_types.specs.Terms.{covers}
 use Rattle.simplex_sorted.proofs.Maps.{entries-retain_keys}
 use Rattle.simplex_voter.specs.Facts.{StateFacts}
@@ -18,7 +18,7 @@ last_key (e ∷ d ∷ es) =
     let behind : length (e ∷ d ∷ es) - 1 ≡ suc (length (d ∷ es) - 1) = omega arith in
     rw behind (last_key (d ∷ es))
 
-module _ {K L D : Type 0} (x : StateFacts K L D) (m : TermMap (Unit {0})) (v : ℕ) (shown : x.nullified ≡ fin.keys m.by_view) (same : m.term_length ≡ x.terms.term_length) where
+module _ {K L D : Type 0} (x : StateFacts K L D) (m : ByTermFacts (Unit {0})) (v : ℕ) (shown : x.nullified ≡ fin.keys m.by_view) (same : m.term_length ≡ x.terms.term_length) where
   highest_is : (found : Option (ℕ × Unit {0})) → found ≡ covering m v → option_map (λ e. e.0) found ≡ highest_nullification_in_term x v
   highest_is found is =
       let kept = fin.retain_keys m.by_view (λ u. covers m.term_length u v) in

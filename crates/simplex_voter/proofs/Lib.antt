@@ -1,6 +1,6 @@
 pub mod RoundsKept
 pub mod Ahead
-pub mod Alike
+pub mod RoundChanges
 pub mod Changed
 pub mod Shown
 pub mod Faults

@@ -13,7 +13,7 @@ use Rattle.simplex_voter.specs.Rounds.{RoundsFacts, round_at, IsKept, AreKept, I
 use Rattle.simplex_voter.specs.declared.voter.rounds.Bounds.{Bounds}
 use Rattle.simplex_voter.proofs.Shown.{with_rounds}
 use Rattle.simplex_voter.proofs.RoundsKept.{keys-kept}
-use Rattle.simplex_voter.proofs.Alike.{token_alike, none_after_abort}
+use Rattle.simplex_voter.proofs.RoundChanges.{token_alike, none_after_abort}
 use Rattle.simplex_voter.proofs.Changed.{some_is, alike_kept}
 use Rattle.simplex_voter.proofs.Walked.{Walked, walk_begins, find-changed}
 

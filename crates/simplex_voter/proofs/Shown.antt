@@ -19,7 +19,7 @@ use Rattle.simplex_voter.specs.Facts as facts
 use Rattle.simplex_voter.specs.Facts.{StateFacts}
 use Rattle.simplex_voter.specs.Serving.{after_prune}
 use Rattle.simplex_voter.specs.Acceptance.{nullified_also}
-use Rattle.simplex_sorted.specs.ByTerm.{TermMap}
+use Rattle.simplex_sorted.specs.ByTerm.{ByTermFacts}
 use Rattle.std.specs.BTreeSet.{insert_key}
 use Rattle.simplex_voter.proofs.RoundsKept.{keys-kept}
 use Rattle.simplex_voter.proofs.Containers.{keys-insert}
@@ -95,13 +95,13 @@ kept_with_rounds kept origin = record {
 }
 
 module _ {K L D : Type 0} where
-  pub nullified_shown : (x : StateFacts K L D) (m new : TermMap (Unit {0})) (v : ℕ) → x.nullified ≡ map.keys m.by_view → new ≡ record m { by_view = map.insert m.by_view v tt } → record x { nullified = map.keys new.by_view } ≡ nullified_also x v
+  pub nullified_shown : (x : StateFacts K L D) (m new : ByTermFacts (Unit {0})) (v : ℕ) → x.nullified ≡ map.keys m.by_view → new ≡ record m { by_view = map.insert m.by_view v tt } → record x { nullified = map.keys new.by_view } ≡ nullified_also x v
   nullified_shown x m new v shown is =
-      ap (λ ks. record x { nullified = ks }) (ap (λ (n : TermMap (Unit {0})). map.keys n.by_view) is ∙ keys-insert m.by_view v tt ∙ ap (λ ks. insert_key nat_cmp ks v) (sym shown))
+      ap (λ ks. record x { nullified = ks }) (ap (λ (n : ByTermFacts (Unit {0})). map.keys n.by_view) is ∙ keys-insert m.by_view v tt ∙ ap (λ ks. insert_key nat_cmp ks v) (sym shown))
 
-  pub nullify_vote_shown : (x : StateFacts K L D) (m new : TermMap (Unit {0})) (v : ℕ) → x.nullify_votes ≡ map.keys m.by_view → new ≡ record m { by_view = map.insert m.by_view v tt } → record x { nullify_votes = map.keys new.by_view } ≡ record x { nullify_votes = insert_key nat_cmp x.nullify_votes v }
+  pub nullify_vote_shown : (x : StateFacts K L D) (m new : ByTermFacts (Unit {0})) (v : ℕ) → x.nullify_votes ≡ map.keys m.by_view → new ≡ record m { by_view = map.insert m.by_view v tt } → record x { nullify_votes = map.keys new.by_view } ≡ record x { nullify_votes = insert_key nat_cmp x.nullify_votes v }
   nullify_vote_shown x m new v shown is =
-      ap (λ ks. record x { nullify_votes = ks }) (ap (λ (n : TermMap (Unit {0})). map.keys n.by_view) is ∙ keys-insert m.by_view v tt ∙ ap (λ ks. insert_key nat_cmp ks v) (sym shown))
+      ap (λ ks. record x { nullify_votes = ks }) (ap (λ (n : ByTermFacts (Unit {0})). map.keys n.by_view) is ∙ keys-insert m.by_view v tt ∙ ap (λ ks. insert_key nat_cmp ks v) (sym shown))
 
   -- what is left after pruning
   pub pruned_shown : (x : StateFacts K L D) (n k : map.FinMap nat_cmp (Unit {0})) (v : ℕ) → x.nullified ≡ map.keys n → x.nullify_votes ≡ map.keys k → v ≡ min_active x → record x { rounds = filter (λ (e : ℕ × RoundFacts K D). leb v e.0) x.rounds; nullified = map.keys (at_or_above n v); nullify_votes = map.keys (at_or_above k v) } ≡ after_prune x

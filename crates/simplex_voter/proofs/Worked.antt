@@ -14,7 +14,7 @@ use Rattle.simplex_voter.specs.Verifying.{with_mark, verifying_round}
 use Rattle.simplex_voter.specs.Proposing.{proposal_of, proposed_round}
 use Rattle.simplex_voter.specs.declared.voter.rounds.Bounds.{Bounds}
 use Rattle.simplex_voter.specs.Rounds.{RoundsFacts, round_of, round_number, with_round}
-use Rattle.simplex_voter.proofs.Alike.{IsAlike, unchanged}
+use Rattle.simplex_voter.proofs.RoundChanges.{IsAlike, unchanged}
 use Rattle.simplex_voter.proofs.Changed.{found_at, lent, put_shown, stays}
 
 pub either_true : (b : Bool) → (b || true) ≡ true

@@ -19,7 +19,7 @@ use Rattle.simplex_record.proofs.Paths.{event_path, asked_of_all, from_raised}
 use Rattle.simplex_record.proofs.Steps.{Step, Path, Reaches, Raises, Still, along}
 
 -- the set-up is as it was, and neither the current view nor the last finalized one is lower
-pub record GoesOn {K L D : Type 0} (x y : StateFacts K L D) : Type 0 where
+pub record UnchangedOrHigher {K L D : Type 0} (x y : StateFacts K L D) : Type 0 where
   pub failed : y.failed ≡ x.failed
   pub settings : y.settings ≡ x.settings
   pub me : y.me ≡ x.me
@@ -31,7 +31,7 @@ pub record GoesOn {K L D : Type 0} (x y : StateFacts K L D) : Type 0 where
   pub finalized : x.finalized ≤ y.finalized
 
 module _ {K L D : Type 0} where
-  pub goes_still : (x : StateFacts K L D) → GoesOn x x
+  pub goes_still : (x : StateFacts K L D) → UnchangedOrHigher x x
   goes_still x = record { failed = refl; settings = refl; me = refl; members = refl; elector = refl; terms = refl; elects_early = refl; current = omega arith; finalized = omega arith }
 
   pub never_fell : (x : StateFacts K L D) → NeverFalls x x
@@ -40,26 +40,26 @@ module _ {K L D : Type 0} where
   pub falls_never : (x y z : StateFacts K L D) → NeverFalls x y → NeverFalls y z → NeverFalls x z
   falls_never x y z p q = record { current = omega (arith, p.current, q.current); finalized = omega (arith, p.finalized, q.finalized) }
 
-  pub never_falls : (x y : StateFacts K L D) → GoesOn x y → NeverFalls x y
+  pub never_falls : (x y : StateFacts K L D) → UnchangedOrHigher x y → NeverFalls x y
   never_falls x y goes = record { current = goes.current; finalized = goes.finalized }
 
   -- what is kept begins no lower
-  pub floor_goes : (x y : StateFacts K L D) → GoesOn x y → min_active x ≤ min_active y
+  pub floor_goes : (x y : StateFacts K L D) → UnchangedOrHigher x y → min_active x ≤ min_active y
   floor_goes x y goes =
       let retention = ap (λ s. s.view_retention) goes.settings in
       omega (arith, goes.finalized, retention)
 
 module _ {K L D : Type 0} (same : D → D → Bool) (elect : Elect L) (begun : StateFacts K L D) (e : Event K D) (low : ℕ) where
-  pub step_goes : (x y z : StateFacts K L D) → Step same elect begun e low y z → GoesOn x y → GoesOn x z
+  pub step_goes : (x y z : StateFacts K L D) → Step same elect begun e low y z → UnchangedOrHigher x y → UnchangedOrHigher x z
   step_goes x y z (Reaches v above timed) p = record { failed = p.failed; settings = p.settings; me = p.me; members = p.members; elector = p.elector; terms = p.terms; elects_early = p.elects_early; current = omega (arith, p.current); finalized = p.finalized }
   step_goes x y z (Raises v says above) p = record { failed = p.failed; settings = p.settings; me = p.me; members = p.members; elector = p.elector; terms = p.terms; elects_early = p.elects_early; current = p.current; finalized = omega (arith, p.finalized) }
   step_goes x y z _ p = record { failed = p.failed; settings = p.settings; me = p.me; members = p.members; elector = p.elector; terms = p.terms; elects_early = p.elects_early; current = p.current; finalized = p.finalized }
 
-  pub goes_along : (x y : StateFacts K L D) → Path same elect begun e low x y → GoesOn x y
-  goes_along x y path = along same elect begun e low (GoesOn x) (step_goes x) x y path (goes_still x)
+  pub goes_along : (x y : StateFacts K L D) → Path same elect begun e low x y → UnchangedOrHigher x y
+  goes_along x y path = along same elect begun e low (UnchangedOrHigher x) (step_goes x) x y path (goes_still x)
 
 module _ {K L D : Type 0} (same : D → D → Bool) (elect : Elect L) (x : StateFacts K L D) where
-  pub event_goes : (e : Event K D) → GoesOn x (after_event same elect x e)
+  pub event_goes : (e : Event K D) → UnchangedOrHigher x (after_event same elect x e)
   event_goes e = goes_along same elect x e 0 x (after_event same elect x e) (event_path same elect 0 x e (omega arith) (asked_of_all x e))
 
   -- the last finalized view is the one before or the event's
@@ -71,8 +71,8 @@ module _ {K L D : Type 0} (same : D → D → Bool) (elect : Elect L) (x : State
       keeps y z _ p = p
 
 module _ {K L D : Type 0} (same : D → D → Bool) (elect : Elect L) (x : StateFacts K L D) where
-  pub call_goes : (o : OutstandingWork K D) (call : CallFacts D) → GoesOn x (after_call same elect x o call)
-  call_goes o call = call_by_any same elect x o (GoesOn x) (goes_still x) (λ e. event_goes same elect x e) call
+  pub call_goes : (o : OutstandingWork K D) (call : CallFacts D) → UnchangedOrHigher x (after_call same elect x o call)
+  call_goes o call = call_by_any same elect x o (UnchangedOrHigher x) (goes_still x) (λ e. event_goes same elect x e) call
 
 -- finalizations
 

@@ -10,7 +10,7 @@ use Rattle.simplex_member.specs.Calls.{CallFacts, Told}
 use Rattle.simplex_laws.specs.Events.{Event, after_event}
 use Rattle.simplex_member.specs.Lives.{MemberFacts, IsCall, without_life}
 use Rattle.simplex_record.specs.Recovery.{recover_error}
-use Rattle.simplex_member.specs.Restarts.{RestartFacts, cut_member, new_life, retention_grows, GoesOn, IsRestart, IsRestartWhere}
+use Rattle.simplex_member.specs.Restarts.{RestartFacts, cut_member, new_life, retention_grows, RecoversByView, IsRestart, IsRestartWhere}
 use Rattle.simplex_member.specs.Runs.{StepFacts, Calls, Prunes, Restarts, IsRun}
 use Rattle.simplex_record.specs.Start.{StartFacts, new_state}
 use Rattle.simplex_member.specs.Start.{started_member}
@@ -29,7 +29,7 @@ module _ {K L D : Type 0} (same : D → D → Bool) (elect : Elect L) (term_leng
     (begins : (x : StateFacts K L D) (floor : FloorFacts D) (now : ℕ) → IsFresh term_length x → P (after_set_floor same elect x floor now))
     (keeps : (x : StateFacts K L D) (e : Event K D) → P x → P (after_event same elect x e)) where
   -- one that goes on is made again, and another one has no state
-  from_copy : (n : MemberFacts K L D) (start : StartFacts K L D) (result : Result (Unit {0}) RecoverError) (left : MemberFacts K L D) → HasTerms term_length start.setup → GoesOn same elect n start result left → HoldsIn P left.life
+  from_copy : (n : MemberFacts K L D) (start : StartFacts K L D) (result : Result (Unit {0}) RecoverError) (left : MemberFacts K L D) → HasTerms term_length start.setup → RecoversByView same elect n start result left → HoldsIn P left.life
   from_copy n start result left fresh (inl (is, leaves)) = rw leaves tt
   from_copy n start result left fresh (inr (copy, by_view, goes)) = by_error (recover_error same (new_state start.setup) start.floor start.now copy) goes
     where

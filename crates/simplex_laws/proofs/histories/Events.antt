@@ -19,7 +19,7 @@ use Rattle.simplex_laws.specs.Timing.{enters}
 use Rattle.simplex_laws.specs.Shows.{Shows, kept_of, comes_up}
 use Rattle.simplex_laws.proofs.histories.Following.{Follows, left_from}
 use Rattle.simplex_laws.proofs.frames.InOrder.{event_in_order}
-use Rattle.simplex_laws.proofs.histories.Leaving.{from_T}
+use Rattle.simplex_laws.proofs.histories.UnchangedHistories.{from_T}
 use Rattle.simplex_laws.proofs.histories.FollowingReplays.{event_follows}
 use Rattle.simplex_laws.proofs.histories.EventsWorked.{event_works}
 use Rattle.simplex_laws.proofs.histories.ShownRounds.{round_further}

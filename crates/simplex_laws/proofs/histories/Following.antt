@@ -15,7 +15,7 @@ use Rattle.simplex_laws.specs.HistoryFolds.{notarizes, nullifies, finalizes, ver
 use Rattle.simplex_laws.specs.OwnWork.{contradicts, hands_out_notarization, hands_out_nullification, hands_out_finalization, decides_nullify, casts_nullify, first_certificate_by, hears, decides_finalize, decides_notarize, owns}
 use Rattle.simplex_record.proofs.Growing.{round_of-put, round_of-same}
 use Rattle.simplex_laws.proofs.votes.NullifyVotes.{tied}
-use Rattle.simplex_laws.proofs.histories.Leaving.{Known, known_of, Alike, Leaves, Quiet, quiet}
+use Rattle.simplex_laws.proofs.histories.UnchangedHistories.{Known, known_of, UnchangedKnown, UnchangedButNumbers, UnchangedHistory, quiet}
 
 -- the lowest view that an event leaves
 abbrev pub left_from : {K L D : Type 0} → StateFacts K L D → Event K D → ℕ
@@ -93,14 +93,14 @@ among_noted k v (u ∷ ks) =
 
 module _ {K L D : Type 0} (same : D → D → Bool) (elect : Elect L) (x : StateFacts K L D) (e : Event K D) where
   -- between changes that leave a round alike
-  pub added_between : (v : ℕ) (q r s t : RoundFacts K D) → Alike q r → known_of s ≡ adds same elect x e v (known_of r) → Alike s t → known_of t ≡ adds same elect x e v (known_of q)
+  pub added_between : (v : ℕ) (q r s t : RoundFacts K D) → UnchangedKnown q r → known_of s ≡ adds same elect x e v (known_of r) → UnchangedKnown s t → known_of t ≡ adds same elect x e v (known_of q)
   added_between v q r s t before added after = after ∙ added ∙ ap (adds same elect x e v) before
 
-  pub nothing_added : (v : ℕ) → IsElsewhere same elect x e v → (r s : RoundFacts K D) → Alike r s → known_of s ≡ adds same elect x e v (known_of r)
+  pub nothing_added : (v : ℕ) → IsElsewhere same elect x e v → (r s : RoundFacts K D) → UnchangedKnown r s → known_of s ≡ adds same elect x e v (known_of r)
   nothing_added v silent r s alike = alike ∙ sym (silent (known_of r))
 
   -- what is put at the one view that an event speaks of, between changes that leave the rounds alike
-  pub put_between : (y z : StateFacts K L D) (v : ℕ) (r : RoundFacts K D) → ((w : ℕ) → Alike (round_of x w) (round_of y w)) → known_of r ≡ adds same elect x e v (known_of (round_of y v)) → ((w : ℕ) → eqb w v ≡ false → IsElsewhere same elect x e w) → ((w : ℕ) → Alike (round_of (with_round y v r) w) (round_of z w)) → (w : ℕ) → known_of (round_of z w) ≡ adds same elect x e w (known_of (round_of x w))
+  pub put_between : (y z : StateFacts K L D) (v : ℕ) (r : RoundFacts K D) → ((w : ℕ) → UnchangedKnown (round_of x w) (round_of y w)) → known_of r ≡ adds same elect x e v (known_of (round_of y v)) → ((w : ℕ) → eqb w v ≡ false → IsElsewhere same elect x e w) → ((w : ℕ) → UnchangedKnown (round_of (with_round y v r) w) (round_of z w)) → (w : ℕ) → known_of (round_of z w) ≡ adds same elect x e w (known_of (round_of x w))
   put_between y z v r before added elsewhere after w = added_between w (round_of x w) (round_of y w) (round_of (with_round y v r) w) (round_of z w) (before w) (put (cases_eq w v)) (after w)
     where
       put : ((w ≡ v) ⊎ (w ≡ v → ⊥)) → known_of (round_of (with_round y v r) w) ≡ adds same elect x e w (known_of (round_of y w))
@@ -128,7 +128,7 @@ module _ {K L D : Type 0} (same : D → D → Bool) (elect : Elect L) (x : State
   no_nullify_vote w = ap (λ (s : Said D). s.nullify_voted w) only
 
   -- the one view that the event speaks of has its round put, between changes that leave the rounds alike
-  pub put_follows : (y z : StateFacts K L D) (v : ℕ) (r : RoundFacts K D) → Leaves (unwrap_or (moment_by e) x.moment) x.current x.finalized x y → known_of r ≡ adds same elect x e v (known_of (round_of y v)) → ((w : ℕ) → eqb w v ≡ false → IsElsewhere same elect x e w) → Quiet (with_round y v r) z → Follows same elect e x z
+  pub put_follows : (y z : StateFacts K L D) (v : ℕ) (r : RoundFacts K D) → UnchangedButNumbers (unwrap_or (moment_by e) x.moment) x.current x.finalized x y → known_of r ≡ adds same elect x e v (known_of (round_of y v)) → ((w : ℕ) → eqb w v ≡ false → IsElsewhere same elect x e w) → UnchangedHistory (with_round y v r) z → Follows same elect e x z
   put_follows y z v r before added elsewhere after = record {
     settings = after.settings ∙ before.settings;
     terms = after.terms ∙ before.terms;
@@ -146,7 +146,7 @@ module _ {K L D : Type 0} (same : D → D → Bool) (elect : Elect L) (x : State
   round_follows v r timeless added elsewhere = put_follows x (with_round x v r) v r (rw timeless (quiet x)) added elsewhere (quiet (with_round x v r))
 
   -- it says nothing of rounds either
-  pub silent_follows : (y : StateFacts K L D) → ((v : ℕ) → IsElsewhere same elect x e v) → Leaves (unwrap_or (moment_by e) x.moment) x.current x.finalized x y → Follows same elect e x y
+  pub silent_follows : (y : StateFacts K L D) → ((v : ℕ) → IsElsewhere same elect x e v) → UnchangedButNumbers (unwrap_or (moment_by e) x.moment) x.current x.finalized x y → Follows same elect e x y
   silent_follows y silent leaves = record {
     settings = leaves.settings;
     terms = leaves.terms;

@@ -28,7 +28,7 @@ use Rattle.simplex_laws.specs.HistoryFolds.{entered_by, has_view}
 use Rattle.simplex_laws.specs.OwnWork.{contradicts}
 use Rattle.simplex_laws.specs.Shows.{verdict_of}
 use Rattle.simplex_record.proofs.Growing.{round_of-same}
-use Rattle.simplex_laws.proofs.histories.Leaving.{Known, known_of, Alike, Leaves, Quiet, quiet, then_quiet, both_quiet, leaves_joined, quiet_where, moment_leaves, entered_leaves, raised_leaves, named_quiet, slid_quiet, triggered_quiet, elected_quiet, woken_quiet}
+use Rattle.simplex_laws.proofs.histories.UnchangedHistories.{Known, known_of, UnchangedKnown, UnchangedButNumbers, UnchangedHistory, quiet, then_quiet, both_quiet, leaves_joined, quiet_where, moment_leaves, entered_leaves, raised_leaves, named_quiet, slid_quiet, triggered_quiet, elected_quiet, woken_quiet}
 use Rattle.simplex_laws.proofs.histories.Following.{adds, Follows, among_noted, nothing_added, put_between, put_follows}
 
 -- a certificate settles its view's proposal
@@ -104,8 +104,8 @@ module _ {K L D : Type 0} (same : D → D → Bool) (decides : (d e : D) → sam
       let d = with_elected_leader elect x (v + 1) (Some c.bytes) in
       let z = with_notarization_at same elect d c in
       let y = if is_some (round_of x v).notarization then z else with_window_leaders (named_also z v) v in
-      let before : Quiet x d = elected_quiet elect x (v + 1) (Some c.bytes) in
-      let after : Quiet z y = quiet_where z (is_some (round_of x v).notarization) z (with_window_leaders (named_also z v) v) (quiet z) (both_quiet z (named_also z v) (with_window_leaders (named_also z v) v) (named_quiet z v) (slid_quiet (named_also z v) v)) in
+      let before : UnchangedHistory x d = elected_quiet elect x (v + 1) (Some c.bytes) in
+      let after : UnchangedHistory z y = quiet_where z (is_some (round_of x v).notarization) z (with_window_leaders (named_also z v) v) (quiet z) (both_quiet z (named_also z v) (with_window_leaders (named_also z v) v) (named_quiet z v) (slid_quiet (named_also z v) v)) in
       put_follows same elect x (AddNotarization c) refl d y v (with_notarization (same_proposal same) (round_of d v) c) before (notarization_added same decides elect x c (round_of d v) (ap (λ k. k.notarization) (before.rounds v))) (λ u apart k. rw apart refl) after
 
   pub finalization_follows : (now : ℕ) → Follows same elect (AddFinalization c now) x (after_add_finalization same elect x c now)
@@ -117,10 +117,10 @@ module _ {K L D : Type 0} (same : D → D → Bool) (decides : (d e : D) → sam
       let d = with_elected_leader elect e (v + 1) (Some c.bytes) in
       let z = with_finalization_at same elect d c in
       let y = if is_some (round_of x v).finalization then z else with_window_leaders (with_waiting_candidate elect z v) v in
-      let entering : Leaves b.moment (max b.current (v + 1)) b.finalized b e = entered_leaves b (v + 1) now in
-      let raising : Leaves now x.current (max x.finalized v) x b = leaves_joined now x.current x.finalized now x.current (max x.finalized v) x a b (moment_leaves x now) (raised_leaves a v) in
+      let entering : UnchangedButNumbers b.moment (max b.current (v + 1)) b.finalized b e = entered_leaves b (v + 1) now in
+      let raising : UnchangedButNumbers now x.current (max x.finalized v) x b = leaves_joined now x.current x.finalized now x.current (max x.finalized v) x a b (moment_leaves x now) (raised_leaves a v) in
       let before = then_quiet b.moment (max b.current (v + 1)) b.finalized x e d (leaves_joined now x.current (max x.finalized v) b.moment (max b.current (v + 1)) b.finalized x b e raising entering) (elected_quiet elect e (v + 1) (Some c.bytes)) in
-      let after : Quiet z y = quiet_where z (is_some (round_of x v).finalization) z (with_window_leaders (with_waiting_candidate elect z v) v) (quiet z) (both_quiet z (with_waiting_candidate elect z v) (with_window_leaders (with_waiting_candidate elect z v) v) (woken_quiet elect z v) (slid_quiet (with_waiting_candidate elect z v) v)) in
+      let after : UnchangedHistory z y = quiet_where z (is_some (round_of x v).finalization) z (with_window_leaders (with_waiting_candidate elect z v) v) (quiet z) (both_quiet z (with_waiting_candidate elect z v) (with_window_leaders (with_waiting_candidate elect z v) v) (woken_quiet elect z v) (slid_quiet (with_waiting_candidate elect z v) v)) in
       record {
         settings = after.settings ∙ before.settings;
         terms = after.terms ∙ before.terms;
@@ -181,7 +181,7 @@ module _ {K L D : Type 0} (same : D → D → Bool) (elect : Elect L) (x : State
       let e = with_view_entered a next now in
       let d = with_elected_leader elect e next (Some c.bytes) in
       let z = with_nullification_at d c in
-      let entering : Leaves now (max x.current next) x.finalized x e = leaves_joined now x.current x.finalized now (max x.current next) x.finalized x a e (moment_leaves x now) (entered_leaves a next now) in
+      let entering : UnchangedButNumbers now (max x.current next) x.finalized x e = leaves_joined now x.current x.finalized now (max x.current next) x.finalized x a e (moment_leaves x now) (entered_leaves a next now) in
       let before = then_quiet now (max x.current next) x.finalized x e d entering (elected_quiet elect e next (Some c.bytes)) in
       record {
         settings = before.settings;
@@ -244,7 +244,7 @@ module _ {K L D : Type 0} (x : StateFacts K L D) where
           rw found (not_true _ (and_parts (is_some r.notarization) _ test).1)
 
 module _ {K L D : Type 0} (same : D → D → Bool) (elect : Elect L) (x : StateFacts K L D) (v now : ℕ) where
-  judged_rounds : (success : Bool) (y : StateFacts K L D) → takes_verdict x v success ≡ true → is_tracked x v ≡ true → ((w : ℕ) → Alike (round_of (with_verdict x v success) w) (round_of y w)) → (w : ℕ) → known_of (round_of y w) ≡ adds same elect x (Certified v success now) w (known_of (round_of x w))
+  judged_rounds : (success : Bool) (y : StateFacts K L D) → takes_verdict x v success ≡ true → is_tracked x v ≡ true → ((w : ℕ) → UnchangedKnown (round_of (with_verdict x v success) w) (round_of y w)) → (w : ℕ) → known_of (round_of y w) ≡ adds same elect x (Certified v success now) w (known_of (round_of x w))
   judged_rounds success y takes here after w = put_between same elect x (Certified v success now) x y v (certified_round (round_of x v) success) (λ s. refl) (rw (eq-eqb v v refl, here) (λ i. record (known_of (round_of x v)) { verdict = verdict_first (round_of x v).certification success (uncontradicted x v success takes here) i })) (λ u apart k. rw apart refl) after w
 
 module _ {K L D : Type 0} (same : D → D → Bool) (elect : Elect L) (x : StateFacts K L D) (v now : ℕ) where

@@ -15,10 +15,10 @@ use Rattle.simplex_voter.specs.Replay.{TakesReplay, bound_again, restored_bindin
 use Rattle.simplex_record.specs.Recovery.{as_artifact, after_replaying}
 use Rattle.simplex_laws.specs.Events.{Event, IsEvent, after_event, SetFloor, AddNotarization, AddNullification, AddFinalization, Certified, ConstructNotarize, ConstructNullify, ConstructFinalize, SetProposal, TryPropose, Proposed, Supersede, Release, TryVerify, Verified, VerificationFailed, CertifyCandidates, SetCertifyHandle, TriggerTimeout, NextTimeout, BroadcastNotarization, BroadcastNullification, BroadcastFinalization, Prune, Replay}
 use Rattle.simplex_laws.specs.HistoryFolds.{moment_by}
-use Rattle.simplex_laws.proofs.histories.Leaving.{known_of, Leaves, quiet, prepared_quiet}
+use Rattle.simplex_laws.proofs.histories.UnchangedHistories.{known_of, UnchangedButNumbers, quiet, prepared_quiet}
 use Rattle.simplex_laws.proofs.histories.Following.{adds, IsElsewhere, IsOfRounds, Follows, among_noted, put_alone, put_follows, round_follows, silent_follows}
 use Rattle.simplex_laws.proofs.histories.FollowingHanded.{verdict_first, notarization_follows, finalization_follows, floor_finalization_follows, nullification_follows, genesis_follows, verdict_follows}
-use Rattle.simplex_laws.proofs.histories.FollowingQuiet.{try_verify_quiet, release_quiet, supersede_quiet, try_propose_quiet, verified_quiet, candidates_quiet, handle_quiet, trigger_leaves, next_timeout_leaves, failed_leaves}
+use Rattle.simplex_laws.proofs.histories.FollowingUnchanged.{try_verify_quiet, release_quiet, supersede_quiet, try_propose_quiet, verified_quiet, candidates_quiet, handle_quiet, trigger_leaves, next_timeout_leaves, failed_leaves}
 use Rattle.simplex_laws.proofs.histories.FollowingVotes.{own_held, own_conflict, nullify_follows, finalize_follows, notarize_follows, proposal_follows, proposed_follows, broadcast_notarization_follows, broadcast_nullification_follows, broadcast_finalization_follows, prune_follows}
 
 module _ {K L D : Type 0} (same : D → D → Bool) (decides : (d e : D) → same d e ≡ true → d ≡ e) (elect : Elect L) (x : StateFacts K L D) where
@@ -96,7 +96,7 @@ module _ {K L D : Type 0} (same : D → D → Bool) (decides : (d e : D) → sam
       let r = round_of x v in
       round_follows same elect x (Replay (Accepted (Finalized c))) refl v (record r { finalization_broadcast = true }) refl (rw (eq-eqb v v refl) refl) (λ u apart k. rw apart refl)
 
-  quietly : (e : Event K D) → IsOfRounds x e → ((v : ℕ) → IsElsewhere same elect x e v) → Leaves (unwrap_or (moment_by e) x.moment) x.current x.finalized x (after_event same elect x e) → Follows same elect e x (after_event same elect x e)
+  quietly : (e : Event K D) → IsOfRounds x e → ((v : ℕ) → IsElsewhere same elect x e v) → UnchangedButNumbers (unwrap_or (moment_by e) x.moment) x.current x.finalized x (after_event same elect x e) → Follows same elect e x (after_event same elect x e)
   quietly e only silent leaves = silent_follows same elect x e only (after_event same elect x e) silent leaves
 
   -- each event

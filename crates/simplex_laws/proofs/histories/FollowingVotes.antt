@@ -30,7 +30,7 @@ use Rattle.simplex_laws.specs.Events.{ConstructNotarize, ConstructNullify, Const
 use Rattle.simplex_laws.specs.HistoryFolds.{or_new, has_view}
 use Rattle.simplex_laws.specs.OwnWork.{contradicts}
 use Rattle.simplex_laws.proofs.votes.NullifyVotes.{tied}
-use Rattle.simplex_laws.proofs.histories.Leaving.{known_of, Quiet, quiet, moment_leaves, prepared_quiet}
+use Rattle.simplex_laws.proofs.histories.UnchangedHistories.{known_of, UnchangedHistory, quiet, moment_leaves, prepared_quiet}
 use Rattle.simplex_laws.proofs.histories.Following.{adds, Follows, among_noted, put_alone, put_follows, round_follows, silent_follows, handed_follows}
 use Rattle.simplex_laws.proofs.histories.FollowingHanded.{and_false}
 
@@ -166,7 +166,7 @@ module _ {K L D : Type 0} (same : D → D → Bool) (elect : Elect L) (x : State
       y : StateFacts K L D
       y = with_next_view_ready elect x v
 
-      before : Quiet x y
+      before : UnchangedHistory x y
       before = prepared_quiet elect x v
 
       r : RoundFacts K D

@@ -20,7 +20,7 @@ use Rattle.simplex_laws.specs.Events.{History, with_event, SetFloor, AddNotariza
 use Rattle.simplex_laws.specs.Histories.{retaken_events, with_events, with_call_events, with_entry_taken, with_entries, recovery, IsShown, LeadsTo}
 use Rattle.simplex_member.specs.Lives.{MemberFacts, without_life, reply_of, left_of, AnswersAlive, IsCall}
 use Rattle.simplex_record.specs.Recovery.{as_artifact, after_replaying, after_entry, after_kept_entry, after_entries, recovered_state, recover_error, TakesEntry, TakesEntries}
-use Rattle.simplex_member.specs.Restarts.{RestartFacts, IsByView, IsRestart, IsRestartWhere, GoesOn, new_life, cut_member, retention_grows}
+use Rattle.simplex_member.specs.Restarts.{RestartFacts, IsByView, IsRestart, IsRestartWhere, RecoversByView, new_life, cut_member, retention_grows}
 use Rattle.simplex_member.specs.Runs.{StepFacts, Calls, Prunes, Restarts, restart_told, IsRun}
 use Rattle.simplex_laws.specs.Shows.{Shows}
 use Rattle.simplex_record.specs.Start.{Setup, StartFacts, new_state}
@@ -183,7 +183,7 @@ module _ {K L D : Type 0} (same : D → D → Bool) (decides : (d e : D) → sam
       by_error None copy (is, leaves) = absurd (cc)
       by_error (Some e) copy (is, leaves) = rw leaves tt
 
-      by_going : GoesOn same elect (cut_member m r.drop r.prune) r.start result left → IsShown same elect history left
+      by_going : RecoversByView same elect (cut_member m r.drop r.prune) r.start result left → IsShown same elect history left
       by_going (inl (is, leaves)) = rw leaves tt
       by_going (inr (copy, by_view, goes)) = by_error (recover_error same (new_state r.start.setup) r.start.floor r.start.now copy) copy goes
 
@@ -204,7 +204,7 @@ module _ {K L D : Type 0} (same : D → D → Bool) (decides : (d e : D) → sam
   unfolding IsRestart
   restarted_shown left r result well restarts = by_test (retention_grows m r.prune r.start.setup.settings.view_retention) restarts
     where
-      by_going : GoesOn same elect (cut_member m r.drop r.prune) r.start result left → (copy : List (ArtifactFacts D)) × IsByView (cut_member m r.drop r.prune).entries copy × IsShown same elect (recovery r.start copy) left
+      by_going : RecoversByView same elect (cut_member m r.drop r.prune) r.start result left → (copy : List (ArtifactFacts D)) × IsByView (cut_member m r.drop r.prune).entries copy × IsShown same elect (recovery r.start copy) left
       by_going (inl (is, leaves)) = absurd (cc)
       by_going (inr (copy, by_view, goes)) = (copy, by_view, from_copy (cut_member m r.drop r.prune) left r.start result copy well goes)
 

@@ -16,7 +16,7 @@ use Rattle.simplex_laws.specs.ShownRounds.{round_in}
 use Rattle.simplex_laws.specs.HistoryFolds.{or_new, notarizes, nullifies, finalizes}
 use Rattle.simplex_laws.specs.Timing.{enters, proposes, latches, retries, retry_in, decision_in}
 use Rattle.simplex_laws.proofs.histories.Following.{adds}
-use Rattle.simplex_laws.proofs.histories.Leaving.{known_of}
+use Rattle.simplex_laws.proofs.histories.UnchangedHistories.{known_of}
 use Rattle.simplex_laws.proofs.histories.ShownWork.{told_finalize, decided_further, stalled_further, done_further, first_further, last_further, known_further}
 use Rattle.simplex_laws.proofs.histories.Worked.{work_of, timed, decides, adds_work}
 

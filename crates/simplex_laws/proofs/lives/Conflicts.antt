@@ -17,7 +17,7 @@ use Rattle.simplex_record.proofs.Paths.{tracked_by}
 use Rattle.simplex_laws.proofs.lives.WithinLives.{alive_still, alive_joined, each_call}
 
 -- conflicts stay, and what is kept does not begin lower
-pub record Keeps {K L D : Type 0} (replies : List (Told K D)) (x y : StateFacts K L D) : Type 0 where
+pub record ConflictsLast {K L D : Type 0} (replies : List (Told K D)) (x y : StateFacts K L D) : Type 0 where
   pub floor : min_active x ≤ min_active y
   pub conflicts : ConflictsStay replies x y
 
@@ -29,10 +29,10 @@ module _ {K D : Type 0} where
   first_dropped told replies v (views, there, among) = (views, Contains-append_left (told ∷ []) replies _ there, among)
 
 module _ {K L D : Type 0} where
-  pub keeps : (replies : List (Told K D)) (x : StateFacts K L D) → Keeps replies x x
+  pub keeps : (replies : List (Told K D)) (x : StateFacts K L D) → ConflictsLast replies x x
   keeps replies x = record { floor = omega arith; conflicts = λ v is. inl is }
 
-  pub keeps_on : (told : Told K D) (replies : List (Told K D)) (x y z : StateFacts K L D) → Keeps (told ∷ []) x y → Keeps replies y z → Keeps (told ∷ replies) x z
+  pub keeps_on : (told : Told K D) (replies : List (Told K D)) (x y z : StateFacts K L D) → ConflictsLast (told ∷ []) x y → ConflictsLast replies y z → ConflictsLast (told ∷ replies) x z
   keeps_on told replies x y z p q = record { floor = omega (arith, p.floor, q.floor); conflicts = conflicts }
     where
       conflicts : ConflictsStay (told ∷ replies) x z
@@ -45,7 +45,7 @@ module _ {K L D : Type 0} where
       ]
 
 module _ {K L D : Type 0} (same : D → D → Bool) (elect : Elect L) where
-  call_keeps : (call : CallFacts D) (x : StateFacts K L D) (o : OutstandingWork K D) → is_allowed x o call ≡ true → Keeps (answer same elect x o call ∷ []) x (after_call same elect x o call)
+  call_keeps : (call : CallFacts D) (x : StateFacts K L D) (o : OutstandingWork K D) → is_allowed x o call ≡ true → ConflictsLast (answer same elect x o call ∷ []) x (after_call same elect x o call)
   call_keeps call x o allowed = record { floor = floor; conflicts = conflicts }
     where
       floor : min_active x ≤ min_active (after_call same elect x o call)
@@ -57,18 +57,18 @@ module _ {K L D : Type 0} (same : D → D → Bool) (elect : Elect L) where
         | inr drops ↦ inr (record { dropped = drops.dropped (tracked_by x v (λ r. r.slot.conflict) refl is); below = omega (arith, drops.gone.below, floor) })
       ]
 
-  told_keeps : (m : MemberFacts K L D) (call : CallFacts D) (told : Told K D) (left : MemberFacts K L D) → IsCall same elect m call told left → WhileAlive (Keeps (told ∷ [])) m.life left.life
+  told_keeps : (m : MemberFacts K L D) (call : CallFacts D) (told : Told K D) (left : MemberFacts K L D) → IsCall same elect m call told left → WhileAlive (ConflictsLast (told ∷ [])) m.life left.life
   told_keeps =
-      each_call same elect (λ call told. Keeps (told ∷ []))
+      each_call same elect (λ call told. ConflictsLast (told ∷ []))
       (λ call fault x. keeps (Refused fault ∷ []) x) (λ call x. keeps (NotAllowed ∷ []) x)
       (λ call x o allowed. call_keeps call x o allowed)
 
-  pub life_keeps : (m end : MemberFacts K L D) (calls : List (CallFacts D)) (replies : List (Told K D)) → IsLife same elect m calls replies end → WhileAlive (Keeps replies) m.life end.life
-  life_keeps m end [] [] life = subst (λ n. WhileAlive (Keeps []) m.life n.life) life (alive_still (Keeps []) m.life (λ x. keeps [] x))
+  pub life_keeps : (m end : MemberFacts K L D) (calls : List (CallFacts D)) (replies : List (Told K D)) → IsLife same elect m calls replies end → WhileAlive (ConflictsLast replies) m.life end.life
+  life_keeps m end [] [] life = subst (λ n. WhileAlive (ConflictsLast []) m.life n.life) life (alive_still (ConflictsLast []) m.life (λ x. keeps [] x))
   life_keeps m end [] (told ∷ replies) life = absurd life
   life_keeps m end (call ∷ calls) [] life = absurd life
   life_keeps m end (call ∷ calls) (told ∷ replies) (next, is_call, rest) =
-      alive_joined (Keeps (told ∷ [])) (Keeps replies) (Keeps (told ∷ replies)) m.life next.life end.life
+      alive_joined (ConflictsLast (told ∷ [])) (ConflictsLast replies) (ConflictsLast (told ∷ replies)) m.life next.life end.life
       (λ x y z p q. keeps_on told replies x y z p q)
       (told_keeps m call told next is_call)
       (life_keeps next end calls replies rest)

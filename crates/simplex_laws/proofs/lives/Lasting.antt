@@ -48,10 +48,10 @@ module _ {K D : Type 0} where
   standing_view Finalization r = option_map (λ c. c.proposal.round.view) r.finalization
 
 -- what stands is as before, or has come to its own view, which is kept
-abbrev pub StandsOrComes : (low v : ℕ) (before after : Option ℕ) → Type 0
-StandsOrComes low v before after = (after ≡ before) ⊎ ((low ≤ v) × (after ≡ Some v))
+abbrev pub UnchangedOrOwnView : (low v : ℕ) (before after : Option ℕ) → Type 0
+UnchangedOrOwnView low v before after = (after ≡ before) ⊎ ((low ≤ v) × (after ≡ Some v))
 
-stands_on : (low v : ℕ) (a b c : Option ℕ) → StandsOrComes low v a b → StandsOrComes low v b c → StandsOrComes low v a c
+stands_on : (low v : ℕ) (a b c : Option ℕ) → UnchangedOrOwnView low v a b → UnchangedOrOwnView low v b c → UnchangedOrOwnView low v a c
 stands_on low v a b c (inl p) (inl q) = inl (q ∙ p)
 stands_on low v a b c (inr (kept, p)) (inl q) = inr (kept, q ∙ p)
 stands_on low v a b c p (inr q) = inr q
@@ -62,9 +62,9 @@ pub record RoundLasts {K D : Type 0} (low v : ℕ) (r s : RoundFacts K D) : Type
   pub notarization_handed : r.notarization_broadcast ≡ true → s.notarization_broadcast ≡ true
   pub nullification_handed : r.nullification_broadcast ≡ true → s.nullification_broadcast ≡ true
   pub finalization_handed : r.finalization_broadcast ≡ true → s.finalization_broadcast ≡ true
-  pub notarization : StandsOrComes low v (standing_view Notarization r) (standing_view Notarization s)
-  pub nullification : StandsOrComes low v (standing_view Nullification r) (standing_view Nullification s)
-  pub finalization : StandsOrComes low v (standing_view Finalization r) (standing_view Finalization s)
+  pub notarization : UnchangedOrOwnView low v (standing_view Notarization r) (standing_view Notarization s)
+  pub nullification : UnchangedOrOwnView low v (standing_view Nullification r) (standing_view Nullification s)
+  pub finalization : UnchangedOrOwnView low v (standing_view Finalization r) (standing_view Finalization s)
 
 module _ {K D : Type 0} (low v : ℕ) where
   pub handed : (r s : RoundFacts K D) → RoundLasts low v r s → (kind : Kind) → is_handed kind r ≡ true → is_handed kind s ≡ true
@@ -72,7 +72,7 @@ module _ {K D : Type 0} (low v : ℕ) where
   handed r s lasts Nullification h = lasts.nullification_handed h
   handed r s lasts Finalization h = lasts.finalization_handed h
 
-  pub certificates : (r s : RoundFacts K D) → RoundLasts low v r s → (kind : Kind) → StandsOrComes low v (standing_view kind r) (standing_view kind s)
+  pub certificates : (r s : RoundFacts K D) → RoundLasts low v r s → (kind : Kind) → UnchangedOrOwnView low v (standing_view kind r) (standing_view kind s)
   certificates r s lasts Notarization = lasts.notarization
   certificates r s lasts Nullification = lasts.nullification
   certificates r s lasts Finalization = lasts.finalization

@@ -44,11 +44,11 @@ both : (a b : Bool) → a ≡ true → b ≡ true → (a && b) ≡ true
 both a b is so = rw (is, so) refl
 
 -- a state that goes on, above its last finalized view
-pub record Goes {K L D : Type 0} (term_length : ℕ) (x : StateFacts K L D) : Type 0 where
+pub record IsSoundAndAlive {K L D : Type 0} (term_length : ℕ) (x : StateFacts K L D) : Type 0 where
   pub sound : IsSound term_length x
   pub alive : x.failed ≡ false
 
-module _ {K L D : Type 0} (same : D → D → Bool) (elect : Elect L) (term_length : ℕ) (some : 0 < term_length) (x : StateFacts K L D) (goes : Goes term_length x) where
+module _ {K L D : Type 0} (same : D → D → Bool) (elect : Elect L) (term_length : ℕ) (some : 0 < term_length) (x : StateFacts K L D) (goes : IsSoundAndAlive term_length x) where
   -- a certificate of the current view is taken
   takes_current : takes_round x (round_number x x.current) ≡ true
   takes_current =
@@ -132,13 +132,13 @@ module _ {K L D : Type 0} (same : D → D → Bool) (elect : Elect L) (term_leng
 -- of each state of a run
 
 module _ {K L D : Type 0} (same : D → D → Bool) (elect : Elect L) where
-  event_goes_on : (term_length : ℕ) (x : StateFacts K L D) (e : Event K D) → Goes term_length x → Goes term_length (after_event same elect x e)
+  event_goes_on : (term_length : ℕ) (x : StateFacts K L D) (e : Event K D) → IsSoundAndAlive term_length x → IsSoundAndAlive term_length (after_event same elect x e)
   event_goes_on term_length x e goes = record {
     sound = event_sound same elect term_length x e goes.sound;
     alive = (event_goes same elect x e).failed ∙ goes.alive;
   }
 
-  floor_goes_on : (term_length : ℕ) (x : StateFacts K L D) (floor : FloorFacts D) (now : ℕ) → IsFresh term_length x → Goes term_length (after_set_floor same elect x floor now)
+  floor_goes_on : (term_length : ℕ) (x : StateFacts K L D) (floor : FloorFacts D) (now : ℕ) → IsFresh term_length x → IsSoundAndAlive term_length (after_set_floor same elect x floor now)
   floor_goes_on term_length x floor now fresh = record {
     sound = floor_sound same elect term_length x floor now fresh;
     alive = (event_goes same elect x (event.SetFloor floor now)).failed ∙ ap (λ (y : StateFacts K L D). y.failed) fresh.fresh;
@@ -147,8 +147,8 @@ module _ {K L D : Type 0} (same : D → D → Bool) (elect : Elect L) where
   pub states_are_left : (term_length : ℕ) (start : StartFacts K L D) (steps : List (StepFacts K L D)) (replies : List (Told K D)) (end : MemberFacts K L D) → HasTerms term_length start.setup → KeepTerms term_length steps
       → IsRun same elect (started_member same elect (new_state start.setup) start.floor start.now) steps replies end → MatchOption end.life (Unit {0}) (CanBeLeft same elect)
   states_are_left term_length start steps replies end begins keep run =
-      by_life end.life (run_induction same elect term_length (Goes term_length) (floor_goes_on term_length) (event_goes_on term_length) start steps replies end begins keep run)
+      by_life end.life (run_induction same elect term_length (IsSoundAndAlive term_length) (floor_goes_on term_length) (event_goes_on term_length) start steps replies end begins keep run)
     where
-      by_life : (life : Option (StateFacts K L D)) → HoldsIn (Goes term_length) life → MatchOption life (Unit {0}) (CanBeLeft same elect)
+      by_life : (life : Option (StateFacts K L D)) → HoldsIn (IsSoundAndAlive term_length) life → MatchOption life (Unit {0}) (CanBeLeft same elect)
       by_life None goes = tt
       by_life (Some x) goes = goes_past same elect term_length begins.some x goes

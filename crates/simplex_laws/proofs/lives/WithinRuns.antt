@@ -15,7 +15,7 @@ use Rattle.simplex_member.specs.Runs.{StepFacts, Calls, IsRun, IsRunFrom}
 use Rattle.simplex_record.specs.Start.{StartFacts, new_state}
 use Rattle.simplex_member.specs.Start.{started_member}
 use Rattle.simplex_laws.specs.TermLengths.{HasTerms, KeepTerms}
-use Rattle.simplex_laws.proofs.lives.Conflicts.{Keeps, life_keeps}
+use Rattle.simplex_laws.proofs.lives.Conflicts.{ConflictsLast, life_keeps}
 use Rattle.simplex_laws.proofs.lives.HandedOut.{life_hands_once}
 use Rattle.simplex_laws.proofs.lives.AsAsked.{call_as_asked}
 use Rattle.simplex_laws.proofs.records.TracesShown.{only_one}
@@ -115,7 +115,7 @@ module _ {K L D : Type 0} (same : D → D → Bool) (elect : Elect L) (term_leng
   life_drops_for_good start steps told m end calls replies begins fresh of_run =
       for_good replies m.life end.life (life_sound start steps told m end calls replies begins fresh of_run) (life_away same elect term_length begins.some m end calls replies of_run.life)
 
-  stay_in : (replies : List (Told K D)) (first last : Option (StateFacts K L D)) → WhileAlive (Keeps replies) first last → WhileAlive (ConflictsStay replies) first last
+  stay_in : (replies : List (Told K D)) (first last : Option (StateFacts K L D)) → WhileAlive (ConflictsLast replies) first last → WhileAlive (ConflictsStay replies) first last
   stay_in replies first None keeps = tt
   stay_in replies None (Some y) keeps = absurd keeps
   stay_in replies (Some x) (Some y) keeps = keeps.conflicts

@@ -19,7 +19,7 @@ use Rattle.simplex_member.specs.Calls as calls
 use Rattle.simplex_member.specs.Calls.{CallFacts, Told, Added, AddedNullification}
 use Rattle.simplex_member.specs.Lives.{MemberFacts, IsCall, AnswersAlive, left_of, without_life}
 use Rattle.simplex_record.specs.Recovery.{recover_error, recovered_state}
-use Rattle.simplex_member.specs.Restarts.{RestartFacts, IsByView, cut_member, new_life, retention_grows, GoesOn, IsRestart, IsRestartWhere}
+use Rattle.simplex_member.specs.Restarts.{RestartFacts, IsByView, cut_member, new_life, retention_grows, RecoversByView, IsRestart, IsRestartWhere}
 use Rattle.simplex_member.specs.Runs.{StepFacts, Calls, Prunes, Restarts, restart_told, IsRun}
 use Rattle.simplex_record.specs.Start.{StartFacts, new_state}
 use Rattle.simplex_member.specs.Pruning.{pruned_member}
@@ -32,7 +32,7 @@ use Rattle.simplex_laws.specs.TermLengths.{HasTerms, KeepTerms}
 use Rattle.simplex_laws.proofs.own_records.BuiltHigh.{IsBuilt, built_still, call_held, taken_small, recovered_held}
 use Rattle.simplex_laws.proofs.frames.BuiltProposals.{AllHeld}
 use Rattle.simplex_laws.proofs.agreement.Exactly.{call_exact}
-use Rattle.simplex_laws.proofs.own_records.Runs.{KeepsRecord, called, pruned, restarted, run_own, start_own, copy_high}
+use Rattle.simplex_laws.proofs.own_records.Runs.{LivesAndTells, called, pruned, restarted, run_own, start_own, copy_high}
 use Rattle.simplex_laws.proofs.records.TracesShown.{only_one}
 use Rattle.simplex_laws.proofs.records.RunsLawful.{LivesOn}
 use Rattle.simplex_laws.proofs.lists.Signed.{signed_cases}
@@ -93,7 +93,7 @@ module _ {K L D : Type 0} where
   holds_still past more None holds = tt
   holds_still past more (Some x) holds = λ v p is. built_still past more p (holds v p is)
 
-module _ {K L D : Type 0} (same : D → D → Bool) (decides : (d e : D) → same d e ≡ true → d ≡ e) (elect : Elect L) (term_length : ℕ) (past : List (StepFacts K L D)) (trace : List (TraceEvent D)) (m : MemberFacts K L D) (own : KeepsRecord term_length trace m) (votes : VotesBuilt past trace m) where
+module _ {K L D : Type 0} (same : D → D → Bool) (decides : (d e : D) → same d e ≡ true → d ≡ e) (elect : Elect L) (term_length : ℕ) (past : List (StepFacts K L D)) (trace : List (TraceEvent D)) (m : MemberFacts K L D) (own : LivesAndTells term_length trace m) (votes : VotesBuilt past trace m) where
   -- a call
 
   answered : (call : CallFacts D) (x : StateFacts K L D) → m.life ≡ Some x → HoldsBuilt (past ++ Calls call ∷ []) (left_of same elect x m call).life
@@ -140,7 +140,7 @@ module _ {K L D : Type 0} (same : D → D → Bool) (decides : (d e : D) → sam
 
   -- a restart
 
-  goes_on_holds : (n left : MemberFacts K L D) (r : RestartFacts K L D) (result : Result (Unit {0}) RecoverError) → GoesOn same elect n r.start result left → HoldsBuilt (past ++ Restarts r ∷ []) left.life
+  goes_on_holds : (n left : MemberFacts K L D) (r : RestartFacts K L D) (result : Result (Unit {0}) RecoverError) → RecoversByView same elect n r.start result left → HoldsBuilt (past ++ Restarts r ∷ []) left.life
   goes_on_holds n left r result (inl (is, leaves)) = rw leaves tt
   goes_on_holds n left r result (inr (copy, by_view, goes)) = by_error (recover_error same (new_state r.start.setup) r.start.floor r.start.now copy) refl goes
     where
@@ -182,7 +182,7 @@ module _ {K L D : Type 0} (same : D → D → Bool) (decides : (d e : D) → sam
       subst (λ all. VotesBuilt (past ++ step ∷ steps) all end) (append_assoc trace at rest)
       (subst (λ all. VotesBuilt all ((trace ++ at) ++ rest) end) (append_assoc past (step ∷ []) steps) votes)
 
-  run_builds : (steps : List (StepFacts K L D)) (replies : List (Told K D)) (past : List (StepFacts K L D)) (trace : List (TraceEvent D)) (m end : MemberFacts K L D) → KeepTerms term_length steps → KeepsRecord term_length trace m → VotesBuilt past trace m → IsRun same elect m steps replies end → VotesBuilt (past ++ steps) (trace ++ trace_of_steps steps replies) end
+  run_builds : (steps : List (StepFacts K L D)) (replies : List (Told K D)) (past : List (StepFacts K L D)) (trace : List (TraceEvent D)) (m end : MemberFacts K L D) → KeepTerms term_length steps → LivesAndTells term_length trace m → VotesBuilt past trace m → IsRun same elect m steps replies end → VotesBuilt (past ++ steps) (trace ++ trace_of_steps steps replies) end
   run_builds [] [] past trace m end fresh own votes run =
       subst (λ all. VotesBuilt all (trace ++ []) end) (sym (append-nil past)) (subst (λ all. VotesBuilt past all end) (sym (append-nil trace)) (subst (λ n. VotesBuilt past trace n) run votes))
   run_builds [] (told ∷ replies) past trace m end fresh own votes run = absurd run

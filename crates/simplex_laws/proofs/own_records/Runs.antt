@@ -18,7 +18,7 @@ use Rattle.simplex_record.specs.Entries.{entry_view}
 use Rattle.simplex_member.specs.Lives.{MemberFacts, IsCall, AnswersAlive, reply_of, left_of, without_life}
 use Rattle.simplex_laws.specs.Outside.{AcceptedParentAbove, is_floor_too_large, IsFromOutside, IsExcused, VerdictsFollowNotarizations}
 use Rattle.simplex_record.specs.Recovery.{recover_error, recovered_state, is_finalization, with_floor}
-use Rattle.simplex_member.specs.Restarts.{RestartFacts, IsByView, cut_member, new_life, retention_grows, GoesOn, IsRestart, IsRestartWhere}
+use Rattle.simplex_member.specs.Restarts.{RestartFacts, IsByView, cut_member, new_life, retention_grows, RecoversByView, IsRestart, IsRestartWhere}
 use Rattle.simplex_member.specs.Runs.{StepFacts, Calls, Prunes, Restarts, restart_told, IsRun, EndsRun, EndsRunFrom}
 use Rattle.simplex_record.specs.Start.{StartFacts, new_state}
 use Rattle.simplex_member.specs.Start.{started_member}
@@ -161,7 +161,7 @@ module _ {K L D : Type 0} (same : D → D → Bool) (elect : Elect L) (term_leng
         shows = shows_whole n.entries copy start.floor (recovered_state same elect x start.floor start.now copy) by_view.of_each_view shows;
       }
 
-  goes_on : (n : MemberFacts K L D) (r : RestartFacts K L D) (result : Result (Unit {0}) RecoverError) (left : MemberFacts K L D) → OwnRecord trace n.entries → GoesOn same elect n r.start result left → MemberTells (trace ++ trace_at (Restarts r) (restart_told {K = K} {D = D} result)) left
+  goes_on : (n : MemberFacts K L D) (r : RestartFacts K L D) (result : Result (Unit {0}) RecoverError) (left : MemberFacts K L D) → OwnRecord trace n.entries → RecoversByView same elect n r.start result left → MemberTells (trace ++ trace_at (Restarts r) (restart_told {K = K} {D = D} result)) left
   goes_on n r result left own (inl (is, leaves)) = rw (is, leaves) (untold trace (without_life n) own)
   goes_on n r result left own (inr (copy, by_view, goes)) = by_error (recover_error same (new_state r.start.setup) r.start.floor r.start.now copy) goes
     where
@@ -185,43 +185,43 @@ error_in (Ok _) = error.OutOfMemory
 error_in (Err found) = found
 
 -- what holds of a member at each moment of a run
-pub record KeepsRecord {K L D : Type 0} (term_length : ℕ) (trace : List (TraceEvent D)) (m : MemberFacts K L D) : Type 0 where
+pub record LivesAndTells {K L D : Type 0} (term_length : ℕ) (trace : List (TraceEvent D)) (m : MemberFacts K L D) : Type 0 where
   pub lives : MemberLives term_length trace m
   pub tells : MemberTells trace m
 
 module _ {K L D : Type 0} (same : D → D → Bool) (decides : (d e : D) → same d e ≡ true → d ≡ e) (itself : (d : D) → same d d ≡ true) (elect : Elect L) (term_length : ℕ) (some : 0 < term_length) where
-  pub called : (trace : List (TraceEvent D)) (m next : MemberFacts K L D) (call : CallFacts D) (told : Told K D) → KeepsRecord term_length trace m → IsCall same elect m call told next → KeepsRecord term_length (trace ++ trace_of_call call told) next
+  pub called : (trace : List (TraceEvent D)) (m next : MemberFacts K L D) (call : CallFacts D) (told : Told K D) → LivesAndTells term_length trace m → IsCall same elect m call told next → LivesAndTells term_length (trace ++ trace_of_call call told) next
   called trace m next call told own is = record {
     lives = call_lives_on same decides elect term_length some trace m call told next own.lives is;
     tells = call_tells_on same elect term_length trace m call told next own.tells is;
   }
 
-  pub restarted : (trace : List (TraceEvent D)) (m next : MemberFacts K L D) (r : RestartFacts K L D) (told : Told K D) → HasTerms term_length r.start.setup → KeepsRecord term_length trace m → (result : Result (Unit {0}) RecoverError) × IsRestart same elect m r result next × (told ≡ restart_told result) → KeepsRecord term_length (trace ++ trace_at (Restarts r) told) next
+  pub restarted : (trace : List (TraceEvent D)) (m next : MemberFacts K L D) (r : RestartFacts K L D) (told : Told K D) → HasTerms term_length r.start.setup → LivesAndTells term_length trace m → (result : Result (Unit {0}) RecoverError) × IsRestart same elect m r result next × (told ≡ restart_told result) → LivesAndTells term_length (trace ++ trace_at (Restarts r) told) next
   restarted trace m next r told fresh own (result, is, tell) = rw tell (record {
     lives = restart_lives_on same decides elect term_length some trace m r result next fresh own.lives is;
     tells = restart_tells_on same elect term_length trace m r result next own.tells is;
   })
 
-  pub pruned : (trace : List (TraceEvent D)) (m : MemberFacts K L D) → KeepsRecord term_length trace m → KeepsRecord term_length (trace ++ []) (pruned_member m)
+  pub pruned : (trace : List (TraceEvent D)) (m : MemberFacts K L D) → LivesAndTells term_length trace m → LivesAndTells term_length (trace ++ []) (pruned_member m)
   pruned trace m own = record { lives = prune_lives_on term_length trace m own.lives; tells = prune_tells_on trace m own.tells }
 
   -- so it does where the run ends
-  pub run_own : (steps : List (StepFacts K L D)) (replies : List (Told K D)) (trace : List (TraceEvent D)) (m end : MemberFacts K L D) → KeepTerms term_length steps → KeepsRecord term_length trace m → IsRun same elect m steps replies end → KeepsRecord term_length (trace ++ trace_of_steps steps replies) end
-  run_own [] [] trace m end fresh own run = subst (λ all. KeepsRecord term_length all end) (sym (append-nil trace)) (subst (λ n. KeepsRecord term_length trace n) run own)
+  pub run_own : (steps : List (StepFacts K L D)) (replies : List (Told K D)) (trace : List (TraceEvent D)) (m end : MemberFacts K L D) → KeepTerms term_length steps → LivesAndTells term_length trace m → IsRun same elect m steps replies end → LivesAndTells term_length (trace ++ trace_of_steps steps replies) end
+  run_own [] [] trace m end fresh own run = subst (λ all. LivesAndTells term_length all end) (sym (append-nil trace)) (subst (λ n. LivesAndTells term_length trace n) run own)
   run_own [] (told ∷ replies) trace m end fresh own run = absurd run
   run_own (step ∷ steps) [] trace m end fresh own run = absurd run
   run_own (Calls call ∷ steps) (told ∷ replies) trace m end fresh own (next, is_step, rest) =
-      subst (λ all. KeepsRecord term_length all end) (append_assoc trace (trace_at {L = L} (Calls call) told) (trace_of_steps steps replies))
+      subst (λ all. LivesAndTells term_length all end) (append_assoc trace (trace_at {L = L} (Calls call) told) (trace_of_steps steps replies))
       (run_own steps replies (trace ++ trace_of_call call told) next end fresh (called trace m next call told own is_step) rest)
   run_own (Prunes ∷ steps) (told ∷ replies) trace m end fresh own (next, (tells, leaves), rest) =
-      rw tells (subst (λ all. KeepsRecord term_length all end) (append_assoc trace [] (trace_of_steps steps replies))
+      rw tells (subst (λ all. LivesAndTells term_length all end) (append_assoc trace [] (trace_of_steps steps replies))
       (run_own steps replies (trace ++ []) next end fresh (rw leaves (pruned trace m own)) rest))
   run_own (Restarts r ∷ steps) (told ∷ replies) trace m end fresh own (next, is_step, rest) =
-      subst (λ all. KeepsRecord term_length all end) (append_assoc trace (trace_at (Restarts r) told) (trace_of_steps steps replies))
+      subst (λ all. LivesAndTells term_length all end) (append_assoc trace (trace_at (Restarts r) told) (trace_of_steps steps replies))
       (run_own steps replies (trace ++ trace_at (Restarts r) told) next end fresh.1 (restarted trace m next r told fresh.0 own is_step) rest)
 
   -- a copy of what any cut leaves breaks no rule on how entries stand beside one another
-  copy_fits : (trace : List (TraceEvent D)) (m : MemberFacts K L D) (n : ℕ) (prune : Bool) (copy : List (ArtifactFacts D)) → KeepsRecord term_length trace m → IsByView (cut_member m n prune).entries copy → Fit same [] copy
+  copy_fits : (trace : List (TraceEvent D)) (m : MemberFacts K L D) (n : ℕ) (prune : Bool) (copy : List (ArtifactFacts D)) → LivesAndTells term_length trace m → IsByView (cut_member m n prune).entries copy → Fit same [] copy
   copy_fits trace m n prune copy own by_view =
       let left = (cut_member m n prune).entries in
       let between = cut_between term_length trace m n own.lives.0 prune (between_of term_length trace m.closed own.lives.0 m.entries m.outstanding_work m.life own.lives.1) in
@@ -229,10 +229,10 @@ module _ {K L D : Type 0} (same : D → D → Bool) (decides : (d e : D) → sam
       let in_copy = own_copy trace left (cut_own trace m n prune (own_of trace m.entries m.life own.tells)) copy by_view.of_each_view in
       record_fits same itself copy (own_together term_length trace between.0 copy between.1.lawful remembers in_copy) by_view.rising
 
-  copy_outside : (trace : List (TraceEvent D)) (m : MemberFacts K L D) (r : RestartFacts K L D) (copy : List (ArtifactFacts D)) (found : RecoverError) → KeepsRecord term_length trace m → IsByView (cut_member m r.drop r.prune).entries copy → recover_error same (new_state r.start.setup) r.start.floor r.start.now copy ≡ Some found → IsFromOutside found
+  copy_outside : (trace : List (TraceEvent D)) (m : MemberFacts K L D) (r : RestartFacts K L D) (copy : List (ArtifactFacts D)) (found : RecoverError) → LivesAndTells term_length trace m → IsByView (cut_member m r.drop r.prune).entries copy → recover_error same (new_state r.start.setup) r.start.floor r.start.now copy ≡ Some found → IsFromOutside found
   copy_outside trace m r copy found own by_view is = error_outside same (new_state r.start.setup) r.start.floor r.start.now copy found (copy_fits trace m r.drop r.prune copy own by_view) is
 
-  copy_parent : (trace : List (TraceEvent D)) (m : MemberFacts K L D) (r : RestartFacts K L D) (copy : List (ArtifactFacts D)) → KeepsRecord term_length trace m → IsByView (cut_member m r.drop r.prune).entries copy → recover_error same (new_state r.start.setup) r.start.floor r.start.now copy ≡ Some error.ParentNotBelow → AcceptedParentAbove trace
+  copy_parent : (trace : List (TraceEvent D)) (m : MemberFacts K L D) (r : RestartFacts K L D) (copy : List (ArtifactFacts D)) → LivesAndTells term_length trace m → IsByView (cut_member m r.drop r.prune).entries copy → recover_error same (new_state r.start.setup) r.start.floor r.start.now copy ≡ Some error.ParentNotBelow → AcceptedParentAbove trace
   copy_parent trace m r copy own by_view is =
       let left = (cut_member m r.drop r.prune).entries in
       let between = cut_between term_length trace m r.drop own.lives.0 r.prune (between_of term_length trace m.closed own.lives.0 m.entries m.outstanding_work m.life own.lives.1) in
@@ -240,7 +240,7 @@ module _ {K L D : Type 0} (same : D → D → Bool) (decides : (d e : D) → sam
       let in_copy = own_copy trace left (cut_own trace m r.drop r.prune (own_of trace m.entries m.life own.tells)) copy by_view.of_each_view in
       parent_accepted same term_length trace between.1.lawful (new_state r.start.setup) r.start.floor r.start.now copy in_copy.notarize_cast remembers.finalize_cast is
 
-  pub copy_high : (trace : List (TraceEvent D)) (m : MemberFacts K L D) (r : RestartFacts K L D) (copy : List (ArtifactFacts D)) → AreSmall trace → KeepsRecord term_length trace m → IsByView (cut_member m r.drop r.prune).entries copy → recover_error same (new_state r.start.setup) r.start.floor r.start.now copy ≡ Some error.ViewTooLarge → (is_floor_too_large r.start.floor ≡ true) ⊎ HasHighVote trace
+  pub copy_high : (trace : List (TraceEvent D)) (m : MemberFacts K L D) (r : RestartFacts K L D) (copy : List (ArtifactFacts D)) → AreSmall trace → LivesAndTells term_length trace m → IsByView (cut_member m r.drop r.prune).entries copy → recover_error same (new_state r.start.setup) r.start.floor r.start.now copy ≡ Some error.ViewTooLarge → (is_floor_too_large r.start.floor ≡ true) ⊎ HasHighVote trace
   copy_high trace m r copy small own by_view is =
       let left = (cut_member m r.drop r.prune).entries in
       let between = cut_between term_length trace m r.drop own.lives.0 r.prune (between_of term_length trace m.closed own.lives.0 m.entries m.outstanding_work m.life own.lives.1) in
@@ -248,7 +248,7 @@ module _ {K L D : Type 0} (same : D → D → Bool) (decides : (d e : D) → sam
       let in_copy = own_copy trace left (cut_own trace m r.drop r.prune (own_of trace m.entries m.life own.tells)) copy by_view.of_each_view in
       view_voted term_length trace between.1.lawful small between.0 copy remembers in_copy same (new_state r.start.setup) r.start.floor r.start.now is
 
-  restart_excused : (trace : List (TraceEvent D)) (m left : MemberFacts K L D) (r : RestartFacts K L D) (result : Result (Unit {0}) RecoverError) (found : RecoverError) → result ≡ Err found → KeepsRecord term_length trace m → IsRestart same elect m r result left → IsExcused found
+  restart_excused : (trace : List (TraceEvent D)) (m left : MemberFacts K L D) (r : RestartFacts K L D) (result : Result (Unit {0}) RecoverError) (found : RecoverError) → result ≡ Err found → LivesAndTells term_length trace m → IsRestart same elect m r result left → IsExcused found
   unfolding IsRestart
   restart_excused trace m left r result found refused own restarts = by_test (retention_grows m r.prune r.start.setup.settings.view_retention) restarts
     where
@@ -261,7 +261,7 @@ module _ {K L D : Type 0} (same : D → D → Bool) (decides : (d e : D) → sam
       by_test false (inl (is, leaves)) = inr (inr (sym (ap error_in refused) ∙ ap error_in is))
       by_test false (inr (copy, by_view, goes)) = by_error copy by_view (recover_error same (new_state r.start.setup) r.start.floor r.start.now copy) refl goes
 
-  run_excused : (steps : List (StepFacts K L D)) (trace : List (TraceEvent D)) (m : MemberFacts K L D) (found : RecoverError) → KeepTerms term_length steps → KeepsRecord term_length trace m → EndsRun same elect m steps found → IsExcused found
+  run_excused : (steps : List (StepFacts K L D)) (trace : List (TraceEvent D)) (m : MemberFacts K L D) (found : RecoverError) → KeepTerms term_length steps → LivesAndTells term_length trace m → EndsRun same elect m steps found → IsExcused found
   run_excused [] trace m found fresh own ends = absurd ends
   run_excused (Calls call ∷ steps) trace m found fresh own (inl refused) = absurd refused
   run_excused (Calls call ∷ steps) trace m found fresh own (inr (told, next, is_step, served, later)) = run_excused steps (trace ++ trace_of_call call told) next found fresh (called trace m next call told own is_step) later
@@ -282,7 +282,7 @@ module _ {K L D : Type 0} (same : D → D → Bool) (decides : (d e : D) → sam
         shows = shows_whole none none start.floor (recovered_state same elect x start.floor start.now none) (λ v. refl) shows;
       }
 
-  pub start_own : KeepsRecord term_length (of_floor start.floor) (started_member same elect (new_state start.setup) start.floor start.now)
+  pub start_own : LivesAndTells term_length (of_floor start.floor) (started_member same elect (new_state start.setup) start.floor start.now)
   start_own = record { lives = start_lives same decides elect term_length start begins; tells = start_tells }
 
   module _ (steps : List (StepFacts K L D)) (fresh : KeepTerms term_length steps) where

@@ -19,7 +19,7 @@ use Rattle.simplex_record.specs.Check.{first_error, recovery_floor_rules, first_
 use Rattle.simplex_member.specs.Lives.{MemberFacts, IsCall, AnswersAlive, reply_of, unless_refused, without_life}
 use Rattle.simplex_member.specs.CallSemantics.{answer}
 use Rattle.simplex_record.specs.Recovery.{recover_error}
-use Rattle.simplex_member.specs.Restarts.{RestartFacts, cut_member, new_life, retention_grows, GoesOn, IsRestart, IsRestartWhere}
+use Rattle.simplex_member.specs.Restarts.{RestartFacts, cut_member, new_life, retention_grows, RecoversByView, IsRestart, IsRestartWhere}
 use Rattle.simplex_member.specs.Runs.{StepFacts, Calls, Prunes, Restarts, restart_told, IsRun}
 use Rattle.simplex_record.specs.Start.{new_state}
 use Rattle.simplex_laws.specs.Traces.{TraceEvent, Accepts, handed_in, of_floor, of_vote, signed_in, accepted_by, trace_of_call, trace_at, trace_of_steps}
@@ -125,7 +125,7 @@ module _ {K L D : Type 0} (same : D → D → Bool) (elect : Elect L) where
 
   -- a restart
 
-  goes_on_small : (n left : MemberFacts K L D) (r : RestartFacts K L D) (result : Result (Unit {0}) RecoverError) → GoesOn same elect n r.start result left → AreSmall (trace_at (Restarts r) (restart_told {K = K} {D = D} result))
+  goes_on_small : (n left : MemberFacts K L D) (r : RestartFacts K L D) (result : Result (Unit {0}) RecoverError) → RecoversByView same elect n r.start result left → AreSmall (trace_at (Restarts r) (restart_told {K = K} {D = D} result))
   goes_on_small n left r result (inl (is, leaves)) = rw is small_none
   goes_on_small n left r result (inr (copy, by_view, goes)) = by_error (recover_error same (new_state r.start.setup) r.start.floor r.start.now copy) refl goes
     where

@@ -22,8 +22,8 @@ use Rattle.simplex_laws.proofs.agreement.Lawful.{lawful_push}
 use Rattle.simplex_laws.proofs.votes.LifeCalls.{no_key, no_rule}
 use Rattle.simplex_laws.proofs.records.RecordedVotes.{Marked, marked_more, quiet_marked}
 use Rattle.simplex_laws.proofs.frames.CallsMake.{AreSilent, work_silent, call_by_event}
-use Rattle.simplex_laws.proofs.votes.Standing.{Stays}
-use Rattle.simplex_laws.proofs.votes.StandingSteps.{silent_suits, stays_on}
+use Rattle.simplex_laws.proofs.votes.ShownVotes.{ShowsVotesInLife}
+use Rattle.simplex_laws.proofs.votes.ShownVotesBySteps.{silent_suits, stays_on}
 use Rattle.simplex_laws.proofs.records.TracesShown.{only_one}
 use Rattle.simplex_laws.proofs.records.Remembering.{Grows, remembers_more, single_split}
 use Rattle.simplex_laws.proofs.records.EntryTraces.{notarize_cast_stays}
@@ -85,9 +85,9 @@ module _ {K L D : Type 0} (same : D → D → Bool) (decides : (d e : D) → sam
 
   -- what stands of the votes and what the record shows, after a call on the work of a view
 
-  stays_worked : (call : CallFacts D) → is_work call ≡ true → is_allowed x o call ≡ true → Stays term_length trace (after_call same elect x o call)
+  stays_worked : (call : CallFacts D) → is_work call ≡ true → is_allowed x o call ≡ true → ShowsVotesInLife term_length trace (after_call same elect x o call)
   stays_worked call work allowed =
-      call_by_event same elect x o (λ es y. AreSilent es → Stays term_length trace y) (λ silent. living.keeps.stays)
+      call_by_event same elect x o (λ es y. AreSilent es → ShowsVotesInLife term_length trace y) (λ silent. living.keeps.stays)
       (λ e takes floor silent. stays_on same decides elect term_length trace x e (silent_suits trace _ x e silent.0) living.keeps.stays) call allowed (work_silent o call work)
 
   marked_worked : (call : CallFacts D) → is_work call ≡ true → is_allowed x o call ≡ true → Marked entries (after_call same elect x o call)

@@ -23,9 +23,9 @@ use Rattle.simplex_member.specs.Allowed.{is_allowed}
 use Rattle.simplex_member.specs.CallSemantics.{nullify_vote, finalize_vote, if_new, unrepeated_vote, vote_entry, answer, after_call, recorded_by}
 use Rattle.simplex_member.specs.OutstandingWork.{OutstandingWork}
 use Rattle.simplex_laws.specs.Traces.{TraceEvent, Accepts, Signs, trace_of_call}
-use Rattle.simplex_laws.proofs.votes.Standing.{Stays}
+use Rattle.simplex_laws.proofs.votes.ShownVotes.{ShowsVotesInLife}
 use Rattle.simplex_laws.proofs.frames.CallsOnWork.{is_work}
-use Rattle.simplex_laws.proofs.votes.StandingVotes.{held_notarized}
+use Rattle.simplex_laws.proofs.votes.ShownVotesByVotes.{held_notarized}
 use Rattle.simplex_laws.proofs.votes.LifeCalls.{nullify_silent, nullify_told, finalize_silent, finalize_told, no_key, no_rule}
 use Rattle.simplex_laws.proofs.records.TracesShown.{Remembers}
 use Rattle.simplex_laws.proofs.records.RecordedVotes.{Marked, marked_more, event_marked, quiet_marked}
@@ -54,7 +54,7 @@ module _ {K L D : Type 0} (x : StateFacts K L D) (v : ℕ) where
       by_round None some takes no_first = absurd (false≢true some)
       by_round (Some r) some takes no_first = judged_true (is_judged true r.certification) (is_judged false r.certification) (and_parts (is_some r.notarization) (not (is_judged false r.certification)) takes).1 no_first
 
-module _ {K L D : Type 0} (same : D → D → Bool) (elect : Elect L) (term_length : ℕ) (trace : List (TraceEvent D)) (kept : ℕ) (entries : List (ArtifactFacts D)) (x : StateFacts K L D) (stays : Stays term_length trace x) (follows : Follows trace kept entries x) where
+module _ {K L D : Type 0} (same : D → D → Bool) (elect : Elect L) (term_length : ℕ) (trace : List (TraceEvent D)) (kept : ℕ) (entries : List (ArtifactFacts D)) (x : StateFacts K L D) (stays : ShowsVotesInLife term_length trace x) (follows : Follows trace kept entries x) where
   nothing_follows : (y : StateFacts K L D) → Marked entries y → Follows (trace ++ []) kept (entries ++ []) y
   nothing_follows y marked = record { remembers = remembers_more trace entries kept [] [] (grows_nothing trace entries) follows.remembers; marked = marked_more entries [] y marked }
 

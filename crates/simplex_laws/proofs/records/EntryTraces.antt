@@ -14,8 +14,8 @@ use Rattle.simplex_record.specs.Entries.{entry_view}
 use Rattle.simplex_laws.specs.Traces.{TraceEvent, Accepts, Signs}
 use Rattle.simplex_laws.specs.Lawful.{HasSigned}
 use Rattle.simplex_laws.proofs.lists.Signed.{signed_push}
-use Rattle.simplex_laws.proofs.votes.Standing.{Stays, still, final_still, stays_accepted}
-use Rattle.simplex_laws.proofs.votes.StandingVotes.{nullify_cast_stands, finalize_cast_stands}
+use Rattle.simplex_laws.proofs.votes.ShownVotes.{ShowsVotesInLife, still, final_still, stays_accepted}
+use Rattle.simplex_laws.proofs.votes.ShownVotesByVotes.{nullify_cast_stands, finalize_cast_stands}
 
 -- what a certificate is about
 abbrev pub subject_of : {D : Type 0} → CertificateFacts D → Subject D
@@ -37,9 +37,9 @@ MayRetake {D} trace current (NullifyVote round _) = (1 ≤ round.view) × ((p : 
 MayRetake trace current (FinalizeVote p _) = (p.round.view < current) × ((round : Round) → HasSigned trace (subject.Nullify round) → round.view ≢ p.round.view)
 MayRetake trace current _ = ⊤
 
-module _ {K L D : Type 0} (term_length : ℕ) (trace : List (TraceEvent D)) (x : StateFacts K L D) (stays : Stays term_length trace x) where
+module _ {K L D : Type 0} (term_length : ℕ) (trace : List (TraceEvent D)) (x : StateFacts K L D) (stays : ShowsVotesInLife term_length trace x) where
   -- a vote to notarize is cast
-  pub notarize_cast_stays : (p : Proposal D) (m : ℕ) → Stays term_length (trace ++ Signs m (subject.Notarize p) ∷ []) x
+  pub notarize_cast_stays : (p : Proposal D) (m : ℕ) → ShowsVotesInLife term_length (trace ++ Signs m (subject.Notarize p) ∷ []) x
   notarize_cast_stays p m =
       let new = Signs m (subject.Notarize p) in
       record {
@@ -61,25 +61,25 @@ module _ {K L D : Type 0} (term_length : ℕ) (trace : List (TraceEvent D)) (x :
         final = final_still trace new x.finalized stays.final;
       }
 
-  pub nullify_cast_stays : (round : Round) (m : ℕ) → 1 ≤ round.view → Contains x.nullify_votes round.view ⊎ (round.view ≤ x.finalized) → (is_nullify (round_of x round.view).decision ≡ true) ⊎ (round.view ≤ x.finalized) → Stays term_length (trace ++ Signs m (subject.Nullify round) ∷ []) x
+  pub nullify_cast_stays : (round : Round) (m : ℕ) → 1 ≤ round.view → Contains x.nullify_votes round.view ⊎ (round.view ≤ x.finalized) → (is_nullify (round_of x round.view).decision ≡ true) ⊎ (round.view ≤ x.finalized) → ShowsVotesInLife term_length (trace ++ Signs m (subject.Nullify round) ∷ []) x
   nullify_cast_stays round m one noted decided = record {
     stands = nullify_cast_stands term_length trace x.current x round m one noted decided stays.stands;
     ahead = stays.ahead;
     final = final_still trace (Signs m (subject.Nullify round)) x.finalized stays.final;
   }
 
-  pub finalize_cast_stays : (p : Proposal D) (m : ℕ) → p.round.view < x.current → (is_finalize (round_of x p.round.view).decision ≡ true) ⊎ (p.round.view ≤ x.finalized) → Stays term_length (trace ++ Signs m (subject.Finalize p) ∷ []) x
+  pub finalize_cast_stays : (p : Proposal D) (m : ℕ) → p.round.view < x.current → (is_finalize (round_of x p.round.view).decision ≡ true) ⊎ (p.round.view ≤ x.finalized) → ShowsVotesInLife term_length (trace ++ Signs m (subject.Finalize p) ∷ []) x
   finalize_cast_stays p m passed decided = record {
     stands = finalize_cast_stands term_length trace x.current x p m passed decided stays.stands;
     ahead = stays.ahead;
     final = final_still trace (Signs m (subject.Finalize p)) x.finalized stays.final;
   }
 
-  pub nothing_stays : Stays term_length (trace ++ []) x
-  nothing_stays = subst (λ a. Stays term_length a x) (sym (append-nil trace)) stays
+  pub nothing_stays : ShowsVotesInLife term_length (trace ++ []) x
+  nothing_stays = subst (λ a. ShowsVotesInLife term_length a x) (sym (append-nil trace)) stays
 
   -- an entry that is passed over lies below the views that are kept
-  pub passed_over : (e : ArtifactFacts D) → entry_view e ≤ x.finalized → MayRetake trace x.current e → Stays term_length (trace ++ entry_trace e) x
+  pub passed_over : (e : ArtifactFacts D) → entry_view e ≤ x.finalized → MayRetake trace x.current e → ShowsVotesInLife term_length (trace ++ entry_trace e) x
   passed_over (NotarizeVote p m) below may = notarize_cast_stays p m
   passed_over (NullifyVote round m) below may = nullify_cast_stays round m may.0 (inr below) (inr below)
   passed_over (FinalizeVote p m) below may = finalize_cast_stays p m (omega (arith, stays.ahead)) (inr below)

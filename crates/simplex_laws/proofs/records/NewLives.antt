@@ -23,7 +23,7 @@ use Rattle.simplex_laws.specs.Lawful.{IsLawful}
 use Rattle.simplex_laws.proofs.agreement.Lawful.{lawful_push}
 use Rattle.simplex_laws.proofs.lists.Splits.{Contains-cases}
 use Rattle.simplex_laws.proofs.frames.CallsOnWork.{is_work}
-use Rattle.simplex_laws.proofs.votes.LifeCalls.{KeepsRules, call_keeps}
+use Rattle.simplex_laws.proofs.votes.LifeCalls.{IsLawfulAndShown, call_keeps}
 use Rattle.simplex_laws.proofs.records.RecoveredVotes.{recovered_stays}
 use Rattle.simplex_laws.proofs.records.RecoveredRecords.{recovered_marked}
 use Rattle.simplex_laws.proofs.records.RecordedVotes.{Marked}
@@ -39,7 +39,7 @@ use Rattle.simplex_laws.proofs.records.Lifetimes.{IsHigh, Between, high_known}
 
 -- a living member: its state keeps the rules, and its record follows them
 pub record Living {K L D : Type 0} (term_length : ℕ) (trace : List (TraceEvent D)) (closed kept : ℕ) (entries : List (ArtifactFacts D)) (o : OutstandingWork K D) (x : StateFacts K L D) : Type 0 where
-  pub keeps : KeepsRules term_length trace x
+  pub keeps : IsLawfulAndShown term_length trace x
   pub follows : Follows trace kept entries x
   pub in_order : InOrder x
   pub notes : RemembersNotes trace kept entries

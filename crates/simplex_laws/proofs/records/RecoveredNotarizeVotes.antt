@@ -24,7 +24,7 @@ use Rattle.simplex_laws.specs.Traces.{TraceEvent, Accepts}
 use Rattle.simplex_laws.proofs.frames.Rising.{finalization_passes}
 use Rattle.simplex_laws.proofs.lists.Splits.{Contains-cases, Contains-cons_rest}
 use Rattle.simplex_record.proofs.Rounds.{round_put}
-use Rattle.simplex_laws.proofs.votes.UnchangedProposals.{CalmOn, LeavesWork, calm_along, event_calm, leaves}
+use Rattle.simplex_laws.proofs.votes.UnchangedProposals.{UnchangedProposalsFrom, IsNoProposalWork, calm_along, event_calm, leaves}
 use Rattle.simplex_laws.specs.Events as event
 use Rattle.simplex_laws.specs.Events.{Event, after_event}
 use Rattle.simplex_laws.specs.HistoryFolds.{covers_from}
@@ -110,7 +110,7 @@ module _ {K L D : Type 0} (copy : List (ArtifactFacts D)) where
   remakes_same : (x : StateFacts K L D) → Remakes copy x x
   remakes_same x = record { finalized = omega arith; decided = λ v is. is; made = λ m. m }
 
-  remakes_calm : (e : Event K D) (x y : StateFacts K L D) → ((u : ℕ) → covers_from u e ≡ true → (c : NullificationFacts) × Contains copy (Accepted (Nullified c)) × (c.round.view ≡ u)) → CalmOn 0 e x y → Remakes copy x y
+  remakes_calm : (e : Event K D) (x y : StateFacts K L D) → ((u : ℕ) → covers_from u e ≡ true → (c : NullificationFacts) × Contains copy (Accepted (Nullified c)) × (c.round.view ≡ u)) → UnchangedProposalsFrom 0 e x y → Remakes copy x y
   remakes_calm e x y recorded left = record {
     finalized = left.goes.finalized;
     decided = λ v. (left.rounds v).grown.decided;
@@ -165,7 +165,7 @@ module _ {K L D : Type 0} (same : D → D → Bool) (elect : Elect L) (now : ℕ
         let y = with_round x v (own_round_again p) in
         ((calm_along same elect y event.CertifyCandidates 0 (leaves refl) y (with_next_view_ready elect y v) (to_prepared v (omega arith) Still)).rounds v).grown.decided (ap (λ (s : RoundFacts K D). s.notarize_decided) (round_put x v (own_round_again p)) ∙ voted_again p)
 
-    remakes_event : (y : StateFacts K L D) (e : Event K D) → LeavesWork e → ((u : ℕ) → covers_from u e ≡ true → (c : NullificationFacts) × Contains copy (Accepted (Nullified c)) × (c.round.view ≡ u)) → Remakes copy y (after_event same elect y e)
+    remakes_event : (y : StateFacts K L D) (e : Event K D) → IsNoProposalWork e → ((u : ℕ) → covers_from u e ≡ true → (c : NullificationFacts) × Contains copy (Accepted (Nullified c)) × (c.round.view ≡ u)) → Remakes copy y (after_event same elect y e)
     remakes_event y e leaves recorded = remakes_calm copy e y (after_event same elect y e) recorded (event_calm same elect 0 y e leaves (omega arith) (asked_of_all y e))
 
     retaken_remakes : (e : ArtifactFacts D) → Contains copy e → Remakes copy x (after_entry same elect x now e)

@@ -12,7 +12,7 @@ use Rattle.simplex_record.specs.Recovery.{after_entry, after_kept_entry, after_e
 use Rattle.simplex_laws.specs.Events as event
 use Rattle.simplex_laws.specs.Events.{Event, after_event}
 use Rattle.simplex_laws.proofs.records.RecordedVotes.{Marked, event_marked, quiet_marked}
-use Rattle.simplex_laws.proofs.records.EntriesStand.{taken_if, taken_keeps}
+use Rattle.simplex_laws.proofs.records.ShownVotesByEntries.{taken_if, taken_keeps}
 use Rattle.simplex_laws.proofs.frames.Rising.{event_goes}
 use Rattle.simplex_laws.proofs.lists.Splits.{Contains-cons_rest}
 use Rattle.simplex_record.proofs.Steps.{verdict_by, nullify_by}

@@ -16,8 +16,8 @@ use Rattle.simplex_laws.specs.Traces.{TraceEvent, Accepts, Signs, of_floor}
 use Rattle.simplex_laws.specs.Lawful.{IsLawful}
 use Rattle.simplex_laws.proofs.lists.Signed.{signed_right, signed_cases}
 use Rattle.simplex_laws.proofs.lists.Splits.{Contains-cases}
-use Rattle.simplex_laws.proofs.votes.Standing.{Stays}
-use Rattle.simplex_laws.proofs.votes.StartStands.{start_stays, floor_unsigned}
+use Rattle.simplex_laws.proofs.votes.ShownVotes.{ShowsVotesInLife}
+use Rattle.simplex_laws.proofs.votes.ShownVotesAtStart.{start_stays, floor_unsigned}
 use Rattle.simplex_laws.proofs.frames.CallsMake.{all_keep}
 use Rattle.simplex_laws.proofs.frames.Rising.{event_goes, finalization_passes}
 use Rattle.simplex_laws.specs.Events as event
@@ -47,7 +47,7 @@ module _ {K L D : Type 0} (same : D → D → Bool) (elect : Elect L) (now : ℕ
 module _ {K L D : Type 0} (same : D → D → Bool) (decides : (d e : D) → same d e ≡ true → d ≡ e) (elect : Elect L) (settings : Settings) (me : Option ℕ) (members : List K) (elector : L) (terms : Terms) (early : Bool) where
   -- a state made from a record of the whole trace before shows it, and the floor's finalization besides; of the views that the
   -- record may lack votes of, one that is no lower is finalized in it
-  pub recovered_stays : (trace : List (TraceEvent D)) (kept : ℕ) (copy : List (ArtifactFacts D)) (floor : FloorFacts D) (now : ℕ) → IsLawful terms.term_length trace → Remembers trace kept copy → (kept ≡ 0) ⊎ ((c : ProposalFacts D) × Contains copy (Accepted (Finalized c)) × (kept ≤ c.proposal.round.view)) → Stays terms.term_length (trace ++ of_floor floor) (recovered_state same elect (new_facts settings me members elector terms early) floor now copy)
+  pub recovered_stays : (trace : List (TraceEvent D)) (kept : ℕ) (copy : List (ArtifactFacts D)) (floor : FloorFacts D) (now : ℕ) → IsLawful terms.term_length trace → Remembers trace kept copy → (kept ≡ 0) ⊎ ((c : ProposalFacts D) × Contains copy (Accepted (Finalized c)) × (kept ≤ c.proposal.round.view)) → ShowsVotesInLife terms.term_length (trace ++ of_floor floor) (recovered_state same elect (new_facts settings me members elector terms early) floor now copy)
   unfolding recovered_state
   recovered_stays trace kept copy floor now lawful remembers final =
       let x = after_set_floor same elect (new_facts settings me members elector terms early) floor now in
@@ -56,7 +56,7 @@ module _ {K L D : Type 0} (same : D → D → Bool) (decides : (d e : D) → sam
       let a = of_floor floor ++ entries_trace copy in
       let b = trace ++ of_floor floor in
       let none : AreRecorded trace (of_floor floor) = (λ round h. absurd (floor_unsigned floor (subject.Nullify round) h), λ p h. absurd (floor_unsigned floor (subject.Finalize p) h)) in
-      let stays : Stays t a z = all_stay same decides elect t trace lawful kept copy remembers now copy [] (of_floor floor) x refl none (λ round h. absurd (omega (arith, h.1))) (start_stays same decides elect settings me members elector terms early floor now) in
+      let stays : ShowsVotesInLife t a z = all_stay same decides elect t trace lawful kept copy remembers now copy [] (of_floor floor) x refl none (λ round h. absurd (omega (arith, h.1))) (start_stays same decides elect settings me members elector terms early floor now) in
       let high : kept ≤ z.finalized = elim final [ inl nothing ↦ omega arith | inr c ↦ omega (arith, all_finalizes same elect now x copy c.0 c.1, c.2) ] in
       stays_over t a b z
       (λ s h. elim (Contains-append_cases (of_floor floor) (entries_trace copy) (Accepts s) h) [

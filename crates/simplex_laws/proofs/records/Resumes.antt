@@ -20,7 +20,7 @@ use Rattle.simplex_member.specs.Journal.{stored_of, stored_facts, whole_restart,
 use Rattle.simplex_member.specs.Lives.{MemberFacts, without_life, left_of, AnswersAlive, IsCall}
 use Rattle.simplex_member.specs.OutstandingWork.{OutstandingWork, no_outstanding_work}
 use Rattle.simplex_record.specs.Recovery.{recover_error, is_finalization, with_floor}
-use Rattle.simplex_member.specs.Restarts.{RestartFacts, cut_member, retention_grows, new_life, GoesOn, IsRestartWhere, IsRestart}
+use Rattle.simplex_member.specs.Restarts.{RestartFacts, cut_member, retention_grows, new_life, RecoversByView, IsRestartWhere, IsRestart}
 use Rattle.simplex_member.specs.Runs.{StepFacts, Calls, Prunes, Restarts, IsStep, IsRun, IsRefused}
 use Rattle.simplex_record.specs.Start.{StartFacts, new_state}
 use Rattle.simplex_member.specs.Start.{started_member}
@@ -89,7 +89,7 @@ module _ {K L D : Type 0} (same : D → D → Bool) (elect : Elect L) (m : Membe
       by_life (Some x) (inr (_, tell, inr (_, _, leaves))) = rw leaves within
 
 module _ {K L D : Type 0} (same : D → D → Bool) (elect : Elect L) where
-  goes_on_within : (n : MemberFacts K L D) (start : StartFacts K L D) (result : Result (Unit {0}) RecoverError) (left : MemberFacts K L D) → Within n → GoesOn same elect n start result left → Within left
+  goes_on_within : (n : MemberFacts K L D) (start : StartFacts K L D) (result : Result (Unit {0}) RecoverError) (left : MemberFacts K L D) → Within n → RecoversByView same elect n start result left → Within left
   goes_on_within n start result left within (inl (is, leaves)) = rw leaves within
   goes_on_within n start result left within (inr (copy, by_view, goes)) = by_error (recover_error same (new_state start.setup) start.floor start.now copy) goes
     where

@@ -16,7 +16,7 @@ use Rattle.simplex_record.specs.Cuts.{without_last, finalized_in}
 use Rattle.simplex_member.specs.OutstandingWork.{OutstandingWork, no_outstanding_work}
 use Rattle.simplex_member.specs.Lives.{MemberFacts, IsCall, AnswersAlive, reply_of, left_of, without_life}
 use Rattle.simplex_record.specs.Recovery.{recover_error, recovered_state, with_floor}
-use Rattle.simplex_member.specs.Restarts.{RestartFacts, IsByView, cut_member, new_life, retention_grows, GoesOn, IsRestart, IsRestartWhere}
+use Rattle.simplex_member.specs.Restarts.{RestartFacts, IsByView, cut_member, new_life, retention_grows, RecoversByView, IsRestart, IsRestartWhere}
 use Rattle.simplex_laws.specs.Traces.{TraceEvent, of_floor, trace_of_call, trace_at, trace_of_steps}
 use Rattle.simplex_laws.specs.Lawful.{IsLawful}
 use Rattle.simplex_laws.specs.Executions.{Execution, trace_of, BeginsAs, IsExecution}
@@ -109,7 +109,7 @@ module _ {K L D : Type 0} (same : D → D → Bool) (decides : (d e : D) → sam
   refused_life : (n : MemberFacts K L D) (kept : ℕ) → Between term_length trace n.closed kept n.entries → MemberLives term_length (trace ++ []) (without_life n)
   refused_life n kept between = quiet term_length trace (without_life n) (kept, between)
 
-  goes_on : (n : MemberFacts K L D) (r : RestartFacts K L D) (result : Result (Unit {0}) RecoverError) (left : MemberFacts K L D) (kept : ℕ) → HasTerms term_length r.start.setup → Between term_length trace n.closed kept n.entries → GoesOn same elect n r.start result left → MemberLives term_length (trace ++ trace_at (Restarts r) (restart_told {K = K} {D = D} result)) left
+  goes_on : (n : MemberFacts K L D) (r : RestartFacts K L D) (result : Result (Unit {0}) RecoverError) (left : MemberFacts K L D) (kept : ℕ) → HasTerms term_length r.start.setup → Between term_length trace n.closed kept n.entries → RecoversByView same elect n r.start result left → MemberLives term_length (trace ++ trace_at (Restarts r) (restart_told {K = K} {D = D} result)) left
   goes_on n r result left kept fresh between (inl (is, leaves)) = rw (is, leaves) (refused_life n kept between)
   goes_on n r result left kept fresh between (inr (copy, by_view, goes)) = by_error (recover_error same (new_state r.start.setup) r.start.floor r.start.now copy) refl goes
     where

@@ -14,9 +14,9 @@ use Rattle.simplex_laws.specs.Traces.{TraceEvent, Accepts, Signs}
 use Rattle.simplex_laws.specs.Lawful.{HasSigned, IsLawful}
 use Rattle.simplex_laws.proofs.lists.Signed.{signed_none, signed_cases, only_signed}
 use Rattle.simplex_laws.proofs.lists.Splits.{Contains-cases, Contains-cons_rest}
-use Rattle.simplex_laws.proofs.votes.Standing.{Stays}
+use Rattle.simplex_laws.proofs.votes.ShownVotes.{ShowsVotesInLife}
 use Rattle.simplex_laws.proofs.records.EntryTraces.{subject_of, entry_trace, MayRetake}
-use Rattle.simplex_laws.proofs.records.EntriesStand.{taken_stays, taken_rises, taken_passes}
+use Rattle.simplex_laws.proofs.records.ShownVotesByEntries.{taken_stays, taken_rises, taken_passes}
 
 -- what a record holds of a member's trace; it may lack votes of views below `kept`
 pub record Remembers {D : Type 0} (trace : List (TraceEvent D)) (kept : ℕ) (entries : List (ArtifactFacts D)) : Type 0 where
@@ -89,7 +89,7 @@ module _ {D : Type 0} where
 
 module _ {K L D : Type 0} (term_length : ℕ) (a b : List (TraceEvent D)) (x : StateFacts K L D) where
   -- the same facts show another trace, with no more votes above the finalized view and no fewer certificates
-  pub stays_over : ((s : Subject D) → Contains a (Accepts s) → Contains b (Accepts s)) → ((round : Round) → HasSigned b (subject.Nullify round) → (1 ≤ round.view) × (HasSigned a (subject.Nullify round) ⊎ (round.view ≤ x.finalized))) → ((p : Proposal D) → HasSigned b (subject.Finalize p) → HasSigned a (subject.Finalize p) ⊎ (p.round.view ≤ x.finalized)) → Stays term_length a x → Stays term_length b x
+  pub stays_over : ((s : Subject D) → Contains a (Accepts s) → Contains b (Accepts s)) → ((round : Round) → HasSigned b (subject.Nullify round) → (1 ≤ round.view) × (HasSigned a (subject.Nullify round) ⊎ (round.view ≤ x.finalized))) → ((p : Proposal D) → HasSigned b (subject.Finalize p) → HasSigned a (subject.Finalize p) ⊎ (p.round.view ≤ x.finalized)) → ShowsVotesInLife term_length a x → ShowsVotesInLife term_length b x
   stays_over accepts nullifies finalizes stays = record {
     stands = record {
       terms = stays.stands.terms;
@@ -144,8 +144,8 @@ module _ {D : Type 0} (term_length : ℕ) (trace : List (TraceEvent D)) (lawful 
   )
 
 module _ {K L D : Type 0} (same : D → D → Bool) (decides : (d e : D) → same d e ≡ true → d ≡ e) (elect : Elect L) (term_length : ℕ) (trace : List (TraceEvent D)) (lawful : IsLawful term_length trace) (kept : ℕ) (copy : List (ArtifactFacts D)) (remembers : Remembers trace kept copy) (now : ℕ) where
-  pub all_stay : (rest before : List (ArtifactFacts D)) (a : List (TraceEvent D)) (x : StateFacts K L D) → copy ≡ before ++ rest → AreRecorded trace a → ((round : Round) → Contains before (Verdict round true) → round.view < x.current) → Stays term_length a x → Stays term_length (a ++ entries_trace rest) (after_entries same elect x now rest)
-  all_stay [] before a x split recorded passed stays = subst (λ b. Stays term_length b x) (sym (append-nil a)) stays
+  pub all_stay : (rest before : List (ArtifactFacts D)) (a : List (TraceEvent D)) (x : StateFacts K L D) → copy ≡ before ++ rest → AreRecorded trace a → ((round : Round) → Contains before (Verdict round true) → round.view < x.current) → ShowsVotesInLife term_length a x → ShowsVotesInLife term_length (a ++ entries_trace rest) (after_entries same elect x now rest)
+  all_stay [] before a x split recorded passed stays = subst (λ b. ShowsVotesInLife term_length b x) (sym (append-nil a)) stays
   all_stay (e ∷ rest) before a x split recorded passed stays =
       let y = after_kept_entry same elect x now e in
       let further : List (ArtifactFacts D) = before ++ e ∷ [] in
@@ -158,4 +158,4 @@ module _ {K L D : Type 0} (same : D → D → Bool) (decides : (d e : D) → sam
         | inl old ↦ omega (arith, passed round old)
         | inr new ↦ taken_passes same decides elect term_length a x now e round new stays.ahead
       ] in
-      subst (λ b. Stays term_length b (after_entries same elect y now rest)) (append_assoc a (entry_trace e) (entries_trace rest)) (all_stay rest further (a ++ entry_trace e) y next (recorded_also term_length trace lawful kept copy remembers a e here recorded) passes took)
+      subst (λ b. ShowsVotesInLife term_length b (after_entries same elect y now rest)) (append_assoc a (entry_trace e) (entries_trace rest)) (all_stay rest further (a ++ entry_trace e) y next (recorded_also term_length trace lawful kept copy remembers a e here recorded) passes took)

@@ -19,21 +19,21 @@ use Rattle.simplex_member.specs.CallSemantics.{nullify_vote, finalize_vote, answ
 use Rattle.simplex_member.specs.OutstandingWork.{OutstandingWork}
 use Rattle.simplex_laws.specs.Traces.{TraceEvent, Accepts, Signs, trace_of_call}
 use Rattle.simplex_laws.specs.Lawful.{IsLawful}
-use Rattle.simplex_laws.proofs.votes.Standing.{Stays}
+use Rattle.simplex_laws.proofs.votes.ShownVotes.{ShowsVotesInLife}
 use Rattle.simplex_laws.proofs.frames.CallsOnWork.{is_work}
 use Rattle.simplex_laws.proofs.agreement.Lawful.{lawful_push}
-use Rattle.simplex_laws.proofs.votes.StandingCalls.{certified_stays, notarization_stays, nullification_stays, finalization_stays}
-use Rattle.simplex_laws.proofs.votes.StandingSteps.{plain_suits, stays_on}
+use Rattle.simplex_laws.proofs.votes.ShownVotesByCalls.{certified_stays, notarization_stays, nullification_stays, finalization_stays}
+use Rattle.simplex_laws.proofs.votes.ShownVotesBySteps.{plain_suits, stays_on}
 use Rattle.simplex_record.proofs.Steps.{notarization_by, verdict_by, nullify_by, finalize_by}
 use Rattle.simplex_laws.specs.Events as event
 use Rattle.simplex_laws.specs.Events.{Event, after_event}
 use Rattle.simplex_laws.specs.HistoryFolds.{finalized_by_event}
-use Rattle.simplex_laws.proofs.votes.StandingVotes.{nullify_allowed, nullify_decided, nullify_voted, finalize_allowed, finalize_decided, finalize_voted}
+use Rattle.simplex_laws.proofs.votes.ShownVotesByVotes.{nullify_allowed, nullify_decided, nullify_voted, finalize_allowed, finalize_decided, finalize_voted}
 
 -- what each call of a life keeps: its trace is lawful, and its facts show it
-pub record KeepsRules {K L D : Type 0} (term_length : ℕ) (trace : List (TraceEvent D)) (x : StateFacts K L D) : Type 0 where
+pub record IsLawfulAndShown {K L D : Type 0} (term_length : ℕ) (trace : List (TraceEvent D)) (x : StateFacts K L D) : Type 0 where
   pub lawful : IsLawful term_length trace
-  pub stays : Stays term_length trace x
+  pub stays : ShowsVotesInLife term_length trace x
 
 pub none_follows : {A B : Type 0} (f : A → Option B) (o : Option A) → ((a : A) → f a ≡ None) → option_and_then f o ≡ None
 none_follows f None no_value = refl
@@ -70,77 +70,77 @@ no_rule b (Some m) no_vote = no_vote
 
 module _ {K L D : Type 0} (elect : Elect L) (term_length : ℕ) (trace : List (TraceEvent D)) where
   -- the rules are kept with one more call that shows no event
-  nothing_shown : (y : StateFacts K L D) → IsLawful term_length trace → Stays term_length trace y → KeepsRules term_length (trace ++ []) y
-  nothing_shown y lawful stays = subst (λ a. KeepsRules term_length a y) (sym (append-nil trace)) (record { lawful = lawful; stays = stays })
+  nothing_shown : (y : StateFacts K L D) → IsLawful term_length trace → ShowsVotesInLife term_length trace y → IsLawfulAndShown term_length (trace ++ []) y
+  nothing_shown y lawful stays = subst (λ a. IsLawfulAndShown term_length a y) (sym (append-nil trace)) (record { lawful = lawful; stays = stays })
 
-  nullify_keeps : (x : StateFacts K L D) (v : ℕ) → KeepsRules term_length trace x → KeepsRules term_length (trace ++ trace_of_call {K = K} (ConstructNullify v) (Nullify (nullify_vote x v))) (after_construct_nullify x v)
+  nullify_keeps : (x : StateFacts K L D) (v : ℕ) → IsLawfulAndShown term_length trace x → IsLawfulAndShown term_length (trace ++ trace_of_call {K = K} (ConstructNullify v) (Nullify (nullify_vote x v))) (after_construct_nullify x v)
   nullify_keeps x v keeps = by_rule (may_nullify x v) refl
     where
-      by_key : (o : Option ℕ) → x.me ≡ o → may_nullify x v ≡ true → KeepsRules term_length (trace ++ trace_of_call {K = K} (ConstructNullify v) (Nullify (nullify_vote x v))) (after_construct_nullify x v)
+      by_key : (o : Option ℕ) → x.me ≡ o → may_nullify x v ≡ true → IsLawfulAndShown term_length (trace ++ trace_of_call {K = K} (ConstructNullify v) (Nullify (nullify_vote x v))) (after_construct_nullify x v)
       by_key None me may =
           let silent = nullify_silent elect x v (no_key (may_nullify x v) x.me me) in
           let keyless : is_some x.me ≡ false = ap is_some me in
-          subst (λ o. KeepsRules term_length (trace ++ trace_of_call {K = K} (ConstructNullify v) (Nullify o)) (after_construct_nullify x v)) (sym silent)
+          subst (λ o. IsLawfulAndShown term_length (trace ++ trace_of_call {K = K} (ConstructNullify v) (Nullify o)) (after_construct_nullify x v)) (sym silent)
           (rw (may, keyless) (nothing_shown _ keeps.lawful (nullify_decided term_length trace x v keeps.stays (nullify_parts x v may))))
       by_key (Some m) me may =
           let told = nullify_told elect x v m me may in
           let keyed : is_some x.me ≡ true = ap is_some me in
-          subst (λ o. KeepsRules term_length (trace ++ trace_of_call {K = K} (ConstructNullify v) (Nullify o)) (after_construct_nullify x v)) (sym told)
+          subst (λ o. IsLawfulAndShown term_length (trace ++ trace_of_call {K = K} (ConstructNullify v) (Nullify o)) (after_construct_nullify x v)) (sym told)
           (rw (may, keyed) (record {
             lawful = lawful_push term_length trace (Signs m (subject.Nullify (round_number x v))) keeps.lawful (nullify_allowed term_length trace x v keeps.stays (nullify_parts x v may));
             stays = nullify_voted term_length trace x v keeps.stays m (nullify_parts x v may);
           }))
 
-      by_rule : (b : Bool) → may_nullify x v ≡ b → KeepsRules term_length (trace ++ trace_of_call {K = K} (ConstructNullify v) (Nullify (nullify_vote x v))) (after_construct_nullify x v)
+      by_rule : (b : Bool) → may_nullify x v ≡ b → IsLawfulAndShown term_length (trace ++ trace_of_call {K = K} (ConstructNullify v) (Nullify (nullify_vote x v))) (after_construct_nullify x v)
       by_rule true may = by_key x.me refl may
       by_rule false may =
           let silent = nullify_silent elect x v (no_rule (may_nullify x v) x.me may) in
-          subst (λ o. KeepsRules term_length (trace ++ trace_of_call {K = K} (ConstructNullify v) (Nullify o)) (after_construct_nullify x v)) (sym silent)
+          subst (λ o. IsLawfulAndShown term_length (trace ++ trace_of_call {K = K} (ConstructNullify v) (Nullify o)) (after_construct_nullify x v)) (sym silent)
           (rw may (nothing_shown x keeps.lawful keeps.stays))
 
-  finalize_keeps : (x : StateFacts K L D) (v : ℕ) → KeepsRules term_length trace x → KeepsRules term_length (trace ++ trace_of_call {K = K} (ConstructFinalize v) (Finalize (finalize_vote elect x v))) (after_construct_finalize elect x v)
+  finalize_keeps : (x : StateFacts K L D) (v : ℕ) → IsLawfulAndShown term_length trace x → IsLawfulAndShown term_length (trace ++ trace_of_call {K = K} (ConstructFinalize v) (Finalize (finalize_vote elect x v))) (after_construct_finalize elect x v)
   finalize_keeps x v keeps = by_rule (may_finalize elect x v) refl
     where
-      by_held : (m : ℕ) (o : Option (Proposal D)) → (round_of x v).slot.held ≡ o → x.me ≡ Some m → may_finalize elect x v ≡ true → KeepsRules term_length (trace ++ trace_of_call {K = K} (ConstructFinalize v) (Finalize (finalize_vote elect x v))) (after_construct_finalize elect x v)
+      by_held : (m : ℕ) (o : Option (Proposal D)) → (round_of x v).slot.held ≡ o → x.me ≡ Some m → may_finalize elect x v ≡ true → IsLawfulAndShown term_length (trace ++ trace_of_call {K = K} (ConstructFinalize v) (Finalize (finalize_vote elect x v))) (after_construct_finalize elect x v)
       by_held m None holds me may =
           let alone = (and_parts (is_some (round_of x v).slot.held) _ (finalize_parts elect x v may).unequivocated).0 in
           absurd (false≢true (sym (ap is_some holds) ∙ alone))
       by_held m (Some h) holds me may =
           let told = finalize_told elect x v m h me may holds in
-          subst (λ o. KeepsRules term_length (trace ++ trace_of_call {K = K} (ConstructFinalize v) (Finalize o)) (after_construct_finalize elect x v)) (sym told)
+          subst (λ o. IsLawfulAndShown term_length (trace ++ trace_of_call {K = K} (ConstructFinalize v) (Finalize o)) (after_construct_finalize elect x v)) (sym told)
           (rw may (record {
             lawful = lawful_push term_length trace (Signs m (subject.Finalize h)) keeps.lawful (finalize_allowed term_length trace x v keeps.stays elect h (finalize_parts elect x v may) holds);
             stays = finalize_voted term_length trace x v keeps.stays elect h m (finalize_parts elect x v may) holds;
           }))
 
-      by_key : (o : Option ℕ) → x.me ≡ o → may_finalize elect x v ≡ true → KeepsRules term_length (trace ++ trace_of_call {K = K} (ConstructFinalize v) (Finalize (finalize_vote elect x v))) (after_construct_finalize elect x v)
+      by_key : (o : Option ℕ) → x.me ≡ o → may_finalize elect x v ≡ true → IsLawfulAndShown term_length (trace ++ trace_of_call {K = K} (ConstructFinalize v) (Finalize (finalize_vote elect x v))) (after_construct_finalize elect x v)
       by_key None me may =
           let silent = finalize_silent elect x v (no_key (may_finalize elect x v) x.me me) in
-          subst (λ o. KeepsRules term_length (trace ++ trace_of_call {K = K} (ConstructFinalize v) (Finalize o)) (after_construct_finalize elect x v)) (sym silent)
+          subst (λ o. IsLawfulAndShown term_length (trace ++ trace_of_call {K = K} (ConstructFinalize v) (Finalize o)) (after_construct_finalize elect x v)) (sym silent)
           (rw may (nothing_shown _ keeps.lawful (finalize_decided term_length trace x v keeps.stays elect (finalize_parts elect x v may))))
       by_key (Some m) me may = by_held m (round_of x v).slot.held refl me may
 
-      by_rule : (b : Bool) → may_finalize elect x v ≡ b → KeepsRules term_length (trace ++ trace_of_call {K = K} (ConstructFinalize v) (Finalize (finalize_vote elect x v))) (after_construct_finalize elect x v)
+      by_rule : (b : Bool) → may_finalize elect x v ≡ b → IsLawfulAndShown term_length (trace ++ trace_of_call {K = K} (ConstructFinalize v) (Finalize (finalize_vote elect x v))) (after_construct_finalize elect x v)
       by_rule true may = by_key x.me refl may
       by_rule false may =
           let silent = finalize_silent elect x v (no_rule (may_finalize elect x v) x.me may) in
-          subst (λ o. KeepsRules term_length (trace ++ trace_of_call {K = K} (ConstructFinalize v) (Finalize o)) (after_construct_finalize elect x v)) (sym silent)
+          subst (λ o. IsLawfulAndShown term_length (trace ++ trace_of_call {K = K} (ConstructFinalize v) (Finalize o)) (after_construct_finalize elect x v)) (sym silent)
           (rw may (nothing_shown x keeps.lawful keeps.stays))
 
-module _ {K L D : Type 0} (same : D → D → Bool) (decides : (d e : D) → same d e ≡ true → d ≡ e) (elect : Elect L) (term_length : ℕ) (trace : List (TraceEvent D)) (x : StateFacts K L D) (keeps : KeepsRules term_length trace x) where
+module _ {K L D : Type 0} (same : D → D → Bool) (decides : (d e : D) → same d e ≡ true → d ≡ e) (elect : Elect L) (term_length : ℕ) (trace : List (TraceEvent D)) (x : StateFacts K L D) (keeps : IsLawfulAndShown term_length trace x) where
   accepts : (certificate : Subject D) → IsLawful term_length (trace ++ Accepts certificate ∷ [])
   accepts certificate = lawful_push term_length trace (Accepts certificate) keeps.lawful tt
 
-  shows_nothing : (y : StateFacts K L D) → Stays term_length trace y → KeepsRules term_length (trace ++ []) y
+  shows_nothing : (y : StateFacts K L D) → ShowsVotesInLife term_length trace y → IsLawfulAndShown term_length (trace ++ []) y
   shows_nothing y stays = nothing_shown elect term_length trace y keeps.lawful stays
 
   -- an event with no certificate, no verdict and no vote
-  quiet : (e : Event K D) → notarization_by e ≡ None → finalized_by_event e ≡ 0 → verdict_by e ≡ None → nullify_by e ≡ None → finalize_by e ≡ None → KeepsRules term_length (trace ++ []) (after_event same elect x e)
+  quiet : (e : Event K D) → notarization_by e ≡ None → finalized_by_event e ≡ 0 → verdict_by e ≡ None → nullify_by e ≡ None → finalize_by e ≡ None → IsLawfulAndShown term_length (trace ++ []) (after_event same elect x e)
   quiet e notarization final verdict nullify finalize =
       shows_nothing (after_event same elect x e) (stays_on same decides elect term_length trace x e (plain_suits trace _ x e notarization final nullify finalize (λ v says. absurd (cc))) keeps.stays)
 
   -- a call that is allowed and not refused, and not on the work of a view
-  pub call_keeps : (o : OutstandingWork K D) (call : CallFacts D) → is_work call ≡ false → KeepsRules term_length (trace ++ trace_of_call call (answer same elect x o call)) (after_call same elect x o call)
+  pub call_keeps : (o : OutstandingWork K D) (call : CallFacts D) → is_work call ≡ false → IsLawfulAndShown term_length (trace ++ trace_of_call call (answer same elect x o call)) (after_call same elect x o call)
   call_keeps o (AddNotarization c) plain = record { lawful = accepts (subject.Notarize c.proposal); stays = notarization_stays same decides elect term_length trace x keeps.stays c }
   call_keeps o (AddNullification c now) plain = record { lawful = accepts (subject.Nullify c.round); stays = nullification_stays same decides elect term_length trace x keeps.stays c now }
   call_keeps o (AddFinalization c now) plain = record { lawful = accepts (subject.Finalize c.proposal); stays = finalization_stays same decides elect term_length trace x keeps.stays c now }

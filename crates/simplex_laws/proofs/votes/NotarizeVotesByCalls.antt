@@ -24,7 +24,7 @@ use Rattle.simplex_laws.specs.Traces.{TraceEvent, Accepts, trace_of_call}
 use Rattle.simplex_laws.proofs.lists.Signed.{signed_none}
 use Rattle.simplex_laws.proofs.lists.Filters.{Contains-filtered}
 use Rattle.simplex_laws.proofs.votes.NullifyVotes.{tied}
-use Rattle.simplex_laws.proofs.votes.UnchangedProposals.{CalmOn, calm_along, event_calm, leaves}
+use Rattle.simplex_laws.proofs.votes.UnchangedProposals.{UnchangedProposalsFrom, calm_along, event_calm, leaves}
 use Rattle.simplex_record.proofs.Steps.{Still}
 use Rattle.simplex_laws.specs.Events as event
 use Rattle.simplex_laws.specs.Events.{Event}
@@ -53,7 +53,7 @@ other_offers base low trace o v y notes = record {
 
 module _ {K L D : Type 0} (same : D → D → Bool) (elect : Elect L) (base low : ℕ) (trace : List (TraceEvent D)) (o : OutstandingWork K D) (x : StateFacts K L D) (notes : NotesStand base low trace o x) where
   -- the trace of the call, and an event that leaves the work on each view
-  acted : (call : CallFacts D) (e : Event K D) → is_work call ≡ false → CalmOn base e x (after_call same elect x o call) → ((u : ℕ) → covers_from u e ≡ true → (round : Round) × Contains (trace ++ trace_of_call {K = K} call (answer same elect x o call)) (Accepts (subject.Nullify round)) × (round.view ≡ u)) → NotesStand base low (trace ++ trace_of_call {K = K} call (answer same elect x o call)) o (after_call same elect x o call)
+  acted : (call : CallFacts D) (e : Event K D) → is_work call ≡ false → UnchangedProposalsFrom base e x (after_call same elect x o call) → ((u : ℕ) → covers_from u e ≡ true → (round : Round) × Contains (trace ++ trace_of_call {K = K} call (answer same elect x o call)) (Accepts (subject.Nullify round)) × (round.view ≡ u)) → NotesStand base low (trace ++ trace_of_call {K = K} call (answer same elect x o call)) o (after_call same elect x o call)
   acted call e plain left accepted =
       let more = trace_of_call {K = K} call (answer same elect x o call) in
       notes_calm base low (trace ++ more) e o o x (after_call same elect x o call) left accepted (λ v is. is) (λ v c is. is) (notes_acted base low trace more o x (calls_cast_none same elect x o call plain) notes)

@@ -41,8 +41,8 @@ use Rattle.simplex_member.specs.CallSemantics.{after_call, outstanding_work_afte
 use Rattle.simplex_laws.specs.Traces.{TraceEvent}
 use Rattle.simplex_laws.specs.Requested.{is_given_out}
 use Rattle.simplex_record.proofs.Rounds.{round_put}
-use Rattle.simplex_laws.proofs.votes.UnchangedRounds.{leads_round, Grown, Calm, calm, calm_alike}
-use Rattle.simplex_laws.proofs.votes.UnchangedProposals.{CalmOn, LeavesWork, above_put, calm_along, leaves}
+use Rattle.simplex_laws.proofs.votes.UnchangedRounds.{leads_round, Grown, UnchangedProposal, calm, calm_alike}
+use Rattle.simplex_laws.proofs.votes.UnchangedProposals.{UnchangedProposalsFrom, IsNoProposalWork, above_put, calm_along, leaves}
 use Rattle.simplex_laws.specs.Events as event
 use Rattle.simplex_laws.specs.Events.{Event}
 use Rattle.simplex_laws.specs.HistoryFolds.{covers_from}
@@ -189,23 +189,23 @@ module _ {K L D : Type 0} (x : StateFacts K L D) where
 module _ {K L D : Type 0} (same : D → D → Bool) (decides : (d e : D) → same d e ≡ true → d ≡ e) (elect : Elect L) (base low : ℕ) (trace : List (TraceEvent D)) (o : OutstandingWork K D) (x : StateFacts K L D) (notes : NotesStand base low trace o x) where
   -- with nothing more open
 
-  left_notes : (e : Event K D) (y : StateFacts K L D) → ((u : ℕ) → covers_from u e ≡ false) → CalmOn base e x y → NotesStand base low trace o y
+  left_notes : (e : Event K D) (y : StateFacts K L D) → ((u : ℕ) → covers_from u e ≡ false) → UnchangedProposalsFrom base e x y → NotesStand base low trace o y
   left_notes e y none left = notes_calm base low trace e o o x y left (λ u is. absurd (false≢true (sym (none u) ∙ is))) (λ v is. is) (λ v c is. is) notes
 
-  closed_notes : (v : ℕ) (e : Event K D) (y : StateFacts K L D) → ((u : ℕ) → covers_from u e ≡ false) → CalmOn base e x y → NotesStand base low trace (without_context o v) y
+  closed_notes : (v : ℕ) (e : Event K D) (y : StateFacts K L D) → ((u : ℕ) → covers_from u e ≡ false) → UnchangedProposalsFrom base e x y → NotesStand base low trace (without_context o v) y
   closed_notes v e y none left = notes_calm base low trace e o (without_context o v) x y left (λ u is. absurd (false≢true (sym (none u) ∙ is))) (λ w is. is) (λ w c is. got_others o.contexts v w c is) notes
 
-  answered_notes : (v : ℕ) (e : Event K D) (y : StateFacts K L D) → ((u : ℕ) → covers_from u e ≡ false) → CalmOn base e x y → NotesStand base low trace (without_verification o v) y
+  answered_notes : (v : ℕ) (e : Event K D) (y : StateFacts K L D) → ((u : ℕ) → covers_from u e ≡ false) → UnchangedProposalsFrom base e x y → NotesStand base low trace (without_verification o v) y
   answered_notes v e y none left = notes_calm base low trace e o (without_verification o v) x y left (λ u is. absurd (false≢true (sym (none u) ∙ is))) (λ w is. (among_others v w o.verifying is).0) (λ w c is. is) notes
 
   -- a path of an event that leaves the work on each view
-  calm_by : (e : Event K D) → LeavesWork e → (y : StateFacts K L D) → Path same elect x e base x y → CalmOn base e x y
+  calm_by : (e : Event K D) → IsNoProposalWork e → (y : StateFacts K L D) → Path same elect x e base x y → UnchangedProposalsFrom base e x y
   calm_by e leaves y path = calm_along same elect x e base leaves x y path
 
-  moment_calm : (now : ℕ) → CalmOn base event.CertifyCandidates x (at_moment x now)
+  moment_calm : (now : ℕ) → UnchangedProposalsFrom base event.CertifyCandidates x (at_moment x now)
   moment_calm now = calm_by event.CertifyCandidates (leaves refl) _ (Then Still (Moves now))
 
-  still_calm : CalmOn base event.CertifyCandidates x x
+  still_calm : UnchangedProposalsFrom base event.CertifyCandidates x x
   still_calm = calm_by event.CertifyCandidates (leaves refl) x Still
 
   kept_view : (v : ℕ) → min_active x ≤ v → base ≤ v
@@ -225,7 +225,7 @@ module _ {K L D : Type 0} (same : D → D → Bool) (decides : (d e : D) → sam
       placed_here : (w : ℕ) (q : Proposal D) → ◌≡◌ {A = Option (ℕ × Proposal D)} (Some (v, p)) (Some (w, q)) → p.round.view ≡ v → q.round.view ≡ w
       placed_here w q is at = let pair : (v, p) ≡ (w, q) = cc in ap (λ (t : ℕ × Proposal D). t.1.round.view) (sym pair) ∙ at ∙ ap (λ (t : ℕ × Proposal D). t.0) pair
 
-  build_calm : (v : ℕ) (requested : Bool) → CalmOn base (event.Release v) x (with_build x v requested)
+  build_calm : (v : ℕ) (requested : Bool) → UnchangedProposalsFrom base (event.Release v) x (with_build x v requested)
   build_calm v requested = calm_by (event.Release v) (leaves refl) _ (build_path same elect base x (event.Release v) v requested)
 
   -- a context is opened of a view that this member leads
@@ -320,7 +320,7 @@ module _ {K L D : Type 0} (same : D → D → Bool) (decides : (d e : D) → sam
 
   -- answers to a verification
 
-  unbound_notes : (now : ℕ) (v : ℕ) → is_verifying o v ≡ true → (m : StateFacts K L D) → CalmOn base event.CertifyCandidates x m → NotesStand base low trace (without_verification o v) (without_binding m v)
+  unbound_notes : (now : ℕ) (v : ℕ) → is_verifying o v ≡ true → (m : StateFacts K L D) → UnchangedProposalsFrom base event.CertifyCandidates x m → NotesStand base low trace (without_verification o v) (without_binding m v)
   unbound_notes now v open_now m left = by_tracked (is_tracked m v) refl
     where
       old : NotesStand base low trace o m
@@ -396,7 +396,7 @@ module _ {K D : Type 0} (v : ℕ) where
   given_ready s None p is = absurd (false≢true (ap is_some is))
 
   -- a round that is given out keeps what is held, and any other what its proposal's work rests on
-  left_calm : (r : RoundFacts K D) (now : ℕ) (s : Standing D) → is_given_out s ≡ false → Calm v r (round_left r now s)
+  left_calm : (r : RoundFacts K D) (now : ℕ) (s : Standing D) → is_given_out s ≡ false → UnchangedProposal v r (round_left r now s)
   left_calm r now NothingToDo none = calm v r
   left_calm r now Invalid none = calm_alike v r _ refl refl refl refl refl
   left_calm r now (Lacks w kind) none = calm_alike v r _ refl refl refl refl refl
@@ -492,7 +492,7 @@ module _ {K L D : Type 0} (same : D → D → Bool) (elect : Elect L) (base low 
       r : RoundFacts K D
       r = round_of x w
 
-      calm_kept : (s : RoundFacts K D) → Calm w r s → (IsGiven same elect x w → ⊥) → IsLeft w s
+      calm_kept : (s : RoundFacts K D) → UnchangedProposal w r s → (IsGiven same elect x w → ⊥) → IsLeft w s
       calm_kept s same_work silent = (
         same_work.grown,
         same_work.verified,
@@ -544,7 +544,7 @@ module _ {K L D : Type 0} (same : D → D → Bool) (decides : (d e : D) → sam
   superseded_notes v None false = notes
   superseded_notes v (Some c) b = closes b (calm_by same decides elect base low trace o x notes (event.Supersede c) (leaves refl) _ (either (supersede_answer same elect x c) _ x (λ other. build_path same elect base x (event.Supersede c) c.round.view false) (λ stands. Still)))
     where
-      closes : (b : Bool) → CalmOn base (event.Supersede c) x (after_supersede same elect x c) → NotesStand base low trace (if b then without_context o v else o) (after_supersede same elect x c)
+      closes : (b : Bool) → UnchangedProposalsFrom base (event.Supersede c) x (after_supersede same elect x c) → NotesStand base low trace (if b then without_context o v else o) (after_supersede same elect x c)
       closes true left = closed_notes same decides elect base low trace o x notes v (event.Supersede c) (after_supersede same elect x c) (λ u. refl) left
       closes false left = left_notes same decides elect base low trace o x notes (event.Supersede c) (after_supersede same elect x c) (λ u. refl) left
 

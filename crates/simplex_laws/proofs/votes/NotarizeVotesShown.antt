@@ -15,7 +15,7 @@ use Rattle.simplex_laws.specs.Lawful.{HasSigned}
 use Rattle.simplex_laws.specs.HistoryFolds.{covers_from}
 use Rattle.simplex_laws.proofs.lists.Signed.{signed_cases}
 use Rattle.simplex_laws.proofs.votes.OutstandingWork.{ArePlaced, NoMoreContexts, some_still}
-use Rattle.simplex_laws.proofs.votes.UnchangedProposals.{Above, CalmOn}
+use Rattle.simplex_laws.proofs.votes.UnchangedProposals.{Above, UnchangedProposalsFrom}
 use Rattle.simplex_laws.proofs.votes.Proposals.{Tidy, contrary, tidy_calm}
 
 -- views below `base` were pruned; work on views below `low` ended with the lives before
@@ -63,7 +63,7 @@ module _ {K L D : Type 0} (base low : ℕ) (trace : List (TraceEvent D)) where
   }
 
   -- a change that leaves the work on each view, with nothing more open
-  pub notes_calm : (e : Event K D) (o o' : OutstandingWork K D) (x y : StateFacts K L D) → CalmOn base e x y → ((u : ℕ) → covers_from u e ≡ true → (round : Round) × Contains trace (Accepts (subject.Nullify round)) × (round.view ≡ u)) → ((v : ℕ) → is_verifying o' v ≡ true → is_verifying o v ≡ true) → NoMoreContexts o o' → NotesStand base low trace o x → NotesStand base low trace o' y
+  pub notes_calm : (e : Event K D) (o o' : OutstandingWork K D) (x y : StateFacts K L D) → UnchangedProposalsFrom base e x y → ((u : ℕ) → covers_from u e ≡ true → (round : Round) × Contains trace (Accepts (subject.Nullify round)) × (round.view ≡ u)) → ((v : ℕ) → is_verifying o' v ≡ true → is_verifying o v ≡ true) → NoMoreContexts o o' → NotesStand base low trace o x → NotesStand base low trace o' y
   notes_calm e o o' x y left accepted verifying opened notes = record {
     above = left.above notes.above;
     active = omega (arith, notes.active, left.goes.finalized, ap (λ (s : Settings). s.view_retention) left.goes.settings);

@@ -6,7 +6,7 @@ use Rattle.std.proofs.lemmas.Bool.{false≢true}
 use Rattle.simplex_types.specs.declared.types.messages.Proposal.{Proposal}
 use Rattle.simplex_round.specs.declared.round.Leader.{Leader}
 use Rattle.simplex_round.specs.Round.{RoundFacts, signs_as}
-use Rattle.simplex_laws.proofs.votes.UnchangedRounds.{leads_round, Grown, Calm}
+use Rattle.simplex_laws.proofs.votes.UnchangedRounds.{leads_round, Grown, UnchangedProposal}
 
 -- the held proposal is bound to a payload of its parent
 abbrev pub IsBound : {K D : Type 0} → RoundFacts K D → Type 0
@@ -103,7 +103,7 @@ module _ {K D : Type 0} (v : ℕ) (verifying opened verifying' opened' : Bool) (
       not_verifying : verifying' ≡ true → ⊥
       not_verifying is = opposite (leads_round r) (tidy.opened_led mine) (tidy.verifying_other (w is)).0
 
-pub tidy_calm : {K D : Type 0} (v : ℕ) (verifying opened verifying' opened' : Bool) (r s : RoundFacts K D) → Calm v r s → (verifying' ≡ true → verifying ≡ true) → (opened' ≡ true → opened ≡ true) → Tidy verifying opened r → Tidy verifying' opened' s
+pub tidy_calm : {K D : Type 0} (v : ℕ) (verifying opened verifying' opened' : Bool) (r s : RoundFacts K D) → UnchangedProposal v r s → (verifying' ≡ true → verifying ≡ true) → (opened' ≡ true → opened ≡ true) → Tidy verifying opened r → Tidy verifying' opened' s
 tidy_calm v verifying opened verifying' opened' r s same w closes tidy = still v verifying opened verifying' opened' r s same.grown closes tidy same.verified same.binding w
 
 -- a context is opened of a view that this member leads

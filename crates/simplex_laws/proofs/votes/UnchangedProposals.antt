@@ -22,19 +22,19 @@ use Rattle.simplex_record.proofs.Steps as step
 use Rattle.simplex_record.proofs.Steps.{RoundStep, Step, Path, Covers, Prunes, along, note_by, proposal_by, is_answer}
 use Rattle.simplex_record.proofs.Paths.{AskedFrom, event_path}
 use Rattle.simplex_laws.proofs.frames.EachRound.{step_round}
-use Rattle.simplex_laws.proofs.frames.Rising.{GoesOn, goes_still, step_goes}
+use Rattle.simplex_laws.proofs.frames.Rising.{UnchangedOrHigher, goes_still, step_goes}
 use Rattle.simplex_laws.proofs.frames.Untracked.{step_out}
-use Rattle.simplex_laws.proofs.votes.UnchangedRounds.{Calm, calm, calm_joined, calm_alike, calm_led, calm_decided, slot_in_round, certificate_calm, voted_calm}
+use Rattle.simplex_laws.proofs.votes.UnchangedRounds.{UnchangedProposal, calm, calm_joined, calm_alike, calm_led, calm_decided, slot_in_round, certificate_calm, voted_calm}
 
 -- no view below `base` is tracked
 abbrev pub Above : {K L D : Type 0} → ℕ → StateFacts K L D → Type 0
 Above base x = (v : ℕ) → is_tracked x v ≡ true → base ≤ v
 
--- each round is left so, no view below `base` comes to be tracked, and what is newly nullified the event covers
-pub record CalmOn {K L D : Type 0} (base : ℕ) (e : Event K D) (x y : StateFacts K L D) : Type 0 where
-  pub goes : GoesOn x y
+-- each round is unchanged so, no view below `base` comes to be tracked, and what is newly nullified the event covers
+pub record UnchangedProposalsFrom {K L D : Type 0} (base : ℕ) (e : Event K D) (x y : StateFacts K L D) : Type 0 where
+  pub goes : UnchangedOrHigher x y
   pub above : Above base x → Above base y
-  pub rounds : (v : ℕ) → Calm v (round_of x v) (round_of y v)
+  pub rounds : (v : ℕ) → UnchangedProposal v (round_of x v) (round_of y v)
   pub covered : (u : ℕ) → Contains y.nullified u → (covers_from u e ≡ true) ⊎ Contains x.nullified u
 
 abbrev is_other : {K D : Type 0} → Event K D → Bool
@@ -43,7 +43,7 @@ is_other TryVerify = true
 is_other _ = false
 
 -- the event is no work on a proposal, and drops nothing; a proposal that it tells of is of its view
-pub record LeavesWork {K D : Type 0} (e : Event K D) : Type 0 where
+pub record IsNoProposalWork {K D : Type 0} (e : Event K D) : Type 0 where
   pub note : note_by e ≡ None
   pub answer : is_answer e ≡ false
   pub other : is_other e ≡ false
@@ -59,10 +59,10 @@ works (VerificationFailed _ _ _) = true
 works Prune = true
 works e = is_other e
 
-pub leaves : {K D : Type 0} {e : Event K D} → works e ≡ false → LeavesWork e
+pub leaves : {K D : Type 0} {e : Event K D} → works e ≡ false → IsNoProposalWork e
 leaves {K} {D} {e} none = by_event e none
   where
-    by_event : (e : Event K D) → works e ≡ false → LeavesWork e
+    by_event : (e : Event K D) → works e ≡ false → IsNoProposalWork e
     by_event (Replay (NotarizeVote p m)) none = absurd (false≢true (sym none))
     by_event (SetProposal v p) none = absurd (false≢true (sym none))
     by_event (Verified v) none = absurd (false≢true (sym none))
@@ -92,8 +92,8 @@ among_more k u (x ∷ xs) h = by_order (nat_cmp k x) (among_more k u xs) h
       | inr rest ↦ elim (behind rest) [ inl at ↦ inl at | inr old ↦ inr (Contains-cons_rest x xs u old) ]
     ]
 
-module _ {K L D : Type 0} (same : D → D → Bool) (elect : Elect L) (begun : StateFacts K L D) (e : Event K D) (base : ℕ) (left : LeavesWork e) where
-  change_calm : (y : StateFacts K L D) (v : ℕ) (r s : RoundFacts K D) → RoundStep same elect begun e y v r s → Calm v r s
+module _ {K L D : Type 0} (same : D → D → Bool) (elect : Elect L) (begun : StateFacts K L D) (e : Event K D) (base : ℕ) (left : IsNoProposalWork e) where
+  change_calm : (y : StateFacts K L D) (v : ℕ) (r s : RoundFacts K D) → RoundStep same elect begun e y v r s → UnchangedProposal v r s
   change_calm y v r s (step.Led leader none) = calm_led v r leader none
   change_calm y v r s (step.Notarized c says at none) = calm_joined v r _ s (slot_in_round v r (after_certificate (same_proposal same) r.slot c.proposal) (certificate_calm v same r.slot c.proposal at)) (calm_alike v _ s refl refl refl refl refl)
   change_calm y v r s (step.Finalized c says at none) = calm_joined v r _ s (slot_in_round v r (after_certificate (same_proposal same) r.slot c.proposal) (certificate_calm v same r.slot c.proposal at)) (calm_alike v _ s refl refl refl refl refl)
@@ -119,7 +119,7 @@ module _ {K L D : Type 0} (same : D → D → Bool) (elect : Elect L) (begun : S
   step_covered x y z (Prunes is) p u h = absurd (true≢false (sym is ∙ left.prune))
   step_covered x y z _ p u h = p u h
 
-  step_calm : (x y z : StateFacts K L D) → Step same elect begun e base y z → CalmOn base e x y → CalmOn base e x z
+  step_calm : (x y z : StateFacts K L D) → Step same elect begun e base y z → UnchangedProposalsFrom base e x y → UnchangedProposalsFrom base e x z
   step_calm x y z s p = record {
     goes = step_goes same elect begun e base x y z s p.goes;
     above = λ above. step_above y z s (p.above above);
@@ -130,9 +130,9 @@ module _ {K L D : Type 0} (same : D → D → Bool) (elect : Elect L) (begun : S
     covered = step_covered x y z s p.covered;
   }
 
-  pub calm_along : (x y : StateFacts K L D) → Path same elect begun e base x y → CalmOn base e x y
-  calm_along x y path = along same elect begun e base (CalmOn base e x) (step_calm x) x y path (record { goes = goes_still x; above = λ above. above; rounds = λ v. calm v (round_of x v); covered = λ u h. inr h })
+  pub calm_along : (x y : StateFacts K L D) → Path same elect begun e base x y → UnchangedProposalsFrom base e x y
+  calm_along x y path = along same elect begun e base (UnchangedProposalsFrom base e x) (step_calm x) x y path (record { goes = goes_still x; above = λ above. above; rounds = λ v. calm v (round_of x v); covered = λ u h. inr h })
 
 module _ {K L D : Type 0} (same : D → D → Bool) (elect : Elect L) (base : ℕ) (x : StateFacts K L D) where
-  pub event_calm : (e : Event K D) → LeavesWork e → base ≤ x.current → AskedFrom base x e → CalmOn base e x (after_event same elect x e)
+  pub event_calm : (e : Event K D) → IsNoProposalWork e → base ≤ x.current → AskedFrom base x e → UnchangedProposalsFrom base e x (after_event same elect x e)
   event_calm e left reached asked = calm_along same elect x e base left x (after_event same elect x e) (event_path same elect base x e reached asked)

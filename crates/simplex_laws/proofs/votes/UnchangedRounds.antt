@@ -25,8 +25,8 @@ pub record Grown {K D : Type 0} (v : ℕ) (r s : RoundFacts K D) : Type 0 where
   pub requested : r.slot.verify_requested ≡ true → s.slot.verify_requested ≡ true
   pub leader : is_some r.leader ≡ true → s.leader ≡ r.leader
 
--- and nothing is verified or bound
-pub record Calm {K D : Type 0} (v : ℕ) (r s : RoundFacts K D) : Type 0 where
+-- the round has grown, and nothing of it was verified or bound
+pub record UnchangedProposal {K D : Type 0} (v : ℕ) (r s : RoundFacts K D) : Type 0 where
   pub grown : Grown v r s
   pub verified : s.slot.verified ≡ true → r.slot.verified ≡ true
   pub binding : s.binding ≡ r.binding
@@ -44,11 +44,11 @@ module _ {K D : Type 0} (v : ℕ) where
     leader = λ is. q.leader (ap is_some (p.leader is) ∙ is) ∙ p.leader is;
   }
 
-  pub calm_joined : (r s t : RoundFacts K D) → Calm v r s → Calm v s t → Calm v r t
+  pub calm_joined : (r s t : RoundFacts K D) → UnchangedProposal v r s → UnchangedProposal v s t → UnchangedProposal v r t
   calm_joined r s t p q = record { grown = grown_joined r s t p.grown q.grown; verified = λ is. p.verified (q.verified is); binding = q.binding ∙ p.binding }
 
   -- what a proposal's work rests on is the same
-  pub calm_alike : (r s : RoundFacts K D) → s.me ≡ r.me → s.slot ≡ r.slot → s.notarize_decided ≡ r.notarize_decided → s.leader ≡ r.leader → s.binding ≡ r.binding → Calm v r s
+  pub calm_alike : (r s : RoundFacts K D) → s.me ≡ r.me → s.slot ≡ r.slot → s.notarize_decided ≡ r.notarize_decided → s.leader ≡ r.leader → s.binding ≡ r.binding → UnchangedProposal v r s
   calm_alike r s me slot decided leader binding = record {
     grown = record {
       me = me;
@@ -64,11 +64,11 @@ module _ {K D : Type 0} (v : ℕ) where
     binding = binding;
   }
 
-  pub calm : (r : RoundFacts K D) → Calm v r r
+  pub calm : (r : RoundFacts K D) → UnchangedProposal v r r
   calm r = calm_alike r r refl refl refl refl refl
 
   -- the first leader
-  pub calm_led : (r : RoundFacts K D) (leader : Option (Leader K)) → is_some r.leader ≡ false → Calm v r (record r { leader = leader })
+  pub calm_led : (r : RoundFacts K D) (leader : Option (Leader K)) → is_some r.leader ≡ false → UnchangedProposal v r (record r { leader = leader })
   calm_led r leader none = record {
     grown = record {
       me = refl;
@@ -85,7 +85,7 @@ module _ {K D : Type 0} (v : ℕ) where
   }
 
   -- the vote to notarize is decided
-  pub calm_decided : (r : RoundFacts K D) → Calm v r (record r { notarize_decided = true })
+  pub calm_decided : (r : RoundFacts K D) → UnchangedProposal v r (record r { notarize_decided = true })
   calm_decided r = record {
     grown = record {
       me = refl;
@@ -101,9 +101,8 @@ module _ {K D : Type 0} (v : ℕ) where
     binding = refl;
   }
 
--- slots
-
-pub record CalmSlot {D : Type 0} (v : ℕ) (s t : SlotFacts D) : Type 0 where
+-- the same of a slot alone
+pub record UnchangedSlot {D : Type 0} (v : ℕ) (s t : SlotFacts D) : Type 0 where
   pub holding : (p : Proposal D) → s.held ≡ Some p → t.conflict ≡ false → t.held ≡ Some p
   pub empty : t.held ≡ None → s.held ≡ None
   pub placed : (p : Proposal D) → t.held ≡ Some p → (s.held ≡ Some p) ⊎ (p.round.view ≡ v)
@@ -120,10 +119,10 @@ left_of_and true b is = refl
 left_of_and false b is = absurd (false≢true is)
 
 module _ {D : Type 0} (v : ℕ) where
-  pub slot_calm : (s : SlotFacts D) → CalmSlot v s s
+  pub slot_calm : (s : SlotFacts D) → UnchangedSlot v s s
   slot_calm s = record { holding = λ p is clear. is; empty = λ is. is; placed = λ p is. inl is; clear = λ is. is; requested = λ is. is; verified = λ is. is }
 
-  pub slot_in_round : {K : Type 0} (r : RoundFacts K D) (s : SlotFacts D) → CalmSlot v r.slot s → Calm v r (record r { slot = s })
+  pub slot_in_round : {K : Type 0} (r : RoundFacts K D) (s : SlotFacts D) → UnchangedSlot v r.slot s → UnchangedProposal v r (record r { slot = s })
   slot_in_round r s same = record {
     grown = record {
       me = refl;
@@ -141,10 +140,10 @@ module _ {D : Type 0} (v : ℕ) where
 
   module _ (same : D → D → Bool) where
     -- a proposal of the view in a vote
-    pub voted_calm : (s : SlotFacts D) (p : Proposal D) → p.round.view ≡ v → CalmSlot v s (after_vote (same_proposal same) s p)
+    pub voted_calm : (s : SlotFacts D) (p : Proposal D) → p.round.view ≡ v → UnchangedSlot v s (after_vote (same_proposal same) s p)
     voted_calm s p at = by_held s.held refl
       where
-        by_held : (o : Option (Proposal D)) → s.held ≡ o → CalmSlot v s (option_map_or (λ h. record s { conflict = s.conflict || not (same_proposal same h p); verified = s.verified && same_proposal same h p }) o (record s { held = Some p }))
+        by_held : (o : Option (Proposal D)) → s.held ≡ o → UnchangedSlot v s (option_map_or (λ h. record s { conflict = s.conflict || not (same_proposal same h p); verified = s.verified && same_proposal same h p }) o (record s { held = Some p }))
         by_held None none = record {
           holding = λ q is clear. absurd (let e = sym none ∙ is in cc);
           empty = λ is. none;
@@ -163,10 +162,10 @@ module _ {D : Type 0} (v : ℕ) where
         }
 
     -- one in a certificate
-    pub certificate_calm : (s : SlotFacts D) (p : Proposal D) → p.round.view ≡ v → CalmSlot v s (after_certificate (same_proposal same) s p)
+    pub certificate_calm : (s : SlotFacts D) (p : Proposal D) → p.round.view ≡ v → UnchangedSlot v s (after_certificate (same_proposal same) s p)
     certificate_calm s p at = by_held s.held refl
       where
-        other : (b : Bool) (h : Proposal D) → s.held ≡ Some h → CalmSlot v s (if b then s else record { held = Some p; conflict = true; verified = false; build_requested = true; verify_requested = true })
+        other : (b : Bool) (h : Proposal D) → s.held ≡ Some h → UnchangedSlot v s (if b then s else record { held = Some p; conflict = true; verified = false; build_requested = true; verify_requested = true })
         other true h some = slot_calm s
         other false h some = record {
           holding = λ q is clear. absurd (false≢true (sym clear));
@@ -177,7 +176,7 @@ module _ {D : Type 0} (v : ℕ) where
           verified = λ is. absurd (false≢true is);
         }
 
-        by_held : (o : Option (Proposal D)) → s.held ≡ o → CalmSlot v s (option_map_or (λ h. if same_proposal same h p then s else record { held = Some p; conflict = true; verified = false; build_requested = true; verify_requested = true }) o (record s { held = Some p }))
+        by_held : (o : Option (Proposal D)) → s.held ≡ o → UnchangedSlot v s (option_map_or (λ h. if same_proposal same h p then s else record { held = Some p; conflict = true; verified = false; build_requested = true; verify_requested = true }) o (record s { held = Some p }))
         by_held None none = record {
           holding = λ q is clear. absurd (let e = sym none ∙ is in cc);
           empty = λ is. none;

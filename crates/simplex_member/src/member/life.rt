@@ -76,7 +76,7 @@ impl<S: CertificateScheme, L: Elector<S>, D: Digest> Member<S, L, D> {
     ghost use Rattle.simplex_member.specs.Calls.{told, asked};
     ghost use Rattle.simplex_member.specs.Lives.{IsCall, HasGrown};
     ghost use Rattle.simplex_member.specs.Signed.{IsSignedReply, signed_reply};
-    ghost use Rattle.simplex_member.specs.MethodContracts.{is_reply_to, IfAnswered, IfRefused, IsAnswered, Keeps};
+    ghost use Rattle.simplex_member.specs.MethodContracts.{is_reply_to, IfAnswered, IfRefused, IsAnswered, UnchangedButLife};
     ghost use Rattle.simplex_record.specs.Recovery.{recover_error};
     ghost use Rattle.simplex_record.specs.Start.{set_up, IsErrorDue};
     ghost use Rattle.simplex_member.specs.Start.{started_member};
@@ -154,7 +154,7 @@ impl<S: CertificateScheme, L: Elector<S>, D: Digest> Member<S, L, D> {
         ensures of_its_kind { is_reply_to (told S.certificate_bytes result) (asked S.certificate_bytes call) ≡ true }
         ensures answered { IfAnswered (told S.certificate_bytes result)
             (IsAnswered D.eq L.elect self.old.facts (asked S.certificate_bytes call) (told S.certificate_bytes result) self.new.facts) }
-        ensures kept { IfRefused (told S.certificate_bytes result) (λ refusal. Keeps self.old.facts refusal self.new.facts) }
+        ensures kept { IfRefused (told S.certificate_bytes result) (λ refusal. UnchangedButLife self.old.facts refusal self.new.facts) }
         ensures grown { HasGrown self.old.facts self.new.facts }
         ensures signed { IfSome self.old.facts.life (IsSignedReply S.IsSignature result) }
         ensures votes { self.new.votes ≡ self.old.votes ++ signed_reply result }

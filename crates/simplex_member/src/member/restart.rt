@@ -16,7 +16,7 @@ ghost use Rattle.simplex_record.specs.declared.record.error.RecoverError.TheVari
 
 use super::life::Member;
 use super::outstanding_work::OutstandingWork;
-use super::parts::keep;
+use super::recorded_calls::keep;
 use simplex_record::record::{RecoverError, Start, drop_last, prune_record, remake, retention_of};
 use simplex_types::types::{
     Artifact, CertificateScheme, Digest, Elector, Fault, Finalization, View, ViewDelta, Viewable,
@@ -35,7 +35,7 @@ pub struct Restart<S: CertificateScheme, L: Elector<S>, D> {
 }
 
 impl<S: CertificateScheme, L: Elector<S>, D: Digest> Member<S, L, D> {
-    ghost use Rattle.simplex_member.specs.Restarts.{restart_facts, retention_grows, cut_member, cut_votes, votes_left, GoesOn, IsRestart};
+    ghost use Rattle.simplex_member.specs.Restarts.{restart_facts, retention_grows, cut_member, cut_votes, votes_left, RecoversByView, IsRestart};
 
     /// Ends the member's life, also one that has failed, and begins another from its record.
     ///
@@ -86,7 +86,7 @@ impl<S: CertificateScheme, L: Elector<S>, D: Digest> Member<S, L, D> {
     /// Begins a life from the record as it stands.
     fn go_on(&mut self, start: Start<S, L, D>) -> Result<(), RecoverError>
         requires { L.members start.settings.elector ≡ length (S.participants start.settings.scheme) }
-        ensures goes_on { GoesOn D.eq L.elect self.old.facts
+        ensures goes_on { RecoversByView D.eq L.elect self.old.facts
             (start_facts S.me S.participants L.terms L.elects_early S.certificate_bytes start) result self.new.facts }
         ensures votes { self.new.votes ≡ self.old.votes }
     {

@@ -19,7 +19,7 @@ ghost use Rattle.simplex_types.specs.declared.types.messages.Subject.TheVariants
 
 use super::call_error::CallError;
 use super::calls::{Call, Reply};
-use super::parts::keep;
+use super::recorded_calls::keep;
 use simplex_types::reasons::TimeoutReason;
 use simplex_types::types::{
     Artifact, CertificateScheme, Digest, Elector, Finalize, Notarize, Nullify, Scheme, View,

@@ -10,7 +10,7 @@ use Rattle.simplex_laws.proofs.agreement.Quorums.{shared_member}
 use Rattle.simplex_progress.specs.FreshStarts.{FreshStartsAreFinalized}
 use Rattle.simplex_progress.specs.Standing.{BuildsOn, proposal_in}
 use Rattle.simplex_progress.proofs.networks.Passed.{enough}
-use Rattle.simplex_progress.proofs.networks.Together.{GoesBy, goes_on_to_finalize}
+use Rattle.simplex_progress.proofs.networks.Together.{ContinuesBy, goes_on_to_finalize}
 use Rattle.simplex_progress.proofs.runs.Ends.{end_shown}
 use Rattle.simplex_progress.proofs.runs.Members.{member_finalizes}
 use Rattle.simplex_progress.proofs.runs.Starts.{replica_of}
@@ -26,7 +26,7 @@ fresh_starts_are_finalized {L} {D} K same decides reflexive elect term_length ep
     done : ℕ → List (TraceEvent D)
     done = λ k. trace_done (replica_of epoch start parent q k) q
 
-    goes : (i : ℕ) (s : Execution K L D) → slice_get network i ≡ Some (Honest s) → (t : Execution K L D) × GoesBy same elect term_length leader (proposal_in epoch start parent q) (λ k. trace_done (replica_of epoch start parent q k) q) i s t
+    goes : (i : ℕ) (s : Execution K L D) → slice_get network i ≡ Some (Honest s) → (t : Execution K L D) × ContinuesBy same elect term_length leader (proposal_in epoch start parent q) (λ k. trace_done (replica_of epoch start parent q k) q) i s t
     goes i s at =
         let lives = each i s at in
         let built : i ≡ leader → BuildsOn parent start lives.0 = λ e. builds s (subst (λ n. slice_get network n ≡ Some (Honest s)) e at) lives.0 lives.1 in

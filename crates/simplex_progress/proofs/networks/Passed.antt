@@ -24,7 +24,7 @@ use Rattle.simplex_laws.proofs.lists.Splits.{Contains-cases, Contains-cons_rest}
 use Rattle.simplex_progress.specs.Living.{IsSetUpAs, LivesWith, EachLives}
 use Rattle.simplex_progress.specs.Standing.{proposal_in, StandsBefore}
 use Rattle.simplex_progress.specs.Together.{terms_on, TogetherTheyGoOn}
-use Rattle.simplex_progress.proofs.states.Standing.{Replica}
+use Rattle.simplex_progress.proofs.states.Standing.{StandingMember}
 use Rattle.simplex_progress.proofs.states.Highest.{highest_at}
 use Rattle.simplex_progress.proofs.runs.Members.{AllHave, one_has, HearsOnly, follower_hears, leader_hears}
 use Rattle.simplex_progress.proofs.runs.Onward.{execution_on}
@@ -32,7 +32,7 @@ use Rattle.simplex_progress.proofs.states.Passing.{null_cert, skip_calls, skip_t
 use Rattle.simplex_progress.proofs.runs.Ends.{Shown, end_shown, none_decided}
 use Rattle.simplex_progress.proofs.states.Sequences.{Does, Sequence, calls_in, whole_trace, does_of, trace_done, follower_sequence, leader_sequence, follower_done, leader_done}
 use Rattle.simplex_progress.proofs.runs.Starts.{replica_of}
-use Rattle.simplex_progress.proofs.networks.Together.{AreEnough, GoesBy, goes_on_to_finalize}
+use Rattle.simplex_progress.proofs.networks.Together.{AreEnough, ContinuesBy, goes_on_to_finalize}
 use Rattle.simplex_progress.proofs.states.Waiting.{Waits}
 
 same_subject : {D : Type 0} (a c : Subject D) → Accepts a ≡ Accepts c → a ≡ c
@@ -132,7 +132,7 @@ module _ {K L D : Type 0} (same : D → D → Bool) (decides : (d e : D) → sam
   abbrev p : Proposal D
   p = proposal_in epoch start parent q
 
-  abbrev l : Replica D
+  abbrev l : StandingMember D
   l = replica_of epoch start parent before.stands.payload i
 
   abbrev done : List (TraceEvent D)
@@ -177,7 +177,7 @@ module _ {K L D : Type 0} (same : D → D → Bool) (decides : (d e : D) → sam
   goes_by : (last : List (CallFacts D × List (TraceEvent D))) → whole_trace last ≡ trace_done l q → AllHave (HearsOnly {K = K} {L = L} p) (map Calls (calls_in last))
       → Sequence same elect lives.0 (skip_sequence epoch term_length i (suc terms) view last)
       → (i ≡ leader → Contains {X = StepFacts K L D} (map Calls (calls_in last)) (Calls (Proposed start q 0)))
-      → (t : Execution K L D) × GoesBy same elect term_length leader p (λ k. skip_trace epoch term_length k (suc terms) view (trace_done (replica_of epoch start parent q k) q)) i s t
+      → (t : Execution K L D) × ContinuesBy same elect term_length leader p (λ k. skip_trace epoch term_length k (suc terms) view (trace_done (replica_of epoch start parent q k) q)) i s t
   goes_by last ends hears traced built =
       let calls = calls_in last in
       let all = skip_calls epoch term_length (suc terms) view calls in
@@ -210,7 +210,7 @@ module _ {K L D : Type 0} (same : D → D → Bool) (decides : (d e : D) → sam
   follower_traced other = passes same elect term_length some l leader (follower_sequence l q [] []) terms view lives.0 x lives.2 waits (sym far) elects
       (λ n y alive r. follower_done same elect reflexive l q [] [] r.round r.pending r.none r.lead r.leads n y alive r.stands (signs y r ∙ ne_eqb i leader other))
 
-  pub member_goes : (t : Execution K L D) × GoesBy same elect term_length leader p (λ k. skip_trace epoch term_length k (suc terms) view (trace_done (replica_of epoch start parent q k) q)) i s t
+  pub member_goes : (t : Execution K L D) × ContinuesBy same elect term_length leader p (λ k. skip_trace epoch term_length k (suc terms) view (trace_done (replica_of epoch start parent q k) q)) i s t
   member_goes = elim (cases_eq i leader) [
     | inl leads ↦ goes_by (leader_sequence l q [] []) refl (leader_hears p) (leader_traced leads) (λ is. (1, omega arith, refl))
     | inr other ↦ goes_by (follower_sequence l q [] []) refl (follower_hears p) (follower_traced other) (λ is. absurd (other is))
@@ -241,7 +241,7 @@ together_they_go_on {L} {D} K same decides reflexive elect term_length epoch lea
     done : ℕ → List (TraceEvent D)
     done = λ k. skip_trace epoch term_length k (suc terms) view (trace_done (replica_of epoch start parent q k) q)
 
-    goes : (i : ℕ) (s : Execution K L D) → slice_get network i ≡ Some (Honest s) → (t : Execution K L D) × GoesBy same elect term_length leader (proposal_in epoch start parent q) (λ k. skip_trace epoch term_length k (suc terms) view (trace_done (replica_of epoch start parent q k) q)) i s t
+    goes : (i : ℕ) (s : Execution K L D) → slice_get network i ≡ Some (Honest s) → (t : Execution K L D) × ContinuesBy same elect term_length leader (proposal_in epoch start parent q) (λ k. skip_trace epoch term_length k (suc terms) view (trace_done (replica_of epoch start parent q k) q)) i s t
     goes i s at =
         let alive = each i s at in
         member_goes same decides reflexive elect term_length epoch (length network) leader parent view start terms i elector q s (good.honest i s at) far is_term_start small elected (within network leader (Honest leads.0) leads.1) alive.0 alive.1 alive.2.0 alive.2.1

@@ -17,10 +17,10 @@ use Rattle.simplex_progress.proofs.runs.Members.{one_has}
 use Rattle.simplex_progress.proofs.runs.Starts.{replica_of}
 use Rattle.simplex_progress.proofs.states.Passing.{gives_up_now, skips_now, skip_sequence}
 use Rattle.simplex_progress.proofs.states.Sequences.{calls_in, whole_trace, trace_done, certifies_now, finalizes_now, verifies_now, builds_now, follower_sequence, leader_sequence}
-use Rattle.simplex_progress.proofs.states.Standing.{Replica}
+use Rattle.simplex_progress.proofs.states.Standing.{StandingMember}
 
 module _ {D : Type 0} (epoch length leader start parent : ℕ) (payload q : D) where
-  abbrev replica : ℕ → Replica D
+  abbrev replica : ℕ → StandingMember D
   replica i = replica_of epoch start parent payload i
 
   -- the leader builds and votes, and the others verify and vote then

@@ -30,7 +30,7 @@ use Rattle.simplex_progress.proofs.networks.Met.{HaveMet, have_met, some}
 use Rattle.simplex_progress.proofs.networks.Parts.{called, Part, at_member, parts_of, Along, plan_done}
 use Rattle.simplex_progress.proofs.networks.Passed.{skip_hears, skip_holds, within, leader_traced, follower_traced, enough, none_above}
 use Rattle.simplex_progress.proofs.networks.Plan.{only_signs, plan_from, plan_is_whole, plan_long, plan_fits, last_sequence_of, last_trace}
-use Rattle.simplex_progress.proofs.networks.Together.{GoesBy, followed_to_finalize}
+use Rattle.simplex_progress.proofs.networks.Together.{ContinuesBy, followed_to_finalize}
 use Rattle.simplex_progress.proofs.runs.Members.{AllHave, one_has, HearsOnly, follower_hears, leader_hears}
 use Rattle.simplex_progress.proofs.runs.Onward.{and_calls, calls_go_on, calls_run, calls_ran, calls_trace}
 use Rattle.simplex_progress.proofs.runs.Starts.{replica_of}
@@ -123,7 +123,7 @@ module _ {K L D : Type 0} (same : D → D → Bool) (decides : (d e : D) → sam
   last_builds : (i : ℕ) → i ≡ leader → Contains {X = StepFacts K L D} (map Calls (calls_in (last i))) (Calls (Proposed start q 0))
   last_builds i is = subst (λ b. Contains {X = StepFacts K L D} (map Calls (calls_in (if b then leader_sequence (replica_of epoch start parent q i) q [] [] else follower_sequence (replica_of epoch start parent q i) q [] []))) (Calls (Proposed start q 0))) (sym (eq-eqb i leader is)) (1, omega arith, refl)
 
-  goes_by : (i : ℕ) (s t : Execution K L D) → End i s t → GoesBy same elect term_length leader p done i s t
+  goes_by : (i : ℕ) (s t : Execution K L D) → End i s t → ContinuesBy same elect term_length leader p done i s t
   goes_by i s t end =
       let all = skip_calls epoch term_length (suc terms) view (calls_in (last i)) in
       let steps : t.steps ≡ s.steps ++ map Calls all = end.steps ∙ ap (λ cs. s.steps ++ map Calls cs) (calls_are i) in
@@ -146,7 +146,7 @@ module _ {K L D : Type 0} (same : D → D → Bool) (decides : (d e : D) → sam
 
   pub ends : GoesOnToFinalize same elect term_length network later p
   ends = followed_to_finalize same elect term_length leader p done (enough p term_length (suc terms) view) network good few leads later
-      (follows_so End (GoesBy same elect term_length leader p done) goes_by 0 network later rest_done.2)
+      (follows_so End (ContinuesBy same elect term_length leader p done) goes_by 0 network later rest_done.2)
       (none_above same decides elect term_length epoch parent view start terms elector network good far each)
 
 -- the terms of views

@@ -23,7 +23,7 @@ pub record AreEnough {D : Type 0} (p : Proposal D) (done : ℕ → List (TraceEv
 
 module _ {K L D : Type 0} (same : D → D → Bool) (elect : Elect L) (term_length leader : ℕ) (p : Proposal D) (done : ℕ → List (TraceEvent D)) where
   -- the member goes on by this trace, and is handed the proposal or builds it
-  pub record GoesBy (i : ℕ) (s t : Execution K L D) : Type 0 where
+  pub record ContinuesBy (i : ℕ) (s t : Execution K L D) : Type 0 where
     pub goes_on : ExecutionGoesOn s t
     pub ran : IsExecution same elect term_length i t
     pub trace : trace_of t ≡ trace_of s ++ done i
@@ -36,10 +36,10 @@ module _ {K L D : Type 0} (same : D → D → Bool) (elect : Elect L) (term_leng
     (good : IsNetworkOf same elect term_length network)
     (few : faults network ≤ max_faults (length network))
     (leads : (s : Execution K L D) × (slice_get network leader ≡ Some (Honest s)))
-    (later : List (Member K L D)) (following : Follows (GoesBy same elect term_length leader p done) 0 network later)
+    (later : List (Member K L D)) (following : Follows (ContinuesBy same elect term_length leader p done) 0 network later)
     (all_below : (o : Proposal D) → Backed network (Finalize o) → o.round.view < p.round.view) where
   abbrev pub Q : ℕ → Execution K L D → Execution K L D → Type 0
-  Q = GoesBy same elect term_length leader p done
+  Q = ContinuesBy same elect term_length leader p done
 
   many : (length later ≡ length network) × (faults later ≡ faults network)
   many = same_many Q 0 network later following
@@ -115,12 +115,12 @@ module _ {K L D : Type 0} (same : D → D → Bool) (elect : Elect L) (term_leng
     (good : IsNetworkOf same elect term_length network)
     (few : faults network ≤ max_faults (length network))
     (leads : (s : Execution K L D) × (slice_get network leader ≡ Some (Honest s)))
-    (goes : (i : ℕ) (s : Execution K L D) → slice_get network i ≡ Some (Honest s) → (t : Execution K L D) × GoesBy same elect term_length leader p done i s t)
+    (goes : (i : ℕ) (s : Execution K L D) → slice_get network i ≡ Some (Honest s) → (t : Execution K L D) × ContinuesBy same elect term_length leader p done i s t)
     (all_below : (o : Proposal D) → Backed network (Finalize o) → o.round.view < p.round.view) where
-  pub all_going : (later : List (Member K L D)) × Follows (GoesBy same elect term_length leader p done) 0 network later
-  all_going = all_follow (GoesBy same elect term_length leader p done) 0 network go
+  pub all_going : (later : List (Member K L D)) × Follows (ContinuesBy same elect term_length leader p done) 0 network later
+  all_going = all_follow (ContinuesBy same elect term_length leader p done) 0 network go
     where
-      go : (i j : ℕ) (s : Execution K L D) → slice_get network i ≡ Some (Honest s) → j ≡ 0 + i → (t : Execution K L D) × GoesBy same elect term_length leader p done j s t
+      go : (i j : ℕ) (s : Execution K L D) → slice_get network i ≡ Some (Honest s) → j ≡ 0 + i → (t : Execution K L D) × ContinuesBy same elect term_length leader p done j s t
       go i j s at is =
           let here : i ≡ j = omega arith in
           goes j s (subst (λ n. slice_get network n ≡ Some (Honest s)) here at)

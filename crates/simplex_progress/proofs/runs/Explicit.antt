@@ -17,7 +17,7 @@ use Rattle.simplex_voter.proofs.Gaps.{first_unnullified_view-is, or_right}
 use Rattle.simplex_laws.specs.Traces.{TraceEvent}
 use Rattle.simplex_laws.specs.Shows.{verdict_of}
 use Rattle.simplex_laws.proofs.lives.TimingOut.{TimesOut}
-use Rattle.simplex_laws.proofs.votes.Standing.{Stays}
+use Rattle.simplex_laws.proofs.votes.ShownVotes.{ShowsVotesInLife}
 use Rattle.simplex_laws.specs.HistoryFolds.{has_view}
 use Rattle.simplex_progress.specs.Reaching.{HasFinalized, HasCertified, HasJudged}
 use Rattle.simplex_progress.specs.Standing.{StandsBefore}
@@ -106,7 +106,7 @@ module _ {K L D : Type 0} (term_length : ℕ) (trace : List (TraceEvent D)) (ver
 
 -- what is explicit lies below the current view
 
-pub explicit_passed : {K L D : Type 0} {term_length : ℕ} {trace : List (TraceEvent D)} {x : StateFacts K L D} → Stays term_length trace x → TimesOut x → (v : ℕ) (payload : D) → 0 < v → explicit_ancestry_payload x v ≡ Some payload → v < x.current
+pub explicit_passed : {K L D : Type 0} {term_length : ℕ} {trace : List (TraceEvent D)} {x : StateFacts K L D} → ShowsVotesInLife term_length trace x → TimesOut x → (v : ℕ) (payload : D) → 0 < v → explicit_ancestry_payload x v ≡ Some payload → v < x.current
 explicit_passed {K} {L} {D} {term_length} {trace} {x} stays times_out v payload some is = elim (cases_lt v x.current) [ inl below ↦ below | inr from ↦ absurd (by_round from (round_at x v) refl (sym (explicit_by x v some) ∙ is)) ]
   where
     by_parts : x.current ≤ v → (r : RoundFacts K D) → round_of x v ≡ r → (f : Option (ProposalFacts D)) → r.finalization ≡ f → (b : Bool) → is_certified r.certification ≡ b → option_map (λ (p : Proposal D). p.payload) (if is_some f || b then r.slot.held else None) ≡ Some payload → ⊥

@@ -28,7 +28,7 @@ use Rattle.simplex_member.specs.Allowed.{is_allowed, fault_of}
 use Rattle.simplex_member.specs.Calls.{CallFacts, Told}
 use Rattle.simplex_member.specs.Lives.{MemberFacts, AnswersAlive, IsCall, reply_of, left_of, without_life}
 use Rattle.simplex_member.specs.CallSemantics.{answer, recorded_by}
-use Rattle.simplex_member.specs.Restarts.{RestartFacts, IsByView, cut_member, new_life, retention_grows, GoesOn, IsRestart, IsRestartWhere}
+use Rattle.simplex_member.specs.Restarts.{RestartFacts, IsByView, cut_member, new_life, retention_grows, RecoversByView, IsRestart, IsRestartWhere}
 use Rattle.simplex_member.specs.Runs.{StepFacts, Calls, Prunes, Restarts, restart_told, IsRun, IsRunFrom}
 use Rattle.simplex_member.specs.Pruning.{stays_within, pruned_member}
 use Rattle.simplex_member.specs.Start.{started_member}
@@ -315,7 +315,7 @@ module _ {K L D : Type 0} (same : D → D → Bool) (decides : (d e : D) → sam
     ended : (n : MemberFacts K L D) → ((e : ArtifactFacts D) → Contains n.entries e → Contains m.entries e) → MemberLed term_length (trace ++ []) (verdicts ++ []) (without_life n)
     ended n within = still_led same decides elect term_length trace verdicts (without_life n) (record { life = tt; judged = λ success round h. led.judged success round (within (Verdict round success) h); signed = led.signed; notarized = led.notarized })
 
-    goes_on : (n : MemberFacts K L D) (r : RestartFacts K L D) (result : Result (Unit {0}) RecoverError) (left : MemberFacts K L D) (kept : ℕ) → HasTerms term_length r.start.setup → Between term_length trace n.closed kept n.entries → ((e : ArtifactFacts D) → Contains n.entries e → Contains m.entries e) → GoesOn same elect n r.start result left → MemberLed term_length (trace ++ trace_at (Restarts r) (restart_told {K = K} {D = D} result)) (verdicts ++ judged_by (restart_told {K = K} {D = D} result)) left
+    goes_on : (n : MemberFacts K L D) (r : RestartFacts K L D) (result : Result (Unit {0}) RecoverError) (left : MemberFacts K L D) (kept : ℕ) → HasTerms term_length r.start.setup → Between term_length trace n.closed kept n.entries → ((e : ArtifactFacts D) → Contains n.entries e → Contains m.entries e) → RecoversByView same elect n r.start result left → MemberLed term_length (trace ++ trace_at (Restarts r) (restart_told {K = K} {D = D} result)) (verdicts ++ judged_by (restart_told {K = K} {D = D} result)) left
     goes_on n r result left kept fresh between within (inl (is, leaves)) = rw (is, leaves) (ended n within)
     goes_on n r result left kept fresh between within (inr (copy, by_view, goes)) = by_error (recover_error same (new_state r.start.setup) r.start.floor r.start.now copy) refl goes
       where

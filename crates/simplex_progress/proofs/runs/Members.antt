@@ -16,7 +16,7 @@ use Rattle.simplex_laws.specs.Executions.{Execution, trace_of, IsExecution}
 use Rattle.simplex_laws.proofs.lists.Splits.{Contains-cases}
 use Rattle.simplex_progress.specs.Standing.{IsFreshStart, CanStandOn, BuildsOn, proposal_in}
 use Rattle.simplex_progress.specs.Living.{IsSetUpAs, LivesWith}
-use Rattle.simplex_progress.proofs.states.Standing.{Replica, Stands}
+use Rattle.simplex_progress.proofs.states.Standing.{StandingMember, StandsAtView}
 use Rattle.simplex_progress.proofs.states.Calls.{with_work, nothing_done}
 use Rattle.simplex_progress.proofs.runs.Onward.{execution_on}
 use Rattle.simplex_progress.proofs.runs.Ends.{Shown, end_shown}
@@ -77,13 +77,13 @@ module _ {K L D : Type 0} (same : D → D → Bool) (decides : (d e : D) → sam
   pub member_finalizes : (t : Execution K L D) × Finalizes same elect term_length leader p i s t
   member_finalizes = elim (cases_eq i leader) [ inl same ↦ as_leader same | inr other ↦ as_follower other ]
     where
-      l : Replica D
+      l : StandingMember D
       l = replica_of epoch start parent can.payload i
 
       shown : Shown term_length s lives.0 x
       shown = end_shown same decides elect term_length i s ran x lives
 
-      stands : Stands l (with_work fresh.round nothing_done) start x
+      stands : StandsAtView l (with_work fresh.round nothing_done) start x
       stands = stands_there term_length epoch count leader start parent i elector s lives.0 x shown set fresh can small
 
       lead : (o : Leader K) × (fresh.round.leader ≡ Some o) × (o.idx ≡ leader)

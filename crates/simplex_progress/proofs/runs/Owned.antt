@@ -9,7 +9,7 @@ use Rattle.simplex_laws.specs.Events.{Event, after_event}
 use Rattle.simplex_laws.proofs.frames.EachRound.{rounds_or_gone}
 use Rattle.simplex_laws.proofs.frames.Fresh.{IsFresh}
 use Rattle.simplex_record.proofs.Paths.{event_path, asked_of_all}
-use Rattle.simplex_laws.proofs.frames.Rising.{GoesOn, event_goes}
+use Rattle.simplex_laws.proofs.frames.Rising.{UnchangedOrHigher, event_goes}
 use Rattle.simplex_record.proofs.Steps.{RoundStep, Kept}
 
 pub record Owns {K L D : Type 0} (x : StateFacts K L D) : Type 0 where
@@ -27,7 +27,7 @@ module _ {K L D : Type 0} (same : D → D → Bool) (elect : Elect L) (x : State
       y : StateFacts K L D
       y = after_event same elect x e
 
-      goes : GoesOn x y
+      goes : UnchangedOrHigher x y
       goes = event_goes same elect x e
 
       mine : (v : ℕ) → (round_of y v).me ≡ y.me

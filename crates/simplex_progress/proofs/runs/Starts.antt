@@ -16,7 +16,7 @@ use Rattle.simplex_member.specs.Lives.{MemberFacts}
 use Rattle.simplex_laws.specs.Executions.{Execution}
 use Rattle.simplex_progress.specs.Standing.{IsFreshStart, CanStandOn}
 use Rattle.simplex_progress.specs.Living.{IsSetUpAs}
-use Rattle.simplex_progress.proofs.states.Standing.{Replica, Stands}
+use Rattle.simplex_progress.proofs.states.Standing.{StandingMember, StandsAtView}
 use Rattle.simplex_progress.proofs.states.Calls.{with_work, nothing_done}
 use Rattle.simplex_progress.proofs.runs.Ends.{Shown}
 
@@ -80,12 +80,12 @@ module _ {K L D : Type 0} (x : StateFacts K L D) where
           by_test false here = absurd (cc)
 
 -- the replica of a member
-abbrev pub replica_of : {D : Type 0} → ℕ → ℕ → ℕ → D → ℕ → Replica D
+abbrev pub replica_of : {D : Type 0} → ℕ → ℕ → ℕ → D → ℕ → StandingMember D
 replica_of epoch start parent payload i = record { me = i; epoch = epoch; view = start; parent = parent; payload = payload }
 
 module _ {K L D : Type 0} (term_length epoch count leader start parent i : ℕ) (elector : L) (s : Execution K L D) (m : MemberFacts K L D) (x : StateFacts K L D) (shown : Shown term_length s m x)
     (set : IsSetUpAs epoch count elector i x) (fresh : IsFreshStart leader start x) (can : CanStandOn parent start x) where
-  pub stands_there : is_too_large start ≡ false → Stands (replica_of epoch start parent can.payload i) (with_work fresh.round nothing_done) start x
+  pub stands_there : is_too_large start ≡ false → StandsAtView (replica_of epoch start parent can.payload i) (with_work fresh.round nothing_done) start x
   stands_there small = record {
     here = fresh.tracked ∙ (λ j. Some (record (fresh.round) { slot = fresh.no_proposal j; notarize_decided = fresh.no_vote j; notarization = fresh.no_notarization j; certification = fresh.no_verdict j; binding = fresh.unbound j }));
     ordered = shown.living.in_order;

@@ -18,7 +18,7 @@ use Rattle.simplex_voter.proofs.Found.{first_given}
 use Rattle.simplex_member.specs.Calls.{TryPropose, Proposed}
 use Rattle.simplex_member.specs.CallSemantics.{outstanding_work_after}
 use Rattle.simplex_member.specs.OutstandingWork.{OutstandingWork, context_at}
-use Rattle.simplex_progress.proofs.states.Standing.{Replica, Stands, put_here, at_another}
+use Rattle.simplex_progress.proofs.states.Standing.{StandingMember, StandsAtView, put_here, at_another}
 use Rattle.simplex_progress.proofs.states.Words.{built_on, round_is, tracked_is, starts, admitted, allowed_parent}
 use Rattle.simplex_progress.proofs.states.Calls.{Work, with_work, nothing_done, verified, not_nullified, no_fault_due, Makes}
 use Rattle.simplex_progress.proofs.states.Scan.{ahead_rises, ahead_here, ahead_below}
@@ -32,20 +32,20 @@ abbrev pub asked_for : {D : Type 0} → Work D
 asked_for = record nothing_done { slot = record { held = None; conflict = false; verified = false; build_requested = true; verify_requested = false } }
 
 -- what the leader is asked to build on
-abbrev pub context_of : {K D : Type 0} → Replica D → Leader K → Context D K
+abbrev pub context_of : {K D : Type 0} → StandingMember D → Leader K → Context D K
 context_of l lead = record { round = record { epoch = l.epoch; view = l.view }; leader = lead.key; parent = (l.parent, l.payload) }
 
 -- the own proposal was built at this moment
 abbrev pub built_at : {K D : Type 0} → RoundFacts K D → ℕ → RoundFacts K D
 built_at r now = record r { proposed_at = Some now }
 
-module _ {K L D : Type 0} (same : D → D → Bool) (elect : Elect L) (reflexive : (d : D) → same d d ≡ true) (l : Replica D) (q : D) (r : RoundFacts K D) (pending : is_pending r.decision ≡ true)
+module _ {K L D : Type 0} (same : D → D → Bool) (elect : Elect L) (reflexive : (d : D) → same d d ≡ true) (l : StandingMember D) (q : D) (r : RoundFacts K D) (pending : is_pending r.decision ≡ true)
     (lead : Leader K) (leads : r.leader ≡ Some lead) (own : signs_as r.me lead.idx ≡ true)
     (x : StateFacts K L D) where
   abbrev p : Proposal D
   p = built_on l q
 
-  module _ (s : Stands l (with_work r nothing_done) l.view x) (builds : highest_explicit x l.view ≡ Some (l.parent, l.payload)) where
+  module _ (s : StandsAtView l (with_work r nothing_done) l.view x) (builds : highest_explicit x l.view ≡ Some (l.parent, l.payload)) where
     abbrev here : RoundFacts K D
     here = with_work r nothing_done
 
@@ -73,7 +73,7 @@ module _ {K L D : Type 0} (same : D → D → Bool) (elect : Elect L) (reflexive
     pub opens : (o : OutstandingWork K D) → context_at (outstanding_work_after same elect x o TryPropose) l.view ≡ Some (context_of l lead)
     opens o = rw propose_told (find-put nat_cmp nat_cmp_total l.view l.view (context_of l lead) o.contexts ∙ ap (λ b. cond b (Some (context_of l lead)) (find nat_cmp l.view o.contexts)) (is_eq-nat_cmp l.view l.view ∙ eq-eqb l.view l.view refl))
 
-  module _ (s : Stands l (with_work r asked_for) l.view x) (o : OutstandingWork K D) (open_now : context_at o l.view ≡ Some (context_of l lead)) where
+  module _ (s : StandsAtView l (with_work r asked_for) l.view x) (o : OutstandingWork K D) (open_now : context_at o l.view ≡ Some (context_of l lead)) where
     stands_still : captured_parent_valid same elect x l.view l.parent l.payload ≡ true
     unfolding captured_parent_valid
     stands_still = rw (allowed_parent same elect reflexive l _ l.view x s, reflexive l.payload) (or_true _)

@@ -18,7 +18,7 @@ use Rattle.simplex_laws.specs.Traces.{TraceEvent, Accepts, Signs}
 use Rattle.simplex_laws.proofs.frames.Rising.{call_goes}
 use Rattle.simplex_progress.specs.Together.{terms_on}
 use Rattle.simplex_progress.proofs.states.Calls.{with_work, nothing_done, no_fault_due}
-use Rattle.simplex_progress.proofs.states.Standing.{Replica, Stands}
+use Rattle.simplex_progress.proofs.states.Standing.{StandingMember, StandsAtView}
 use Rattle.simplex_progress.proofs.states.Sequences.{Sequence, call_then, calls_in, whole_trace}
 use Rattle.simplex_progress.proofs.states.Skipping.{gives_up, give_up_told, next_is, takes_it, no_fault_then, skips, elsewhere, first_round, entered_first}
 use Rattle.simplex_progress.proofs.states.Waiting.{Waits, known_as, stands_now}
@@ -70,9 +70,9 @@ module _ {D : Type 0} (epoch length : ℕ) where
 
 module _ {K L D : Type 0} where
   -- a member that stands at the start, which nobody touched
-  pub record IsReady (l : Replica D) (leader : ℕ) (x : StateFacts K L D) : Type 0 where
+  pub record IsReady (l : StandingMember D) (leader : ℕ) (x : StateFacts K L D) : Type 0 where
     pub round : RoundFacts K D
-    pub stands : Stands l (with_work round nothing_done) l.view x
+    pub stands : StandsAtView l (with_work round nothing_done) l.view x
     pub pending : is_pending round.decision ≡ true
     pub none : round.finalization ≡ None
     pub me : round.me ≡ Some l.me
@@ -82,10 +82,10 @@ module _ {K L D : Type 0} where
     pub highest : (v : ℕ) → l.parent < v → explicit_ancestry_payload x v ≡ None
 
   -- whom the state would elect for the view
-  abbrev pub Elects : Elect L → Replica D → ℕ → StateFacts K L D → Type 0
+  abbrev pub Elects : Elect L → StandingMember D → ℕ → StateFacts K L D → Type 0
   Elects elect l leader x = option_map (λ (o : Leader K). o.idx) (leader_at x.members (elect x.elector (record { epoch = l.epoch; view = l.view }) (Some []))) ≡ Some leader
 
-module _ {K L D : Type 0} (same : D → D → Bool) (elect : Elect L) (length : ℕ) (some : 0 < length) (l : Replica D) (leader : ℕ) (last : List (CallFacts D × List (TraceEvent D))) where
+module _ {K L D : Type 0} (same : D → D → Bool) (elect : Elect L) (length : ℕ) (some : 0 < length) (l : StandingMember D) (leader : ℕ) (last : List (CallFacts D × List (TraceEvent D))) where
   elects_still : (x : StateFacts K L D) (o : OutstandingWork K D) (call : CallFacts D) → Elects elect l leader x → Elects elect l leader (after_call same elect x o call)
   elects_still x o call is =
       let goes = call_goes same elect x o call in

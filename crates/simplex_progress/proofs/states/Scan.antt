@@ -22,8 +22,8 @@ use Rattle.simplex_voter.proofs.Gaps.{and_both}
 use Rattle.simplex_voter.proofs.Walked.{find-changed, sorted-changed}
 use Rattle.simplex_member.specs.Calls.{TryVerify}
 use Rattle.simplex_member.specs.OutstandingWork.{OutstandingWork}
-use Rattle.simplex_laws.proofs.histories.Leaving.{from_T}
-use Rattle.simplex_progress.proofs.states.Standing.{Replica, Stands, remade}
+use Rattle.simplex_laws.proofs.histories.UnchangedHistories.{from_T}
+use Rattle.simplex_progress.proofs.states.Standing.{StandingMember, StandsAtView, remade}
 use Rattle.simplex_progress.proofs.states.Words.{built_on, spans_it, no_gap, admitted, payload_is}
 use Rattle.simplex_progress.proofs.states.Calls.{with_work, heard, being_verified, not_nullified, no_fault_due, Makes}
 
@@ -31,7 +31,7 @@ below_span : (low high v : ℕ) → v < low → (nat_le low v && nat_le v high) 
 below_span low high v less = grind (arith, nat_tests)
 
 -- from the current view on: the first of them is the view itself
-module _ {K L D : Type 0} (l : Replica D) (r : RoundFacts K D) (x : StateFacts K L D) (s : Stands l r l.view x) where
+module _ {K L D : Type 0} (l : StandingMember D) (r : RoundFacts K D) (x : StateFacts K L D) (s : StandsAtView l r l.view x) where
   abbrev reach : ℕ → Bool
   reach v = nat_le x.current v && nat_le v (next_term_start x.terms.term_length x.current)
 
@@ -52,9 +52,9 @@ module _ {K L D : Type 0} (l : Replica D) (r : RoundFacts K D) (x : StateFacts K
   pub ahead_below : (v : ℕ) → v < l.view → find nat_cmp v (views_ahead x) ≡ None
   ahead_below v less = find-filtered reach v x.rounds ∙ rw (unreached v less) refl
 
-module _ {K L D : Type 0} (same : D → D → Bool) (elect : Elect L) (reflexive : (d : D) → same d d ≡ true) (l : Replica D) (q : D) (r : RoundFacts K D) (pending : is_pending r.decision ≡ true)
+module _ {K L D : Type 0} (same : D → D → Bool) (elect : Elect L) (reflexive : (d : D) → same d d ≡ true) (l : StandingMember D) (q : D) (r : RoundFacts K D) (pending : is_pending r.decision ≡ true)
     (lead : Leader K) (leads : r.leader ≡ Some lead) (other : signs_as r.me lead.idx ≡ false)
-    (x : StateFacts K L D) (s : Stands l (with_work r (heard (built_on l q))) l.view x) where
+    (x : StateFacts K L D) (s : StandsAtView l (with_work r (heard (built_on l q))) l.view x) where
   abbrev p : Proposal D
   p = built_on l q
 
@@ -102,7 +102,7 @@ module _ {K L D : Type 0} (same : D → D → Bool) (elect : Elect L) (reflexive
   tries_verify o = record {
     allowed = refl;
     no_fault = no_fault_due x.failed false false s.alive refl refl;
-    leaves = subst (λ n. Stands l (with_work r (being_verified p l.payload)) n (after_try_verify same elect x)) s.current
+    leaves = subst (λ n. StandsAtView l (with_work r (being_verified p l.payload)) n (after_try_verify same elect x)) s.current
         (remade l here (with_work r (being_verified p l.payload)) l.view x.current x (map_list (λ e. (e.0, scan_left same elect x e.0 e.1)) x.rounds) x.named x.moment s at_view sorted at_parent);
   }
     where

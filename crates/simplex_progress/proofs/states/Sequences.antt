@@ -16,7 +16,7 @@ use Rattle.simplex_member.specs.OutstandingWork.{is_among, is_verifying}
 use Rattle.simplex_member.specs.Runs.{StepFacts, Calls, IsRun}
 use Rattle.simplex_laws.specs.Traces.{TraceEvent, Accepts, Signs, trace_of_call, trace_of_steps}
 use Rattle.simplex_laws.proofs.histories.Following.{among_noted}
-use Rattle.simplex_progress.proofs.states.Standing.{Replica, Stands}
+use Rattle.simplex_progress.proofs.states.Standing.{StandingMember, StandsAtView}
 use Rattle.simplex_progress.proofs.states.Words.{built_on}
 use Rattle.simplex_progress.proofs.states.Calls.{with_work, nothing_done, verified, sets_proposal, is_verified, votes, vote_told, is_notarized, notarization_told, is_certified, ends, end_told, takes_finalization, finalization_told}
 use Rattle.simplex_progress.proofs.states.Scan.{verify_told, tries_verify}
@@ -87,7 +87,7 @@ module _ {K L D : Type 0} (same : D → D → Bool) (elect : Elect L) where
       let whole = parted a [] m (subst (Sequence same elect m) (sym (append-nil a)) sequence) in
       record { replies = whole.replies; end = whole.end; run = whole.run; does = whole.does }
 
-module _ {D : Type 0} (l : Replica D) (q : D) (notarization finalization : List ℕ) where
+module _ {D : Type 0} (l : StandingMember D) (q : D) (notarization finalization : List ℕ) where
   -- it votes
   abbrev pub votes_now : List (CallFacts D × List (TraceEvent D))
   votes_now = (ConstructNotarize l.view, Signs l.me (subject.Notarize (built_on l q)) ∷ []) ∷ []
@@ -122,7 +122,7 @@ module _ {D : Type 0} (l : Replica D) (q : D) (notarization finalization : List 
   leader_sequence = builds_now ++ certifies_now ++ finalizes_now
 
 -- what it does
-abbrev pub trace_done : {D : Type 0} → Replica D → D → List (TraceEvent D)
+abbrev pub trace_done : {D : Type 0} → StandingMember D → D → List (TraceEvent D)
 trace_done l q =
     Signs l.me (subject.Notarize (built_on l q))
     ∷ Accepts (subject.Notarize (built_on l q))
@@ -130,9 +130,9 @@ trace_done l q =
     ∷ Accepts (subject.Finalize (built_on l q))
     ∷ []
 
-module _ {K L D : Type 0} (same : D → D → Bool) (elect : Elect L) (reflexive : (d : D) → same d d ≡ true) (l : Replica D) (q : D) (notarization finalization : List ℕ) where
+module _ {K L D : Type 0} (same : D → D → Bool) (elect : Elect L) (reflexive : (d : D) → same d d ≡ true) (l : StandingMember D) (q : D) (notarization finalization : List ℕ) where
   module _ (r : RoundFacts K D) (pending : is_pending r.decision ≡ true) (none : r.finalization ≡ None) (built : Bool) where
-    last_done : (m : MemberFacts K L D) (x : StateFacts K L D) → m.life ≡ Some x → Stands l (with_work r (verified built (built_on l q) l.payload)) l.view x → Sequence same elect m (last_sequence l q notarization finalization)
+    last_done : (m : MemberFacts K L D) (x : StateFacts K L D) → m.life ≡ Some x → StandsAtView l (with_work r (verified built (built_on l q) l.payload)) l.view x → Sequence same elect m (last_sequence l q notarization finalization)
     last_done m x alive s =
         let c : ProposalFacts D = record { proposal = built_on l q; bytes = notarization } in
         let o1 = m.outstanding_work in
@@ -155,7 +155,7 @@ module _ {K L D : Type 0} (same : D → D → Bool) (elect : Elect L) (reflexive
         (call_then same elect _ x5 _ (Added final_told.0 final_told.1) _ refl final.0 final.1 final_told.2 (ends_there same elect _)))))
 
   module _ (r : RoundFacts K D) (pending : is_pending r.decision ≡ true) (none : r.finalization ≡ None) (lead : Leader K) (leads : r.leader ≡ Some lead)
-      (m : MemberFacts K L D) (x : StateFacts K L D) (alive : m.life ≡ Some x) (s : Stands l (with_work r nothing_done) l.view x) where
+      (m : MemberFacts K L D) (x : StateFacts K L D) (alive : m.life ≡ Some x) (s : StandsAtView l (with_work r nothing_done) l.view x) where
     -- a member that does not lead verifies the proposal
     pub follower_done : signs_as r.me lead.idx ≡ false → Sequence same elect m (follower_sequence l q notarization finalization)
     follower_done other =

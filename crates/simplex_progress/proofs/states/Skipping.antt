@@ -26,7 +26,7 @@ use Rattle.simplex_member.specs.CallSemantics.{answer, after_call}
 use Rattle.simplex_member.specs.OutstandingWork.{OutstandingWork}
 use Rattle.simplex_record.proofs.Rounds.{armed_finalize, round_put}
 use Rattle.simplex_progress.proofs.states.Calls.{and_false, no_fault_due}
-use Rattle.simplex_progress.proofs.states.Standing.{Replica, round_kept, round_here}
+use Rattle.simplex_progress.proofs.states.Standing.{StandingMember, round_kept, round_here}
 use Rattle.simplex_progress.proofs.states.Waiting.{Waits, unexplicit_round, put_waits, reached, covered_on, known_as, at_its_own, either_waits}
 
 given_up : {K D : Type 0} (r : RoundFacts K D) → is_finalize r.decision ≡ false → (is_finalize (after_nullify r).decision ≡ false) × (certified_payload (after_nullify r) ≡ certified_payload r)
@@ -45,7 +45,7 @@ told_by m me may b r e f = rw (e, f) refl
 pub small_under : (p v : ℕ) → p ≤ v → is_too_large v ≡ false → is_too_large p ≡ false
 small_under p v low small = grind (arith, nat_tests)
 
-module _ {K L D : Type 0} (same : D → D → Bool) (elect : Elect L) (length : ℕ) (some : 0 < length) (l : Replica D) (h : Option (RoundFacts K D)) (x : StateFacts K L D) (o : OutstandingWork K D) (c g : ℕ) (w : Waits length l h c g x) where
+module _ {K L D : Type 0} (same : D → D → Bool) (elect : Elect L) (length : ℕ) (some : 0 < length) (l : StandingMember D) (h : Option (RoundFacts K D)) (x : StateFacts K L D) (o : OutstandingWork K D) (c g : ℕ) (w : Waits length l h c g x) where
   may_give_up : may_nullify x c ≡ true
   may_give_up = nullify_whole x c (record { current = sym w.current; no_finalize = w.undecided c (omega arith) })
 
@@ -63,7 +63,7 @@ module _ {K L D : Type 0} (same : D → D → Bool) (elect : Elect L) (length : 
   pub give_up_told : (b : Bool) × (answer same elect x o (ConstructNullify c) ≡ Nullify (Some (b, NullifyVote (record { epoch = l.epoch; view = c }) l.me)))
   give_up_told = (is_nullify (round_of x c).decision, ap Nullify (told_by x.me l.me (may_nullify x c) (is_nullify (round_of x c).decision) (round_number x c) w.me may_give_up ∙ ap (λ (n : ℕ). Some (is_nullify (round_of x c).decision, NullifyVote (record { epoch = n; view = c }) l.me)) w.epoch))
 
-module _ {K L D : Type 0} (same : D → D → Bool) (elect : Elect L) (length : ℕ) (some : 0 < length) (l : Replica D) (h : Option (RoundFacts K D)) (x : StateFacts K L D) (o : OutstandingWork K D) (c : ℕ) (bytes : List ℕ) (w : Waits length l h c c x) (less : c < l.view) where
+module _ {K L D : Type 0} (same : D → D → Bool) (elect : Elect L) (length : ℕ) (some : 0 < length) (l : StandingMember D) (h : Option (RoundFacts K D)) (x : StateFacts K L D) (o : OutstandingWork K D) (c : ℕ) (bytes : List ℕ) (w : Waits length l h c c x) (less : c < l.view) where
   abbrev cert : NullificationFacts
   cert = record { round = record { epoch = l.epoch; view = c }; bytes = bytes }
 

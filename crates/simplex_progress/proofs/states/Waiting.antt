@@ -21,11 +21,11 @@ use Rattle.simplex_voter.specs.Refusals.{is_too_large, has_late_deadline}
 use Rattle.simplex_voter.proofs.Elsewhere.{round_of-with_round}
 use Rattle.simplex_voter.proofs.Gaps.{or_right, first_unnullified_view-is, covering_stays}
 use Rattle.simplex_record.proofs.Rounds.{round_put}
-use Rattle.simplex_progress.proofs.states.Standing.{Replica, Stands, round_kept, round_here}
+use Rattle.simplex_progress.proofs.states.Standing.{StandingMember, StandsAtView, round_kept, round_here}
 use Rattle.simplex_progress.proofs.runs.Starts.{no_gate}
 
 -- the member stands at a view up to the start, where this is known of the start's round; all between the parent and `covered_to` is nullified
-pub record Waits {K L D : Type 0} (length : ℕ) (l : Replica D) (h : Option (RoundFacts K D)) (stands_at covered_to : ℕ) (x : StateFacts K L D) : Type 0 where
+pub record Waits {K L D : Type 0} (length : ℕ) (l : StandingMember D) (h : Option (RoundFacts K D)) (stands_at covered_to : ℕ) (x : StateFacts K L D) : Type 0 where
   pub here : round_at x l.view ≡ h
   pub ordered : T (is_sorted nat_cmp x.rounds)
   pub alive : x.failed ≡ false
@@ -73,7 +73,7 @@ any_of_new test (v ∷ us) u is = by_order (nat_cmp u v) refl (any_of_new test u
     by_order Equal at behind = let same : u ≡ v = eqb-true u v (sym (is_eq-nat_cmp u v) ∙ ap is_eq at) in rw (ap test (sym same) ∙ is) refl
     by_order Greater at behind = or_right (test v) _ behind
 
-module _ {K L D : Type 0} (length : ℕ) (l : Replica D) where
+module _ {K L D : Type 0} (length : ℕ) (l : StandingMember D) where
   -- a round above the parent, with nothing decided or certified
   pub put_waits : (h : Option (RoundFacts K D)) (c g v : ℕ) (r : RoundFacts K D) (x : StateFacts K L D) → Waits length l h c g x → l.parent < v → (c ≤ v → is_finalize r.decision ≡ false) → certified_payload r ≡ None → Waits length l (round_at (with_round x v r) l.view) c g (with_round x v r)
   put_waits h c g v r x w up open_still no_payload = record {
@@ -155,7 +155,7 @@ module _ {K L D : Type 0} (length : ℕ) (l : Replica D) where
   }
 
   -- where the start is entered, the member stands there
-  pub stands_now : (r : RoundFacts K D) (x : StateFacts K L D) → 0 < length → Waits length l (Some r) l.view l.view x → Stands l r l.view x
+  pub stands_now : (r : RoundFacts K D) (x : StateFacts K L D) → 0 < length → Waits length l (Some r) l.view l.view x → StandsAtView l r l.view x
   stands_now r x some w =
       let start : l.view ≡ term_start x.terms.term_length l.view = w.start ∙ ap (λ n. term_start n l.view) (sym w.terms) in
       record {

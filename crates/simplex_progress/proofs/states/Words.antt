@@ -13,10 +13,10 @@ use Rattle.simplex_voter.specs.Gaps.{first_unnullified_view}
 use Rattle.simplex_voter.specs.Parents.{has_valid_parent_span, ancestry_payload_for_child, parent_payload_for, verification_matches}
 use Rattle.simplex_voter.specs.Refusals.{is_too_large, names_too_large, takes_round, is_started}
 use Rattle.simplex_voter.proofs.Gaps.{and_both}
-use Rattle.simplex_progress.proofs.states.Standing.{Replica, Stands}
+use Rattle.simplex_progress.proofs.states.Standing.{StandingMember, StandsAtView}
 
 -- the proposal of the view on the parent
-abbrev pub built_on : {D : Type 0} → Replica D → D → Proposal D
+abbrev pub built_on : {D : Type 0} → StandingMember D → D → Proposal D
 built_on l payload = record { round = record { epoch = l.epoch; view = l.view }; parent = l.parent; payload = payload }
 
 no_floor : (a b c : Bool) (n : ℕ) → b ≡ true → (if a || b || c then None else Some n) ≡ None
@@ -40,7 +40,7 @@ or_first a b is = rw is refl
 small_below : (p v : ℕ) → p < v → is_too_large v ≡ false → is_too_large p ≡ false
 small_below p v low small = grind (arith, nat_tests)
 
-module _ {K L D : Type 0} (l : Replica D) (r : RoundFacts K D) (c : ℕ) (x : StateFacts K L D) (s : Stands l r c x) where
+module _ {K L D : Type 0} (l : StandingMember D) (r : RoundFacts K D) (c : ℕ) (x : StateFacts K L D) (s : StandsAtView l r c x) where
   pub round_is : round_of x l.view ≡ r
   round_is = ap (λ found. unwrap_or found (new_round x.me x.members (round_number x l.view))) s.here
 
@@ -74,11 +74,11 @@ module _ {K L D : Type 0} (l : Replica D) (r : RoundFacts K D) (c : ℕ) (x : St
   pub names_small : (q : D) → names_too_large (built_on l q) ≡ false
   names_small q = rw (s.small, small_below l.parent l.view s.below s.small) refl
 
-pub same_self : {D : Type 0} (same : D → D → Bool) (reflexive : (d : D) → same d d ≡ true) (l : Replica D) (q : D) → same_proposal same (built_on l q) (built_on l q) ≡ true
+pub same_self : {D : Type 0} (same : D → D → Bool) (reflexive : (d : D) → same d d ≡ true) (l : StandingMember D) (q : D) → same_proposal same (built_on l q) (built_on l q) ≡ true
 same_self same reflexive l q = rw (eq-eqb l.epoch l.epoch refl, eq-eqb l.view l.view refl, eq-eqb l.parent l.parent refl, reflexive q) refl
 
-module _ {K L D : Type 0} (same : D → D → Bool) (elect : Elect L) (reflexive : (d : D) → same d d ≡ true) (l : Replica D) where
-  module _ (r : RoundFacts K D) (c : ℕ) (x : StateFacts K L D) (s : Stands l r c x) where
+module _ {K L D : Type 0} (same : D → D → Bool) (elect : Elect L) (reflexive : (d : D) → same d d ≡ true) (l : StandingMember D) where
+  module _ (r : RoundFacts K D) (c : ℕ) (x : StateFacts K L D) (s : StandsAtView l r c x) where
     pub payload_is : ancestry_payload_for_child same elect x l.view l.parent ≡ Some l.payload
     unfolding ancestry_payload_for_child
     payload_is = rw (no_window l r c x s) s.explicit

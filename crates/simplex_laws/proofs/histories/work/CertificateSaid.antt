@@ -13,7 +13,7 @@ use Rattle.simplex_laws.specs.Requested.{names, certifies, verifies, asks_to_bui
 use Rattle.simplex_laws.specs.HistoryFolds.{or_new, has_view}
 use Rattle.simplex_laws.specs.Timing.{enters, proposes, latches, retries}
 use Rattle.simplex_laws.proofs.histories.work.Certificates.{with_settled, with_certification}
-use Rattle.simplex_laws.proofs.histories.work.SetUp.{Steady}
+use Rattle.simplex_laws.proofs.histories.work.SetUp.{UnchangedSetUp}
 use Rattle.simplex_laws.proofs.histories.work.Leaders.{with_leader, with_entry}
 use Rattle.simplex_laws.proofs.histories.Worked.{Worked, work_of, timed, adds_work, WorkFollows}
 
@@ -101,7 +101,7 @@ module _ {K L D : Type 0} (same : D → D → Bool) (elect : Elect L) (x : State
     build_requested = true_or s.overruled k.build_requested i;
   }))
 
-  pub said_follows : (y : StateFacts K L D) (said : ℕ → Said K) → Steady x y → ((v : ℕ) → has_view y.named v ≡ unwrap_or (names elect v x e) (has_view x.named v)) → ((v : ℕ) → Says same elect x e v (said v)) → ((v : ℕ) → work_of y v ≡ with_said x (said v) (work_of x v)) → WorkFollows same elect e x y
+  pub said_follows : (y : StateFacts K L D) (said : ℕ → Said K) → UnchangedSetUp x y → ((v : ℕ) → has_view y.named v ≡ unwrap_or (names elect v x e) (has_view x.named v)) → ((v : ℕ) → Says same elect x e v (said v)) → ((v : ℕ) → work_of y v ≡ with_said x (said v) (work_of x v)) → WorkFollows same elect e x y
   said_follows y said steady named says work = record {
     me = ap (λ (a : StateFacts K L D). a.me) steady;
     members = ap (λ (a : StateFacts K L D). a.members) steady;

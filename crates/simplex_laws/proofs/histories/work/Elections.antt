@@ -16,7 +16,7 @@ use Rattle.simplex_laws.specs.OwnWork.{contradicts}
 use Rattle.simplex_laws.proofs.histories.work.Certificates.{with_settled, with_certification, settled_by}
 use Rattle.simplex_laws.proofs.histories.work.Windows.{SameLeaders, window_alike, slid_work}
 use Rattle.simplex_laws.proofs.histories.work.CertificateSaid.{Said, with_said}
-use Rattle.simplex_laws.proofs.histories.work.SetUp.{Steady, entered_steady, elected_steady}
+use Rattle.simplex_laws.proofs.histories.work.SetUp.{UnchangedSetUp, entered_steady, elected_steady}
 use Rattle.simplex_laws.proofs.histories.work.Leaders.{with_leader, with_entry, entry_at, elected_work, entered_work}
 use Rattle.simplex_laws.proofs.histories.Worked.{Worked, work_of, untimed}
 
@@ -46,7 +46,7 @@ module _ {K L D : Type 0} where
       either false = refl
 
   -- an entry of the view w, where nothing that it depends on has changed
-  pub entered_said : (x b : StateFacts K L D) (w now v : ℕ) → Steady x b → b.current ≡ x.current → work_of (with_view_entered b w now) v ≡ with_entry x (entry_at x w now v) (work_of b v)
+  pub entered_said : (x b : StateFacts K L D) (w now v : ℕ) → UnchangedSetUp x b → b.current ≡ x.current → work_of (with_view_entered b w now) v ≡ with_entry x (entry_at x w now v) (work_of b v)
   entered_said x b w now v steady current = entered_work b w now v ∙ (λ i. with_entry (steady i) (if eqb v w && nat_lt (current i) v then Some now else None) (work_of b v))
 
   pub entered_named : (x : StateFacts K L D) (w now : ℕ) → (with_view_entered x w now).named ≡ x.named
@@ -72,13 +72,13 @@ module _ {K L D : Type 0} (same : D → D → Bool) (elect : Elect L) (x : State
 
   -- e is what it makes of the facts before it elects
 
-  module _ (e : StateFacts K L D) (entry : ℕ → Option ℕ) (from : ℕ → Option Certification) (steady : Steady x e) (before : (v : ℕ) → work_of e v ≡ with_entry x (entry v) (with_certification (from v) (work_of x v))) where
+  module _ (e : StateFacts K L D) (entry : ℕ → Option ℕ) (from : ℕ → Option Certification) (steady : UnchangedSetUp x e) (before : (v : ℕ) → work_of e v ≡ with_entry x (entry v) (with_certification (from v) (work_of x v))) where
     elected_said : (v : ℕ) → work_of (with_elected_leader elect e (c.proposal.round.view + 1) (Some c.bytes)) v ≡ with_leader (eqb v (c.proposal.round.view + 1)) (elected_leader elect x v (c.proposal.round.view + 1) (Some c.bytes)) (with_entry x (entry v) (with_certification (from v) (work_of x v)))
     elected_said v =
         let next = c.proposal.round.view + 1 in
         elected_work elect e next (Some c.bytes) v ∙ (λ i. with_leader (eqb v next) (elected_leader elect (steady i) v next (Some c.bytes)) (before v i))
 
-    pub proposal_work : (standing : Option (ProposalFacts D)) (z a : StateFacts K L D) → Steady x a → ((v : ℕ) → work_of z v ≡ with_settled (eqb v c.proposal.round.view) (contradicts same (round_of x v).slot.held (settled_by c (is_none standing) v)) (work_of (with_elected_leader elect e (c.proposal.round.view + 1) (Some c.bytes)) v)) → ((v : ℕ) → work_of a v ≡ work_of z v) → (v : ℕ) → work_of (if is_some standing then z else with_window_leaders a c.proposal.round.view) v ≡ with_said x (proposal_said (is_none standing) (entry v) (from v) v) (work_of x v)
+    pub proposal_work : (standing : Option (ProposalFacts D)) (z a : StateFacts K L D) → UnchangedSetUp x a → ((v : ℕ) → work_of z v ≡ with_settled (eqb v c.proposal.round.view) (contradicts same (round_of x v).slot.held (settled_by c (is_none standing) v)) (work_of (with_elected_leader elect e (c.proposal.round.view + 1) (Some c.bytes)) v)) → ((v : ℕ) → work_of a v ≡ work_of z v) → (v : ℕ) → work_of (if is_some standing then z else with_window_leaders a c.proposal.round.view) v ≡ with_said x (proposal_said (is_none standing) (entry v) (from v) v) (work_of x v)
     proposal_work standing z a stays settled same_work v =
         opened_work x d z a u v standing (ap (λ (y : StateFacts K L D). y.members) stays) leaders (same_work v)
         ∙ ap (with_leader (is_none standing && is_some (window_leader d u v)) (if is_none standing then same_member x (window_leader d u v) else None))
@@ -93,7 +93,7 @@ module _ {K L D : Type 0} (same : D → D → Bool) (elect : Elect L) (x : State
         leader_of : Worked K D → Option (Leader K)
         leader_of k = k.leader
 
-        as_elected : Steady d a
+        as_elected : UnchangedSetUp d a
         as_elected = stays ∙ sym (elected_steady elect x (u + 1) (Some c.bytes))
 
         leaders : SameLeaders d a
@@ -117,9 +117,9 @@ module _ {K L D : Type 0} (elect : Elect L) (x : StateFacts K L D) where
     inherited = None;
   }
 
-  pub entry_work : (a : StateFacts K L D) (w now : ℕ) (seed : Option (List ℕ)) (v : ℕ) → Steady x a → a.current ≡ x.current → work_of a v ≡ work_of x v → work_of (with_elected_leader elect (with_view_entered a w now) w seed) v ≡ with_said x (entry_said false w now seed v) (work_of x v)
+  pub entry_work : (a : StateFacts K L D) (w now : ℕ) (seed : Option (List ℕ)) (v : ℕ) → UnchangedSetUp x a → a.current ≡ x.current → work_of a v ≡ work_of x v → work_of (with_elected_leader elect (with_view_entered a w now) w seed) v ≡ with_said x (entry_said false w now seed v) (work_of x v)
   entry_work a w now seed v steady current same_work =
       let e = with_view_entered a w now in
-      let stays : Steady x e = entered_steady a w now ∙ steady in
+      let stays : UnchangedSetUp x e = entered_steady a w now ∙ steady in
       elected_work elect e w seed v
       ∙ (λ i. with_leader (eqb v w) (elected_leader elect (stays i) v w seed) ((entered_said x a w now v steady current ∙ ap (with_entry x (entry_at x w now v)) same_work) i))

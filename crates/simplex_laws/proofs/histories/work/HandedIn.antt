@@ -21,13 +21,13 @@ use Rattle.simplex_laws.specs.OwnWork.{contradicts}
 use Rattle.simplex_laws.specs.Requested.{names, ends, wakes}
 use Rattle.simplex_laws.specs.HistoryFolds.{has_view}
 use Rattle.simplex_laws.proofs.histories.FollowingHanded.{and_false}
-use Rattle.simplex_laws.proofs.histories.Leaving.{known_of, Alike, Leaves, Quiet, leaves_joined, then_quiet, moment_leaves, entered_leaves, raised_leaves, elected_quiet}
+use Rattle.simplex_laws.proofs.histories.UnchangedHistories.{known_of, UnchangedKnown, UnchangedButNumbers, UnchangedHistory, leaves_joined, then_quiet, moment_leaves, entered_leaves, raised_leaves, elected_quiet}
 use Rattle.simplex_record.proofs.Seen.{option_or_none}
 use Rattle.simplex_laws.proofs.histories.work.Certificates.{with_settled, with_certification, settled_by, notarized_work, nullified_work, finalized_work, raised_work, raised_among}
 use Rattle.simplex_laws.proofs.histories.work.Elections.{without_entry, named_work, woken_work, entered_said, entered_named, proposal_said, proposal_work, entry_said, entry_work}
 use Rattle.simplex_laws.proofs.histories.work.Windows.{slid_only}
 use Rattle.simplex_laws.proofs.histories.work.CertificateSaid.{Says, said_follows}
-use Rattle.simplex_laws.proofs.histories.work.SetUp.{Steady, steady_where, entered_steady, elected_steady, raised_steady, named_steady, woken_steady, slid_steady, wakings_steady}
+use Rattle.simplex_laws.proofs.histories.work.SetUp.{UnchangedSetUp, steady_where, entered_steady, elected_steady, raised_steady, named_steady, woken_steady, slid_steady, wakings_steady}
 use Rattle.simplex_laws.proofs.histories.work.Leaders.{OnlyRounds, with_entry, entry_at, elected_only}
 use Rattle.simplex_laws.proofs.histories.work.Wakings.{named_among, waits_alike, woken_among}
 use Rattle.simplex_laws.proofs.histories.Worked.{Worked, work_of, work_put, work_elsewhere, WorkFollows}
@@ -75,15 +75,15 @@ module _ {K L D : Type 0} (same : D → D → Bool) (elect : Elect L) (x : State
       z : StateFacts K L D
       z = with_notarization_at same elect d c
 
-      kept : Steady x z
+      kept : UnchangedSetUp x z
       kept = elected_steady elect x (u + 1) (Some c.bytes)
 
-      steady : Steady x (after_add_notarization same elect x c)
+      steady : UnchangedSetUp x (after_add_notarization same elect x c)
       steady = steady_where x (is_some standing) z (with_window_leaders (named_also z u) u) kept (slid_steady (named_also z u) u ∙ named_steady z u ∙ kept)
 
       settled : (v : ℕ) → work_of z v ≡ with_settled (eqb v u) (contradicts same (round_of x v).slot.held (settled_by c (is_none standing) v)) (work_of d v)
       settled v =
-          let alike : Quiet x d = elected_quiet elect x (u + 1) (Some c.bytes) in
+          let alike : UnchangedHistory x d = elected_quiet elect x (u + 1) (Some c.bytes) in
           notarized_work same elect d c v ∙ (λ i. with_settled (eqb v u) (contradicts same (alike.rounds v i).held (settled_by c (is_none (alike.rounds u i).notarization) v)) (work_of d v))
 
       only : OnlyRounds x d
@@ -117,7 +117,7 @@ module _ {K L D : Type 0} (same : D → D → Bool) (elect : Elect L) (x : State
       e : StateFacts K L D
       e = with_view_entered (at_moment x now) next now
 
-      steady : Steady x (after_add_nullification elect x c now)
+      steady : UnchangedSetUp x (after_add_nullification elect x c now)
       steady = elected_steady elect e next (Some c.bytes) ∙ entered_steady (at_moment x now) next now
 
       says : (v : ℕ) → Says same elect x (AddNullification c now) v (entry_said elect x (eqb v u) next now (Some c.bytes) v)
@@ -151,7 +151,7 @@ module _ {K L D : Type 0} (same : D → D → Bool) (elect : Elect L) (x : State
       e : StateFacts K L D
       e = with_view_entered a 1 now
 
-      steady : Steady x (after_set_floor same elect x (Genesis payload) now)
+      steady : UnchangedSetUp x (after_set_floor same elect x (Genesis payload) now)
       steady = elected_steady elect e 1 None ∙ entered_steady a 1 now
 
       says : (v : ℕ) → Says same elect x (SetFloor (Genesis payload) now) v (entry_said elect x false 1 now None v)
@@ -226,19 +226,19 @@ module _ {K L D : Type 0} (same : D → D → Bool) (elect : Elect L) (x : State
       z : StateFacts K L D
       z = with_finalization_at same elect d c
 
-      entering : Steady x e
+      entering : UnchangedSetUp x e
       entering = entered_steady b (u + 1) now ∙ raised_steady a u
 
-      kept : Steady x z
+      kept : UnchangedSetUp x z
       kept = elected_steady elect e (u + 1) (Some c.bytes) ∙ entering
 
-      steady : Steady x (after_add_finalization same elect x c now)
+      steady : UnchangedSetUp x (after_add_finalization same elect x c now)
       steady = steady_where x (is_some standing) z (with_window_leaders (with_waiting_candidate elect z u) u) kept (slid_steady (with_waiting_candidate elect z u) u ∙ woken_steady elect z u ∙ kept)
 
-      raising : Leaves now x.current (max x.finalized u) x b
+      raising : UnchangedButNumbers now x.current (max x.finalized u) x b
       raising = leaves_joined now x.current x.finalized now x.current (max x.finalized u) x a b (moment_leaves x now) (raised_leaves a u)
 
-      known : Leaves b.moment (max b.current (u + 1)) b.finalized x d
+      known : UnchangedButNumbers b.moment (max b.current (u + 1)) b.finalized x d
       known = then_quiet b.moment (max b.current (u + 1)) b.finalized x e d
           (leaves_joined now x.current (max x.finalized u) b.moment (max b.current (u + 1)) b.finalized x b e raising (entered_leaves b (u + 1) now))
           (elected_quiet elect e (u + 1) (Some c.bytes))
@@ -260,7 +260,7 @@ module _ {K L D : Type 0} (same : D → D → Bool) (elect : Elect L) (x : State
           finalized : z.finalized ≡ max x.finalized u
           finalized = known.finalized_is ∙ raising.finalized_is
 
-          untouched : Alike (round_of x (u + 1)) (round_of z (u + 1))
+          untouched : UnchangedKnown (round_of x (u + 1)) (round_of z (u + 1))
           untouched = ap known_of (round_of-with_round d (u + 1) u (λ same_view. omega (arith, same_view)) (with_finalization (same_proposal same) (round_of d u) c)) ∙ known.rounds (u + 1)
 
           by_view : ((v ≡ u + 1) ⊎ (v ≡ u + 1 → ⊥)) → wakes elect z z.finalized u v ≡ wakes elect x (max x.finalized u) u v

@@ -15,10 +15,10 @@ use Rattle.simplex_laws.specs.Requested.{is_at, wakes, names}
 use Rattle.simplex_laws.specs.HistoryFolds.{has_view}
 use Rattle.simplex_laws.specs.Timing.{triggers}
 use Rattle.simplex_record.proofs.Growing.{round_of-put}
-use Rattle.simplex_laws.proofs.histories.Leaving.{known_of, Alike, entered_leaves}
+use Rattle.simplex_laws.proofs.histories.UnchangedHistories.{known_of, UnchangedKnown, entered_leaves}
 use Rattle.simplex_laws.proofs.histories.work.Elections.{woken_work}
 use Rattle.simplex_laws.proofs.histories.work.Puts.{unentered, shared_follows, idle_follows}
-use Rattle.simplex_laws.proofs.histories.work.SetUp.{Steady, steady_joined, entered_steady, woken_steady, wakings_steady}
+use Rattle.simplex_laws.proofs.histories.work.SetUp.{UnchangedSetUp, steady_joined, entered_steady, woken_steady, wakings_steady}
 use Rattle.simplex_laws.proofs.histories.work.Timeouts.{work_triggered, shared_triggered}
 use Rattle.simplex_laws.proofs.histories.work.Wakings.{waits_alike, woken_among}
 use Rattle.simplex_laws.proofs.histories.work.Leaders.{with_entry, entry_at, entered_work}
@@ -54,7 +54,7 @@ module _ {K L D : Type 0} (same : D → D → Bool) (elect : Elect L) (x : State
       y : StateFacts K L D
       y = with_view_entered j (v + 1) now
 
-      steady : Steady x (with_waiting_candidate elect y v)
+      steady : UnchangedSetUp x (with_waiting_candidate elect y v)
       steady = steady_joined x y (with_waiting_candidate elect y v) (entered_steady j (v + 1) now) (woken_steady elect y v)
 
       numbers : (b : Bool) (r : RoundFacts K D) → ((if b then record (with_round j (v + 1) r) { current = v + 1 } else j).finalized ≡ x.finalized) × ((if b then record (with_round j (v + 1) r) { current = v + 1 } else j).named ≡ x.named)
@@ -67,7 +67,7 @@ module _ {K L D : Type 0} (same : D → D → Bool) (elect : Elect L) (x : State
       above : eqb (v + 1) v ≡ false
       above = ne_eqb (v + 1) v (λ same. absurd (omega (arith, same)))
 
-      next : Alike (round_of x (v + 1)) (round_of y (v + 1))
+      next : UnchangedKnown (round_of x (v + 1)) (round_of y (v + 1))
       next =
           let unchanged : round_of j (v + 1) ≡ round_of x (v + 1) = round_of-put (at_moment x now) (v + 1) v (certified_round (round_of x v) true) ∙ rw above refl in
           (entered_leaves j (v + 1) now).rounds (v + 1) ∙ ap known_of unchanged

@@ -13,7 +13,7 @@ use Rattle.simplex_voter.specs.Rules.{required_certification_parent}
 use Rattle.simplex_laws.specs.Requested.{wakes}
 use Rattle.simplex_laws.specs.HistoryFolds.{has_view}
 use Rattle.simplex_laws.proofs.histories.Following.{among_noted}
-use Rattle.simplex_laws.proofs.histories.Leaving.{Alike}
+use Rattle.simplex_laws.proofs.histories.UnchangedHistories.{UnchangedKnown}
 
 -- these two are set up alike
 pub record SetUpAlike {K L D : Type 0} (x y : StateFacts K L D) : Type 0 where
@@ -42,7 +42,7 @@ module _ {K L D : Type 0} where
 
 module _ {K L D : Type 0} (elect : Elect L) where
   -- whether a view waits hangs on how the state is set up, and on what is known of that view
-  pub waits_alike : (x y : StateFacts K L D) (p : ℕ) → SetUpAlike x y → Alike (round_of x (p + 1)) (round_of y (p + 1)) → waits_for elect y p (round_of y (p + 1)) ≡ waits_for elect x p (round_of x (p + 1))
+  pub waits_alike : (x y : StateFacts K L D) (p : ℕ) → SetUpAlike x y → UnchangedKnown (round_of x (p + 1)) (round_of y (p + 1)) → waits_for elect y p (round_of y (p + 1)) ≡ waits_for elect x p (round_of x (p + 1))
   unfolding required_certification_parent
   waits_alike x y p s alike = λ i. is_some (alike i).notarization && option_map_or (λ h. option_map_or (λ q. eqb q p) (parent i h) false) (alike i).held false
     where

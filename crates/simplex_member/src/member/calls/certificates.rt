@@ -5,11 +5,11 @@ ghost use Rattle.simplex_types.specs.Certificates.{notarization_facts, nullifica
 ghost use Rattle.simplex_member.specs.Calls.{AddNotarization, AddNullification, AddFinalization, Added, AddedNullification};
 ghost use Rattle.simplex_member.specs.Lives.{IsCall};
 ghost use Rattle.simplex_member.specs.CallSemantics.{if_new};
-ghost use Rattle.simplex_member.specs.MethodContracts.{told_of, Keeps, IsAnswered};
+ghost use Rattle.simplex_member.specs.MethodContracts.{told_of, UnchangedButLife, IsAnswered};
 
 use crate::member::call_error::{ended, is_lost};
 use crate::member::life::Member;
-use crate::member::parts::{add_finalization, add_notarization, add_nullification};
+use crate::member::recorded_calls::{add_finalization, add_notarization, add_nullification};
 use crate::member::refusal::Refusal;
 use simplex_types::types::{
     Digest, Elector, Fault, Finalization, Notarization, Nullification, Scheme,
@@ -30,7 +30,7 @@ impl<S: Scheme<D>, L: Elector<S>, D: Digest> Member<S, L, D> {
             (told_of (λ added. Added added.0 added.1) result) self.new.facts }
         ensures answered { IfOk result (λ added. IsAnswered D.eq L.elect self.old.facts
             (AddNotarization (notarization_facts S.certificate_bytes notarization)) (Added added.0 added.1) self.new.facts) }
-        ensures kept { IfErr result (λ refusal. Keeps self.old.facts refusal self.new.facts) }
+        ensures kept { IfErr result (λ refusal. UnchangedButLife self.old.facts refusal self.new.facts) }
         ensures votes { self.new.votes ≡ self.old.votes }
         ensures recorded { IfOk result (λ added. self.new.facts.entries
             ≡ self.old.facts.entries ++ if_new added.0 (Accepted (Notarized (notarization_facts S.certificate_bytes notarization)))) }
@@ -66,7 +66,7 @@ impl<S: Scheme<D>, L: Elector<S>, D: Digest> Member<S, L, D> {
             (told_of (λ is_new. AddedNullification is_new) result) self.new.facts }
         ensures answered { IfOk result (λ is_new. IsAnswered D.eq L.elect self.old.facts
             (AddNullification (nullification_facts S.certificate_bytes nullification) now) (AddedNullification is_new) self.new.facts) }
-        ensures kept { IfErr result (λ refusal. Keeps self.old.facts refusal self.new.facts) }
+        ensures kept { IfErr result (λ refusal. UnchangedButLife self.old.facts refusal self.new.facts) }
         ensures votes { self.new.votes ≡ self.old.votes }
         ensures recorded { IfOk result (λ is_new. self.new.facts.entries
             ≡ self.old.facts.entries ++ if_new is_new (Accepted (Nullified (nullification_facts S.certificate_bytes nullification)))) }
@@ -105,7 +105,7 @@ impl<S: Scheme<D>, L: Elector<S>, D: Digest> Member<S, L, D> {
             (told_of (λ added. Added added.0 added.1) result) self.new.facts }
         ensures answered { IfOk result (λ added. IsAnswered D.eq L.elect self.old.facts
             (AddFinalization (finalization_facts S.certificate_bytes finalization) now) (Added added.0 added.1) self.new.facts) }
-        ensures kept { IfErr result (λ refusal. Keeps self.old.facts refusal self.new.facts) }
+        ensures kept { IfErr result (λ refusal. UnchangedButLife self.old.facts refusal self.new.facts) }
         ensures votes { self.new.votes ≡ self.old.votes }
         ensures recorded { IfOk result (λ added. self.new.facts.entries
             ≡ self.old.facts.entries ++ if_new added.0 (Accepted (Finalized (finalization_facts S.certificate_bytes finalization)))) }

@@ -4,11 +4,11 @@ ghost use Rattle.std.specs.Prelude.{◌≡◌, option_map, IfOk, IfErr};
 ghost use Rattle.simplex_types.specs.Certificates.{notarization_facts};
 ghost use Rattle.simplex_member.specs.Calls.{CertifyCandidates, SetCertifyHandle, Certified, Judged, Candidates, Done};
 ghost use Rattle.simplex_member.specs.Lives.{IsCall};
-ghost use Rattle.simplex_member.specs.MethodContracts.{told_of, Keeps, IsAnswered};
+ghost use Rattle.simplex_member.specs.MethodContracts.{told_of, UnchangedButLife, IsAnswered};
 
 use crate::member::call_error::{ended, is_lost};
 use crate::member::life::Member;
-use crate::member::parts;
+use crate::member::recorded_calls;
 use crate::member::refusal::Refusal;
 use simplex_types::types::{Digest, Elector, Fault, Notarization, Proposal, Scheme, View};
 use simplex_voter::voter::CertificateFetch;
@@ -26,13 +26,13 @@ impl<S: Scheme<D>, L: Elector<S>, D: Digest> Member<S, L, D> {
             (told_of (λ candidates. Candidates candidates.0.items candidates.1.items) result) self.new.facts }
         ensures answered { IfOk result (λ candidates. IsAnswered D.eq L.elect self.old.facts CertifyCandidates
             (Candidates candidates.0.items candidates.1.items) self.new.facts) }
-        ensures kept { IfErr result (λ refusal. Keeps self.old.facts refusal self.new.facts) }
+        ensures kept { IfErr result (λ refusal. UnchangedButLife self.old.facts refusal self.new.facts) }
         ensures votes { self.new.votes ≡ self.old.votes }
     {
         if self.failed {
             return Err(Refusal::Fault(Fault::Failed));
         }
-        let made = parts::certify_candidates(&mut self.state, &mut self.outstanding_work);
+        let made = recorded_calls::certify_candidates(&mut self.state, &mut self.outstanding_work);
         self.failed = is_lost(&made);
         ended(made)
     }
@@ -44,7 +44,7 @@ impl<S: Scheme<D>, L: Elector<S>, D: Digest> Member<S, L, D> {
     pub fn set_certify_handle(&mut self, view: View, token: u64) -> Result<(), Refusal>
         ensures made { IsCall D.eq L.elect self.old.facts (SetCertifyHandle view token) (told_of (λ _. Done) result) self.new.facts }
         ensures answered { IfOk result (λ _. IsAnswered D.eq L.elect self.old.facts (SetCertifyHandle view token) Done self.new.facts) }
-        ensures kept { IfErr result (λ refusal. Keeps self.old.facts refusal self.new.facts) }
+        ensures kept { IfErr result (λ refusal. UnchangedButLife self.old.facts refusal self.new.facts) }
         ensures votes { self.new.votes ≡ self.old.votes }
     {
         if self.failed {
@@ -76,7 +76,7 @@ impl<S: Scheme<D>, L: Elector<S>, D: Digest> Member<S, L, D> {
             (told_of (λ notarization. Judged success (option_map (notarization_facts S.certificate_bytes) notarization)) result) self.new.facts }
         ensures answered { IfOk result (λ notarization. IsAnswered D.eq L.elect self.old.facts (Certified view success now)
             (Judged success (option_map (notarization_facts S.certificate_bytes) notarization)) self.new.facts) }
-        ensures kept { IfErr result (λ refusal. Keeps self.old.facts refusal self.new.facts) }
+        ensures kept { IfErr result (λ refusal. UnchangedButLife self.old.facts refusal self.new.facts) }
         ensures votes { self.new.votes ≡ self.old.votes }
     {
         if self.failed {
@@ -85,7 +85,7 @@ impl<S: Scheme<D>, L: Elector<S>, D: Digest> Member<S, L, D> {
         if !self.state.takes_verdict(view, success) {
             return Err(Refusal::NotAllowed);
         }
-        let made = parts::certified(
+        let made = recorded_calls::certified(
             &mut self.state,
             &mut self.outstanding_work,
             &mut self.artifacts,

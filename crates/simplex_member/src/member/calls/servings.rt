@@ -5,12 +5,12 @@ ghost use Rattle.simplex_types.specs.Certificates.{certificate_facts};
 ghost use Rattle.simplex_member.specs.Calls.{BroadcastNotarization, BroadcastNullification, BroadcastFinalization, GetBestCertificate, Prune, Handed, Dropped};
 ghost use Rattle.simplex_voter.specs.Serving.{broadcast_notarization_answer, broadcast_nullification_answer, broadcast_finalization_answer};
 ghost use Rattle.simplex_member.specs.Lives.{IsCall};
-ghost use Rattle.simplex_member.specs.MethodContracts.{told_of, Keeps, IsAnswered, HasNoneLeft};
+ghost use Rattle.simplex_member.specs.MethodContracts.{told_of, UnchangedButLife, IsAnswered, HasNoneLeft};
 
-use crate::member::call_error::{ended, is_lost, part_of};
-use crate::member::handing::{
+use crate::member::broadcasts::{
     broadcast_finalization, broadcast_notarization, broadcast_nullification,
 };
+use crate::member::call_error::{ended, is_lost, part_of};
 use crate::member::life::Member;
 use crate::member::refusal::Refusal;
 use simplex_types::types::{Certificate, Digest, Elector, Fault, Scheme, View};
@@ -28,7 +28,7 @@ impl<S: Scheme<D>, L: Elector<S>, D: Digest> Member<S, L, D> {
             (told_of (λ certificate. Handed (option_map (certificate_facts S.certificate_bytes) certificate)) result) self.new.facts }
         ensures answered { IfOk result (λ certificate. IsAnswered D.eq L.elect self.old.facts (BroadcastNotarization view)
             (Handed (option_map (certificate_facts S.certificate_bytes) certificate)) self.new.facts) }
-        ensures kept { IfErr result (λ refusal. Keeps self.old.facts refusal self.new.facts) }
+        ensures kept { IfErr result (λ refusal. UnchangedButLife self.old.facts refusal self.new.facts) }
         ensures votes { self.new.votes ≡ self.old.votes }
         ensures once { OnOk result (HasNoneLeft broadcast_notarization_answer self.new.facts view) }
         ensures none_left { HasNoneLeft broadcast_notarization_answer self.old.facts view → IfOk result (λ certificate. IsNone certificate) }
@@ -53,7 +53,7 @@ impl<S: Scheme<D>, L: Elector<S>, D: Digest> Member<S, L, D> {
             (told_of (λ certificate. Handed (option_map (certificate_facts S.certificate_bytes) certificate)) result) self.new.facts }
         ensures answered { IfOk result (λ certificate. IsAnswered D.eq L.elect self.old.facts (BroadcastNullification view)
             (Handed (option_map (certificate_facts S.certificate_bytes) certificate)) self.new.facts) }
-        ensures kept { IfErr result (λ refusal. Keeps self.old.facts refusal self.new.facts) }
+        ensures kept { IfErr result (λ refusal. UnchangedButLife self.old.facts refusal self.new.facts) }
         ensures votes { self.new.votes ≡ self.old.votes }
         ensures once { OnOk result (HasNoneLeft broadcast_nullification_answer self.new.facts view) }
         ensures none_left { HasNoneLeft broadcast_nullification_answer self.old.facts view → IfOk result (λ certificate. IsNone certificate) }
@@ -78,7 +78,7 @@ impl<S: Scheme<D>, L: Elector<S>, D: Digest> Member<S, L, D> {
             (told_of (λ certificate. Handed (option_map (certificate_facts S.certificate_bytes) certificate)) result) self.new.facts }
         ensures answered { IfOk result (λ certificate. IsAnswered D.eq L.elect self.old.facts (BroadcastFinalization view)
             (Handed (option_map (certificate_facts S.certificate_bytes) certificate)) self.new.facts) }
-        ensures kept { IfErr result (λ refusal. Keeps self.old.facts refusal self.new.facts) }
+        ensures kept { IfErr result (λ refusal. UnchangedButLife self.old.facts refusal self.new.facts) }
         ensures votes { self.new.votes ≡ self.old.votes }
         ensures once { OnOk result (HasNoneLeft broadcast_finalization_answer self.new.facts view) }
         ensures none_left { HasNoneLeft broadcast_finalization_answer self.old.facts view → IfOk result (λ certificate. IsNone certificate) }
@@ -100,7 +100,7 @@ impl<S: Scheme<D>, L: Elector<S>, D: Digest> Member<S, L, D> {
             (told_of (λ certificate. Handed (option_map (certificate_facts S.certificate_bytes) certificate)) result) self.new.facts }
         ensures answered { IfOk result (λ certificate. IsAnswered D.eq L.elect self.old.facts GetBestCertificate
             (Handed (option_map (certificate_facts S.certificate_bytes) certificate)) self.new.facts) }
-        ensures kept { IfErr result (λ refusal. Keeps self.old.facts refusal self.new.facts) }
+        ensures kept { IfErr result (λ refusal. UnchangedButLife self.old.facts refusal self.new.facts) }
         ensures votes { self.new.votes ≡ self.old.votes }
     {
         if self.failed {
@@ -116,7 +116,7 @@ impl<S: Scheme<D>, L: Elector<S>, D: Digest> Member<S, L, D> {
     pub fn prune(&mut self) -> Result<Vec<View>, Refusal>
         ensures made { IsCall D.eq L.elect self.old.facts Prune (told_of (λ views. Dropped views.items) result) self.new.facts }
         ensures answered { IfOk result (λ views. IsAnswered D.eq L.elect self.old.facts Prune (Dropped views.items) self.new.facts) }
-        ensures kept { IfErr result (λ refusal. Keeps self.old.facts refusal self.new.facts) }
+        ensures kept { IfErr result (λ refusal. UnchangedButLife self.old.facts refusal self.new.facts) }
         ensures votes { self.new.votes ≡ self.old.votes }
     {
         if self.failed {

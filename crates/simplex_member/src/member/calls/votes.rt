@@ -6,7 +6,7 @@ ghost use Rattle.simplex_member.specs.Calls as told;
 ghost use Rattle.simplex_member.specs.Lives.{IsCall};
 ghost use Rattle.simplex_member.specs.CallSemantics.{unrepeated_vote, vote_entry};
 ghost use Rattle.simplex_member.specs.Signed.{IsSignedReply, signed_notarize, signed_nullify, signed_finalize};
-ghost use Rattle.simplex_member.specs.MethodContracts.{told_of, Keeps, IsAnswered, HasNotarized, HasNullified, HasFinalized};
+ghost use Rattle.simplex_member.specs.MethodContracts.{told_of, UnchangedButLife, IsAnswered, HasNotarized, HasNullified, HasFinalized};
 ghost use Rattle.simplex_member.specs.declared.member.calls.Reply.TheVariants as reply;
 
 use crate::member::call_error::{ended, is_lost};
@@ -26,7 +26,7 @@ impl<S: Scheme<D>, L: Elector<S>, D: Digest> Member<S, L, D> {
             (told_of (λ vote. told.Notarize (told_notarize vote)) result) self.new.facts }
         ensures answered { IfOk result (λ vote. IsAnswered D.eq L.elect self.old.facts (ConstructNotarize view)
             (told.Notarize (told_notarize vote)) self.new.facts) }
-        ensures kept { IfErr result (λ refusal. Keeps self.old.facts refusal self.new.facts) }
+        ensures kept { IfErr result (λ refusal. UnchangedButLife self.old.facts refusal self.new.facts) }
         ensures signed { IfOk result (λ vote. IfSome self.old.facts.life (IsSignedReply S.IsSignature (reply.Notarize vote))) }
         ensures recorded { IfOk result (λ vote. self.new.facts.entries ≡ self.old.facts.entries ++ vote_entry (told_notarize vote)) }
         ensures votes { IfOk result (λ vote. self.new.votes ≡ self.old.votes ++ signed_notarize vote) }
@@ -56,7 +56,7 @@ impl<S: Scheme<D>, L: Elector<S>, D: Digest> Member<S, L, D> {
             (told_of (λ vote. told.Nullify (told_nullify vote)) result) self.new.facts }
         ensures answered { IfOk result (λ vote. IsAnswered D.eq L.elect self.old.facts (ConstructNullify view)
             (told.Nullify (told_nullify vote)) self.new.facts) }
-        ensures kept { IfErr result (λ refusal. Keeps self.old.facts refusal self.new.facts) }
+        ensures kept { IfErr result (λ refusal. UnchangedButLife self.old.facts refusal self.new.facts) }
         ensures signed { IfOk result (λ vote. IfSome self.old.facts.life (IsSignedReply S.IsSignature (reply.Nullify vote))) }
         ensures recorded { IfOk result (λ vote. self.new.facts.entries ≡ self.old.facts.entries ++ unrepeated_vote (told_nullify vote)) }
         ensures votes { IfOk result (λ vote. self.new.votes ≡ self.old.votes ++ signed_nullify vote) }
@@ -87,7 +87,7 @@ impl<S: Scheme<D>, L: Elector<S>, D: Digest> Member<S, L, D> {
             (told_of (λ vote. told.Finalize (told_finalize vote)) result) self.new.facts }
         ensures answered { IfOk result (λ vote. IsAnswered D.eq L.elect self.old.facts (ConstructFinalize view)
             (told.Finalize (told_finalize vote)) self.new.facts) }
-        ensures kept { IfErr result (λ refusal. Keeps self.old.facts refusal self.new.facts) }
+        ensures kept { IfErr result (λ refusal. UnchangedButLife self.old.facts refusal self.new.facts) }
         ensures signed { IfOk result (λ vote. IfSome self.old.facts.life (IsSignedReply S.IsSignature (reply.Finalize vote))) }
         ensures recorded { IfOk result (λ vote. self.new.facts.entries ≡ self.old.facts.entries ++ vote_entry (told_finalize vote)) }
         ensures votes { IfOk result (λ vote. self.new.votes ≡ self.old.votes ++ signed_finalize vote) }

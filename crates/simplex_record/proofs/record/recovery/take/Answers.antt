@@ -3,7 +3,7 @@ use Rattle.simplex_types.specs.Certificates.{artifact_facts}
 use Rattle.simplex_voter.specs.Facts.{StateFacts}
 use Rattle.simplex_voter.specs.Refusals.{has_late_deadline}
 use Rattle.simplex_record.specs.Recovery.{after_adding, after_replaying, after_verdict_of, GivesVerdict}
-use Rattle.simplex_record.proofs.Going.{event_goes, still_in_time}
+use Rattle.simplex_record.proofs.UnchangedSettings.{event_goes, still_in_time}
 use Rattle.simplex_record.specs.Events.{Replay}
 use Rattle.simplex_record.proofs.Recovery.{added_goes}
 use Rattle.simplex_record.proofs.record.recovery.take.Goals as goal

@@ -3,7 +3,7 @@ use Rattle.simplex_types.specs.Certificates.{artifact_facts}
 use Rattle.simplex_resolver.specs.RecordCalls.{newest_first, entry_calls, calls_of, all_after}
 use Rattle.simplex_resolver.specs.Places.{AreNoted}
 use Rattle.simplex_resolver.proofs.Noted.{none_noted}
-use Rattle.simplex_resolver.proofs.Going.{all_after-append, all_go_on}
+use Rattle.simplex_resolver.proofs.CallLists.{all_after-append, all_go_on}
 use Rattle.simplex_resolver.proofs.Sound.{taken_at, newest_at, sound_at}
 use Rattle.simplex_resolver.proofs.replay.handing.hand_all.Goals as goal
 

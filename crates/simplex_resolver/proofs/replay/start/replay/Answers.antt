@@ -1,6 +1,6 @@
 use Rattle.std.proofs.Common.{ap, ◌∙◌}
 use Rattle.simplex_resolver.specs.RecordCalls.{newest_first, calls_of}
-use Rattle.simplex_resolver.proofs.Going.{all_go_on}
+use Rattle.simplex_resolver.proofs.CallLists.{all_go_on}
 use Rattle.simplex_resolver.proofs.Sound.{refused_alike}
 use Rattle.simplex_resolver.proofs.replay.start.replay.Goals as goal
 

@@ -2,7 +2,7 @@ use Rattle.std.proofs.Common.{ap, sym, ◌∙◌}
 use Rattle.simplex_resolver.specs.Steps.{Replayed, effects}
 use Rattle.simplex_resolver.specs.Repair.{is_outstanding}
 use Rattle.simplex_resolver.specs.RecordCalls.{newest_first, calls_of, replay_calls, all_after}
-use Rattle.simplex_resolver.proofs.Going.{from_empty}
+use Rattle.simplex_resolver.proofs.CallLists.{from_empty}
 use Rattle.simplex_resolver.proofs.Replayed.{calls_name_views, calls_go_on, end_fetches_wanted}
 use Rattle.simplex_resolver.proofs.replay.start.replay_record.Goals as goal
 

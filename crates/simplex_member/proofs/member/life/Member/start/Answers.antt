@@ -1,7 +1,7 @@
 use Rattle.std.proofs.Common.{refl}
 use Rattle.simplex_types.specs.Config.{floor_facts}
 use Rattle.simplex_record.specs.Start.{set_up}
-use Rattle.simplex_record.proofs.Going.{floor_goes}
+use Rattle.simplex_record.proofs.UnchangedSettings.{floor_goes}
 use Rattle.simplex_member.proofs.member.life.Member.start.Goals as goal
 
 pub invariant_of-result : goal.invariant_of-result

@@ -1,6 +1,6 @@
 use Rattle.std.proofs.Common.{◌∙◌, refl}
 use Rattle.simplex_round.specs.Round.{after_nullify}
-use Rattle.simplex_voter.proofs.Alike.{decided_alike}
+use Rattle.simplex_voter.proofs.RoundChanges.{decided_alike}
 use Rattle.simplex_voter.proofs.Changed.{never_none, kept_changed, changed_tracked}
 use Rattle.simplex_voter.proofs.voter.rounds.Rounds.decide_nullify.Goals as goal
 

@@ -1,7 +1,7 @@
 use Rattle.std.proofs.Common.{◌∙◌, ap, refl}
 use Rattle.simplex_round.specs.Round.{with_deadlines}
 use Rattle.simplex_voter.specs.Rounds.{with_entry}
-use Rattle.simplex_voter.proofs.Alike.{entered_alike}
+use Rattle.simplex_voter.proofs.RoundChanges.{entered_alike}
 use Rattle.simplex_voter.proofs.Changed.{never_none, kept_changed, changed_tracked}
 use Rattle.simplex_voter.proofs.voter.rounds.Rounds.enter_view.Goals as goal
 

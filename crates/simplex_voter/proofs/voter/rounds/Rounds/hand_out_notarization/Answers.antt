@@ -2,7 +2,7 @@ use Rattle.std.proofs.Common.{ap, sym, refl, ◌∙◌, ◌||◌, is_some, inl}
 use Rattle.std.specs.Prelude.{option_and_then}
 use Rattle.simplex_round.specs.Round.{once}
 use Rattle.simplex_voter.proofs.Shown.{on_ok}
-use Rattle.simplex_voter.proofs.Alike.{handed_out_alike}
+use Rattle.simplex_voter.proofs.RoundChanges.{handed_out_alike}
 use Rattle.simplex_voter.proofs.Changed.{found_at, kept_changed, changed_there, untouched}
 use Rattle.simplex_voter.proofs.voter.rounds.Rounds.hand_out_notarization.Goals as goal
 

@@ -1,6 +1,6 @@
 use Rattle.std.proofs.Common.{ap, sym, refl, ◌∙◌}
 use Rattle.simplex_round.specs.Round.{certified_round}
-use Rattle.simplex_voter.proofs.Alike.{judged_alike}
+use Rattle.simplex_voter.proofs.RoundChanges.{judged_alike}
 use Rattle.simplex_voter.proofs.Changed.{found_at, wider_kept, kept_changed, changed_there, untouched}
 use Rattle.simplex_voter.proofs.voter.rounds.Rounds.judge.Goals as goal
 

@@ -2,7 +2,7 @@ use Rattle.std.proofs.Common.{◌∙◌, refl}
 use Rattle.simplex_types.specs.Proposal.{same_proposal}
 use Rattle.simplex_types.specs.Certificates.{finalization_facts}
 use Rattle.simplex_round.specs.Round.{with_finalization}
-use Rattle.simplex_voter.proofs.Alike.{finalized_alike}
+use Rattle.simplex_voter.proofs.RoundChanges.{finalized_alike}
 use Rattle.simplex_voter.proofs.Changed.{never_none, lent_tracked, wider_kept, kept_changed, changed_tracked}
 use Rattle.simplex_voter.proofs.voter.rounds.Rounds.keep_finalization.Goals as goal
 

@@ -1,7 +1,7 @@
 use Rattle.std.proofs.Common.{◌∙◌, refl}
 use Rattle.simplex_types.specs.Certificates.{nullification_facts}
 use Rattle.simplex_round.specs.Round.{with_nullification}
-use Rattle.simplex_voter.proofs.Alike.{nullified_alike}
+use Rattle.simplex_voter.proofs.RoundChanges.{nullified_alike}
 use Rattle.simplex_voter.proofs.Changed.{never_none, kept_changed, changed_tracked}
 use Rattle.simplex_voter.proofs.voter.rounds.Rounds.keep_nullification.Goals as goal
 

@@ -2,7 +2,7 @@ use Rattle.std.proofs.Common.{◌∙◌, sym, subst, refl}
 use Rattle.simplex_types.specs.Proposal.{same_proposal}
 use Rattle.simplex_round.specs.Round.{TakesArtifact, after_replay}
 use Rattle.simplex_voter.specs.Replay.{bound_again}
-use Rattle.simplex_voter.proofs.Alike.{recalled_alike}
+use Rattle.simplex_voter.proofs.RoundChanges.{recalled_alike}
 use Rattle.simplex_voter.proofs.Changed.{never_none, lent_tracked, wider_kept, kept_changed, changed_tracked}
 use Rattle.simplex_voter.proofs.voter.rounds.Rounds.recall.Goals as goal
 

@@ -1,6 +1,6 @@
 use Rattle.std.proofs.Common.{refl}
 use Rattle.simplex_round.specs.declared.round.Certification.TheVariants.{Outstanding}
-use Rattle.simplex_voter.proofs.Alike.{asked_alike}
+use Rattle.simplex_voter.proofs.RoundChanges.{asked_alike}
 use Rattle.simplex_voter.proofs.Changed.{wider_kept, kept_changed, changed_there, untouched}
 use Rattle.simplex_voter.proofs.voter.rounds.Rounds.set_certify_handle.Goals as goal
 

@@ -1,5 +1,5 @@
 use Rattle.std.proofs.Common.{Some, ap, ◌∙◌, subst, arith}
-use Rattle.simplex_voter.proofs.Chained.{reach, reach-below, Stands, nothing, begins, none_below, unbound, goes_on, ends}
+use Rattle.simplex_voter.proofs.Chained.{reach, reach-below, WalkHasReached, nothing, begins, none_below, unbound, goes_on, ends}
 use Rattle.simplex_voter.proofs.voter.state.State.optimistic_ancestry_payload.Goals as goal
 
 pub returns-in_err-top-clause-payload : goal.returns-in_err-top-clause-payload
@@ -10,12 +10,12 @@ loop-basis-init g c = begins g.D.PartialEq.eq g.L.Elector.elect c.args.self.now 
 
 pub returns-in_err-below-clause-payload : goal.returns-in_err-below-clause-payload
 returns-in_err-below-clause-payload g c =
-    let stands = subst (Stands g.D.PartialEq.eq g.L.Elector.elect c.args.self.now c.args.view c.in_ok-top.top) c.in-Vote.is c.loop-basis.invariant in
+    let stands = subst (WalkHasReached g.D.PartialEq.eq g.L.Elector.elect c.args.self.now c.args.view c.in_ok-top.top) c.in-Vote.is c.loop-basis.invariant in
     c.from_residual-in_err-below.ensures ∙ none_below g.D.PartialEq.eq g.L.Elector.elect c.args.self.now c.args.view c.in_ok-top.top c.in-Vote.proposal c.in-Vote.bound stands c.in_err-below.ensures.basis
 
 pub returns-then-not-holds-clause-payload : goal.returns-then-not-holds-clause-payload
 returns-then-not-holds-clause-payload g c =
-    let stands = subst (Stands g.D.PartialEq.eq g.L.Elector.elect c.args.self.now c.args.view c.in_ok-top.top) c.in-Vote.is c.loop-basis.invariant in
+    let stands = subst (WalkHasReached g.D.PartialEq.eq g.L.Elector.elect c.args.self.now c.args.view c.in_ok-top.top) c.in-Vote.is c.loop-basis.invariant in
     unbound g.D.PartialEq.eq g.L.Elector.elect c.args.self.now c.args.view c.in_ok-top.top c.in-Vote.proposal c.in-Vote.bound stands c.in_ok-below.below c.in_ok-below.ensures.basis c.payload.result c.payload.ensures c.if-not-holds.ensures
 
 pub loop-basis-smaller : goal.loop-basis-smaller
@@ -26,10 +26,10 @@ loop-basis-smaller g c =
 
 pub loop-basis-preserved : goal.loop-basis-preserved
 loop-basis-preserved g c =
-    let stands = subst (Stands g.D.PartialEq.eq g.L.Elector.elect c.args.self.now c.args.view c.in_ok-top.top) c.in-Vote.is c.loop-basis.invariant in
+    let stands = subst (WalkHasReached g.D.PartialEq.eq g.L.Elector.elect c.args.self.now c.args.view c.in_ok-top.top) c.in-Vote.is c.loop-basis.invariant in
     goes_on g.D.PartialEq.eq g.L.Elector.elect c.args.self.now c.args.view c.in_ok-top.top c.in-Vote.proposal c.in-Vote.bound stands c.in_ok-below.below c.in_ok-below.ensures.basis c.payload.result c.payload.ensures c.if-not-holds.ensures
 
 pub returns-clause-payload : goal.returns-clause-payload
 returns-clause-payload g c =
-    let stands = subst (Stands g.D.PartialEq.eq g.L.Elector.elect c.args.self.now c.args.view c.in_ok-top.top) c.in_default.is c.loop-basis.invariant in
+    let stands = subst (WalkHasReached g.D.PartialEq.eq g.L.Elector.elect c.args.self.now c.args.view c.in_ok-top.top) c.in_default.is c.loop-basis.invariant in
     ap Some c.payload-2.ensures ∙ ends g.D.PartialEq.eq g.L.Elector.elect c.args.self.now c.args.view c.in_ok-top.top c.in_default.field-0 stands

@@ -1,9 +1,9 @@
-use Rattle.simplex_voter.proofs.Chained.{reach, Stands}
+use Rattle.simplex_voter.proofs.Chained.{reach, WalkHasReached}
 use Rattle.simplex_voter.proofs.voter.state.State.optimistic_ancestry_payload.Given as goal
 
 -- what the view offers is decided where the walk is
 abbrev pub invariant-loop-basis : goal.invariant-loop-basis
-invariant-loop-basis g l = Stands g.D.PartialEq.eq g.L.Elector.elect l.fn.self l.fn.view l.top l.basis
+invariant-loop-basis g l = WalkHasReached g.D.PartialEq.eq g.L.Elector.elect l.fn.self l.fn.view l.top l.basis
 
 abbrev pub decreases-loop-basis : goal.decreases-loop-basis
 decreases-loop-basis g l = reach l.basis

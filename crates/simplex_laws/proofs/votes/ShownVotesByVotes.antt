@@ -21,7 +21,7 @@ use Rattle.simplex_laws.specs.Lawful.{HasSigned, HasFinalizedBetween}
 use Rattle.simplex_laws.proofs.lists.Signed.{signed_push}
 use Rattle.simplex_laws.proofs.agreement.Lawful.{AllowsNullify, AllowsFinalize}
 use Rattle.simplex_record.proofs.Rounds.{round_put}
-use Rattle.simplex_laws.proofs.votes.Standing.{RoundStands, Stands, Stays, still, final_still, stands_put}
+use Rattle.simplex_laws.proofs.votes.ShownVotes.{RoundShowsVotes, ShowsVotes, ShowsVotesInLife, still, final_still, stands_put}
 use Rattle.simplex_laws.proofs.votes.NullifyVotes.{noted_old, noted_new, gate_passed}
 
 not_nullified : (d : Decision) → is_pending d ≡ true → is_nullify d ≡ false
@@ -41,8 +41,8 @@ uncovered length u view below = rw (lt-leb u view below) refl
 some_proposal : {D : Type 0} (p q : Proposal D) → Some p ≡ Some q → p ≡ q
 some_proposal p q e = cc
 
-module _ {K D : Type 0} (trace : List (TraceEvent D)) (reached finalized v : ℕ) (r : RoundFacts K D) (stands : RoundStands trace reached finalized v r) where
-  nullify_round : is_finalize r.decision ≡ false → RoundStands trace reached finalized v (after_nullify r)
+module _ {K D : Type 0} (trace : List (TraceEvent D)) (reached finalized v : ℕ) (r : RoundFacts K D) (stands : RoundShowsVotes trace reached finalized v r) where
+  nullify_round : is_finalize r.decision ≡ false → RoundShowsVotes trace reached finalized v (after_nullify r)
   nullify_round undecided = rw undecided
       (record {
         notarized = stands.notarized;
@@ -53,7 +53,7 @@ module _ {K D : Type 0} (trace : List (TraceEvent D)) (reached finalized v : ℕ
         finalize_decided = λ p h at. elim (stands.finalize_decided p h at) [ inl is ↦ absurd (false≢true (sym undecided ∙ is)) | inr below ↦ inr below ];
       })
 
-  finalize_round : is_pending r.decision ≡ true → v < reached → RoundStands trace reached finalized v (record r { decision = decision.Finalize })
+  finalize_round : is_pending r.decision ≡ true → v < reached → RoundShowsVotes trace reached finalized v (record r { decision = decision.Finalize })
   finalize_round pending passed = record {
     notarized = stands.notarized;
     held = stands.held;
@@ -77,7 +77,7 @@ module _ {K D : Type 0} (trace : List (TraceEvent D)) (reached finalized v : ℕ
 module _ {K L D : Type 0} (term_length : ℕ) (trace : List (TraceEvent D)) where
   -- a vote that is decided and noted is cast
 
-  pub nullify_cast_stands : (reached : ℕ) (x : StateFacts K L D) (round : Round) (m : ℕ) → 1 ≤ round.view → Contains x.nullify_votes round.view ⊎ (round.view ≤ x.finalized) → (is_nullify (round_of x round.view).decision ≡ true) ⊎ (round.view ≤ x.finalized) → Stands term_length trace reached x → Stands term_length (trace ++ Signs m (subject.Nullify round) ∷ []) reached x
+  pub nullify_cast_stands : (reached : ℕ) (x : StateFacts K L D) (round : Round) (m : ℕ) → 1 ≤ round.view → Contains x.nullify_votes round.view ⊎ (round.view ≤ x.finalized) → (is_nullify (round_of x round.view).decision ≡ true) ⊎ (round.view ≤ x.finalized) → ShowsVotes term_length trace reached x → ShowsVotes term_length (trace ++ Signs m (subject.Nullify round) ∷ []) reached x
   nullify_cast_stands reached x round m one noted decided stands =
       let new = Signs m (subject.Nullify round) in
       record {
@@ -104,7 +104,7 @@ module _ {K L D : Type 0} (term_length : ℕ) (trace : List (TraceEvent D)) wher
         ];
       }
 
-  pub finalize_cast_stands : (reached : ℕ) (x : StateFacts K L D) (p : Proposal D) (m : ℕ) → p.round.view < reached → (is_finalize (round_of x p.round.view).decision ≡ true) ⊎ (p.round.view ≤ x.finalized) → Stands term_length trace reached x → Stands term_length (trace ++ Signs m (subject.Finalize p) ∷ []) reached x
+  pub finalize_cast_stands : (reached : ℕ) (x : StateFacts K L D) (p : Proposal D) (m : ℕ) → p.round.view < reached → (is_finalize (round_of x p.round.view).decision ≡ true) ⊎ (p.round.view ≤ x.finalized) → ShowsVotes term_length trace reached x → ShowsVotes term_length (trace ++ Signs m (subject.Finalize p) ∷ []) reached x
   finalize_cast_stands reached x p m passed decided stands =
       let new = Signs m (subject.Finalize p) in
       record {
@@ -131,7 +131,7 @@ module _ {K L D : Type 0} (term_length : ℕ) (trace : List (TraceEvent D)) wher
         noted = λ other h. elim (signed_push trace new (subject.Nullify other) h) [ inl before ↦ stands.noted other before | inr now ↦ absurd (cc) ];
       }
 
-  pub noted_stands : (reached : ℕ) (x : StateFacts K L D) (v : ℕ) → Stands term_length trace reached x → Stands term_length trace reached (record x { nullify_votes = insert_key nat_cmp x.nullify_votes v })
+  pub noted_stands : (reached : ℕ) (x : StateFacts K L D) (v : ℕ) → ShowsVotes term_length trace reached x → ShowsVotes term_length trace reached (record x { nullify_votes = insert_key nat_cmp x.nullify_votes v })
   noted_stands reached x v stands = record {
     terms = stands.terms;
     rounds = λ w. stands.rounds w;
@@ -139,7 +139,7 @@ module _ {K L D : Type 0} (term_length : ℕ) (trace : List (TraceEvent D)) wher
     noted = λ round h. ((stands.noted round h).0, elim (stands.noted round h).1 [ inl noted ↦ inl (noted_old v round.view x.nullify_votes noted) | inr below ↦ inr below ]);
   }
 
-module _ {K L D : Type 0} (term_length : ℕ) (trace : List (TraceEvent D)) (x : StateFacts K L D) (v : ℕ) (keeps : Stays term_length trace x) where
+module _ {K L D : Type 0} (term_length : ℕ) (trace : List (TraceEvent D)) (x : StateFacts K L D) (v : ℕ) (keeps : ShowsVotesInLife term_length trace x) where
   -- a vote to nullify the current view follows no vote to finalize one from there on
 
   pub nullify_allowed : NullifyRule x v → AllowsNullify term_length trace (round_number x v)
@@ -148,14 +148,14 @@ module _ {K L D : Type 0} (term_length : ℕ) (trace : List (TraceEvent D)) (x :
     ahead = λ p h. uncovered term_length v p.round.view (omega (arith, keeps.stands.passed p h, rule.current));
   }
 
-  pub nullify_decided : NullifyRule x v → Stays term_length trace (with_round x v (after_nullify (round_of x v)))
+  pub nullify_decided : NullifyRule x v → ShowsVotesInLife term_length trace (with_round x v (after_nullify (round_of x v)))
   nullify_decided rule = record {
     stands = stands_put term_length trace x.current x v (after_nullify (round_of x v)) (nullify_round trace x.current x.finalized v (round_of x v) (keeps.stands.rounds v) rule.no_finalize) keeps.stands;
     ahead = keeps.ahead;
     final = keeps.final;
   }
 
-  pub nullify_voted : (m : ℕ) → NullifyRule x v → Stays term_length (trace ++ Signs m (subject.Nullify (round_number x v)) ∷ []) (record (with_round x v (after_nullify (round_of x v))) { nullify_votes = insert_key nat_cmp x.nullify_votes v })
+  pub nullify_voted : (m : ℕ) → NullifyRule x v → ShowsVotesInLife term_length (trace ++ Signs m (subject.Nullify (round_number x v)) ∷ []) (record (with_round x v (after_nullify (round_of x v))) { nullify_votes = insert_key nat_cmp x.nullify_votes v })
   nullify_voted m rule =
       let y = with_round x v (after_nullify (round_of x v)) in
       let z : StateFacts K L D = record y { nullify_votes = insert_key nat_cmp x.nullify_votes v } in
@@ -198,14 +198,14 @@ module _ {K L D : Type 0} (term_length : ℕ) (trace : List (TraceEvent D)) (x :
             ]);
       }
 
-  pub finalize_decided : (elect : Elect L) → FinalizeRule elect x v → Stays term_length trace (with_round x v (record (round_of x v) { decision = decision.Finalize }))
+  pub finalize_decided : (elect : Elect L) → FinalizeRule elect x v → ShowsVotesInLife term_length trace (with_round x v (record (round_of x v) { decision = decision.Finalize }))
   finalize_decided elect rule = record {
     stands = stands_put term_length trace x.current x v (record (round_of x v) { decision = decision.Finalize }) (finalize_round trace x.current x.finalized v (round_of x v) (keeps.stands.rounds v) rule.undecided ((keeps.stands.rounds v).entered rule.certified)) keeps.stands;
     ahead = keeps.ahead;
     final = keeps.final;
   }
 
-  pub finalize_voted : (elect : Elect L) (h : Proposal D) (m : ℕ) → FinalizeRule elect x v → (round_of x v).slot.held ≡ Some h → Stays term_length (trace ++ Signs m (subject.Finalize h) ∷ []) (with_round x v (record (round_of x v) { decision = decision.Finalize }))
+  pub finalize_voted : (elect : Elect L) (h : Proposal D) (m : ℕ) → FinalizeRule elect x v → (round_of x v).slot.held ≡ Some h → ShowsVotesInLife term_length (trace ++ Signs m (subject.Finalize h) ∷ []) (with_round x v (record (round_of x v) { decision = decision.Finalize }))
   finalize_voted elect h m rule holds =
       let s : RoundFacts K D = record (round_of x v) { decision = decision.Finalize } in
       let y = with_round x v s in

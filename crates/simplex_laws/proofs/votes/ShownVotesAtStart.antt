@@ -15,8 +15,8 @@ use Rattle.simplex_laws.specs.Events.{Event}
 use Rattle.simplex_laws.specs.Lawful.{HasSigned}
 use Rattle.simplex_laws.specs.HistoryFolds.{finalized_by_event}
 use Rattle.simplex_laws.proofs.lists.Signed.{signed_none, only_signed}
-use Rattle.simplex_laws.proofs.votes.Standing.{RoundStands, Stands, HasFinal, Stays}
-use Rattle.simplex_laws.proofs.votes.StandingSteps.{Suits, event_stays}
+use Rattle.simplex_laws.proofs.votes.ShownVotes.{RoundShowsVotes, ShowsVotes, HasFinal, ShowsVotesInLife}
+use Rattle.simplex_laws.proofs.votes.ShownVotesBySteps.{Suits, event_stays}
 
 -- a floor is no vote
 pub floor_unsigned : {D : Type 0} (floor : FloorFacts D) (vote : Subject D) → HasSigned (of_floor floor) vote → ⊥
@@ -25,7 +25,7 @@ floor_unsigned (Finalized c) vote h = absurd (let e = only_signed (Accepts (subj
 
 module _ {K L D : Type 0} (same : D → D → Bool) (decides : (d e : D) → same d e ≡ true → d ≡ e) (elect : Elect L) (settings : Settings) (me : Option ℕ) (members : List K) (elector : L) (terms : Terms) (early : Bool) (floor : FloorFacts D) where
   -- before the floor is set
-  unvoted : (reached v : ℕ) → RoundStands {K = K} (of_floor floor) reached 0 v (new_round me members (record { epoch = settings.epoch; view = v }))
+  unvoted : (reached v : ℕ) → RoundShowsVotes {K = K} (of_floor floor) reached 0 v (new_round me members (record { epoch = settings.epoch; view = v }))
   unvoted reached v = record {
     notarized = λ c is. absurd (cc);
     held = λ c is. absurd (cc);
@@ -35,7 +35,7 @@ module _ {K L D : Type 0} (same : D → D → Bool) (decides : (d e : D) → sam
     finalize_decided = λ p h at. absurd (floor_unsigned floor (subject.Finalize p) h);
   }
 
-  new_stands : (reached : ℕ) → Stands terms.term_length (of_floor floor) reached (new_facts settings me members elector terms early)
+  new_stands : (reached : ℕ) → ShowsVotes terms.term_length (of_floor floor) reached (new_facts settings me members elector terms early)
   new_stands reached = record {
     terms = refl;
     rounds = λ v. unvoted reached v;
@@ -50,7 +50,7 @@ module _ {K L D : Type 0} (same : D → D → Bool) (decides : (d e : D) → sam
       by_floor (Genesis payload) = inl refl
       by_floor (Finalized c) = inr (c.proposal, (0, omega arith, refl), refl)
 
-  pub start_stays : (now : ℕ) → Stays terms.term_length (of_floor floor) (after_set_floor same elect (new_facts settings me members elector terms early) floor now)
+  pub start_stays : (now : ℕ) → ShowsVotesInLife terms.term_length (of_floor floor) (after_set_floor same elect (new_facts settings me members elector terms early) floor now)
   start_stays now =
       let x : StateFacts K L D = new_facts settings me members elector terms early in
       let e : Event K D = event.SetFloor floor now in

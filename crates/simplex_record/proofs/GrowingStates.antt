@@ -21,8 +21,8 @@ abbrev pub floor_view : {D : Type 0} → FloorFacts D → ℕ
 floor_view (Genesis _) = 0
 floor_view (Finalized c) = c.proposal.round.view
 
--- a change that finalizes no view above u
-pub record Keeps {K L D : Type 0} (u : ℕ) (x y : StateFacts K L D) : Type 0 where
+-- each view's round grows, and no view above u is finalized
+pub record GrowsUpTo {K L D : Type 0} (u : ℕ) (x y : StateFacts K L D) : Type 0 where
   pub me : y.me ≡ x.me
   pub rises : min_active x ≤ min_active y
   pub kept : min_active x ≤ u → min_active y ≤ u
@@ -54,7 +54,7 @@ module _ {K L D : Type 0} (u : ℕ) (same : D → D → Bool) (elect : Elect L) 
   change_grows x v r s (step.Retried now interval is awaits) = retry_grows r _ awaits
   change_grows x v r s _ = record { me = refl; notarized = λ h. h; judged = λ b. refl; nullified = refl; finalized = refl }
 
-  step_kept : finalized_by_event e ≤ u → (x y z : StateFacts K L D) → Step same elect begun e 0 y z → Keeps u x y → Keeps u x z
+  step_kept : finalized_by_event e ≤ u → (x y z : StateFacts K L D) → Step same elect begun e 0 y z → GrowsUpTo u x y → GrowsUpTo u x z
   step_kept low x y z (Puts v r may change) p = record { me = p.me; rises = p.rises; kept = p.kept; rounds = λ w. grown_on _ _ _ (p.rounds w) (put_grows y v r (change_grows y v _ r change) w) }
   step_kept low x y z (Raises v says above) p = record { me = p.me; rises = omega (arith, p.rises); kept = λ h. omega (arith, p.kept h, says, low); rounds = λ w. grown_on _ _ _ (p.rounds w) (ended_grow y v w) }
   step_kept low x y z (Scans is) p = absurd (false≢true (sym plain.other ∙ ap is_other is))
@@ -66,18 +66,18 @@ module _ {K L D : Type 0} (u : ℕ) (same : D → D → Bool) (elect : Elect L) 
   step_kept low x y z _ p = record { me = p.me; rises = p.rises; kept = p.kept; rounds = p.rounds }
 
   -- a path of an event that is plain
-  pub kept_along : finalized_by_event e ≤ u → (x y : StateFacts K L D) → Path same elect begun e 0 x y → Keeps u x y
-  kept_along low x y path = along same elect begun e 0 (Keeps u x) (step_kept low x) x y path (record { me = refl; rises = omega arith; kept = λ h. h; rounds = λ v. alike (round_of x v) })
+  pub kept_along : finalized_by_event e ≤ u → (x y : StateFacts K L D) → Path same elect begun e 0 x y → GrowsUpTo u x y
+  kept_along low x y path = along same elect begun e 0 (GrowsUpTo u x) (step_kept low x) x y path (record { me = refl; rises = omega arith; kept = λ h. h; rounds = λ v. alike (round_of x v) })
 
 module _ {K L D : Type 0} (same : D → D → Bool) (elect : Elect L) where
-  pub event_kept : (u : ℕ) (x : StateFacts K L D) (e : Event K D) → IsPlain e → finalized_by_event e ≤ u → Keeps u x (after_event same elect x e)
+  pub event_kept : (u : ℕ) (x : StateFacts K L D) (e : Event K D) → IsPlain e → finalized_by_event e ≤ u → GrowsUpTo u x (after_event same elect x e)
   event_kept u x e plain low = kept_along u same elect x e plain low x (after_event same elect x e) (event_path same elect 0 x e (omega arith) (asked_of_all x e))
 
-  still_kept : (u : ℕ) (x : StateFacts K L D) → Keeps u x x
+  still_kept : (u : ℕ) (x : StateFacts K L D) → GrowsUpTo u x x
   still_kept u x = record { me = refl; rises = omega arith; kept = λ h. h; rounds = λ v. alike (round_of x v) }
 
   -- a certificate that is added, and a floor that is set
-  pub added_kept : (x : StateFacts K L D) (now : ℕ) (e : ArtifactFacts D) → Keeps (entry_view e) x (after_adding same elect x now e)
+  pub added_kept : (x : StateFacts K L D) (now : ℕ) (e : ArtifactFacts D) → GrowsUpTo (entry_view e) x (after_adding same elect x now e)
   added_kept x now (Accepted (Notarized c)) = event_kept c.proposal.round.view x (AddNotarization c) (record { verdict = refl; nullify = refl; finalize = refl; other = refl }) (omega arith)
   added_kept x now (Accepted (Nullified c)) = event_kept c.round.view x (AddNullification c now) (record { verdict = refl; nullify = refl; finalize = refl; other = refl }) (omega arith)
   added_kept x now (Accepted (FinalizedView c)) = event_kept c.proposal.round.view x (AddFinalization c now) (record { verdict = refl; nullify = refl; finalize = refl; other = refl }) (omega arith)
@@ -86,6 +86,6 @@ module _ {K L D : Type 0} (same : D → D → Bool) (elect : Elect L) where
   added_kept x now (FinalizeVote p _) = still_kept p.round.view x
   added_kept x now (Verdict round _) = still_kept round.view x
 
-  pub floor_kept : (x : StateFacts K L D) (floor : FloorFacts D) (now : ℕ) → Keeps (floor_view floor) x (after_set_floor same elect x floor now)
+  pub floor_kept : (x : StateFacts K L D) (floor : FloorFacts D) (now : ℕ) → GrowsUpTo (floor_view floor) x (after_set_floor same elect x floor now)
   floor_kept x (Genesis payload) now = event_kept 0 x (SetFloor (Genesis payload) now) (record { verdict = refl; nullify = refl; finalize = refl; other = refl }) (omega arith)
   floor_kept x (Finalized c) now = event_kept c.proposal.round.view x (SetFloor (Finalized c) now) (record { verdict = refl; nullify = refl; finalize = refl; other = refl }) (omega arith)

@@ -1,4 +1,4 @@
--- What is made of a state leaves one that goes on: it has not failed, and its current view is no genesis.
+-- What no event changes of a state: whether it has failed, its settings, its terms and its member; and that a floor starts it.
 use Rattle.std.proofs.Common.{◌≡◌, refl, ◌∙◌, ℕ, ◌+◌, ◌≤◌, Bool, true, false, nat_lt, Some, arith}
 use Rattle.std.proofs.lemmas.Bool.Decides.{nat_tests}
 use Rattle.simplex_types.specs.Config.{FloorFacts, Genesis, Finalized}
@@ -11,8 +11,8 @@ use Rattle.simplex_record.specs.Events.{Event, SetFloor, after_event}
 use Rattle.simplex_record.proofs.Steps.{Step, Path, Reaches, Still, along}
 use Rattle.simplex_record.proofs.Paths.{event_path, asked_of_all, from_first_entry, from_entry}
 
--- what a call keeps
-pub record Goes {K L D : Type 0} (x y : StateFacts K L D) : Type 0 where
+-- all of this is unchanged, and a state that has started stays started
+pub record UnchangedSettings {K L D : Type 0} (x y : StateFacts K L D) : Type 0 where
   pub failed : y.failed ≡ x.failed
   pub settings : y.settings ≡ x.settings
   pub terms : y.terms ≡ x.terms
@@ -20,14 +20,14 @@ pub record Goes {K L D : Type 0} (x y : StateFacts K L D) : Type 0 where
   pub started : is_started x ≡ true → is_started y ≡ true
 
 module _ {K L D : Type 0} where
-  pub stays : (x : StateFacts K L D) → Goes x x
+  pub stays : (x : StateFacts K L D) → UnchangedSettings x x
   stays x = record { failed = refl; settings = refl; terms = refl; me = refl; started = λ h. h }
 
-  pub joined : (x y z : StateFacts K L D) → Goes x y → Goes y z → Goes x z
+  pub joined : (x y z : StateFacts K L D) → UnchangedSettings x y → UnchangedSettings y z → UnchangedSettings x z
   joined x y z p q = record { failed = q.failed ∙ p.failed; settings = q.settings ∙ p.settings; terms = q.terms ∙ p.terms; me = q.me ∙ p.me; started = λ h. q.started (p.started h) }
 
   -- its deadlines are no later
-  pub still_in_time : (x y : StateFacts K L D) (now : ℕ) → Goes x y → has_late_deadline x now ≡ false → has_late_deadline y now ≡ false
+  pub still_in_time : (x y : StateFacts K L D) (now : ℕ) → UnchangedSettings x y → has_late_deadline x now ≡ false → has_late_deadline y now ≡ false
   still_in_time x y now goes in_time = rw (goes.settings, goes.terms) in_time
 
   -- a view that is no genesis is reached
@@ -39,15 +39,15 @@ module _ {K L D : Type 0} where
       enters false is = rw is (grind (arith, nat_tests))
 
 module _ {K L D : Type 0} (same : D → D → Bool) (elect : Elect L) (begun : StateFacts K L D) (e : Event K D) where
-  step_goes : (x y z : StateFacts K L D) → Step same elect begun e 0 y z → Goes x y → Goes x z
+  step_goes : (x y z : StateFacts K L D) → Step same elect begun e 0 y z → UnchangedSettings x y → UnchangedSettings x z
   step_goes x y z (Reaches v above timed) p = record { failed = p.failed; settings = p.settings; terms = p.terms; me = p.me; started = λ h. grind (arith, nat_tests) }
   step_goes x y z _ p = record { failed = p.failed; settings = p.settings; terms = p.terms; me = p.me; started = p.started }
 
-  goes_along : (x y : StateFacts K L D) → Path same elect begun e 0 x y → Goes x y
-  goes_along x y path = along same elect begun e 0 (Goes x) (step_goes x) x y path (stays x)
+  goes_along : (x y : StateFacts K L D) → Path same elect begun e 0 x y → UnchangedSettings x y
+  goes_along x y path = along same elect begun e 0 (UnchangedSettings x) (step_goes x) x y path (stays x)
 
 module _ {K L D : Type 0} (same : D → D → Bool) (elect : Elect L) (x : StateFacts K L D) where
-  pub event_goes : (e : Event K D) → Goes x (after_event same elect x e)
+  pub event_goes : (e : Event K D) → UnchangedSettings x (after_event same elect x e)
   event_goes e = goes_along same elect x e x (after_event same elect x e) (event_path same elect 0 x e (omega arith) (asked_of_all x e))
 
   floor_starts : (floor : FloorFacts D) (now : ℕ) → is_started (after_set_floor same elect x floor now) ≡ true

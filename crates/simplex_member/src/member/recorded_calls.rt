@@ -11,7 +11,7 @@ ghost use Rattle.simplex_voter.specs.Certification.{takes_verdict, is_first_verd
 ghost use Rattle.simplex_voter.specs.Facts.{round_number};
 ghost use Rattle.simplex_voter.specs.Refusals.{is_started, plain_refusal};
 ghost use Rattle.simplex_member.specs.CallSemantics.{if_new};
-ghost use Rattle.simplex_member.specs.Parts.{Ends, EndsBy, KeepsOpen};
+ghost use Rattle.simplex_member.specs.Parts.{Ends, EndsBy, UnchangedUnlessLost};
 ghost use Rattle.simplex_member.specs.OutstandingWork.{without_offer, with_offers};
 
 use super::call_error::CallError;
@@ -174,7 +174,7 @@ pub(super) fn certified<S: CertificateScheme, L: Elector<S>, D: Digest>(
         ++ if_new (is_first_verdict state.old view) (Verdict (round_number state.old view) success)) }
     ensures closed { OnOk result (outstanding_work.new.open_now ≡ without_offer outstanding_work.old.open_now view) }
     ensures refused { IfErr result (EndsBy (certified_refusal state.old view success now) state.old state.new) }
-    ensures kept_open { IfErr result (KeepsOpen outstanding_work.old.open_now outstanding_work.new.open_now) }
+    ensures kept_open { IfErr result (UnchangedUnlessLost outstanding_work.old.open_now outstanding_work.new.open_now) }
     ensures same_record { OnErr result (entries_of S.certificate_bytes artifacts.new.items ≡ entries_of S.certificate_bytes artifacts.old.items) }
     ensures same_votes { votes_of artifacts.new.items ≡ votes_of artifacts.old.items }
 {
@@ -205,7 +205,7 @@ pub(super) fn certify_candidates<S: CertificateScheme, L: Elector<S>, D: Digest>
     ensures after { OnOk result (state.new ≡ after_candidates state.old) }
     ensures opened { OnOk result (outstanding_work.new.open_now ≡ with_offers outstanding_work.old.open_now (candidates_answer D.eq L.elect state.old).0) }
     ensures refused { IfErr result (Ends false true (plain_refusal state.old) state.old state.new) }
-    ensures kept_open { IfErr result (KeepsOpen outstanding_work.old.open_now outstanding_work.new.open_now) }
+    ensures kept_open { IfErr result (UnchangedUnlessLost outstanding_work.old.open_now outstanding_work.new.open_now) }
 {
     match state.certify_candidates() {
         Ok(answer) => match outstanding_work.open_offers(&answer.0) {

@@ -17,7 +17,7 @@ use Rattle.simplex_laws.proofs.lists.Signed.{signed_push}
 use Rattle.simplex_record.proofs.Rounds.{round_put}
 
 -- a round of view v, where the current view is to be `reached`
-pub record RoundStands {K D : Type 0} (trace : List (TraceEvent D)) (reached finalized v : ℕ) (r : RoundFacts K D) : Type 0 where
+pub record RoundShowsVotes {K D : Type 0} (trace : List (TraceEvent D)) (reached finalized v : ℕ) (r : RoundFacts K D) : Type 0 where
   -- its notarization was accepted, and is of this view
   pub notarized : (c : ProposalFacts D) → r.notarization ≡ Some c → (c.proposal.round.view ≡ v) × Contains trace (Accepts (subject.Notarize c.proposal))
   -- it is of the held proposal, unless another was seen
@@ -29,9 +29,10 @@ pub record RoundStands {K D : Type 0} (trace : List (TraceEvent D)) (reached fin
   pub nullify_decided : (round : Round) → HasSigned trace (subject.Nullify round) → round.view ≡ v → (is_nullify r.decision ≡ true) ⊎ (v ≤ finalized)
   pub finalize_decided : (p : Proposal D) → HasSigned trace (subject.Finalize p) → p.round.view ≡ v → (is_finalize r.decision ≡ true) ⊎ (v ≤ finalized)
 
-pub record Stands {K L D : Type 0} (term_length : ℕ) (trace : List (TraceEvent D)) (reached : ℕ) (x : StateFacts K L D) : Type 0 where
+-- the rounds show the votes and certificates of the trace, where the current view is to be `reached`
+pub record ShowsVotes {K L D : Type 0} (term_length : ℕ) (trace : List (TraceEvent D)) (reached : ℕ) (x : StateFacts K L D) : Type 0 where
   pub terms : x.terms.term_length ≡ term_length
-  pub rounds : (v : ℕ) → RoundStands trace reached x.finalized v (round_of x v)
+  pub rounds : (v : ℕ) → RoundShowsVotes trace reached x.finalized v (round_of x v)
   -- each view that was voted to be finalized is passed
   pub passed : (p : Proposal D) → HasSigned trace (subject.Finalize p) → p.round.view < reached
   -- each vote to nullify is noted for the gate, or a finalization is no lower
@@ -42,8 +43,8 @@ abbrev pub HasFinal : {D : Type 0} → List (TraceEvent D) → ℕ → Type 0
 HasFinal {D} trace v = (v ≡ 0) ⊎ ((final : Proposal D) × Contains trace (Accepts (subject.Finalize final)) × (final.round.view ≡ v))
 
 -- what a state's facts keep in a life, with each call
-pub record Stays {K L D : Type 0} (term_length : ℕ) (trace : List (TraceEvent D)) (x : StateFacts K L D) : Type 0 where
-  pub stands : Stands term_length trace x.current x
+pub record ShowsVotesInLife {K L D : Type 0} (term_length : ℕ) (trace : List (TraceEvent D)) (x : StateFacts K L D) : Type 0 where
+  pub stands : ShowsVotes term_length trace x.current x
   pub ahead : x.finalized < x.current
   pub final : HasFinal trace x.finalized
 
@@ -61,7 +62,7 @@ final_still trace new v (inl genesis) = inl genesis
 final_still trace new v (inr (p, h, at)) = inr (p, still trace new (Accepts (subject.Finalize p)) h, at)
 
 module _ {K D : Type 0} (trace : List (TraceEvent D)) where
-  pub round_later : (reached further finalized higher v : ℕ) (r : RoundFacts K D) → reached ≤ further → finalized ≤ higher → RoundStands trace reached finalized v r → RoundStands trace further higher v r
+  pub round_later : (reached further finalized higher v : ℕ) (r : RoundFacts K D) → reached ≤ further → finalized ≤ higher → RoundShowsVotes trace reached finalized v r → RoundShowsVotes trace further higher v r
   round_later reached further finalized higher v r later raised stands = record {
     notarized = stands.notarized;
     held = stands.held;
@@ -71,7 +72,7 @@ module _ {K D : Type 0} (trace : List (TraceEvent D)) where
     finalize_decided = λ p h at. elim (stands.finalize_decided p h at) [ inl is ↦ inl is | inr below ↦ inr (omega arith) ];
   }
 
-  pub round_accepted : (certificate : Subject D) (reached finalized v : ℕ) (r : RoundFacts K D) → RoundStands trace reached finalized v r → RoundStands (trace ++ Accepts certificate ∷ []) reached finalized v r
+  pub round_accepted : (certificate : Subject D) (reached finalized v : ℕ) (r : RoundFacts K D) → RoundShowsVotes trace reached finalized v r → RoundShowsVotes (trace ++ Accepts certificate ∷ []) reached finalized v r
   round_accepted certificate reached finalized v r stands = record {
     notarized = λ c is. ((stands.notarized c is).0, still trace (Accepts certificate) (Accepts (subject.Notarize c.proposal)) (stands.notarized c is).1);
     held = stands.held;
@@ -82,7 +83,7 @@ module _ {K D : Type 0} (trace : List (TraceEvent D)) where
   }
 
 module _ {K L D : Type 0} (term_length : ℕ) (trace : List (TraceEvent D)) where
-  pub stands_later : (reached further : ℕ) (x : StateFacts K L D) → reached ≤ further → Stands term_length trace reached x → Stands term_length trace further x
+  pub stands_later : (reached further : ℕ) (x : StateFacts K L D) → reached ≤ further → ShowsVotes term_length trace reached x → ShowsVotes term_length trace further x
   stands_later reached further x later stands = record {
     terms = stands.terms;
     rounds = λ v. round_later trace reached further x.finalized x.finalized v (round_of x v) later (omega arith) (stands.rounds v);
@@ -90,16 +91,16 @@ module _ {K L D : Type 0} (term_length : ℕ) (trace : List (TraceEvent D)) wher
     noted = stands.noted;
   }
 
-  pub stands_put : (reached : ℕ) (x : StateFacts K L D) (v : ℕ) (r : RoundFacts K D) → RoundStands trace reached x.finalized v r → Stands term_length trace reached x → Stands term_length trace reached (with_round x v r)
+  pub stands_put : (reached : ℕ) (x : StateFacts K L D) (v : ℕ) (r : RoundFacts K D) → RoundShowsVotes trace reached x.finalized v r → ShowsVotes term_length trace reached x → ShowsVotes term_length trace reached (with_round x v r)
   stands_put reached x v r here stands = record { terms = stands.terms; rounds = rounds; passed = stands.passed; noted = stands.noted }
     where
-      rounds : (w : ℕ) → RoundStands trace reached x.finalized w (round_of (with_round x v r) w)
+      rounds : (w : ℕ) → RoundShowsVotes trace reached x.finalized w (round_of (with_round x v r) w)
       rounds w = elim (cases_eq w v) [
-        | inl at ↦ subst (λ u. RoundStands trace reached x.finalized u (round_of (with_round x v r) u)) (sym at) (subst (λ s. RoundStands trace reached x.finalized v s) (sym (round_put x v r)) here)
-        | inr apart ↦ subst (λ s. RoundStands trace reached x.finalized w s) (sym (round_of-with_round x w v apart r)) (stands.rounds w)
+        | inl at ↦ subst (λ u. RoundShowsVotes trace reached x.finalized u (round_of (with_round x v r) u)) (sym at) (subst (λ s. RoundShowsVotes trace reached x.finalized v s) (sym (round_put x v r)) here)
+        | inr apart ↦ subst (λ s. RoundShowsVotes trace reached x.finalized w s) (sym (round_of-with_round x w v apart r)) (stands.rounds w)
       ]
 
-  pub stands_accepted : (certificate : Subject D) (reached : ℕ) (x : StateFacts K L D) → Stands term_length trace reached x → Stands term_length (trace ++ Accepts certificate ∷ []) reached x
+  pub stands_accepted : (certificate : Subject D) (reached : ℕ) (x : StateFacts K L D) → ShowsVotes term_length trace reached x → ShowsVotes term_length (trace ++ Accepts certificate ∷ []) reached x
   stands_accepted certificate reached x stands = record {
     terms = stands.terms;
     rounds = λ v. round_accepted trace certificate reached x.finalized v (round_of x v) (stands.rounds v);
@@ -107,7 +108,7 @@ module _ {K L D : Type 0} (term_length : ℕ) (trace : List (TraceEvent D)) wher
     noted = λ round h. stands.noted round (not_vote trace certificate (subject.Nullify round) h);
   }
 
-  pub stays_accepted : (certificate : Subject D) (x : StateFacts K L D) → Stays term_length trace x → Stays term_length (trace ++ Accepts certificate ∷ []) x
+  pub stays_accepted : (certificate : Subject D) (x : StateFacts K L D) → ShowsVotesInLife term_length trace x → ShowsVotesInLife term_length (trace ++ Accepts certificate ∷ []) x
   stays_accepted certificate x keeps = record {
     stands = stands_accepted certificate x.current x keeps.stands;
     ahead = keeps.ahead;

@@ -10,7 +10,7 @@ use Rattle.simplex_types.specs.declared.types.numbers.Round.{Round}
 use Rattle.simplex_round.specs.Slot.{SlotFacts, holds_or_empty, after_certificate, after_own, after_vote}
 use Rattle.simplex_round.specs.Round.{new_round}
 use Rattle.simplex_laws.specs.Traces.{TraceEvent}
-use Rattle.simplex_laws.proofs.votes.Standing.{RoundStands}
+use Rattle.simplex_laws.proofs.votes.ShownVotes.{RoundShowsVotes}
 
 -- a slot holds the proposal, unless another was seen
 abbrev pub Holds : {D : Type 0} → SlotFacts D → Proposal D → Type 0
@@ -72,7 +72,7 @@ module _ {D : Type 0} (same : D → D → Bool) where
       ]
 
 -- nothing is known of a view whose votes are no higher than a finalization
-pub fresh_stands : {K D : Type 0} (trace : List (TraceEvent D)) (reached finalized v : ℕ) (me : Option ℕ) (members : List K) (round : Round) → v ≤ finalized → RoundStands trace reached finalized v (new_round me members round)
+pub fresh_stands : {K D : Type 0} (trace : List (TraceEvent D)) (reached finalized v : ℕ) (me : Option ℕ) (members : List K) (round : Round) → v ≤ finalized → RoundShowsVotes trace reached finalized v (new_round me members round)
 fresh_stands trace reached finalized v me members round below = record {
   notarized = λ c is. absurd (cc);
   held = λ c is. absurd (cc);

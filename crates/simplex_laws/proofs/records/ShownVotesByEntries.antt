@@ -23,9 +23,9 @@ use Rattle.simplex_laws.proofs.votes.NullifyVotes.{noted_new}
 use Rattle.simplex_laws.proofs.records.EntryTraces.{entry_trace, MayRetake, notarize_cast_stays, nullify_cast_stays, finalize_cast_stays, passed_over}
 use Rattle.simplex_laws.proofs.frames.Rising.{event_goes}
 use Rattle.simplex_record.proofs.Rounds.{round_put, tracked_put}
-use Rattle.simplex_laws.proofs.votes.Standing.{Stays, stands_later}
-use Rattle.simplex_laws.proofs.votes.StandingCalls.{certified_passes, certified_suits, notarization_stays, nullification_stays, finalization_stays}
-use Rattle.simplex_laws.proofs.votes.StandingSteps.{Suits, plain_suits, event_stands, event_stays, stays_on}
+use Rattle.simplex_laws.proofs.votes.ShownVotes.{ShowsVotesInLife, stands_later}
+use Rattle.simplex_laws.proofs.votes.ShownVotesByCalls.{certified_passes, certified_suits, notarization_stays, nullification_stays, finalization_stays}
+use Rattle.simplex_laws.proofs.votes.ShownVotesBySteps.{Suits, plain_suits, event_stands, event_stays, stays_on}
 
 module _ {K L D : Type 0} (same : D → D → Bool) (elect : Elect L) (x : StateFacts K L D) (now : ℕ) where
   -- neither the current view nor the finalized one falls
@@ -49,8 +49,8 @@ module _ {K L D : Type 0} (same : D → D → Bool) (decides : (d e : D) → sam
   verdict_again_passes : (v : ℕ) → v < (after_certified elect (again v true) v true now).current
   verdict_again_passes v = certified_passes same elect (again v true) v now true (tracked_put x v (certified_round (round_of x v) true)) refl
 
-  module _ (stays : Stays term_length trace x) where
-    verdict_again_stays : (round : Round) (success : Bool) → Stays term_length trace (after_certified elect (again round.view success) round.view success now)
+  module _ (stays : ShowsVotesInLife term_length trace x) where
+    verdict_again_stays : (round : Round) (success : Bool) → ShowsVotesInLife term_length trace (after_certified elect (again round.view success) round.view success now)
     verdict_again_stays round success =
         let v = round.view in
         let replay : Event K D = event.Replay (Verdict round success) in
@@ -65,10 +65,10 @@ module _ {K L D : Type 0} (same : D → D → Bool) (decides : (d e : D) → sam
 
     -- a certificate is added before it is replayed
 
-    replayed_stays : (a : List (TraceEvent D)) (c : CertificateFacts D) (y : StateFacts K L D) → Stays term_length a y → Stays term_length a (after_event same elect y (event.Replay (Accepted c)))
+    replayed_stays : (a : List (TraceEvent D)) (c : CertificateFacts D) (y : StateFacts K L D) → ShowsVotesInLife term_length a y → ShowsVotesInLife term_length a (after_event same elect y (event.Replay (Accepted c)))
     replayed_stays a c y keeps = stays_on same decides elect term_length a y (event.Replay (Accepted c)) (plain_suits a _ y (event.Replay (Accepted c)) refl refl refl refl (λ w says. absurd (cc))) keeps
 
-    retaken_stays : (e : ArtifactFacts D) → MayRetake trace x.current e → Stays term_length (trace ++ entry_trace e) (after_entry same elect x now e)
+    retaken_stays : (e : ArtifactFacts D) → MayRetake trace x.current e → ShowsVotesInLife term_length (trace ++ entry_trace e) (after_entry same elect x now e)
     retaken_stays (NotarizeVote p m) may =
         let e : Event K D = event.Replay (NotarizeVote p m) in
         notarize_cast_stays term_length trace (after_event same elect x e) (stays_on same decides elect term_length trace x e (plain_suits trace _ x e refl refl refl refl (λ w says. absurd (cc))) stays) p m
@@ -102,7 +102,7 @@ module _ {K L D : Type 0} (same : D → D → Bool) (decides : (d e : D) → sam
           finalizes = λ w says. inr (λ round h at. (let here : v ≡ w = cc in may.1 round h (at ∙ sym here)));
         } in
         finalize_cast_stays term_length trace z (stays_on same decides elect term_length trace x e suits stays) p m may.0 (inl (ap (λ s. is_finalize s.decision) (round_put x v r)))
-    retaken_stays (Verdict round success) may = subst (λ a. Stays term_length a (after_entry same elect x now (Verdict round success))) (sym (append-nil trace)) (verdict_again_stays round success)
+    retaken_stays (Verdict round success) may = subst (λ a. ShowsVotesInLife term_length a (after_entry same elect x now (Verdict round success))) (sym (append-nil trace)) (verdict_again_stays round success)
     retaken_stays (Accepted (Notarized c)) may =
         let e : Event K D = event.AddNotarization c in
         replayed_stays (trace ++ Accepts (subject.Notarize c.proposal) ∷ []) (Notarized c) (after_event same elect x e) (notarization_stays same decides elect term_length trace x stays c)
@@ -114,11 +114,11 @@ module _ {K L D : Type 0} (same : D → D → Bool) (decides : (d e : D) → sam
         replayed_stays (trace ++ Accepts (subject.Finalize c.proposal) ∷ []) (Finalized c) (after_event same elect x e) (finalization_stays same decides elect term_length trace x stays c now)
 
     -- an entry is taken again, or passed over
-    pub taken_stays : (e : ArtifactFacts D) → MayRetake trace x.current e → Stays term_length (trace ++ entry_trace e) (after_kept_entry same elect x now e)
+    pub taken_stays : (e : ArtifactFacts D) → MayRetake trace x.current e → ShowsVotesInLife term_length (trace ++ entry_trace e) (after_kept_entry same elect x now e)
     unfolding after_kept_entry
     taken_stays e may = by_view (nat_lt (entry_view e) (min_active x)) refl
       where
-        by_view : (b : Bool) → nat_lt (entry_view e) (min_active x) ≡ b → Stays term_length (trace ++ entry_trace e) (if nat_lt (entry_view e) (min_active x) then x else after_entry same elect x now e)
+        by_view : (b : Bool) → nat_lt (entry_view e) (min_active x) ≡ b → ShowsVotesInLife term_length (trace ++ entry_trace e) (if nat_lt (entry_view e) (min_active x) then x else after_entry same elect x now e)
         by_view true is = rw is (passed_over term_length trace x stays e (omega (arith, ltb-true (entry_view e) (min_active x) is)) may)
         by_view false is = rw is (retaken_stays e may)
 

@@ -21,8 +21,8 @@ use Rattle.simplex_laws.proofs.frames.EachRound.{step_round, pruned_round}
 use Rattle.simplex_record.proofs.Rounds.{armed_nullify, armed_finalize, latched_nullify, latched_finalize, aborted_certified, awaited_nullify}
 use Rattle.simplex_laws.proofs.votes.NullifyVotes.{noted_old, noted_kept}
 use Rattle.simplex_record.proofs.Paths.{event_path, asked_of_all}
-use Rattle.simplex_laws.proofs.votes.Standing.{RoundStands, Stands, HasFinal, Stays, round_later, stands_later, stands_put}
-use Rattle.simplex_laws.proofs.votes.StandingRounds.{Holds, holds_new, holds_old, holds_own, holds_voted, fresh_stands}
+use Rattle.simplex_laws.proofs.votes.ShownVotes.{RoundShowsVotes, ShowsVotes, HasFinal, ShowsVotesInLife, round_later, stands_later, stands_put}
+use Rattle.simplex_laws.proofs.votes.ShownVotesInRounds.{Holds, holds_new, holds_old, holds_own, holds_voted, fresh_stands}
 use Rattle.simplex_laws.proofs.frames.CallsMake.{is_floor}
 use Rattle.simplex_laws.proofs.frames.Rising.{event_goes}
 use Rattle.simplex_laws.proofs.frames.Sound.{IsAhead, event_ahead}
@@ -64,7 +64,7 @@ passed_by a P isnt (inl is) b = absurd (false≢true (sym isnt ∙ is))
 passed_by a P isnt (inr p) b = inr p
 
 module _ {K L D : Type 0} (same : D → D → Bool) (decides : (d e : D) → same d e ≡ true → d ≡ e) (elect : Elect L) (term_length : ℕ) (trace : List (TraceEvent D)) (reached : ℕ) (x : StateFacts K L D) (e : Event K D) (suits : Suits trace reached x e) where
-  change_stands : (finalized : ℕ) (y : StateFacts K L D) (v : ℕ) (r s : RoundFacts K D) → RoundStep same elect x e y v r s → RoundStands trace reached finalized v r → RoundStands trace reached finalized v s
+  change_stands : (finalized : ℕ) (y : StateFacts K L D) (v : ℕ) (r s : RoundFacts K D) → RoundStep same elect x e y v r s → RoundShowsVotes trace reached finalized v r → RoundShowsVotes trace reached finalized v s
   change_stands finalized y v r s (step.Notarized c says at none) p = record {
     notarized = λ d is. (let alike : c ≡ d = cc in subst (λ (f : ProposalFacts D). (f.proposal.round.view ≡ v) × Contains trace (Accepts (subject.Notarize f.proposal))) alike (at, suits.notarized c says));
     held = λ d is. (let alike : c ≡ d = cc in subst (λ (f : ProposalFacts D). Holds (after_certificate (same_proposal same) r.slot c.proposal) f.proposal) alike (holds_new same decides r.slot c.proposal));
@@ -88,7 +88,7 @@ module _ {K L D : Type 0} (same : D → D → Bool) (decides : (d e : D) → sam
   change_stands finalized y v r s (step.VotedAgain q binding says at is) p = record { notarized = p.notarized; held = λ d is. holds_own same decides r.slot q d.proposal (p.held d is); entered = p.entered; left = p.left; nullify_decided = p.nullify_decided; finalize_decided = p.finalize_decided }
   change_stands finalized y v r s _ p = record { notarized = p.notarized; held = p.held; entered = p.entered; left = p.left; nullify_decided = p.nullify_decided; finalize_decided = p.finalize_decided }
 
-  step_stands : (y z : StateFacts K L D) → Step same elect x e 0 y z → Stands term_length trace reached y → Stands term_length trace reached z
+  step_stands : (y z : StateFacts K L D) → Step same elect x e 0 y z → ShowsVotes term_length trace reached y → ShowsVotes term_length trace reached z
   step_stands y z (Puts v r may change) p = stands_put term_length trace reached y v r (change_stands y.finalized y v (round_of y v) r change (p.rounds v)) p
   step_stands y z (Raises v says above) p = record {
     terms = p.terms;
@@ -117,8 +117,8 @@ module _ {K L D : Type 0} (same : D → D → Bool) (decides : (d e : D) → sam
   step_stands y z (Prunes is) p = record {
     terms = p.terms;
     rounds = λ w. elim (pruned_round y w) [
-      | inl kept ↦ subst (RoundStands trace reached y.finalized w) (sym kept) (p.rounds w)
-      | inr gone ↦ subst (λ o. RoundStands trace reached y.finalized w (unwrap_or o (new_round y.me y.members (round_number y w)))) (sym gone.untracked) (fresh_stands trace reached y.finalized w y.me y.members (round_number y w) (let below = gone.below in omega (arith, below)))
+      | inl kept ↦ subst (RoundShowsVotes trace reached y.finalized w) (sym kept) (p.rounds w)
+      | inr gone ↦ subst (λ o. RoundShowsVotes trace reached y.finalized w (unwrap_or o (new_round y.me y.members (round_number y w)))) (sym gone.untracked) (fresh_stands trace reached y.finalized w y.me y.members (round_number y w) (let below = gone.below in omega (arith, below)))
     ];
     passed = p.passed;
     noted = λ round h. (
@@ -134,8 +134,8 @@ module _ {K L D : Type 0} (same : D → D → Bool) (decides : (d e : D) → sam
   }
   step_stands y z _ p = record { terms = p.terms; rounds = p.rounds; passed = p.passed; noted = p.noted }
 
-  pub event_stands : Stands term_length trace reached x → Stands term_length trace reached (after_event same elect x e)
-  event_stands p = along same elect x e 0 (Stands term_length trace reached) step_stands x (after_event same elect x e) (event_path same elect 0 x e (omega arith) (asked_of_all x e)) p
+  pub event_stands : ShowsVotes term_length trace reached x → ShowsVotes term_length trace reached (after_event same elect x e)
+  event_stands p = along same elect x e 0 (ShowsVotes term_length trace reached) step_stands x (after_event same elect x e) (event_path same elect 0 x e (omega arith) (asked_of_all x e)) p
 
   step_final : (y z : StateFacts K L D) → Step same elect x e 0 y z → HasFinal trace y.finalized → HasFinal trace z.finalized
   step_final y z (Raises v says above) p = subst (λ n. HasFinal trace n) says suits.finalized
@@ -146,7 +146,7 @@ module _ {K L D : Type 0} (same : D → D → Bool) (decides : (d e : D) → sam
 
 module _ {K L D : Type 0} (same : D → D → Bool) (decides : (d e : D) → same d e ≡ true → d ≡ e) (elect : Elect L) (term_length : ℕ) (trace : List (TraceEvent D)) (x : StateFacts K L D) (e : Event K D) (suits : Suits trace (after_event same elect x e).current x e) where
   -- an event, also the floor of a new state
-  pub event_stays : IsAhead x ⊎ ((x.finalized ≡ 0) × (is_floor e ≡ true)) → Stands term_length trace (after_event same elect x e).current x → HasFinal trace x.finalized → Stays term_length trace (after_event same elect x e)
+  pub event_stays : IsAhead x ⊎ ((x.finalized ≡ 0) × (is_floor e ≡ true)) → ShowsVotes term_length trace (after_event same elect x e).current x → HasFinal trace x.finalized → ShowsVotesInLife term_length trace (after_event same elect x e)
   event_stays ahead stands final = record {
     stands = event_stands same decides elect term_length trace (after_event same elect x e).current x e suits stands;
     ahead = event_ahead same elect x e ahead;
@@ -154,5 +154,5 @@ module _ {K L D : Type 0} (same : D → D → Bool) (decides : (d e : D) → sam
   }
 
   -- an event of a life
-  pub stays_on : Stays term_length trace x → Stays term_length trace (after_event same elect x e)
+  pub stays_on : ShowsVotesInLife term_length trace x → ShowsVotesInLife term_length trace (after_event same elect x e)
   stays_on stays = event_stays (inl stays.ahead) (stands_later term_length trace x.current (after_event same elect x e).current x (event_goes same elect x e).current stays.stands) stays.final

@@ -13,8 +13,8 @@ use Rattle.simplex_laws.specs.Events.{Event, after_event}
 use Rattle.simplex_record.proofs.Paths.{to_woken}
 use Rattle.simplex_laws.proofs.frames.Rising.{goes_along}
 use Rattle.simplex_laws.proofs.frames.Sound.{entered_reaches}
-use Rattle.simplex_laws.proofs.votes.Standing.{Stays, latest, stays_accepted}
-use Rattle.simplex_laws.proofs.votes.StandingSteps.{Suits, plain_suits, stays_on}
+use Rattle.simplex_laws.proofs.votes.ShownVotes.{ShowsVotesInLife, latest, stays_accepted}
+use Rattle.simplex_laws.proofs.votes.ShownVotesBySteps.{Suits, plain_suits, stays_on}
 use Rattle.simplex_record.proofs.Steps.{Still, verdict_by}
 
 module _ {K L D : Type 0} (same : D → D → Bool) (elect : Elect L) (x : StateFacts K L D) (v now : ℕ) where
@@ -38,20 +38,20 @@ module _ {K L D : Type 0} (same : D → D → Bool) (elect : Elect L) (x : State
           let passed = certified_passes success tracked (ap (λ (p : ℕ × Bool). p.1) pair) in
           omega (arith, at, passed)
 
-module _ {K L D : Type 0} (same : D → D → Bool) (decides : (d e : D) → same d e ≡ true → d ≡ e) (elect : Elect L) (term_length : ℕ) (trace : List (TraceEvent D)) (x : StateFacts K L D) (stays : Stays term_length trace x) where
-  moment_stays : (now : ℕ) → Stays term_length trace (at_moment x now)
+module _ {K L D : Type 0} (same : D → D → Bool) (decides : (d e : D) → same d e ≡ true → d ≡ e) (elect : Elect L) (term_length : ℕ) (trace : List (TraceEvent D)) (x : StateFacts K L D) (stays : ShowsVotesInLife term_length trace x) where
+  moment_stays : (now : ℕ) → ShowsVotesInLife term_length trace (at_moment x now)
   moment_stays now = record { stands = record { terms = stays.stands.terms; rounds = stays.stands.rounds; passed = stays.stands.passed; noted = stays.stands.noted }; ahead = stays.ahead; final = stays.final }
 
-  pub certified_stays : (v : ℕ) (success : Bool) (now : ℕ) → Stays term_length trace (after_certified elect x v success now)
+  pub certified_stays : (v : ℕ) (success : Bool) (now : ℕ) → ShowsVotesInLife term_length trace (after_certified elect x v success now)
   certified_stays v success now = by_tracked (is_tracked x v) refl
     where
-      by_tracked : (b : Bool) → is_tracked x v ≡ b → Stays term_length trace (after_certified elect x v success now)
+      by_tracked : (b : Bool) → is_tracked x v ≡ b → ShowsVotesInLife term_length trace (after_certified elect x v success now)
       by_tracked true tracked = stays_on same decides elect term_length trace x (event.Certified v success now) (certified_suits same elect x v now trace success tracked) stays
       by_tracked false gone = rw gone (moment_stays now)
 
   -- a certificate, once it is in the trace
 
-  pub notarization_stays : (c : ProposalFacts D) → Stays term_length (trace ++ Accepts (subject.Notarize c.proposal) ∷ []) (after_add_notarization same elect x c)
+  pub notarization_stays : (c : ProposalFacts D) → ShowsVotesInLife term_length (trace ++ Accepts (subject.Notarize c.proposal) ∷ []) (after_add_notarization same elect x c)
   notarization_stays c =
       let a = trace ++ Accepts (subject.Notarize c.proposal) ∷ [] in
       let e : Event K D = event.AddNotarization c in
@@ -65,13 +65,13 @@ module _ {K L D : Type 0} (same : D → D → Bool) (decides : (d e : D) → sam
       } in
       stays_on same decides elect term_length a x e suits (stays_accepted term_length trace (subject.Notarize c.proposal) x stays)
 
-  pub nullification_stays : (c : NullificationFacts) (now : ℕ) → Stays term_length (trace ++ Accepts (subject.Nullify c.round) ∷ []) (after_add_nullification elect x c now)
+  pub nullification_stays : (c : NullificationFacts) (now : ℕ) → ShowsVotesInLife term_length (trace ++ Accepts (subject.Nullify c.round) ∷ []) (after_add_nullification elect x c now)
   nullification_stays c now =
       let a = trace ++ Accepts (subject.Nullify c.round) ∷ [] in
       let e : Event K D = event.AddNullification c now in
       stays_on same decides elect term_length a x e (plain_suits a _ x e refl refl refl refl (λ w says. absurd (cc))) (stays_accepted term_length trace (subject.Nullify c.round) x stays)
 
-  pub finalization_stays : (c : ProposalFacts D) (now : ℕ) → Stays term_length (trace ++ Accepts (subject.Finalize c.proposal) ∷ []) (after_add_finalization same elect x c now)
+  pub finalization_stays : (c : ProposalFacts D) (now : ℕ) → ShowsVotesInLife term_length (trace ++ Accepts (subject.Finalize c.proposal) ∷ []) (after_add_finalization same elect x c now)
   finalization_stays c now =
       let a = trace ++ Accepts (subject.Finalize c.proposal) ∷ [] in
       let e : Event K D = event.AddFinalization c now in
