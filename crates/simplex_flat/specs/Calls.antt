@@ -68,5 +68,5 @@ abbrev pub HasNumbers : FlatCall → Type 0
 HasNumbers f = (f.kind < 25) × (f.reason < 10) × (f.success < 2)
 
 -- and they are those of a call that hands in a certificate
-abbrev pub HasCertificate : FlatCall → Type 0
-HasCertificate f = (f.kind < 3) × HasNumbers f
+abbrev pub HandsInCertificate : FlatCall → Type 0
+HandsInCertificate f = (f.kind < 3) × HasNumbers f

@@ -24,7 +24,7 @@ use Rattle.simplex_flat.specs.declared.flat.FlatFetch.{FlatFetch}
 use Rattle.simplex_flat.specs.declared.flat.FlatProposal.{FlatProposal}
 use Rattle.simplex_flat.specs.declared.flat.FlatReply.{FlatReply}
 use Rattle.simplex_flat.specs.declared.held.Held.{Held}
-use Rattle.simplex_flat.specs.Calls.{HasCertificate, HasNumbers, HostCallFacts, IsAskedBy, IsNoCall, IsProposal}
+use Rattle.simplex_flat.specs.Calls.{HandsInCertificate, HasNumbers, HostCallFacts, IsAskedBy, IsNoCall, IsProposal}
 use Rattle.simplex_flat.specs.Replies.{Tells}
 
 -- two payloads have the same bytes
@@ -37,7 +37,7 @@ host_leader e round seed = leader_of e round.view seed
 
 -- no call was made, and all is as it was: one of its numbers is none of a call, or there was no memory for its certificate
 abbrev pub IsNotMade : Held → FlatCall → FlatReply → Held → Type 0
-IsNotMade old f r new = (new ≡ old) × (((r.status ≡ 6) × IsNoCall f) ⊎ ((r.status ≡ 7) × HasCertificate f))
+IsNotMade old f r new = (new ≡ old) × (((r.status ≡ 6) × IsNoCall f) ⊎ ((r.status ≡ 7) × HandsInCertificate f))
 
 -- the call that the flat one stands for was made
 pub record IsMade (old : Held) (f : FlatCall) (bytes : List ℕ) (r : FlatReply) (new : Held) : Type 0 where

@@ -119,8 +119,8 @@ HasFound (Some (Nullified c)) r shown = (r.has ≡ 2) × (c.round ≡ round_of r
 HasFound (Some (Finalized c)) r shown = (r.has ≡ 3) × IsProposal r.proposal c.proposal × (shown ≡ c.bytes)
 
 -- a certificate is found, and its bytes are written behind others
-abbrev pub Shows : Option (CertificateFacts (BytesDigest 32)) → FlatFound → List ℕ → List ℕ → Type 0
-Shows found r before after = (bytes : List ℕ) × HasFound found r bytes × (after ≡ before ++ bytes) × (r.bytes ≡ length bytes)
+abbrev pub ShowsCertificate : Option (CertificateFacts (BytesDigest 32)) → FlatFound → List ℕ → List ℕ → Type 0
+ShowsCertificate found r before after = (bytes : List ℕ) × HasFound found r bytes × (after ≡ before ++ bytes) × (r.bytes ≡ length bytes)
 
 -- a kind of certificates
 abbrev pub IsKind : ℕ → Type 0

@@ -3,7 +3,7 @@
 ghost use Rattle.std.specs.Prelude.{◌≡◌, ◌<◌, IfOk, OnErr, MatchOption};
 ghost use Rattle.simplex_host.specs.Host.{certificate_bytes};
 ghost use Rattle.simplex_member.specs.Calls.{asked};
-ghost use Rattle.simplex_flat.specs.Calls.{HasCertificate, HasNumbers, IsAskedBy, IsNoCall, StandsFor, IsProposal, round_of};
+ghost use Rattle.simplex_flat.specs.Calls.{HandsInCertificate, HasNumbers, IsAskedBy, IsNoCall, StandsFor, IsProposal, round_of};
 ghost use Rattle.simplex_flat.specs.Numbers.{kind_number, reason_number, flag_number};
 
 use crate::call_kind::{CallKind, kind_of};
@@ -28,7 +28,7 @@ pub fn call_of(
     flat: &FlatCall,
     certificate: &[u8],
 ) -> Result<Option<HostCall>, AllocError>
-    ensures wanting { OnErr result (HasCertificate flat.now) }
+    ensures wanting { OnErr result (HandsInCertificate flat.now) }
     ensures made { IfOk result (λ made. MatchOption made (IsNoCall flat.now)
         (λ call. HasNumbers flat.now × IsAskedBy flat.now certificate.now (asked certificate_bytes call))) }
 {

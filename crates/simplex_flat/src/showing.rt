@@ -3,7 +3,7 @@
 ghost use Rattle.std.specs.Prelude.{◌≡◌, ◌≤◌, ◌++◌, true, IfOk, OnOk, OnErr, MatchOption, length, take, drop};
 ghost use Rattle.std.specs.Option.{IsSome};
 ghost use Rattle.simplex_flat.specs.Numbers.{index_number};
-ghost use Rattle.simplex_flat.specs.Showing.{HasForwardable, IsChunk, IsKind, IsSubject, IsText, IsViewOf, Shows, certificate_of};
+ghost use Rattle.simplex_flat.specs.Showing.{HasForwardable, IsChunk, IsKind, IsSubject, IsText, IsViewOf, ShowsCertificate, certificate_of};
 ghost use Rattle.simplex_voter.specs.Refusals.{is_started};
 ghost use Rattle.simplex_voter.specs.Serving.{forwardable_of};
 
@@ -222,7 +222,7 @@ fn show_certificate(
     out: &mut BytesMut,
 ) -> Result<FlatFound, AllocError>
     requires { IsKind kind }
-    ensures found { IfOk result (λ r. (r.status ≡ 0) × Shows (certificate_of kind state.now view) r out.old.items out.new.items) }
+    ensures found { IfOk result (λ r. (r.status ≡ 0) × ShowsCertificate (certificate_of kind state.now view) r out.old.items out.new.items) }
     ensures wanting { OnErr result (IsSome (certificate_of kind state.now view)) }
 {
     match kind {

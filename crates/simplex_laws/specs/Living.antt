@@ -16,7 +16,7 @@ use Rattle.simplex_member.specs.Runs.{StepFacts, steps_of, IsRun}
 use Rattle.simplex_record.specs.Start.{StartFacts, start_facts, new_state}
 use Rattle.simplex_member.specs.Start.{started_member}
 use Rattle.simplex_laws.specs.Traces.{TraceEvent}
-use Rattle.simplex_laws.specs.Shown.{floor_in, begun_by, IsSetUpAs}
+use Rattle.simplex_laws.specs.Shown.{floor_in, begun_by, StartsAs}
 use Rattle.simplex_laws.specs.Executions.{Execution, trace_of, LivesAs, IsExecution}
 
 -- what came to a member of the code and what it answered, as an execution
@@ -66,13 +66,13 @@ module _ (K : Type 0) {L D : Type 0} (same : D → D → Bool) (elect : Elect L)
 module _ {S L D K G C : Type 0} (same : D → D → Bool) (elect : Elect L) (me : S → Option ℕ) (terms : L → Terms) where
   -- a member that begins with this start has accepted the floor's finalization
   abbrev pub HasBegun : Start S L D K G C → MemberFacts K L D → Type 0
-  HasBegun start m = (term_length i : ℕ) → IsSetUpAs me terms term_length i start → HasDone same elect term_length i (floor_in start.floor) m
+  HasBegun start m = (term_length i : ℕ) → StartsAs me terms term_length i start → HasDone same elect term_length i (floor_in start.floor) m
 
   -- one that begins again with this start has, where it succeeds, accepted the floor's finalization besides
   abbrev pub HasBegunAgain : {E : Type 0} → MemberFacts K L D → Start S L D K G C → Result (Unit {0}) E → MemberFacts K L D → Type 0
   HasBegunAgain m start result next =
       (term_length i : ℕ) (all : List (TraceEvent D))
-      → IsSetUpAs me terms term_length i start
+      → StartsAs me terms term_length i start
       → HasDone same elect term_length i all m
       → HasDone same elect term_length i (all ++ begun_by start result) next
 

@@ -62,12 +62,12 @@ module _ {S L D K G C : Type 0} where
 
 module _ {S L D K G C : Type 0} (me : S → Option ℕ) (terms : L → Terms) where
   -- a start is set up for terms of this many views, not 0, and signs as this member or not at all
-  pub record IsSetUpAs (term_length i : ℕ) (start : Start S L D K G C) : Type 0 where
+  pub record StartsAs (term_length i : ℕ) (start : Start S L D K G C) : Type 0 where
     pub terms_of : (terms start.settings.elector).term_length ≡ term_length
     pub some : 0 < term_length
     pub signs_as : (me start.settings.scheme ≡ Some i) ⊎ (me start.settings.scheme ≡ None)
 
   -- so is a start, and that of each restart
-  pub record AreSetUpAs (term_length i : ℕ) (start : Start S L D K G C) (steps : List (Step S L D K G C)) : Type 0 where
-    pub first : IsSetUpAs term_length i start
-    pub later : (r : _) → Contains steps (step.Restart r) → IsSetUpAs term_length i r.start
+  pub record AllStartAs (term_length i : ℕ) (start : Start S L D K G C) (steps : List (Step S L D K G C)) : Type 0 where
+    pub first : StartsAs term_length i start
+    pub later : (r : _) → Contains steps (step.Restart r) → StartsAs term_length i r.start

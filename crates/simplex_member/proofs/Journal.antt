@@ -22,18 +22,18 @@ use Rattle.simplex_member.proofs.Restarts.{gone_on, not_gone_on}
 
 module _ {K L D : Type 0} (same : D → D → Bool) (elect : Elect L) (stored : Stored) (entries : List (ArtifactFacts D)) (start : StartFacts K L D) (whole : has_lost stored entries ≡ false) where
   -- as many views are kept as in each life before, or the record was never pruned
-  abbrev Grows : Bool → Type 0
-  Grows grows = (stored.is_pruned && nat_lt stored.least_retention start.setup.settings.view_retention) ≡ grows
+  abbrev RetentionHolds : Bool → Type 0
+  RetentionHolds grows = (stored.is_pruned && nat_lt stored.least_retention start.setup.settings.view_retention) ≡ grows
 
-  pub grown : Grows true → IsNotResumed same elect stored entries start (resume_error.Recover error.RetentionGrown)
+  pub grown : RetentionHolds true → IsNotResumed same elect stored entries start (resume_error.Recover error.RetentionGrown)
   unfolding IsRestart
   grown grows = (whole, rw grows (refl, refl))
 
-  pub refused : Grows false → (found : RecoverError) → (found ≡ error.OutOfMemory) ⊎ IsRefusedBy same start entries found → IsNotResumed same elect stored entries start (resume_error.Recover found)
+  pub refused : RetentionHolds false → (found : RecoverError) → (found ≡ error.OutOfMemory) ⊎ IsRefusedBy same start entries found → IsNotResumed same elect stored entries start (resume_error.Recover found)
   unfolding IsRestart
   refused grows found due = (whole, rw grows (not_gone_on same elect (stored_facts stored entries) start found due))
 
-  pub resumed : Grows false → (x : StateFacts K L D) (record_now : List (ArtifactFacts D)) → IsRemadeBy same elect start entries x → record_now ≡ with_floor entries start.floor
+  pub resumed : RetentionHolds false → (x : StateFacts K L D) (record_now : List (ArtifactFacts D)) → IsRemadeBy same elect start entries x → record_now ≡ with_floor entries start.floor
       → IsResumed same elect stored entries start (record (stored_facts stored entries) { life = Some x; entries = record_now; retention = start.setup.settings.view_retention; least_retention = min stored.least_retention start.setup.settings.view_retention })
   unfolding IsRestart
   resumed grows x record_now made kept = record {

@@ -15,7 +15,7 @@ use Rattle.simplex_voter.proofs.Proposals.{round_of-prepared}
 use Rattle.simplex_member.specs.Calls.{ConstructNotarize, ConstructNullify, ConstructFinalize, Told, Notarize, Nullify, Finalize}
 use Rattle.simplex_member.specs.Lives.{MemberFacts}
 use Rattle.simplex_member.specs.CallSemantics.{nullify_vote, notarize_vote, finalize_vote}
-use Rattle.simplex_member.specs.MethodContracts.{IsAnswered, HasNotarized, HasNullified, HasFinalized}
+use Rattle.simplex_member.specs.MethodContracts.{IsAnswered, HasNotarizeVote, HasNullifyVote, HasFinalizeVote}
 use Rattle.simplex_record.proofs.Growing.{round_of-same}
 
 -- what is told alike is the same
@@ -143,16 +143,16 @@ module _ {K L D : Type 0} (same : D → D → Bool) (elect : Elect L) (m left : 
     nullify_is : told ≡ nullify_vote is.state v
     nullify_is = nullify_same {K = K} told (nullify_vote is.state v) is.told_so
 
-    pub nullify_decided : {A : Type 0} (f : A → Bool × ArtifactFacts D) (vote : Option A) → told ≡ option_map f vote → IfSome vote (λ _. HasNullified left v)
+    pub nullify_decided : {A : Type 0} (f : A → Bool × ArtifactFacts D) (vote : Option A) → told ≡ option_map f vote → IfSome vote (λ _. HasNullifyVote left v)
     nullify_decided f None so = tt
     nullify_decided f (Some a) so = has (was_allowed (may_nullify is.state v) (nullify_vote is.state v) (f a) (none_to_nullify is.state v) (sym so ∙ nullify_is))
       where
-        has : may_nullify is.state v ≡ true → HasNullified left v
+        has : may_nullify is.state v ≡ true → HasNullifyVote left v
         has may =
             at_life (λ (x : StateFacts K L D). is_nullify (round_of x v).decision ≡ true) left.life (after_construct_nullify is.state v)
             (ap (λ (l : MemberFacts K L D). l.life) is.left_so) (round_nullified is.state v may)
 
-    pub nullify_barred : HasFinalized m v → {A : Type 0} (f : A → Bool × ArtifactFacts D) (vote : Option A) → told ≡ option_map f vote → IsNone vote
+    pub nullify_barred : HasFinalizeVote m v → {A : Type 0} (f : A → Bool × ArtifactFacts D) (vote : Option A) → told ≡ option_map f vote → IsNone vote
     nullify_barred was f vote so =
         let finalized = from_life (λ (x : StateFacts K L D). is_finalize (round_of x v).decision ≡ true) m.life is.state is.alive was in
         none_told f vote (sym so ∙ nullify_is ∙ none_to_nullify is.state v
@@ -163,11 +163,11 @@ module _ {K L D : Type 0} (same : D → D → Bool) (elect : Elect L) (m left : 
     finalize_is : told ≡ finalize_vote elect is.state v
     finalize_is = finalize_same {K = K} told (finalize_vote elect is.state v) is.told_so
 
-    pub finalize_decided : {A : Type 0} (f : A → ArtifactFacts D) (vote : Option A) → told ≡ option_map f vote → IfSome vote (λ _. HasFinalized left v)
+    pub finalize_decided : {A : Type 0} (f : A → ArtifactFacts D) (vote : Option A) → told ≡ option_map f vote → IfSome vote (λ _. HasFinalizeVote left v)
     finalize_decided f None so = tt
     finalize_decided f (Some a) so = has (was_allowed (may_finalize elect is.state v) (finalize_vote elect is.state v) (f a) (none_to_finalize elect is.state v) (sym so ∙ finalize_is))
       where
-        has : may_finalize elect is.state v ≡ true → HasFinalized left v
+        has : may_finalize elect is.state v ≡ true → HasFinalizeVote left v
         has may =
             at_life (λ (x : StateFacts K L D). is_finalize (round_of x v).decision ≡ true) left.life (after_construct_finalize elect is.state v)
             (ap (λ (l : MemberFacts K L D). l.life) is.left_so) (round_finalized elect is.state v may)
@@ -178,11 +178,11 @@ module _ {K L D : Type 0} (same : D → D → Bool) (elect : Elect L) (m left : 
         none_told f vote (sym so ∙ finalize_is ∙ none_to_finalize elect is.state v
         (false_from_ne_true _ (λ may. decided (finalize_parts elect is.state v may).undecided)))
 
-    pub finalize_once : HasFinalized m v → {A : Type 0} (f : A → ArtifactFacts D) (vote : Option A) → told ≡ option_map f vote → IsNone vote
+    pub finalize_once : HasFinalizeVote m v → {A : Type 0} (f : A → ArtifactFacts D) (vote : Option A) → told ≡ option_map f vote → IsNone vote
     finalize_once was =
         not_pending (finalized_is_decided (round_of is.state v) (from_life (λ (x : StateFacts K L D). is_finalize (round_of x v).decision ≡ true) m.life is.state is.alive was))
 
-    pub finalize_barred : HasNullified m v → {A : Type 0} (f : A → ArtifactFacts D) (vote : Option A) → told ≡ option_map f vote → IsNone vote
+    pub finalize_barred : HasNullifyVote m v → {A : Type 0} (f : A → ArtifactFacts D) (vote : Option A) → told ≡ option_map f vote → IsNone vote
     finalize_barred was =
         not_pending (nullified_is_decided (round_of is.state v) (from_life (λ (x : StateFacts K L D). is_nullify (round_of x v).decision ≡ true) m.life is.state is.alive was))
 
@@ -191,16 +191,16 @@ module _ {K L D : Type 0} (same : D → D → Bool) (elect : Elect L) (m left : 
     notarize_is : told ≡ notarize_vote same elect is.state v
     notarize_is = notarize_same {K = K} told (notarize_vote same elect is.state v) is.told_so
 
-    pub notarize_decided : {A : Type 0} (f : A → ArtifactFacts D) (vote : Option A) → told ≡ option_map f vote → IfSome vote (λ _. HasNotarized left v)
+    pub notarize_decided : {A : Type 0} (f : A → ArtifactFacts D) (vote : Option A) → told ≡ option_map f vote → IfSome vote (λ _. HasNotarizeVote left v)
     notarize_decided f None so = tt
     notarize_decided f (Some a) so = has (was_allowed (may_notarize same elect is.state v) (notarize_vote same elect is.state v) (f a) (none_to_notarize same elect is.state v) (sym so ∙ notarize_is))
       where
-        has : may_notarize same elect is.state v ≡ true → HasNotarized left v
+        has : may_notarize same elect is.state v ≡ true → HasNotarizeVote left v
         has may =
             at_life (λ (x : StateFacts K L D). (round_of x v).notarize_decided ≡ true) left.life (after_construct_notarize same elect is.state v)
             (ap (λ (l : MemberFacts K L D). l.life) is.left_so) (round_notarized same elect is.state v may)
 
-    pub notarize_once : HasNotarized m v → {A : Type 0} (f : A → ArtifactFacts D) (vote : Option A) → told ≡ option_map f vote → IsNone vote
+    pub notarize_once : HasNotarizeVote m v → {A : Type 0} (f : A → ArtifactFacts D) (vote : Option A) → told ≡ option_map f vote → IsNone vote
     notarize_once was f vote so =
         let decided = from_life (λ (x : StateFacts K L D). (round_of x v).notarize_decided ≡ true) m.life is.state is.alive was in
         none_told f vote (sym so ∙ notarize_is ∙ none_to_notarize same elect is.state v

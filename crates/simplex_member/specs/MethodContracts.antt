@@ -83,16 +83,16 @@ module _ {K L D : Type 0} (same : D → D → Bool) (elect : Elect L) where
 
 module _ {K L D : Type 0} where
   -- while the member lives, a vote to notarize the view is decided
-  abbrev pub HasNotarized : MemberFacts K L D → ℕ → Type 0
-  HasNotarized m v = IfSome m.life (λ x. (round_of x v).notarize_decided ≡ true)
+  abbrev pub HasNotarizeVote : MemberFacts K L D → ℕ → Type 0
+  HasNotarizeVote m v = IfSome m.life (λ x. (round_of x v).notarize_decided ≡ true)
 
   -- a vote to nullify it
-  abbrev pub HasNullified : MemberFacts K L D → ℕ → Type 0
-  HasNullified m v = IfSome m.life (λ x. is_nullify (round_of x v).decision ≡ true)
+  abbrev pub HasNullifyVote : MemberFacts K L D → ℕ → Type 0
+  HasNullifyVote m v = IfSome m.life (λ x. is_nullify (round_of x v).decision ≡ true)
 
   -- a vote to finalize it
-  abbrev pub HasFinalized : MemberFacts K L D → ℕ → Type 0
-  HasFinalized m v = IfSome m.life (λ x. is_finalize (round_of x v).decision ≡ true)
+  abbrev pub HasFinalizeVote : MemberFacts K L D → ℕ → Type 0
+  HasFinalizeVote m v = IfSome m.life (λ x. is_finalize (round_of x v).decision ≡ true)
 
   -- while the member lives, nothing of the view is left for such a call to hand out
   abbrev pub HasNoneLeft : {A : Type 0} → (StateFacts K L D → ℕ → Option A) → MemberFacts K L D → ℕ → Type 0

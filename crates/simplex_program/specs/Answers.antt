@@ -78,16 +78,16 @@ Lists fetching (answer.Outstanding views) = views.items ≡ fetching
 Lists _ _ = ⊥
 
 -- the reply to a line, and what it leaves
-abbrev pub Answers : ResolverFacts → List ℕ → ResolverLine → Answer → ResolverFacts → List ℕ → Type 0
-Answers x fetching (Notarization v) a y left = Reports x fetching v (notarization_call v) a y left
-Answers x fetching (Nullification v) a y left = Reports x fetching v (nullification_call v) a y left
-Answers x fetching (Finalization v) a y left = Reports x fetching v (finalization_call v) a y left
-Answers x fetching (Certified v success) a y left = Reports x fetching v (verdict_call v success) a y left
-Answers x fetching Replayed a y left = Calls x fetching 0 EndOfReplay a y left
-Answers x fetching (Settled v kind) a y left = (a ≡ answer.Flag (is_settled x v kind)) × IsKept x fetching y left
-Answers x fetching (KeySettled v) a y left =
+abbrev pub ResolverAnswers : ResolverFacts → List ℕ → ResolverLine → Answer → ResolverFacts → List ℕ → Type 0
+ResolverAnswers x fetching (Notarization v) a y left = Reports x fetching v (notarization_call v) a y left
+ResolverAnswers x fetching (Nullification v) a y left = Reports x fetching v (nullification_call v) a y left
+ResolverAnswers x fetching (Finalization v) a y left = Reports x fetching v (finalization_call v) a y left
+ResolverAnswers x fetching (Certified v success) a y left = Reports x fetching v (verdict_call v success) a y left
+ResolverAnswers x fetching Replayed a y left = Calls x fetching 0 EndOfReplay a y left
+ResolverAnswers x fetching (Settled v kind) a y left = (a ≡ answer.Flag (is_settled x v kind)) × IsKept x fetching y left
+ResolverAnswers x fetching (KeySettled v) a y left =
     (a ≡ answer.Flag (is_settled x v OfNullification && is_settled x v OfNotarization)) × IsKept x fetching y left
-Answers x fetching (Uncertifiable v) a y left = (a ≡ answer.Flag (map.contains_key x.uncertifiable v)) × IsKept x fetching y left
-Answers x fetching (Produce v) a y left =
+ResolverAnswers x fetching (Uncertifiable v) a y left = (a ≡ answer.Flag (map.contains_key x.uncertifiable v)) × IsKept x fetching y left
+ResolverAnswers x fetching (Produce v) a y left =
     (a ≡ (if x.is_failed then answer.Fault Failed else answer.Encoding (served_encoding x v))) × IsKept x fetching y left
-Answers x fetching Outstanding a y left = Lists fetching a × IsKept x fetching y left
+ResolverAnswers x fetching Outstanding a y left = Lists fetching a × IsKept x fetching y left

@@ -12,7 +12,7 @@ use Rattle.simplex_program.specs.declared.resolver.Answer.{Answer}
 use Rattle.simplex_program.specs.declared.resolver_line.ResolverLine.{ResolverLine}
 use Rattle.simplex_program.specs.declared.voter.VoterAnswer.{VoterAnswer}
 use Rattle.simplex_program.specs.declared.voter_line.VoterLine.{VoterLine}
-use Rattle.simplex_program.specs.Answers.{Answers}
+use Rattle.simplex_program.specs.Answers.{ResolverAnswers}
 use Rattle.simplex_program.specs.Line.{without_feed, IsNextLine}
 use Rattle.simplex_program.specs.Plain.{PlainMember}
 use Rattle.simplex_program.specs.ResolverLine.{HasSmallView, line_words}
@@ -52,7 +52,7 @@ Replies (Member n m) text reply (Member o left) =
     × VoterAnswers n m line answer left × (o ≡ n) × (reply ≡ reply_line (text_of (voter_reply_words answer)))
 Replies (Resolver x fetching) text reply (Resolver y left) =
     (line : ResolverLine) × (answer : Answer) × (words_in text ≡ line_words line)
-    × Answers x fetching line answer y left × (reply ≡ reply_line (resolver_reply_text answer))
+    × ResolverAnswers x fetching line answer y left × (reply ≡ reply_line (resolver_reply_text answer))
 Replies _ _ _ _ = ⊥
 
 -- the words of a text are those of no line

@@ -5,7 +5,7 @@ ghost use Rattle.simplex_types.specs.declared.types.fault.Fault.TheVariants.{Out
 ghost use Rattle.simplex_resolver.specs.Facts.{empty};
 ghost use Rattle.simplex_resolver.specs.Steps.{Replayed};
 ghost use Rattle.simplex_resolver.specs.Repair.{IsApplied};
-ghost use Rattle.simplex_program.specs.Answers.{Answers, Calls, Reports, IsProposedAt, notarization_call, nullification_call, finalization_call, verdict_call};
+ghost use Rattle.simplex_program.specs.Answers.{ResolverAnswers, Calls, Reports, IsProposedAt, notarization_call, nullification_call, finalization_call, verdict_call};
 ghost use Rattle.simplex_program.specs.declared.resolver.Answer.TheVariants.{Effects as AreEffects, Fault as IsFault};
 
 use crate::resolver_line::ResolverLine;
@@ -54,7 +54,7 @@ impl Resolver {
 
     /// Does what the line asks. The one error is want of memory.
     pub(crate) fn answer(&mut self, alloc: Global, line: ResolverLine) -> Result<Answer, AllocError>
-        ensures { IfOk result (λ answer. Answers self.old.state self.old.outstanding.keys line answer self.new.state self.new.outstanding.keys) }
+        ensures { IfOk result (λ answer. ResolverAnswers self.old.state self.old.outstanding.keys line answer self.new.state self.new.outstanding.keys) }
     {
         match line {
             ResolverLine::Notarization(view) => self.notarize(view),

@@ -16,7 +16,7 @@ use Rattle.simplex_voter.specs.Replay.{replayed_sets}
 use Rattle.simplex_record.specs.Entries.{entry_view}
 use Rattle.simplex_record.specs.Check.{stands, is_notarization, is_verdict, is_nullify_vote as nullifies, is_finalize_vote as finalizes}
 use Rattle.simplex_record.specs.Recovery.{as_artifact, after_adding, after_replaying, after_verdict_of}
-use Rattle.simplex_record.proofs.Growing.{Grows, round_of-put, round_of-same, notarization_stands}
+use Rattle.simplex_record.proofs.Growing.{RoundGrows, round_of-put, round_of-same, notarization_stands}
 use Rattle.simplex_record.proofs.GrowingStates.{GrowsUpTo, kept_along, event_kept, added_kept}
 use Rattle.simplex_record.specs.Events.{TryPropose, Replay}
 use Rattle.simplex_record.proofs.Steps.{Still}
@@ -50,7 +50,7 @@ module _ {K D : Type 0} where
     pub nullified : is_nullify r.decision ≡ true → stands v nullifies before ≡ true
     pub finalized : is_finalize r.decision ≡ true → stands v finalizes before ≡ true
 
-  bears_grown : (signs : Option ℕ) (lowest : ℕ) (before : List (ArtifactFacts D)) (v : ℕ) (r s : RoundFacts K D) → Grows r s → Bears signs lowest before v r → Bears signs lowest before v s
+  bears_grown : (signs : Option ℕ) (lowest : ℕ) (before : List (ArtifactFacts D)) (v : ℕ) (r s : RoundFacts K D) → RoundGrows r s → Bears signs lowest before v r → Bears signs lowest before v s
   bears_grown signs lowest before v r s g b = record {
     me = g.me ∙ b.me;
     notarized = λ low there. g.notarized (b.notarized low there);

@@ -20,17 +20,17 @@ use Rattle.simplex_record.proofs.Rounds.{armed_nullify, armed_finalize, latched_
 
 module _ {K D : Type 0} where
   -- the verdict and the kind of the decision stay, a notarization stays
-  pub record Grows (r s : RoundFacts K D) : Type 0 where
+  pub record RoundGrows (r s : RoundFacts K D) : Type 0 where
     pub me : s.me ≡ r.me
     pub notarized : is_some r.notarization ≡ true → is_some s.notarization ≡ true
     pub judged : (b : Bool) → is_judged b s.certification ≡ is_judged b r.certification
     pub nullified : is_nullify s.decision ≡ is_nullify r.decision
     pub finalized : is_finalize s.decision ≡ is_finalize r.decision
 
-  pub alike : (r : RoundFacts K D) → Grows r r
+  pub alike : (r : RoundFacts K D) → RoundGrows r r
   alike r = record { me = refl; notarized = λ h. h; judged = λ b. refl; nullified = refl; finalized = refl }
 
-  pub grown_on : (r s t : RoundFacts K D) → Grows r s → Grows s t → Grows r t
+  pub grown_on : (r s t : RoundFacts K D) → RoundGrows r s → RoundGrows s t → RoundGrows r t
   grown_on r s t p q = record {
     me = q.me ∙ p.me;
     notarized = λ h. q.notarized (p.notarized h);
@@ -39,7 +39,7 @@ module _ {K D : Type 0} where
     finalized = q.finalized ∙ p.finalized;
   }
 
-  grows_where : (r : RoundFacts K D) (b : Bool) (s t : RoundFacts K D) → Grows r s → Grows r t → Grows r (if b then s else t)
+  grows_where : (r : RoundFacts K D) (b : Bool) (s t : RoundFacts K D) → RoundGrows r s → RoundGrows r t → RoundGrows r (if b then s else t)
   grows_where r true s t p q = p
   grows_where r false s t p q = q
 
@@ -51,13 +51,13 @@ aborted_judged (Judged _) b = refl
 aborted_judged Aborted b = refl
 
 module _ {K D : Type 0} where
-  pub latch_grows : (r : RoundFacts K D) (now : ℕ) (reason : TimeoutReason) → Grows r (with_latch r now reason)
+  pub latch_grows : (r : RoundFacts K D) (now : ℕ) (reason : TimeoutReason) → RoundGrows r (with_latch r now reason)
   latch_grows r now reason = record { me = refl; notarized = λ h. h; judged = λ b. refl; nullified = latched_nullify r.decision (now, reason); finalized = latched_finalize r.decision (now, reason) }
 
-  pub ended_grows : (r : RoundFacts K D) → Grows r (record r { certification = after_abort r.certification })
+  pub ended_grows : (r : RoundFacts K D) → RoundGrows r (record r { certification = after_abort r.certification })
   ended_grows r = record { me = refl; notarized = λ h. h; judged = aborted_judged r.certification; nullified = refl; finalized = refl }
 
-  token_grows : (r : RoundFacts K D) → Grows r (without_token r)
+  token_grows : (r : RoundFacts K D) → RoundGrows r (without_token r)
   token_grows r = grows_where r (is_some (token_of r.certification)) _ r (ended_grows r) (alike r)
 
   module _ (same : Proposal D → Proposal D → Bool) where
@@ -84,22 +84,22 @@ module _ {K L D : Type 0} where
   round_of-same x w r = rw (round_of-put x w w r, eq-eqb w w refl) refl
 
   -- another round of a view that grows
-  pub put_grows : (x : StateFacts K L D) (w : ℕ) (r : RoundFacts K D) → Grows (round_of x w) r → (v : ℕ) → Grows (round_of x v) (round_of (with_round x w r) v)
+  pub put_grows : (x : StateFacts K L D) (w : ℕ) (r : RoundFacts K D) → RoundGrows (round_of x w) r → (v : ℕ) → RoundGrows (round_of x v) (round_of (with_round x w r) v)
   put_grows x w r grows v = elim (cases_eq v w) [
     | inl at ↦ rw (at, round_of-same x w r) grows
     | inr apart ↦ rw (round_of-put x v w r, ne_eqb v w apart) (alike (round_of x v))
   ]
 
   -- each round changed by one that grows
-  pub ended_grow : (x : StateFacts K L D) (u v : ℕ) → Grows (round_of x v) (round_of (record x { rounds = map_list (λ e. (e.0, if nat_le e.0 u then without_token e.1 else e.1)) x.rounds }) v)
-  ended_grow x u v = round_changed (λ w r. if nat_le w u then without_token r else r) x v Grows alike (λ r. grows_where r (nat_le v u) (without_token r) r (token_grows r) (alike r))
+  pub ended_grow : (x : StateFacts K L D) (u v : ℕ) → RoundGrows (round_of x v) (round_of (record x { rounds = map_list (λ e. (e.0, if nat_le e.0 u then without_token e.1 else e.1)) x.rounds }) v)
+  ended_grow x u v = round_changed (λ w r. if nat_le w u then without_token r else r) x v RoundGrows alike (λ r. grows_where r (nat_le v u) (without_token r) r (token_grows r) (alike r))
 
-  pub entered_grows : (x : StateFacts K L D) (r : RoundFacts K D) (now : ℕ) → Grows r (entered_round x r now)
+  pub entered_grows : (x : StateFacts K L D) (r : RoundFacts K D) (now : ℕ) → RoundGrows r (entered_round x r now)
   entered_grows x r now =
       let l = now + x.settings.leader_timeout in
       let c = now + x.settings.certification_timeout in
       record { me = refl; notarized = λ h. h; judged = λ b. refl; nullified = armed_nullify r.decision l c; finalized = armed_finalize r.decision l c }
 
 module _ {K D : Type 0} where
-  pub retry_grows : (r : RoundFacts K D) (until : ℕ) → awaits_retry r ≡ true → Grows r (record r { decision = Nullify (Some until) })
+  pub retry_grows : (r : RoundFacts K D) (until : ℕ) → awaits_retry r ≡ true → RoundGrows r (record r { decision = Nullify (Some until) })
   retry_grows r until awaits = let kind = awaited_nullify r awaits in record { me = refl; notarized = λ h. h; judged = λ b. refl; nullified = sym kind.0; finalized = sym kind.1 }

@@ -14,7 +14,7 @@ use Rattle.simplex_record.specs.Events.{Event, SetFloor, AddNotarization, AddNul
 use Rattle.simplex_record.proofs.Steps as step
 use Rattle.simplex_record.proofs.Steps.{RoundStep, Step, Path, Puts, Raises, Scans, Prunes, along, verdict_by, nullify_by, finalize_by}
 use Rattle.simplex_record.proofs.Paths.{event_path, asked_of_all}
-use Rattle.simplex_record.proofs.Growing.{Grows, alike, grown_on, put_grows, ended_grow, ended_grows, entered_grows, latch_grows, retry_grows}
+use Rattle.simplex_record.proofs.Growing.{RoundGrows, alike, grown_on, put_grows, ended_grow, ended_grows, entered_grows, latch_grows, retry_grows}
 
 -- the view that a floor finalizes
 abbrev pub floor_view : {D : Type 0} → FloorFacts D → ℕ
@@ -26,7 +26,7 @@ pub record GrowsUpTo {K L D : Type 0} (u : ℕ) (x y : StateFacts K L D) : Type 
   pub me : y.me ≡ x.me
   pub rises : min_active x ≤ min_active y
   pub kept : min_active x ≤ u → min_active y ≤ u
-  pub rounds : (v : ℕ) → Grows (round_of x v) (round_of y v)
+  pub rounds : (v : ℕ) → RoundGrows (round_of x v) (round_of y v)
 
 abbrev is_other : {K D : Type 0} → Event K D → Bool
 is_other (SetCertifyHandle _ _) = true
@@ -42,7 +42,7 @@ pub record IsPlain {K D : Type 0} (e : Event K D) : Type 0 where
   pub other : is_other e ≡ false
 
 module _ {K L D : Type 0} (u : ℕ) (same : D → D → Bool) (elect : Elect L) (begun : StateFacts K L D) (e : Event K D) (plain : IsPlain e) where
-  change_grows : (x : StateFacts K L D) (v : ℕ) (r s : RoundFacts K D) → RoundStep same elect begun e x v r s → Grows r s
+  change_grows : (x : StateFacts K L D) (v : ℕ) (r s : RoundFacts K D) → RoundStep same elect begun e x v r s → RoundGrows r s
   change_grows x v r s (step.Entered now) = entered_grows x r now
   change_grows x v r s (step.Latched now reason) = latch_grows r now reason
   change_grows x v r s (step.Notarized c says at none) = record { me = refl; notarized = λ h. refl; judged = λ b. refl; nullified = refl; finalized = refl }

@@ -97,7 +97,7 @@ module _ {D : Type 0} (same : D → D → Bool) (alike : (d e : D) → same d e 
       rw they (or_itself (not (same_proposal same p q)))
 
 module _ {D : Type 0} (same : D → D → Bool) where
-  pub record Shows (before : List (ArtifactFacts D)) (s : Seen D) : Type 0 where
+  pub record ShowsBefore (before : List (ArtifactFacts D)) (s : Seen D) : Type 0 where
     pub at_most : AtMost s.view before
     pub notarized : stands s.view is_notarization before ≡ s.notarized
     pub verdict : (success : Bool) → stands s.view (is_verdict success) before ≡ is_given success s.verdict
@@ -107,10 +107,10 @@ module _ {D : Type 0} (same : D → D → Bool) where
     pub finalize : (p : Proposal D) → stands s.view (finalizes_other same p) before ≡ is_other same s.finalize p
 
   -- a view that begins
-  pub shows_turned : (before : List (ArtifactFacts D)) (s : Seen D) (v : ℕ) → Shows before s → Shows before (turned_to s v)
+  pub shows_turned : (before : List (ArtifactFacts D)) (s : Seen D) (v : ℕ) → ShowsBefore before s → ShowsBefore before (turned_to s v)
   shows_turned before s v shows = turned _ refl
     where
-      turned : (b : Bool) → nat_lt s.view v ≡ b → Shows before (turned_to s v)
+      turned : (b : Bool) → nat_lt s.view v ≡ b → ShowsBefore before (turned_to s v)
       turned false kept = rw kept shows
       turned true above =
           let up : s.view < v = grind (arith, nat_tests) in
@@ -126,7 +126,7 @@ module _ {D : Type 0} (same : D → D → Bool) where
 
 module _ {D : Type 0} (same : D → D → Bool) (alike : (d e : D) → same d e ≡ true → d ≡ e) where
   -- an entry that the rules allow
-  pub shows_entry : (before : List (ArtifactFacts D)) (s : Seen D) (e : ArtifactFacts D) → entry_view e ≡ s.view → Shows same before s → first_error (seen_rules same s e) ≡ None → Shows same (e ∷ before) (with_entry s e)
+  pub shows_entry : (before : List (ArtifactFacts D)) (s : Seen D) (e : ArtifactFacts D) → entry_view e ≡ s.view → ShowsBefore same before s → first_error (seen_rules same s e) ≡ None → ShowsBefore same (e ∷ before) (with_entry s e)
   shows_entry before s (NotarizeVote p m) at shows allowed =
       let e : ArtifactFacts D = NotarizeVote p m in
       record {
@@ -213,7 +213,7 @@ module _ {D : Type 0} (same : D → D → Bool) (alike : (d e : D) → same d e 
 
 module _ {D : Type 0} (same : D → D → Bool) where
   -- what an entry breaks is told by what was seen of its view
-  pub beside_seen : (before : List (ArtifactFacts D)) (s : Seen D) (e : ArtifactFacts D) → entry_view e ≡ s.view → Shows same before s → first_error (beside_rules same before e) ≡ first_error (seen_rules same s e)
+  pub beside_seen : (before : List (ArtifactFacts D)) (s : Seen D) (e : ArtifactFacts D) → entry_view e ≡ s.view → ShowsBefore same before s → first_error (beside_rules same before e) ≡ first_error (seen_rules same s e)
   beside_seen before s (NotarizeVote p m) at shows = rw (level (notarizes_other same p) before _ _ at ∙ shows.notarize p) refl
   beside_seen before s (NullifyVote r m) at shows = rw (level is_finalize_vote before _ _ at ∙ shows.finalized) refl
   beside_seen before s (FinalizeVote p m) at shows =
@@ -250,7 +250,7 @@ module _ {D : Type 0} (same : D → D → Bool) (epoch : ℕ) (me : Option ℕ) 
   -- of all entries the rest is to be tested, by what was seen
   pub record Tested (all rest : List (ArtifactFacts D)) (s : Seen D) : Type 0 where
     pub before : List (ArtifactFacts D)
-    pub shows : Shows same before s
+    pub shows : ShowsBefore same before s
     pub last : last_view before ≡ s.view
     pub left : first_broken_after same epoch me before rest ≡ first_broken_after same epoch me [] all
 

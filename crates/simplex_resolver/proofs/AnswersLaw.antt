@@ -167,12 +167,12 @@ made_any u e (c ∷ calls) (inr earlier) = let rest = made_any u e calls earlier
 -- ---- the answers
 
 -- what is answered where a test holds
-abbrev Tells : List Call → Bool → Source → Option (List ℕ) → Type 0
-Tells calls test from None = test ≡ false
-Tells calls test from (Some e) = (test ≡ true) × WasMade (bringing from e) calls
+abbrev TellsWhere : List Call → Bool → Source → Option (List ℕ) → Type 0
+TellsWhere calls test from None = test ≡ false
+TellsWhere calls test from (Some e) = (test ≡ true) × WasMade (bringing from e) calls
 
 serve : (calls : List Call) (t1 t2 t3 t4 : Bool) (s1 s2 s3 s4 : Source) (o1 o2 o3 o4 : Option (List ℕ))
-    → Tells calls t1 s1 o1 → (o1 ≡ None → Tells calls t2 s2 o2) → (o1 ≡ None → Tells calls t3 s3 o3) → (o1 ≡ None → Tells calls t4 s4 o4)
+    → TellsWhere calls t1 s1 o1 → (o1 ≡ None → TellsWhere calls t2 s2 o2) → (o1 ≡ None → TellsWhere calls t3 s3 o3) → (o1 ≡ None → TellsWhere calls t4 s4 o4)
     → ServesReceived calls (cond t1 (Some s1) (cond t2 (Some s2) (cond t3 (Some s3) (cond t4 (Some s4) None)))) (or_else o1 (or_else o2 (or_else o3 o4)))
 serve calls t1 t2 t3 t4 s1 s2 s3 s4 (Some e) o2 o3 o4 a b c d = rw a.0 a.1
 serve calls t1 t2 t3 t4 s1 s2 s3 s4 None (Some e) o3 o4 a b c d = let second = b refl in rw (a, second.0) second.1
@@ -212,7 +212,7 @@ module _ (t : ℕ) (calls : List Call) (x : ResolverFacts) (long : 0 < t) (named
   is_final v = nat_lt 0 (finalized_of calls) && nat_le v (finalized_of calls)
 
   tells_final : (v : ℕ) (f : Option (ℕ × List ℕ)) → x.finalization ≡ f
-      → Tells calls (is_final v) (OfFinalization (finalized_of calls)) (option_and_then (λ g. cond (nat_le v g.0) (Some g.1) None) f)
+      → TellsWhere calls (is_final v) (OfFinalization (finalized_of calls)) (option_and_then (λ g. cond (nat_le v g.0) (Some g.1) None) f)
   tells_final v None at =
       let none : finalized_of calls ≡ 0 = sym st.final ∙ ap final_view at in grind (arith, nat_tests, none)
   tells_final v (Some g) at =
@@ -222,7 +222,7 @@ module _ (t : ℕ) (calls : List Call) (x : ResolverFacts) (long : 0 < t) (named
       by_test (nat_le v g.0) refl (subst (λ f. WasMade (Finalization f g.1) calls) (sym highest) made) named_view highest
     where
       by_test : (b : Bool) → b ≡ nat_le v g.0 → WasMade (Finalization (finalized_of calls) g.1) calls → 1 ≤ g.0 → finalized_of calls ≡ g.0
-          → Tells calls (is_final v) (OfFinalization (finalized_of calls)) (cond b (Some g.1) None)
+          → TellsWhere calls (is_final v) (OfFinalization (finalized_of calls)) (cond b (Some g.1) None)
       by_test true is made low same = (grind (arith, nat_tests, is, low, same), made)
       by_test false is made low same = grind (arith, nat_tests, is, low, same)
 
@@ -246,7 +246,7 @@ module _ (t : ℕ) (calls : List Call) (x : ResolverFacts) (long : 0 < t) (named
   noted_above v o at = k.above v (ap is_some at)
 
   tells_certified : NoContradiction calls → (v : ℕ) → Unfinalized v → (o : Option (Option (List ℕ))) → finmap.get x.notarizations v ≡ o
-      → Tells calls (list_any (is_true_verdict v) calls) (OfCertified v) (option_and_then (λ e. e) o)
+      → TellsWhere calls (list_any (is_true_verdict v) calls) (OfCertified v) (option_and_then (λ e. e) o)
   tells_certified none v low (Some (Some e)) at =
       (sym (k.certified none v (noted_above v (Some e) at)) ∙ ap (λ o. is_some (option_and_then (λ e. e) o)) at, k.notarized v e at)
   tells_certified none v low (Some None) at = sym (k.certified none v (noted_above v None at)) ∙ ap (λ o. is_some (option_and_then (λ e. e) o)) at
@@ -279,7 +279,7 @@ module _ (t : ℕ) (calls : List Call) (x : ResolverFacts) (long : 0 < t) (named
         let most = greatest-le t v u calls at_most in omega (arith, at_least, own, most)
 
   tells_nullified : (v : ℕ) → Unfinalized v → (o : Option (ℕ × List ℕ)) → covering x.nullifications v ≡ o
-      → Tells calls (list_any (is_covering t v) calls) (OfNullified (greatest (map (covering_view t v) calls))) (option_map (λ e. e.1) o)
+      → TellsWhere calls (list_any (is_covering t v) calls) (OfNullified (greatest (map (covering_view t v) calls))) (option_map (λ e. e.1) o)
   tells_nullified v low (Some g) at =
       let last = last_kept x.nullifications.by_view (λ w. covers (term_length x) w v) g.0 g.1 at in
       let made = k.nullified g.0 g.1 last.found in
@@ -314,7 +314,7 @@ module _ (t : ℕ) (calls : List Call) (x : ResolverFacts) (long : 0 < t) (named
   ]
 
   tells_floor : NoContradiction calls → (v : ℕ) → Unfinalized v → (b : Bool) → b ≡ nat_le v (floor_of calls) → (o : Option (Option (List ℕ))) → finmap.get x.notarizations (floor_of calls) ≡ o
-      → Tells calls (nat_lt 0 (floor_of calls) && nat_le v (floor_of calls)) (OfCertified (floor_of calls)) (cond b (option_and_then (λ e. e) o) None)
+      → TellsWhere calls (nat_lt 0 (floor_of calls) && nat_le v (floor_of calls)) (OfCertified (floor_of calls)) (cond b (option_and_then (λ e. e) o) None)
   tells_floor none v low false is o at = grind (arith, nat_tests, is)
   tells_floor none v low true is (Some (Some e)) at =
       let above = noted_above (floor_of calls) (Some e) at in (grind (arith, nat_tests, is, above), k.notarized (floor_of calls) e at)
@@ -337,7 +337,7 @@ answers_are_of_the_received t calls long named =
           (tells_final t calls x long named st k v x.finalization refl)
           (λ open_view. tells_certified t calls x long named st k none v (low open_view) (finmap.get x.notarizations v) refl)
           (λ open_view. tells_nullified t calls x long named st k v (low open_view) (covering x.nullifications v) refl)
-          (λ open_view. subst (λ f. Tells calls (nat_lt 0 (floor_of calls) && nat_le v (floor_of calls)) (OfCertified (floor_of calls)) (cond (nat_le v f) (certified_encoding x.notarizations f) None)) (sym st.floor)
+          (λ open_view. subst (λ f. TellsWhere calls (nat_lt 0 (floor_of calls) && nat_le v (floor_of calls)) (OfCertified (floor_of calls)) (cond (nat_le v f) (certified_encoding x.notarizations f) None)) (sym st.floor)
           (tells_floor t calls x long named st k none v (low open_view) (nat_le v (floor_of calls)) refl (finmap.get x.notarizations (floor_of calls)) refl));
       floor_served = λ v some upto. last_resort (is_final t calls x long named st k v) (list_any (is_true_verdict v) calls) (list_any (is_covering t v) calls) (nat_lt 0 (floor_of calls) && nat_le v (floor_of calls)) _ _ _ _
           (grind (arith, nat_tests, some, upto));

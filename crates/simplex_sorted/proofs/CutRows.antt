@@ -6,7 +6,7 @@ use Rattle.std.specs.List.{insert, remove}
 use Rattle.std.proofs.lemmas.List.{append_assoc, set-get_or, get_or_append_left, get_or-append_right, get_or-set_other, set-append_left, set-append_right}
 use Rattle.std.proofs.lemmas.List.Edits.{insert-append_left, insert-append_right, remove-append_left, remove-append_right}
 use Rattle.std.proofs.lemmas.Bool.{false≢true}
-use Rattle.simplex_sorted.specs.Rows.{row_size, row_entries, MayPrecede, IsCut, HasRoomAt, IsFull, EndsShort, IsInRows}
+use Rattle.simplex_sorted.specs.Rows.{row_size, row_entries, MayPrecede, AreFullButLast, HasRoomAt, IsFull, EndsShort, IsInRows}
 
 pub on_err : {T E P : Type 0} (r : Result T E) → P → OnErr r P
 on_err (Ok x) p = tt
@@ -31,7 +31,7 @@ module _ {X A : Type 0} where
   joined_at rows k row within read = ap row_entries (sym (ap (λ r. set rows k r) read ∙ set-get_or rows k row)) ∙ joined-set rows k row within
 
   -- the rows before a row are full
-  pub before_row : (rows : List (VecDeque X A)) (k : ℕ) → IsCut rows → k < length rows → length (row_entries (take k rows)) ≡ k * row_size
+  pub before_row : (rows : List (VecDeque X A)) (k : ℕ) → AreFullButLast rows → k < length rows → length (row_entries (take k rows)) ≡ k * row_size
   before_row [] k cut within = absurd (omega arith)
   before_row (row ∷ rows) zero cut within = refl
   before_row (row ∷ []) (suc k) cut within = absurd (omega arith)
@@ -48,7 +48,7 @@ module _ {X A : Type 0} where
       omega (arith, rest, room.0, row.ok.0, length-append row.items (row_entries (take k (next ∷ rows))))
 
   -- a place among the entries is in a row, and in its entries
-  pub row_within : (rows : List (VecDeque X A)) (k o : ℕ) → IsCut rows → k * row_size + o < length (row_entries rows) → k < length rows
+  pub row_within : (rows : List (VecDeque X A)) (k o : ℕ) → AreFullButLast rows → k * row_size + o < length (row_entries rows) → k < length rows
   row_within [] k o cut within = absurd (omega arith)
   row_within (row ∷ rows) zero o cut within = omega arith
   row_within (row ∷ []) (suc k) o cut within = absurd (omega (arith, within, cut.0, row.ok.0, length-append row.items []))
@@ -56,7 +56,7 @@ module _ {X A : Type 0} where
       let rest = row_within (next ∷ rows) k o cut.1 (omega (arith, within, cut.0, row.ok.0, length-append row.items (row_entries (next ∷ rows)))) in
       omega (arith, rest)
 
-  pub spot_within : (rows : List (VecDeque X A)) (k o : ℕ) (row : VecDeque X A) → IsCut rows → o < row_size → k * row_size + o < length (row_entries rows) → row ≡ get_or rows k row → o < deque_len row
+  pub spot_within : (rows : List (VecDeque X A)) (k o : ℕ) (row : VecDeque X A) → AreFullButLast rows → o < row_size → k * row_size + o < length (row_entries rows) → row ≡ get_or rows k row → o < deque_len row
   spot_within [] k o row cut small within read = absurd (omega arith)
   spot_within (first ∷ []) zero o row cut small within read = omega (arith, within, first.ok.0, length-append first.items [], ap deque_len read)
   spot_within (first ∷ next ∷ rows) zero o row cut small within read = omega (arith, small, cut.0, ap deque_len read)
@@ -65,7 +65,7 @@ module _ {X A : Type 0} where
       spot_within (next ∷ rows) k o row cut.1 small (omega (arith, within, cut.0, first.ok.0, length-append first.items (row_entries (next ∷ rows)))) read
 
   -- what stands there
-  pub entry_at : (rows : List (VecDeque X A)) (k o : ℕ) (row : VecDeque X A) (x : X) → IsCut rows → k < length rows → row ≡ get_or rows k row → o < deque_len row → x ≡ get_or row.items o x → x ≡ get_or (row_entries rows) (k * row_size + o) x
+  pub entry_at : (rows : List (VecDeque X A)) (k o : ℕ) (row : VecDeque X A) (x : X) → AreFullButLast rows → k < length rows → row ≡ get_or rows k row → o < deque_len row → x ≡ get_or row.items o x → x ≡ get_or (row_entries rows) (k * row_size + o) x
   entry_at rows k o row x cut within read spot found =
       let behind = row_entries (drop (suc k) rows) in
       let back : o ≡ k * row_size + o - k * row_size = omega arith in
@@ -85,12 +85,12 @@ module _ {X A : Type 0} where
       ∙ ap (λ n. row_entries (take k rows) ++ edit (row.items ++ behind) n) back
       ∙ ap (λ t. row_entries (take k rows) ++ t) (at behind))
 
-  pub set_in : (rows : List (VecDeque X A)) (k o : ℕ) (row new : VecDeque X A) (x : X) → IsCut rows → k < length rows → row ≡ get_or rows k row → o < deque_len row → new.items ≡ set row.items o x → row_entries (set rows k new) ≡ set (row_entries rows) (k * row_size + o) x
+  pub set_in : (rows : List (VecDeque X A)) (k o : ℕ) (row new : VecDeque X A) (x : X) → AreFullButLast rows → k < length rows → row ≡ get_or rows k row → o < deque_len row → new.items ≡ set row.items o x → row_entries (set rows k new) ≡ set (row_entries rows) (k * row_size + o) x
   set_in rows k o row new x cut within read spot is =
       edited (λ t i. set t i x) (λ xs ys n i. set-append_right xs ys n i x) rows k o row new (before_row rows k cut within) within read
       (λ ys. set-append_left row.items ys o x (omega (arith, spot, row.ok.0)) ∙ ap (λ t. t ++ ys) (sym is))
 
-  pub removed_in : (rows : List (VecDeque X A)) (k o : ℕ) (row new : VecDeque X A) → IsCut rows → k < length rows → row ≡ get_or rows k row → o < deque_len row → new.items ≡ remove row.items o → row_entries (set rows k new) ≡ remove (row_entries rows) (k * row_size + o)
+  pub removed_in : (rows : List (VecDeque X A)) (k o : ℕ) (row new : VecDeque X A) → AreFullButLast rows → k < length rows → row ≡ get_or rows k row → o < deque_len row → new.items ≡ remove row.items o → row_entries (set rows k new) ≡ remove (row_entries rows) (k * row_size + o)
   removed_in rows k o row new cut within read spot is =
       edited remove remove-append_right rows k o row new (before_row rows k cut within) within read
       (λ ys. remove-append_left row.items ys o (omega (arith, spot, row.ok.0)) ∙ ap (λ t. t ++ ys) (sym is))
@@ -143,17 +143,17 @@ module _ {X A : Type 0} where
   joined_same (first ∷ rows) zero old new read same = ap (λ t. t ++ row_entries rows) (same ∙ ap (λ (r : VecDeque X A). r.items) read)
   joined_same (first ∷ rows) (suc k) old new read same = ap (λ t. first.items ++ t) (joined_same rows k old new read same)
 
-  pub cut-set : (rows : List (VecDeque X A)) (k : ℕ) (old new : VecDeque X A) → IsCut rows → old ≡ get_or rows k old → deque_len new ≡ deque_len old → IsCut (set rows k new)
+  pub cut-set : (rows : List (VecDeque X A)) (k : ℕ) (old new : VecDeque X A) → AreFullButLast rows → old ≡ get_or rows k old → deque_len new ≡ deque_len old → AreFullButLast (set rows k new)
   cut-set [] k old new cut read same = tt
   cut-set (first ∷ rows) zero old new cut read same = (subst (MayPrecede rows) (sym (same ∙ ap deque_len read)) cut.0, cut.1)
   cut-set (first ∷ rows) (suc k) old new cut read same = (stands-set rows k new _ cut.0, cut-set rows k old new cut.1 read same)
 
-  pub cut_filled : (rows : List (VecDeque X A)) (k : ℕ) (old new : VecDeque X A) → HasRoomAt k rows → old ≡ get_or rows k old → deque_len new ≡ suc (deque_len old) → IsCut (set rows k new)
+  pub cut_filled : (rows : List (VecDeque X A)) (k : ℕ) (old new : VecDeque X A) → HasRoomAt k rows → old ≡ get_or rows k old → deque_len new ≡ suc (deque_len old) → AreFullButLast (set rows k new)
   cut_filled [] k old new room read more = absurd room
   cut_filled (first ∷ rows) zero old new room read more = (subst (MayPrecede rows) (sym (more ∙ ap (λ r. suc (deque_len r)) read)) room.0, room.1.1)
   cut_filled (first ∷ rows) (suc k) old new room read more = (stands-set rows k new _ room.0, cut_filled rows k old new room.1 read more)
 
-  pub room_made : (rows : List (VecDeque X A)) (k : ℕ) (old new : VecDeque X A) → IsCut rows → k < length rows → old ≡ get_or rows k old → suc (deque_len new) ≡ deque_len old → deque_len new < deque_capacity new → HasRoomAt k (set rows k new)
+  pub room_made : (rows : List (VecDeque X A)) (k : ℕ) (old new : VecDeque X A) → AreFullButLast rows → k < length rows → old ≡ get_or rows k old → suc (deque_len new) ≡ deque_len old → deque_len new < deque_capacity new → HasRoomAt k (set rows k new)
   room_made [] k old new cut within read less fits = absurd (omega arith)
   room_made (first ∷ rows) zero old new cut within read less fits = (subst (MayPrecede rows) (sym (less ∙ ap deque_len read)) cut.0, (fits, cut.1))
   room_made (first ∷ rows) (suc k) old new cut within read less fits = (stands-set rows k new _ cut.0, room_made rows k old new cut.1 (omega arith) read less fits)
@@ -192,26 +192,26 @@ module _ {X A : Type 0} where
         (stands-set (set (second ∷ rows) k less) (suc k) more _ (stands-set (second ∷ rows) k less _ room.0), handed_room (second ∷ rows) k room.1 at next)
 
   -- the last row
-  pub full_cut : (rows : List (VecDeque X A)) → IsFull rows → IsCut rows
+  pub full_cut : (rows : List (VecDeque X A)) → IsFull rows → AreFullButLast rows
   full_cut [] full = tt
   full_cut (row ∷ []) full = (omega (arith, full.0), tt)
   full_cut (row ∷ next ∷ rows) full = (full.0, full_cut (next ∷ rows) full.1)
 
-  pub ends_full : (rows : List (VecDeque X A)) (k : ℕ) (last : VecDeque X A) → IsCut rows → suc k ≡ length rows → last ≡ get_or rows k last → deque_len last ≡ row_size → IsFull rows
+  pub ends_full : (rows : List (VecDeque X A)) (k : ℕ) (last : VecDeque X A) → AreFullButLast rows → suc k ≡ length rows → last ≡ get_or rows k last → deque_len last ≡ row_size → IsFull rows
   ends_full [] k last cut end read full = tt
   ends_full (row ∷ []) zero last cut end read full = (sym (ap deque_len read) ∙ full, tt)
   ends_full (row ∷ []) (suc k) last cut end read full = absurd (omega (arith, end))
   ends_full (row ∷ next ∷ rows) zero last cut end read full = absurd (omega (arith, end))
   ends_full (row ∷ next ∷ rows) (suc k) last cut end read full = (cut.0, ends_full (next ∷ rows) k last cut.1 (omega (arith, end)) read full)
 
-  pub ends_short : (rows : List (VecDeque X A)) (k : ℕ) (last : VecDeque X A) → IsCut rows → suc k ≡ length rows → last ≡ get_or rows k last → deque_len last ≢ row_size → EndsShort rows
+  pub ends_short : (rows : List (VecDeque X A)) (k : ℕ) (last : VecDeque X A) → AreFullButLast rows → suc k ≡ length rows → last ≡ get_or rows k last → deque_len last ≢ row_size → EndsShort rows
   ends_short [] k last cut end read short = absurd (omega (arith, end))
   ends_short (row ∷ []) zero last cut end read short = let same = ap deque_len read in omega (arith, same, short, cut.0)
   ends_short (row ∷ []) (suc k) last cut end read short = absurd (omega (arith, end))
   ends_short (row ∷ next ∷ rows) zero last cut end read short = absurd (omega (arith, end))
   ends_short (row ∷ next ∷ rows) (suc k) last cut end read short = ends_short (next ∷ rows) k last cut.1 (omega (arith, end)) read short
 
-  pub room_at_end : (rows : List (VecDeque X A)) (k : ℕ) (old new : VecDeque X A) → IsCut rows → EndsShort rows → suc k ≡ length rows → old ≡ get_or rows k old → deque_len new ≡ deque_len old → deque_len new < deque_capacity new → HasRoomAt k (set rows k new)
+  pub room_at_end : (rows : List (VecDeque X A)) (k : ℕ) (old new : VecDeque X A) → AreFullButLast rows → EndsShort rows → suc k ≡ length rows → old ≡ get_or rows k old → deque_len new ≡ deque_len old → deque_len new < deque_capacity new → HasRoomAt k (set rows k new)
   room_at_end [] k old new cut short end read same fits = absurd short
   room_at_end (row ∷ []) zero old new cut short end read same fits = (let is = ap deque_len read in omega (arith, short, is, same), (fits, tt))
   room_at_end (row ∷ []) (suc k) old new cut short end read same fits = absurd (omega (arith, end))

@@ -19,14 +19,14 @@ module _ {X A : Type 0} where
   MayPrecede (next ∷ rows) count = count ≡ row_size
 
   -- each row is full but the last
-  abbrev pub IsCut : List (VecDeque X A) → Type 0
-  IsCut [] = Unit {0}
-  IsCut (row ∷ rows) = MayPrecede rows (deque_len row) × IsCut rows
+  abbrev pub AreFullButLast : List (VecDeque X A) → Type 0
+  AreFullButLast [] = Unit {0}
+  AreFullButLast (row ∷ rows) = MayPrecede rows (deque_len row) × AreFullButLast rows
 
   -- the same once the k-th row has one entry more, for which there is room in it
   abbrev pub HasRoomAt : ℕ → List (VecDeque X A) → Type 0
   HasRoomAt k [] = ⊥
-  HasRoomAt zero (row ∷ rows) = MayPrecede rows (suc (deque_len row)) × ((deque_len row < deque_capacity row) × IsCut rows)
+  HasRoomAt zero (row ∷ rows) = MayPrecede rows (suc (deque_len row)) × ((deque_len row < deque_capacity row) × AreFullButLast rows)
   HasRoomAt (suc k) (row ∷ rows) = MayPrecede rows (deque_len row) × HasRoomAt k rows
 
   -- each row is full
@@ -45,4 +45,4 @@ module _ {X A : Type 0} where
     pub counted : count ≡ length (first.items ++ row_entries rest.items)
     pub fits : count < 2 ^ 64
     pub first_fits : deque_len first ≤ row_size
-    pub cut : IsCut rest.items
+    pub cut : AreFullButLast rest.items

@@ -3,7 +3,7 @@
 ghost use Rattle.std.specs.Prelude.{◌≡◌, suc, ◌+◌, ◌-◌, ◌^◌, ◌<◌, ◌≤◌, [], ◌++◌, drop, length, slice_index_or, slice_set, IfSome, IsSome, IfErr, OnOk, OnErr, ◌↔◌, IsTrue, IsFalse};
 ghost use Rattle.std.specs.List.{insert, remove};
 ghost use Rattle.std.specs.VecDeque.{deque_len, deque_capacity};
-ghost use Rattle.simplex_sorted.specs.Rows.{row_size, row_entries, IsCut, HasRoomAt, IsFull, EndsShort};
+ghost use Rattle.simplex_sorted.specs.Rows.{row_size, row_entries, AreFullButLast, HasRoomAt, IsFull, EndsShort};
 
 use simplex_types::types::AllocFailed;
 use std::alloc::{AllocError, Global};
@@ -172,7 +172,7 @@ impl<T: Drop> Rows<T> {
 
 /// The entry at a place of rows.
 fn at<T>(rows: &VecDeque<VecDeque<T>>, place: usize) -> &T
-    requires { IsCut rows.now.items × (place < length (row_entries rows.now.items)) }
+    requires { AreFullButLast rows.now.items × (place < length (row_entries rows.now.items)) }
     ensures { result.now ≡ slice_index_or (row_entries rows.now.items) place result.now }
 {
     &rows[place / ROW][place % ROW]
@@ -200,10 +200,10 @@ fn end_full_row<T>(
     first: &mut VecDeque<T>,
     rest: &mut VecDeque<VecDeque<T>>,
 ) -> Result<(), AllocError>
-    requires { (deque_len first.old ≤ row_size) × IsCut rest.old.items }
+    requires { (deque_len first.old ≤ row_size) × AreFullButLast rest.old.items }
     ensures same { first.new.items ++ row_entries rest.new.items ≡ first.old.items ++ row_entries rest.old.items }
     ensures places { (deque_len first.new ≤ row_size) × OnOk result (deque_len first.new < row_size) }
-    ensures cut { IsCut rest.new.items }
+    ensures cut { AreFullButLast rest.new.items }
 {
     if first.len() < ROW {
         return Ok(());
@@ -221,11 +221,11 @@ fn insert_in<T>(
     place: usize,
     value: T,
 ) -> Result<(), AllocFailed<T>>
-    requires { IsCut rows.old.items × (place ≤ length (row_entries rows.old.items)) }
+    requires { AreFullButLast rows.old.items × (place ≤ length (row_entries rows.old.items)) }
     ensures items { OnOk result (row_entries rows.new.items ≡ insert (row_entries rows.old.items) place value) }
     ensures value_returned { IfErr result (λ refused. refused.value ≡ value) }
     ensures unchanged { OnErr result (row_entries rows.new.items ≡ row_entries rows.old.items) }
-    ensures cut { IsCut rows.new.items }
+    ensures cut { AreFullButLast rows.new.items }
 {
     if make_room(rows).is_err() {
         return Err(AllocFailed { value });
@@ -239,10 +239,10 @@ fn insert_in<T>(
 
 /// Makes room for one more entry in the last row.
 fn make_room<T>(rows: &mut VecDeque<VecDeque<T>>) -> Result<(), AllocError>
-    requires { IsCut rows.old.items }
+    requires { AreFullButLast rows.old.items }
     ensures same { row_entries rows.new.items ≡ row_entries rows.old.items }
     ensures room { OnOk result (HasRoomAt (deque_len rows.new - 1) rows.new.items) }
-    ensures cut { OnErr result (IsCut rows.new.items) }
+    ensures cut { OnErr result (AreFullButLast rows.new.items) }
 {
     if ends_full(rows) {
         return add_row(rows);
@@ -255,7 +255,7 @@ fn make_room<T>(rows: &mut VecDeque<VecDeque<T>>) -> Result<(), AllocError>
 
 /// Whether the last row is full, or there is none.
 fn ends_full<T>(rows: &VecDeque<VecDeque<T>>) -> bool
-    requires { IsCut rows.now.items }
+    requires { AreFullButLast rows.now.items }
     ensures full { IsTrue result → IsFull rows.now.items }
     ensures short { IsFalse result → EndsShort rows.now.items }
 {
@@ -270,7 +270,7 @@ fn add_row<T>(rows: &mut VecDeque<VecDeque<T>>) -> Result<(), AllocError>
     requires { IsFull rows.old.items }
     ensures same { row_entries rows.new.items ≡ row_entries rows.old.items }
     ensures room { OnOk result (HasRoomAt (deque_len rows.new - 1) rows.new.items) }
-    ensures cut { OnErr result (IsCut rows.new.items) }
+    ensures cut { OnErr result (AreFullButLast rows.new.items) }
 {
     let alloc = *rows.allocator();
     rows.reserve(1)?;
@@ -316,7 +316,7 @@ fn drop_at<T: Drop>(row: &mut VecDeque<T>, place: usize)
 
 /// Removes the entry at a place of rows. The first row then has room.
 fn remove_in<T: Drop>(rows: &mut VecDeque<VecDeque<T>>, place: usize)
-    requires { IsCut rows.old.items × (place < length (row_entries rows.old.items)) }
+    requires { AreFullButLast rows.old.items × (place < length (row_entries rows.old.items)) }
     ensures removed { row_entries rows.new.items ≡ remove (row_entries rows.old.items) place }
     ensures room { HasRoomAt 0 rows.new.items }
 {
@@ -330,7 +330,7 @@ fn fill_room<T: Drop>(first: &mut VecDeque<T>, rest: &mut VecDeque<VecDeque<T>>)
     requires { (deque_len first.old ≤ row_size) × HasRoomAt 0 rest.old.items }
     ensures same { first.new.items ++ row_entries rest.new.items ≡ first.old.items ++ row_entries rest.old.items }
     ensures places { deque_len first.new ≤ row_size }
-    ensures cut { IsCut rest.new.items }
+    ensures cut { AreFullButLast rest.new.items }
 {
     if let Some(value) = first.pop_back() {
         rest[0].push_front_reserved(value);

@@ -13,7 +13,7 @@ use Rattle.simplex_program.specs.declared.resolver.Answer.{Answer}
 use Rattle.simplex_program.specs.declared.resolver.Answer.TheVariants as answer
 use Rattle.simplex_program.specs.declared.resolver_line.ResolverLine.{ResolverLine}
 use Rattle.simplex_program.specs.declared.resolver_line.ResolverLine.TheVariants.{Notarization, Nullification, Finalization, Certified, Replayed, Settled, KeySettled, Uncertifiable, Produce, Outstanding}
-use Rattle.simplex_program.specs.Answers.{Answers, Calls, Reports, IsKept, notarization_call, nullification_call, finalization_call, verdict_call}
+use Rattle.simplex_program.specs.Answers.{ResolverAnswers, Calls, Reports, IsKept, notarization_call, nullification_call, finalization_call, verdict_call}
 use Rattle.simplex_program.specs.Line.{without_feed}
 use Rattle.simplex_program.specs.ResolverLine.{line_words}
 use Rattle.simplex_program.specs.ResolverText.{resolver_reply_text}
@@ -64,7 +64,7 @@ module _ (t : ℕ) (calls : List Call) (x y : ResolverFacts) (fetching left : Li
   shown (answer.Outstanding views) is = kept is
   shown answer.NotAllowed is = kept is
 
-  of_line : (line : ResolverLine) (a : Answer) → Answers x fetching line a y left → HasBeenTold t (made_in line a ++ calls) (of_parts y left)
+  of_line : (line : ResolverLine) (a : Answer) → ResolverAnswers x fetching line a y left → HasBeenTold t (made_in line a ++ calls) (of_parts y left)
   of_line (Notarization v) a is = reported v (notarization_call v) a (λ above. above) is
   of_line (Nullification v) a is = reported v (nullification_call v) a (λ above. above) is
   of_line (Finalization v) a is = reported v (finalization_call v) a (λ above. above) is

@@ -16,7 +16,7 @@ use Rattle.simplex_round.specs.Round.{RoundFacts, new_round, leader_at, token_of
 use Rattle.simplex_types.specs.declared.types.messages.Proposal.{Proposal}
 use Rattle.simplex_types.specs.Certificates.{ProposalFacts}
 use Rattle.simplex_round.specs.declared.round.Leader.{Leader}
-use Rattle.simplex_voter.specs.Rounds.{RoundsFacts, round_at, round_of, round_number, is_tracked, with_round, with_change, with_change_in_place, largest_tracked, is_explicit, IsKept, AreKept, IsQuietBelow, IsWider}
+use Rattle.simplex_voter.specs.Rounds.{RoundsFacts, round_at, round_of, round_number, is_tracked, with_round, with_change, with_change_in_place, largest_tracked, is_explicit, IsRoundKept, AreKept, IsQuietBelow, IsWider}
 use Rattle.simplex_voter.specs.declared.voter.rounds.Bounds.{Bounds}
 use Rattle.simplex_voter.proofs.Containers.{entries-insert}
 use Rattle.simplex_voter.proofs.RoundsKept.{find_entries, insert-same}
@@ -86,7 +86,7 @@ module _ {K D : Type 0} (x : RoundsFacts K D) where
     untouched v change none = sym (ap (λ b. cond b (with_change x v change) x) (ap is_some (found_at v ∙ sym none)))
 
   -- what is kept of each round, within bounds
-  pub kept_put : {h : Bounds} → AreKept h x → (v : ℕ) (r : RoundFacts K D) → IsKept h x v r → AreKept h (with_round x v r)
+  pub kept_put : {h : Bounds} → AreKept h x → (v : ℕ) (r : RoundFacts K D) → IsRoundKept h x v r → AreKept h (with_round x v r)
   kept_put {h} kept v r here q s found = elim (cases_eq q v) [
     | inl at ↦
         let same : r ≡ s = some_is r s (sym (rw at (found_put v r x.by_view)) ∙ found) in
@@ -94,10 +94,10 @@ module _ {K D : Type 0} (x : RoundsFacts K D) where
     | inr other ↦ on (kept q s (sym (found_other q v other r x.by_view) ∙ found))
   ]
     where
-      on : IsKept h x q s → IsKept h (with_round x v r) q s
+      on : IsRoundKept h x q s → IsRoundKept h (with_round x v r) q s
       on k = record { me = k.me; members = k.members; round = k.round; in_range = k.in_range; notarized = k.notarized; leader = k.leader; explicit = k.explicit; under_way = k.under_way; refused = k.refused }
 
-  pub alike_kept : {h : Bounds} (v : ℕ) (r s : RoundFacts K D) → IsKept h x v r → IsAlike h v r s → IsKept h x v s
+  pub alike_kept : {h : Bounds} (v : ℕ) (r s : RoundFacts K D) → IsRoundKept h x v r → IsAlike h v r s → IsRoundKept h x v s
   alike_kept v r s k alike = record {
     me = alike.me ∙ k.me;
     members = alike.members ∙ k.members;
@@ -142,7 +142,7 @@ module _ {K D : Type 0} (x : RoundsFacts K D) where
       by_test true is = absurd (omega (arith, (kept v r found).explicit is, above))
       by_test false is = refl
 
-  pub fresh_kept : {h : Bounds} (v : ℕ) → v ≤ largest_tracked → IsKept h x v (new_round x.me x.members (round_number x v))
+  pub fresh_kept : {h : Bounds} (v : ℕ) → v ≤ largest_tracked → IsRoundKept h x v (new_round x.me x.members (round_number x v))
   fresh_kept v within = record { me = refl; members = refl; round = refl; in_range = within; notarized = λ some. absurd (false≢true some); leader = tt; explicit = λ some. absurd (false≢true some); under_way = λ some. absurd (false≢true some); refused = λ some. absurd (false≢true some) }
 
   -- a leader is a member
@@ -154,17 +154,17 @@ module _ {K D : Type 0} (x : RoundsFacts K D) where
     in_range_at v None is = tt
     in_range_at v (Some r) is = (kept v r.now (found_at m shown v ∙ sym is)).in_range
 
-    pub kept_at : (v : ℕ) (r : RoundFacts K D) → Some r ≡ map.get m v → IsKept h x v r
+    pub kept_at : (v : ℕ) (r : RoundFacts K D) → Some r ≡ map.get m v → IsRoundKept h x v r
     kept_at v r here = kept v r (found_at m shown v ∙ sym here)
 
-    pub kept_insert : (v : ℕ) (s : RoundFacts K D) → IsKept h x v s → AreKept h (record x { by_view = map.entries (map.insert m v s) })
+    pub kept_insert : (v : ℕ) (s : RoundFacts K D) → IsRoundKept h x v s → AreKept h (record x { by_view = map.entries (map.insert m v s) })
     kept_insert v s here = subst (AreKept h) (sym (put_shown m shown v s)) (kept_put kept v s here)
 
     -- a notarization of a view that one may be of, and a leader that is a member
     pub kept_notarized : (same : Proposal D → Proposal D → Bool) (v : ℕ) (r s : RoundFacts K D) (c : ProposalFacts D) → v < 2 ^ 63 → Some r ≡ map.get m v → s ≡ with_notarization same r c → AreKept h (record x { by_view = map.entries (map.insert m v s) })
     kept_notarized same v r s c votable here is = kept_insert v s (rw is (by_kept (is_some r.notarization)))
       where
-        by_kept : (b : Bool) → IsKept h x v (cond b r (record (with_recovered same r c.proposal) { notarization = Some c }))
+        by_kept : (b : Bool) → IsRoundKept h x v (cond b r (record (with_recovered same r c.proposal) { notarization = Some c }))
         by_kept true = kept_at v r here
         by_kept false = let k = kept_at v r here in record { me = k.me; members = k.members; round = k.round; in_range = k.in_range; notarized = λ some. votable; leader = k.leader; explicit = k.explicit; under_way = k.under_way; refused = k.refused }
 
@@ -239,7 +239,7 @@ changed_there_always x y is m shown v r s change here same =
 pub left_kept : {K D : Type 0} {h : Bounds} (x : RoundsFacts K D) (m : map.FinMap nat_cmp (RoundFacts K D)) → x.by_view ≡ map.entries m → (v : ℕ) (n : map.FinMap nat_cmp (RoundFacts K D)) → n ≡ at_or_above m v → (left : Bounds) → left ≡ record h { refused = at_or_above h.refused v } → AreKept h x → AreKept left (record x { by_view = map.entries n })
 left_kept {K} {D} {h} x m shown v n is left are kept q r found = on (by_test (leb v q) refl (sym (get-kept m (λ u. leb v u) q) ∙ ap (λ k. map.get k q) (sym is) ∙ sym (find_entries n q) ∙ found))
   where
-    on : (leb v q ≡ true) × IsKept h x q r → IsKept left (record x { by_view = map.entries n }) q r
+    on : (leb v q ≡ true) × IsRoundKept h x q r → IsRoundKept left (record x { by_view = map.entries n }) q r
     on (within, k) = record {
       me = k.me;
       members = k.members;
@@ -252,6 +252,6 @@ left_kept {K} {D} {h} x m shown v n is left are kept q r found = on (by_test (le
       refused = λ is. rw are (ap is_some (get-kept h.refused (λ u. leb v u) q) ∙ rw within (k.refused is));
     }
 
-    by_test : (b : Bool) → leb v q ≡ b → cond b (map.get m q) None ≡ Some r → (leb v q ≡ true) × IsKept h x q r
+    by_test : (b : Bool) → leb v q ≡ b → cond b (map.get m q) None ≡ Some r → (leb v q ≡ true) × IsRoundKept h x q r
     by_test true within here = (within, kept q r (found_at x m shown q ∙ here))
     by_test false outside here = let bad : None ≡ Some r = here in cc

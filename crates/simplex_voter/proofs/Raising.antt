@@ -9,7 +9,7 @@ use Rattle.simplex_sorted.specs.Tracked.{at_or_above}
 use Rattle.simplex_round.specs.Round.{RoundFacts, token_of, after_abort}
 use Rattle.simplex_voter.specs.Facts.{StateFacts}
 use Rattle.simplex_voter.specs.Certification.{without_token, with_finalized_view}
-use Rattle.simplex_voter.specs.Rounds.{RoundsFacts, round_at, IsKept, AreKept, IsQuietBelow}
+use Rattle.simplex_voter.specs.Rounds.{RoundsFacts, round_at, IsRoundKept, AreKept, IsQuietBelow}
 use Rattle.simplex_voter.specs.declared.voter.rounds.Bounds.{Bounds}
 use Rattle.simplex_voter.proofs.Shown.{with_rounds}
 use Rattle.simplex_voter.proofs.RoundsKept.{keys-kept}
@@ -59,20 +59,20 @@ ended_kept {K} {D} {h} x v es after is' is kept = rw is' (subst (λ (fs : List (
     changed : RoundsFacts K D
     changed = record x { by_view = map_list (λ e. (e.0, cond (leb e.0 v) (without_token e.1) e.1)) x.by_view }
 
-    at_or_below : (q : ℕ) (s : RoundFacts K D) → IsKept h x q s → IsKept ended changed q (without_token s)
+    at_or_below : (q : ℕ) (s : RoundFacts K D) → IsRoundKept h x q s → IsRoundKept ended changed q (without_token s)
     at_or_below q s was =
         let k = alike_kept x q s (without_token s) was (token_alike s) in
         record { me = k.me; members = k.members; round = k.round; in_range = k.in_range; notarized = k.notarized; leader = k.leader; explicit = k.explicit; under_way = λ is. absurd (false≢true (sym (none_under_way s) ∙ is)); refused = k.refused }
 
-    above : (q : ℕ) (s : RoundFacts K D) → v < q → IsKept h x q s → IsKept ended changed q s
+    above : (q : ℕ) (s : RoundFacts K D) → v < q → IsRoundKept h x q s → IsRoundKept ended changed q s
     above q s higher k = record { me = k.me; members = k.members; round = k.round; in_range = k.in_range; notarized = k.notarized; leader = k.leader; explicit = k.explicit; under_way = λ is. let low = k.under_way is in grind (arith, low, higher); refused = k.refused }
 
-    by_test : (q : ℕ) (s : RoundFacts K D) → IsKept h x q s → IsKept ended changed q (cond (leb q v) (without_token s) s)
+    by_test : (q : ℕ) (s : RoundFacts K D) → IsRoundKept h x q s → IsRoundKept ended changed q (cond (leb q v) (without_token s) s)
     by_test q s k = elim (cases_lt v q) [
       | inl higher ↦ rw (lt-leb q v higher) (above q s higher k)
       | inr lower ↦ rw (le-leb q v lower) (at_or_below q s k)
     ]
 
-    by_value : (q : ℕ) (s : Option (RoundFacts K D)) → round_at x q ≡ s → (r : RoundFacts K D) → option_map (λ (t : RoundFacts K D). cond (leb q v) (without_token t) t) s ≡ Some r → IsKept ended changed q r
+    by_value : (q : ℕ) (s : Option (RoundFacts K D)) → round_at x q ≡ s → (r : RoundFacts K D) → option_map (λ (t : RoundFacts K D). cond (leb q v) (without_token t) t) s ≡ Some r → IsRoundKept ended changed q r
     by_value q None is r e = let bad : None ≡ Some r = e in cc
     by_value q (Some s) is r e = rw (← some_is _ r e) (by_test q s (kept q s is))

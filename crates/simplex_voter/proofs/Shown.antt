@@ -14,7 +14,7 @@ use Rattle.simplex_voter.specs.Entering.{with_view_entered}
 use Rattle.simplex_voter.specs.declared.voter.rounds.Deadlines.{Deadlines}
 use Rattle.simplex_types.specs.declared.types.window.Terms.{Terms}
 use Rattle.simplex_voter.specs.declared.voter.state.State.TheInside.{Inside}
-use Rattle.simplex_voter.specs.StateView.{IsKept}
+use Rattle.simplex_voter.specs.StateView.{IsStateKept}
 use Rattle.simplex_voter.specs.Facts as facts
 use Rattle.simplex_voter.specs.Facts.{StateFacts}
 use Rattle.simplex_voter.specs.Serving.{after_prune}
@@ -86,7 +86,7 @@ module _ {K L D : Type 0} where
   }
 
 -- what a state keeps of its rounds is who its members are
-pub kept_with_rounds : {S L D K G C : Type 0} {terms : L → Terms} {count : L → ℕ} {s : Inside S L D K G C} {r : RoundsFacts K D} → IsKept terms count s → HasSameOrigin s.rounds r → IsKept terms count (record s { rounds = r })
+pub kept_with_rounds : {S L D K G C : Type 0} {terms : L → Terms} {count : L → ℕ} {s : Inside S L D K G C} {r : RoundsFacts K D} → IsStateKept terms count s → HasSameOrigin s.rounds r → IsStateKept terms count (record s { rounds = r })
 kept_with_rounds kept origin = record {
   in_range = kept.in_range;
   nullified = kept.nullified;

@@ -95,7 +95,7 @@ module _ {K D : Type 0} where
   -- the round of a tracked view is this member's, among its members and in its epoch; only a view that a certificate may
   -- name is notarized; its leader is a member; and it is explicit, its certification is under way or was answered by false
   -- only where the bounds allow it
-  pub record IsKept (bounds : Bounds) (x : RoundsFacts K D) (v : ℕ) (r : RoundFacts K D) : Type 0 where
+  pub record IsRoundKept (bounds : Bounds) (x : RoundsFacts K D) (v : ℕ) (r : RoundFacts K D) : Type 0 where
     pub me : r.me ≡ x.me
     pub members : r.members ≡ x.members
     pub round : r.round ≡ round_number x v
@@ -108,7 +108,7 @@ module _ {K D : Type 0} where
 
   -- each tracked round is so
   abbrev pub AreKept : Bounds → RoundsFacts K D → Type 0
-  AreKept bounds x = (v : ℕ) (r : RoundFacts K D) → round_at x v ≡ Some r → IsKept bounds x v r
+  AreKept bounds x = (v : ℕ) (r : RoundFacts K D) → round_at x v ≡ Some r → IsRoundKept bounds x v r
 
   -- no certification is under way below a view
   abbrev pub IsQuietBelow : map.FinMap nat_cmp (RoundFacts K D) → ℕ → Type 0

@@ -6,7 +6,7 @@ ghost use Rattle.simplex_record.specs.Start.{start_facts};
 ghost use Rattle.simplex_laws.specs.Exactly.{SignsExactly};
 ghost use Rattle.simplex_laws.specs.Living.{execution_of};
 ghost use Rattle.simplex_laws.specs.Lawful.{IsLawful};
-ghost use Rattle.simplex_laws.specs.Shown.{shown_trace, AreSetUpAs};
+ghost use Rattle.simplex_laws.specs.Shown.{shown_trace, AllStartAs};
 ghost use Rattle.simplex_laws.specs.Executions.{trace_of, IsExecution};
 
 use simplex_member::member::{Call, Member, RecoverError, Reply, Restart, Start, Step, run};
@@ -17,7 +17,7 @@ use std::marker::Model;
 /// Starts a member and takes the steps in order, as `run` does: what it accepted and signed keeps the laws.
 ///
 /// - `exact`: each request for a vote is answered exactly by its rule, and nothing else by a vote.
-/// - `ran`: where each life has terms of one length, not 0, and signs as member `i` or not at all, `AreSetUpAs`, this is what
+/// - `ran`: where each life has terms of one length, not 0, and signs as member `i` or not at all, `AllStartAs`, this is what
 ///   member `i` of a network does, so `agreement` tells of it.
 /// - `shows`: its trace is the certificates and the votes that the steps and the replies show: each certificate that a call
 ///   hands in and is told whether it is new, the floor's finalization of the start and of each restart that succeeds, and each
@@ -34,13 +34,13 @@ pub fn run_lawfully<S: Scheme<D>, L: Elector<S>, D: Digest>(
     ensures exact { IfOk result (λ replies.
         SignsExactly D.eq L.elect
         (execution_of S.me S.participants L.terms L.elects_early S.certificate_bytes start steps.items replies.items)) }
-    ensures ran { IfOk result (λ replies. (term_length i : ℕ) → AreSetUpAs S.me L.terms term_length i start steps.items
+    ensures ran { IfOk result (λ replies. (term_length i : ℕ) → AllStartAs S.me L.terms term_length i start steps.items
         → IsExecution D.eq L.elect term_length i
         (execution_of S.me S.participants L.terms L.elects_early S.certificate_bytes start steps.items replies.items)) }
     ensures shows { IfOk result (λ replies.
         trace_of (execution_of S.me S.participants L.terms L.elects_early S.certificate_bytes start steps.items replies.items)
         ≡ shown_trace start steps.items replies.items) }
-    ensures lawful { IfOk result (λ replies. (term_length i : ℕ) → AreSetUpAs S.me L.terms term_length i start steps.items
+    ensures lawful { IfOk result (λ replies. (term_length i : ℕ) → AllStartAs S.me L.terms term_length i start steps.items
         → IsLawful term_length (shown_trace start steps.items replies.items)) }
     ensures ended { IfErr result (EndsRunFrom D.eq L.elect
         (start_facts S.me S.participants L.terms L.elects_early S.certificate_bytes start)

@@ -20,7 +20,7 @@ use Rattle.simplex_record.specs.Start.{start_facts}
 use Rattle.simplex_record.specs.declared.record.error.RecoverError.{RecoverError}
 use Rattle.std.proofs.lemmas.List.{append-nil}
 use Rattle.simplex_laws.specs.Living.{execution_of}
-use Rattle.simplex_laws.specs.Shown.{votes_in, certificates_in, floor_in, taken_by, taken_in, begun_by, shown_by, shown_trace, IsSetUpAs, AreSetUpAs}
+use Rattle.simplex_laws.specs.Shown.{votes_in, certificates_in, floor_in, taken_by, taken_in, begun_by, shown_by, shown_trace, StartsAs, AllStartAs}
 use Rattle.simplex_laws.specs.Traces.{TraceEvent, handed_in, accepted_by, of_floor, signed_in, accepted_at, trace_at, trace_of_steps}
 use Rattle.simplex_laws.specs.Executions.{trace_of, BeginsAs, LivesAs}
 use Rattle.simplex_laws.proofs.lists.Splits.{Contains-cases, Contains-cons_rest}
@@ -88,10 +88,10 @@ module _ {S L D K G C : Type 0} (me : S → Option ℕ) (members : S → List K)
       (ap (λ ds. ds ++ shown_by steps replies) (floor_shown bytes_of start.floor)
       ∙ ap (λ ds. of_floor (floor_facts bytes_of start.floor) ++ ds) (all_shown steps replies))
 
-  pub begins_as : (term_length i : ℕ) (start : Start S L D K G C) → IsSetUpAs me terms term_length i start → BeginsAs term_length i (start_facts me members terms elects_early bytes_of start).setup
+  pub begins_as : (term_length i : ℕ) (start : Start S L D K G C) → StartsAs me terms term_length i start → BeginsAs term_length i (start_facts me members terms elects_early bytes_of start).setup
   begins_as term_length i start holds = record { terms = record { terms = holds.terms_of; some = holds.some }; signs_as = holds.signs_as }
 
-  restarts_as : (term_length i : ℕ) (steps : List (Step S L D K G C)) → ((r : Restart S L D K G C) → Contains steps (step.Restart r) → IsSetUpAs me terms term_length i r.start)
+  restarts_as : (term_length i : ℕ) (steps : List (Step S L D K G C)) → ((r : Restart S L D K G C) → Contains steps (step.Restart r) → StartsAs me terms term_length i r.start)
       → (q : RestartFacts K L D) → Contains (steps_of me members terms elects_early bytes_of steps) (Restarts q) → BeginsAs term_length i q.start.setup
   restarts_as term_length i [] later q h = absurd (omega (arith, h.1))
   restarts_as term_length i (s ∷ steps) later q h = elim (Contains-cases (step_facts me members terms elects_early bytes_of s) (steps_of me members terms elects_early bytes_of steps) (Restarts q) h) [
@@ -99,14 +99,14 @@ module _ {S L D K G C : Type 0} (me : S → Option ℕ) (members : S → List K)
     | inr there ↦ restarts_as term_length i steps (λ r k. later r (Contains-cons_rest s steps (step.Restart r) k)) q there
   ]
     where
-      by_step : (t : Step S L D K G C) → step_facts me members terms elects_early bytes_of t ≡ Restarts q → ((r : Restart S L D K G C) → t ≡ step.Restart r → IsSetUpAs me terms term_length i r.start) → BeginsAs term_length i q.start.setup
+      by_step : (t : Step S L D K G C) → step_facts me members terms elects_early bytes_of t ≡ Restarts q → ((r : Restart S L D K G C) → t ≡ step.Restart r → StartsAs me terms term_length i r.start) → BeginsAs term_length i q.start.setup
       by_step (step.Call c) is holds = absurd (cc)
       by_step step.PruneRecord is holds = absurd (cc)
       by_step (step.Restart r) is holds =
           let same : restart_facts me members terms elects_early bytes_of r ≡ q = cc in
           subst (λ (p : RestartFacts K L D). BeginsAs term_length i p.start.setup) same (begins_as term_length i r.start (holds r refl))
 
-  pub lives_as : (term_length i : ℕ) (start : Start S L D K G C) (steps : List (Step S L D K G C)) → AreSetUpAs me terms term_length i start steps → LivesAs term_length i (start_facts me members terms elects_early bytes_of start) (steps_of me members terms elects_early bytes_of steps)
+  pub lives_as : (term_length i : ℕ) (start : Start S L D K G C) (steps : List (Step S L D K G C)) → AllStartAs me terms term_length i start steps → LivesAs term_length i (start_facts me members terms elects_early bytes_of start) (steps_of me members terms elects_early bytes_of steps)
   lives_as term_length i start steps holds = record { first = begins_as term_length i start holds.first; later = restarts_as term_length i steps holds.later }
 
   pub restart_shown : (r : Restart S L D K G C) (result : Result (Unit {0}) RecoverError) → trace_at (Restarts (restart_facts me members terms elects_early bytes_of r)) (restart_told {K = K} {D = D} result) ≡ begun_by r.start result

@@ -18,7 +18,7 @@ use Rattle.simplex_record.proofs.Steps.{RoundStep, notarization_by, finalization
 
 module _ {K D : Type 0} (Q : Proposal D → Type 0) where
   -- each proposal that an event brings has the property
-  pub record Brings (e : Event K D) : Type 0 where
+  pub record BringsProposals (e : Event K D) : Type 0 where
     pub notarized : (c : ProposalFacts D) → notarization_by e ≡ Some c → Q c.proposal
     pub finalized : (c : ProposalFacts D) → finalization_by e ≡ Some c → Q c.proposal
     pub heard : (v : ℕ) (p : Proposal D) → proposal_by e ≡ Some (v, p) → Q p
@@ -37,7 +37,7 @@ held_or_new : {D : Type 0} (o : Option (Proposal D)) (p q : Proposal D) → or_n
 held_or_new None p q is = inr (let same : p ≡ q = cc in same)
 held_or_new (Some h) p q is = inl is
 
-module _ {K L D : Type 0} (same : D → D → Bool) (decides : (d e : D) → same d e ≡ true → d ≡ e) (elect : Elect L) (Q : Proposal D → Type 0) (x : StateFacts K L D) (e : Event K D) (brings : Brings Q e) where
+module _ {K L D : Type 0} (same : D → D → Bool) (decides : (d e : D) → same d e ≡ true → d ≡ e) (elect : Elect L) (Q : Proposal D → Type 0) (x : StateFacts K L D) (e : Event K D) (brings : BringsProposals Q e) where
   one_of : (o : Option (Proposal D)) (p q : Proposal D) → ((r : Proposal D) → o ≡ Some r → Q r) → Q p → or_new o (Some p) ≡ Some q → Q q
   one_of o p q old new is = elim (held_or_new o p q is) [ inl before ↦ old q before | inr here ↦ subst Q here new ]
 

@@ -17,7 +17,7 @@ use Rattle.simplex_laws.specs.Leading.{tracks}
 use Rattle.simplex_laws.specs.Requested.{names}
 use Rattle.simplex_laws.specs.Timing.{enters}
 use Rattle.simplex_laws.specs.Shows.{Shows, kept_of, comes_up}
-use Rattle.simplex_laws.proofs.histories.Following.{Follows, left_from}
+use Rattle.simplex_laws.proofs.histories.Following.{FollowsEvent, left_from}
 use Rattle.simplex_laws.proofs.frames.InOrder.{event_in_order}
 use Rattle.simplex_laws.proofs.histories.UnchangedHistories.{from_T}
 use Rattle.simplex_laws.proofs.histories.FollowingReplays.{event_follows}
@@ -163,7 +163,7 @@ module _ {K L D : Type 0} (same : D → D → Bool) (elect : Elect L) (history :
       events : List (Event K D)
       events = history.events
 
-      follows : Follows same elect e x (after_event same elect x e)
+      follows : FollowsEvent same elect e x (after_event same elect x e)
       follows = event_follows same decides elect x e allowed
 
       works : WorkFollows same elect e x (after_event same elect x e)

@@ -44,7 +44,7 @@ module _ {K L D : Type 0} (same : D → D → Bool) (elect : Elect L) where
   IsElsewhere x e v = (k : Known D) → adds x e v k ≡ k
 
   -- the facts after an event are those before with what it says
-  pub record Follows (e : Event K D) (x y : StateFacts K L D) : Type 0 where
+  pub record FollowsEvent (e : Event K D) (x y : StateFacts K L D) : Type 0 where
     pub settings : y.settings ≡ x.settings
     pub terms : y.terms ≡ x.terms
     pub genesis : y.genesis ≡ option_or (sets_genesis e) x.genesis
@@ -128,7 +128,7 @@ module _ {K L D : Type 0} (same : D → D → Bool) (elect : Elect L) (x : State
   no_nullify_vote w = ap (λ (s : Said D). s.nullify_voted w) only
 
   -- the one view that the event speaks of has its round put, between changes that leave the rounds alike
-  pub put_follows : (y z : StateFacts K L D) (v : ℕ) (r : RoundFacts K D) → UnchangedButNumbers (unwrap_or (moment_by e) x.moment) x.current x.finalized x y → known_of r ≡ adds same elect x e v (known_of (round_of y v)) → ((w : ℕ) → eqb w v ≡ false → IsElsewhere same elect x e w) → UnchangedHistory (with_round y v r) z → Follows same elect e x z
+  pub put_follows : (y z : StateFacts K L D) (v : ℕ) (r : RoundFacts K D) → UnchangedButNumbers (unwrap_or (moment_by e) x.moment) x.current x.finalized x y → known_of r ≡ adds same elect x e v (known_of (round_of y v)) → ((w : ℕ) → eqb w v ≡ false → IsElsewhere same elect x e w) → UnchangedHistory (with_round y v r) z → FollowsEvent same elect e x z
   put_follows y z v r before added elsewhere after = record {
     settings = after.settings ∙ before.settings;
     terms = after.terms ∙ before.terms;
@@ -142,11 +142,11 @@ module _ {K L D : Type 0} (same : D → D → Bool) (elect : Elect L) (x : State
   }
 
   -- the same, where nothing else changes
-  pub round_follows : (v : ℕ) (r : RoundFacts K D) → moment_by e ≡ None → known_of r ≡ adds same elect x e v (known_of (round_of x v)) → ((w : ℕ) → eqb w v ≡ false → IsElsewhere same elect x e w) → Follows same elect e x (with_round x v r)
+  pub round_follows : (v : ℕ) (r : RoundFacts K D) → moment_by e ≡ None → known_of r ≡ adds same elect x e v (known_of (round_of x v)) → ((w : ℕ) → eqb w v ≡ false → IsElsewhere same elect x e w) → FollowsEvent same elect e x (with_round x v r)
   round_follows v r timeless added elsewhere = put_follows x (with_round x v r) v r (rw timeless (quiet x)) added elsewhere (quiet (with_round x v r))
 
   -- it says nothing of rounds either
-  pub silent_follows : (y : StateFacts K L D) → ((v : ℕ) → IsElsewhere same elect x e v) → UnchangedButNumbers (unwrap_or (moment_by e) x.moment) x.current x.finalized x y → Follows same elect e x y
+  pub silent_follows : (y : StateFacts K L D) → ((v : ℕ) → IsElsewhere same elect x e v) → UnchangedButNumbers (unwrap_or (moment_by e) x.moment) x.current x.finalized x y → FollowsEvent same elect e x y
   silent_follows y silent leaves = record {
     settings = leaves.settings;
     terms = leaves.terms;
@@ -160,9 +160,9 @@ module _ {K L D : Type 0} (same : D → D → Bool) (elect : Elect L) (x : State
   }
 
   -- a certificate is handed out where its view is tracked; where it isn't, there is none
-  pub handed_follows : (v : ℕ) (r : RoundFacts K D) → moment_by e ≡ None → known_of r ≡ adds same elect x e v (known_of (round_of x v)) → ((w : ℕ) → eqb w v ≡ false → IsElsewhere same elect x e w) → (round_of x v ≡ new_round x.me x.members (round_number x v) → (w : ℕ) → IsElsewhere same elect x e w) → Follows same elect e x (if is_tracked x v then with_round x v r else x)
+  pub handed_follows : (v : ℕ) (r : RoundFacts K D) → moment_by e ≡ None → known_of r ≡ adds same elect x e v (known_of (round_of x v)) → ((w : ℕ) → eqb w v ≡ false → IsElsewhere same elect x e w) → (round_of x v ≡ new_round x.me x.members (round_number x v) → (w : ℕ) → IsElsewhere same elect x e w) → FollowsEvent same elect e x (if is_tracked x v then with_round x v r else x)
   handed_follows v r timeless added elsewhere never = by_round (round_at x v) refl
     where
-      by_round : (o : Option (RoundFacts K D)) → round_at x v ≡ o → Follows same elect e x (if is_some o then with_round x v r else x)
+      by_round : (o : Option (RoundFacts K D)) → round_at x v ≡ o → FollowsEvent same elect e x (if is_some o then with_round x v r else x)
       by_round (Some _) found = round_follows v r timeless added elsewhere
       by_round None none = silent_follows x (never (ap (λ o. unwrap_or o (new_round x.me x.members (round_number x v))) none)) (rw timeless (quiet x))

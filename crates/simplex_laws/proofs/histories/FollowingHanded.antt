@@ -29,7 +29,7 @@ use Rattle.simplex_laws.specs.OwnWork.{contradicts}
 use Rattle.simplex_laws.specs.Shows.{verdict_of}
 use Rattle.simplex_record.proofs.Growing.{round_of-same}
 use Rattle.simplex_laws.proofs.histories.UnchangedHistories.{Known, known_of, UnchangedKnown, UnchangedButNumbers, UnchangedHistory, quiet, then_quiet, both_quiet, leaves_joined, quiet_where, moment_leaves, entered_leaves, raised_leaves, named_quiet, slid_quiet, triggered_quiet, elected_quiet, woken_quiet}
-use Rattle.simplex_laws.proofs.histories.Following.{adds, Follows, among_noted, nothing_added, put_between, put_follows}
+use Rattle.simplex_laws.proofs.histories.Following.{adds, FollowsEvent, among_noted, nothing_added, put_between, put_follows}
 
 -- a certificate settles its view's proposal
 
@@ -98,7 +98,7 @@ module _ {K L D : Type 0} (same : D → D → Bool) (elect : Elect L) (x : State
 -- proposal certificates
 
 module _ {K L D : Type 0} (same : D → D → Bool) (decides : (d e : D) → same d e ≡ true → d ≡ e) (elect : Elect L) (x : StateFacts K L D) (c : ProposalFacts D) where
-  pub notarization_follows : Follows same elect (AddNotarization c) x (after_add_notarization same elect x c)
+  pub notarization_follows : FollowsEvent same elect (AddNotarization c) x (after_add_notarization same elect x c)
   notarization_follows =
       let v = c.proposal.round.view in
       let d = with_elected_leader elect x (v + 1) (Some c.bytes) in
@@ -108,7 +108,7 @@ module _ {K L D : Type 0} (same : D → D → Bool) (decides : (d e : D) → sam
       let after : UnchangedHistory z y = quiet_where z (is_some (round_of x v).notarization) z (with_window_leaders (named_also z v) v) (quiet z) (both_quiet z (named_also z v) (with_window_leaders (named_also z v) v) (named_quiet z v) (slid_quiet (named_also z v) v)) in
       put_follows same elect x (AddNotarization c) refl d y v (with_notarization (same_proposal same) (round_of d v) c) before (notarization_added same decides elect x c (round_of d v) (ap (λ k. k.notarization) (before.rounds v))) (λ u apart k. rw apart refl) after
 
-  pub finalization_follows : (now : ℕ) → Follows same elect (AddFinalization c now) x (after_add_finalization same elect x c now)
+  pub finalization_follows : (now : ℕ) → FollowsEvent same elect (AddFinalization c now) x (after_add_finalization same elect x c now)
   finalization_follows now =
       let v = c.proposal.round.view in
       let a = at_moment x now in
@@ -134,7 +134,7 @@ module _ {K L D : Type 0} (same : D → D → Bool) (decides : (d e : D) → sam
       }
 
   -- the floor's finalization says what a finalization says, and is handed out
-  pub floor_finalization_follows : (now : ℕ) → Follows same elect (SetFloor (Finalized c) now) x (after_set_floor same elect x (Finalized c) now)
+  pub floor_finalization_follows : (now : ℕ) → FollowsEvent same elect (SetFloor (Finalized c) now) x (after_set_floor same elect x (Finalized c) now)
   floor_finalization_follows now =
       let f = finalization_follows now in
       record {
@@ -160,12 +160,12 @@ module _ {K L D : Type 0} (same : D → D → Bool) (decides : (d e : D) → sam
 
       handed : (w : ℕ) → ((w ≡ v) ⊎ (w ≡ v → ⊥)) → known_of (round_of (with_round z v r) w) ≡ adds same elect x (SetFloor (Finalized c) now) w (known_of (round_of x w))
       handed w (inl here) =
-          let f : Follows same elect (AddFinalization c now) x z = finalization_follows now in
+          let f : FollowsEvent same elect (AddFinalization c now) x z = finalization_follows now in
           let k : Known D = known_of (round_of x v) in
           let said : (record (adds same elect x (AddFinalization c now) v k) { finalization_broadcast = true }) ≡ adds same elect x (SetFloor (Finalized c) now) v k = rw (eq-eqb v v refl) refl in
           rw (here, round_of-same z v r) (ap (λ (k : Known D). record k { finalization_broadcast = true }) (f.rounds v (omega arith)) ∙ said)
       handed w (inr apart) =
-          let f : Follows same elect (AddFinalization c now) x z = finalization_follows now in
+          let f : FollowsEvent same elect (AddFinalization c now) x z = finalization_follows now in
           let k : Known D = known_of (round_of x w) in
           let said : adds same elect x (AddFinalization c now) w k ≡ adds same elect x (SetFloor (Finalized c) now) w k = rw (ne_eqb w v apart) refl in
           ap known_of (round_of-with_round z w v apart r) ∙ f.rounds w (omega arith) ∙ said
@@ -173,7 +173,7 @@ module _ {K L D : Type 0} (same : D → D → Bool) (decides : (d e : D) → sam
 -- nullifications, and the floor at genesis
 
 module _ {K L D : Type 0} (same : D → D → Bool) (elect : Elect L) (x : StateFacts K L D) where
-  pub nullification_follows : (c : NullificationFacts) (now : ℕ) → Follows same elect (AddNullification c now) x (after_add_nullification elect x c now)
+  pub nullification_follows : (c : NullificationFacts) (now : ℕ) → FollowsEvent same elect (AddNullification c now) x (after_add_nullification elect x c now)
   nullification_follows c now =
       let u = c.round.view in
       let next = next_term_start x.terms.term_length u in
@@ -195,7 +195,7 @@ module _ {K L D : Type 0} (same : D → D → Bool) (elect : Elect L) (x : State
         rounds = λ w _. put_between same elect x (AddNullification c now) d z u (with_nullification (round_of d u) c) before.rounds (nullification_added same elect x c now (round_of d u)) (λ s apart k. rw apart refl) (λ s. refl) w;
       }
 
-  pub genesis_follows : (payload : D) (now : ℕ) → Follows same elect (SetFloor (Genesis payload) now) x (after_set_floor same elect x (Genesis payload) now)
+  pub genesis_follows : (payload : D) (now : ℕ) → FollowsEvent same elect (SetFloor (Genesis payload) now) x (after_set_floor same elect x (Genesis payload) now)
   genesis_follows payload now =
       let a : StateFacts K L D = record (at_moment x now) { genesis = Some payload } in
       let e = with_view_entered a 1 now in
@@ -248,19 +248,19 @@ module _ {K L D : Type 0} (same : D → D → Bool) (elect : Elect L) (x : State
   judged_rounds success y takes here after w = put_between same elect x (Certified v success now) x y v (certified_round (round_of x v) success) (λ s. refl) (rw (eq-eqb v v refl, here) (λ i. record (known_of (round_of x v)) { verdict = verdict_first (round_of x v).certification success (uncontradicted x v success takes here) i })) (λ u apart k. rw apart refl) after w
 
 module _ {K L D : Type 0} (same : D → D → Bool) (elect : Elect L) (x : StateFacts K L D) (v now : ℕ) where
-  pub verdict_follows : (success : Bool) → takes_verdict x v success ≡ true → Follows same elect (Certified v success now) x (after_certified elect x v success now)
+  pub verdict_follows : (success : Bool) → takes_verdict x v success ≡ true → FollowsEvent same elect (Certified v success now) x (after_certified elect x v success now)
   verdict_follows success takes = by_tracked (is_tracked x v) refl success takes
     where
       a : StateFacts K L D
       a = at_moment x now
 
-      by_tracked : (b : Bool) → is_tracked x v ≡ b → (s : Bool) → takes_verdict x v s ≡ true → Follows same elect (Certified v s now) x (if is_tracked x v then verdict_taken elect a v s now else a)
+      by_tracked : (b : Bool) → is_tracked x v ≡ b → (s : Bool) → takes_verdict x v s ≡ true → FollowsEvent same elect (Certified v s now) x (if is_tracked x v then verdict_taken elect a v s now else a)
       by_tracked true here true taken =
           let j = with_verdict a v true in
           let e = with_view_entered j (v + 1) now in
           let y = with_waiting_candidate elect e v in
           let after = then_quiet now (max x.current (v + 1)) x.finalized j e y (entered_leaves j (v + 1) now) (woken_quiet elect e v) in
-          subst (λ b. Follows same elect (Certified v true now) x (if b then y else a)) (sym here)
+          subst (λ b. FollowsEvent same elect (Certified v true now) x (if b then y else a)) (sym here)
           (record {
             settings = after.settings;
             terms = after.terms;
@@ -276,7 +276,7 @@ module _ {K L D : Type 0} (same : D → D → Bool) (elect : Elect L) (x : State
           let j = with_verdict a v false in
           let y = with_timeout j v FailedCertification now in
           let after = triggered_quiet j v FailedCertification now in
-          subst (λ b. Follows same elect (Certified v false now) x (if b then y else a)) (sym here)
+          subst (λ b. FollowsEvent same elect (Certified v false now) x (if b then y else a)) (sym here)
           (record {
             settings = after.settings;
             terms = after.terms;
@@ -289,7 +289,7 @@ module _ {K L D : Type 0} (same : D → D → Bool) (elect : Elect L) (x : State
             rounds = λ w _. judged_rounds same elect x v now false y taken here after.rounds w;
           })
       by_tracked false gone s taken =
-          subst (λ b. Follows same elect (Certified v s now) x (if b then verdict_taken elect a v s now else a)) (sym gone)
+          subst (λ b. FollowsEvent same elect (Certified v s now) x (if b then verdict_taken elect a v s now else a)) (sym gone)
           (record {
             settings = refl;
             terms = refl;

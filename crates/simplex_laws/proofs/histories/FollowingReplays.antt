@@ -16,13 +16,13 @@ use Rattle.simplex_record.specs.Recovery.{as_artifact, after_replaying}
 use Rattle.simplex_laws.specs.Events.{Event, IsEvent, after_event, SetFloor, AddNotarization, AddNullification, AddFinalization, Certified, ConstructNotarize, ConstructNullify, ConstructFinalize, SetProposal, TryPropose, Proposed, Supersede, Release, TryVerify, Verified, VerificationFailed, CertifyCandidates, SetCertifyHandle, TriggerTimeout, NextTimeout, BroadcastNotarization, BroadcastNullification, BroadcastFinalization, Prune, Replay}
 use Rattle.simplex_laws.specs.HistoryFolds.{moment_by}
 use Rattle.simplex_laws.proofs.histories.UnchangedHistories.{known_of, UnchangedButNumbers, quiet, prepared_quiet}
-use Rattle.simplex_laws.proofs.histories.Following.{adds, IsElsewhere, IsOfRounds, Follows, among_noted, put_alone, put_follows, round_follows, silent_follows}
+use Rattle.simplex_laws.proofs.histories.Following.{adds, IsElsewhere, IsOfRounds, FollowsEvent, among_noted, put_alone, put_follows, round_follows, silent_follows}
 use Rattle.simplex_laws.proofs.histories.FollowingHanded.{verdict_first, notarization_follows, finalization_follows, floor_finalization_follows, nullification_follows, genesis_follows, verdict_follows}
 use Rattle.simplex_laws.proofs.histories.FollowingUnchanged.{try_verify_quiet, release_quiet, supersede_quiet, try_propose_quiet, verified_quiet, candidates_quiet, handle_quiet, trigger_leaves, next_timeout_leaves, failed_leaves}
 use Rattle.simplex_laws.proofs.histories.FollowingVotes.{own_held, own_conflict, nullify_follows, finalize_follows, notarize_follows, proposal_follows, proposed_follows, broadcast_notarization_follows, broadcast_nullification_follows, broadcast_finalization_follows, prune_follows}
 
 module _ {K L D : Type 0} (same : D → D → Bool) (decides : (d e : D) → same d e ≡ true → d ≡ e) (elect : Elect L) (x : StateFacts K L D) where
-  replayed_notarize : (p : Proposal D) (signer : ℕ) → Follows same elect (Replay (NotarizeVote p signer)) x (after_replaying same elect x (NotarizeVote p signer))
+  replayed_notarize : (p : Proposal D) (signer : ℕ) → FollowsEvent same elect (Replay (NotarizeVote p signer)) x (after_replaying same elect x (NotarizeVote p signer))
   replayed_notarize p signer = put_follows same elect x (Replay (NotarizeVote p signer)) refl x (with_next_view_ready elect z v) v t (quiet x) voted (λ u apart k. rw apart refl) (prepared_quiet elect z v)
     where
       v : ℕ
@@ -50,7 +50,7 @@ module _ {K L D : Type 0} (same : D → D → Bool) (decides : (d e : D) → sam
       voted : known_of t ≡ adds same elect x (Replay (NotarizeVote p signer)) v (known_of r)
       voted = unbound (restored_binding x p) ∙ said
 
-  replay_follows : (e : ArtifactFacts D) → TakesReplay x (as_artifact {K = K} e) → Follows same elect (Replay e) x (after_replaying same elect x e)
+  replay_follows : (e : ArtifactFacts D) → TakesReplay x (as_artifact {K = K} e) → FollowsEvent same elect (Replay e) x (after_replaying same elect x e)
   replay_follows (NotarizeVote p signer) takes = replayed_notarize p signer
   replay_follows (NullifyVote round signer) takes =
       let v = round.view in
@@ -96,11 +96,11 @@ module _ {K L D : Type 0} (same : D → D → Bool) (decides : (d e : D) → sam
       let r = round_of x v in
       round_follows same elect x (Replay (Accepted (Finalized c))) refl v (record r { finalization_broadcast = true }) refl (rw (eq-eqb v v refl) refl) (λ u apart k. rw apart refl)
 
-  quietly : (e : Event K D) → IsOfRounds x e → ((v : ℕ) → IsElsewhere same elect x e v) → UnchangedButNumbers (unwrap_or (moment_by e) x.moment) x.current x.finalized x (after_event same elect x e) → Follows same elect e x (after_event same elect x e)
+  quietly : (e : Event K D) → IsOfRounds x e → ((v : ℕ) → IsElsewhere same elect x e v) → UnchangedButNumbers (unwrap_or (moment_by e) x.moment) x.current x.finalized x (after_event same elect x e) → FollowsEvent same elect e x (after_event same elect x e)
   quietly e only silent leaves = silent_follows same elect x e only (after_event same elect x e) silent leaves
 
   -- each event
-  pub event_follows : (e : Event K D) → IsEvent x e → Follows same elect e x (after_event same elect x e)
+  pub event_follows : (e : Event K D) → IsEvent x e → FollowsEvent same elect e x (after_event same elect x e)
   event_follows (SetFloor (Genesis payload) now) takes = genesis_follows same elect x payload now
   event_follows (SetFloor (FinalizedFloor c) now) takes = floor_finalization_follows same decides elect x c now
   event_follows (AddNotarization c) takes = notarization_follows same decides elect x c

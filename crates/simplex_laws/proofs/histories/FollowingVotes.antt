@@ -31,7 +31,7 @@ use Rattle.simplex_laws.specs.HistoryFolds.{or_new, has_view}
 use Rattle.simplex_laws.specs.OwnWork.{contradicts}
 use Rattle.simplex_laws.proofs.votes.NullifyVotes.{tied}
 use Rattle.simplex_laws.proofs.histories.UnchangedHistories.{known_of, UnchangedHistory, quiet, moment_leaves, prepared_quiet}
-use Rattle.simplex_laws.proofs.histories.Following.{adds, Follows, among_noted, put_alone, put_follows, round_follows, silent_follows, handed_follows}
+use Rattle.simplex_laws.proofs.histories.Following.{adds, FollowsEvent, among_noted, put_alone, put_follows, round_follows, silent_follows, handed_follows}
 use Rattle.simplex_laws.proofs.histories.FollowingHanded.{and_false}
 
 pending_nullify : (d : Decision) → is_pending d ≡ true → false ≡ is_nullify d
@@ -103,7 +103,7 @@ module _ {K L D : Type 0} (x : StateFacts K L D) where
 module _ {K L D : Type 0} (same : D → D → Bool) (elect : Elect L) (x : StateFacts K L D) where
   -- votes
 
-  pub nullify_follows : (v : ℕ) → Follows same elect (ConstructNullify v) x (after_construct_nullify x v)
+  pub nullify_follows : (v : ℕ) → FollowsEvent same elect (ConstructNullify v) x (after_construct_nullify x v)
   nullify_follows v = by_rule (may_nullify x v) refl
     where
       r : RoundFacts K D
@@ -121,15 +121,15 @@ module _ {K L D : Type 0} (same : D → D → Bool) (elect : Elect L) (x : State
       noted true keyed may w = rw (may, keyed) (among_noted v w x.nullify_votes)
       noted false keyless may w = rw (may, keyless) refl
 
-      voted : (b : Bool) → is_some x.me ≡ b → may_nullify x v ≡ true → Follows same elect (ConstructNullify v) x (if b then record z { nullify_votes = insert_key nat_cmp x.nullify_votes v } else z)
+      voted : (b : Bool) → is_some x.me ≡ b → may_nullify x v ≡ true → FollowsEvent same elect (ConstructNullify v) x (if b then record z { nullify_votes = insert_key nat_cmp x.nullify_votes v } else z)
       voted true keyed may = record { settings = refl; terms = refl; genesis = refl; moment = refl; current = omega arith; finalized = omega arith; nullified = λ w _. refl; nullify_votes = λ w _. noted true keyed may w; rounds = λ w _. put_alone same elect x (ConstructNullify v) v (after_nullify r) (decided may) (λ u apart k. rw apart refl) w }
       voted false keyless may = record { settings = refl; terms = refl; genesis = refl; moment = refl; current = omega arith; finalized = omega arith; nullified = λ w _. refl; nullify_votes = λ w _. noted false keyless may w; rounds = λ w _. put_alone same elect x (ConstructNullify v) v (after_nullify r) (decided may) (λ u apart k. rw apart refl) w }
 
-      by_rule : (b : Bool) → may_nullify x v ≡ b → Follows same elect (ConstructNullify v) x (if b then nullify_cast z v else x)
+      by_rule : (b : Bool) → may_nullify x v ≡ b → FollowsEvent same elect (ConstructNullify v) x (if b then nullify_cast z v else x)
       by_rule true may = voted (is_some x.me) refl may
       by_rule false barred = silent_follows same elect x (ConstructNullify v) (rw barred refl) x (λ w k. rw (barred, and_false (eqb w v)) refl) (quiet x)
 
-  pub finalize_follows : (v : ℕ) → Follows same elect (ConstructFinalize v) x (after_construct_finalize elect x v)
+  pub finalize_follows : (v : ℕ) → FollowsEvent same elect (ConstructFinalize v) x (after_construct_finalize elect x v)
   finalize_follows v = by_rule (may_finalize elect x v) refl
     where
       r : RoundFacts K D
@@ -138,11 +138,11 @@ module _ {K L D : Type 0} (same : D → D → Bool) (elect : Elect L) (x : State
       decided : may_finalize elect x v ≡ true → known_of (record r { decision = decision.Finalize }) ≡ adds same elect x (ConstructFinalize v) v (known_of r)
       decided may = rw (may, eq-eqb v v refl) (λ i. record (known_of r) { nullify_decided = pending_nullify r.decision (finalize_parts elect x v may).undecided i; finalize_decided = true })
 
-      by_rule : (b : Bool) → may_finalize elect x v ≡ b → Follows same elect (ConstructFinalize v) x (if b then finalize_cast x v else x)
+      by_rule : (b : Bool) → may_finalize elect x v ≡ b → FollowsEvent same elect (ConstructFinalize v) x (if b then finalize_cast x v else x)
       by_rule true may = round_follows same elect x (ConstructFinalize v) refl v (record r { decision = decision.Finalize }) refl (decided may) (λ u apart k. rw apart refl)
       by_rule false barred = silent_follows same elect x (ConstructFinalize v) refl x (λ w k. rw (barred, and_false (eqb w v)) refl) (quiet x)
 
-  pub notarize_follows : (v : ℕ) → Follows same elect (ConstructNotarize v) x (after_construct_notarize same elect x v)
+  pub notarize_follows : (v : ℕ) → FollowsEvent same elect (ConstructNotarize v) x (after_construct_notarize same elect x v)
   notarize_follows v = by_rule (may_notarize same elect x v) refl
     where
       r : RoundFacts K D
@@ -154,13 +154,13 @@ module _ {K L D : Type 0} (same : D → D → Bool) (elect : Elect L) (x : State
       decided : may_notarize same elect x v ≡ true → known_of r ≡ adds same elect x (ConstructNotarize v) v (known_of (round_of x v))
       decided may = rw (may, eq-eqb v v refl) refl
 
-      by_rule : (b : Bool) → may_notarize same elect x v ≡ b → Follows same elect (ConstructNotarize v) x (if b then with_next_view_ready elect z v else x)
+      by_rule : (b : Bool) → may_notarize same elect x v ≡ b → FollowsEvent same elect (ConstructNotarize v) x (if b then with_next_view_ready elect z v else x)
       by_rule true may = put_follows same elect x (ConstructNotarize v) refl x (with_next_view_ready elect z v) v r (quiet x) (decided may) (λ u apart k. rw apart refl) (prepared_quiet elect z v)
       by_rule false barred = silent_follows same elect x (ConstructNotarize v) refl x (λ w k. rw (barred, and_false (eqb w v)) refl) (quiet x)
 
   -- proposals
 
-  pub proposal_follows : (v : ℕ) (p : Proposal D) → Follows same elect (SetProposal v p) x (after_set_proposal same elect x v p)
+  pub proposal_follows : (v : ℕ) (p : Proposal D) → FollowsEvent same elect (SetProposal v p) x (after_set_proposal same elect x v p)
   proposal_follows v p = put_follows same elect x (SetProposal v p) refl y (with_round y v (with_proposal same r p)) v (with_proposal same r p) before (heard (is_nullify r.decision) refl) (λ u apart k. rw apart refl) (quiet (with_round y v (with_proposal same r p)))
     where
       y : StateFacts K L D
@@ -180,7 +180,7 @@ module _ {K L D : Type 0} (same : D → D → Bool) (elect : Elect L) (x : State
           let not_voted : is_nullify (round_of x v).decision ≡ false = sym (ap (λ k. k.nullify_decided) (before.rounds v)) ∙ is in
           rw (not_voted, eq-eqb v v refl) (λ i. record (known_of r) { held = heard_held same r.slot p i; conflict = heard_conflict same r.slot p i })
 
-  pub proposed_follows : ((d e : D) → same d e ≡ true → d ≡ e) → (context : Context D K) (payload : D) (now : ℕ) → Follows same elect (Proposed context payload now) x (after_proposed same elect x context payload now)
+  pub proposed_follows : ((d e : D) → same d e ≡ true → d ≡ e) → (context : Context D K) (payload : D) (now : ℕ) → FollowsEvent same elect (Proposed context payload now) x (after_proposed same elect x context payload now)
   proposed_follows decides context payload now = by_answer (proposed_answer same elect x context payload) refl
     where
       a : StateFacts K L D
@@ -198,13 +198,13 @@ module _ {K L D : Type 0} (same : D → D → Bool) (elect : Elect L) (x : State
       built : proposed_answer same elect x context payload ≡ true → known_of (proposed_round same r context payload now) ≡ adds same elect x (Proposed context payload now) v (known_of r)
       built taken = rw (taken, eq-eqb v v refl) (λ i. record (known_of r) { held = own_held same r.slot p decides i; conflict = own_conflict same r.slot p i })
 
-      by_answer : (b : Bool) → proposed_answer same elect x context payload ≡ b → Follows same elect (Proposed context payload now) x (if b then with_round a v (proposed_round same r context payload now) else a)
+      by_answer : (b : Bool) → proposed_answer same elect x context payload ≡ b → FollowsEvent same elect (Proposed context payload now) x (if b then with_round a v (proposed_round same r context payload now) else a)
       by_answer true taken = put_follows same elect x (Proposed context payload now) refl a (with_round a v (proposed_round same r context payload now)) v (proposed_round same r context payload now) (moment_leaves x now) (built taken) (λ u apart k. rw apart refl) (quiet (with_round a v (proposed_round same r context payload now)))
       by_answer false dropped = silent_follows same elect x (Proposed context payload now) refl a (λ w k. rw (dropped, and_false (eqb w v)) refl) (moment_leaves x now)
 
   -- broadcasts
 
-  pub broadcast_notarization_follows : (v : ℕ) → Follows same elect (BroadcastNotarization v) x (after_broadcast_notarization x v)
+  pub broadcast_notarization_follows : (v : ℕ) → FollowsEvent same elect (BroadcastNotarization v) x (after_broadcast_notarization x v)
   broadcast_notarization_follows v =
       let r = round_of x v in
       handed_follows same elect x (BroadcastNotarization v) refl v (record r { notarization_broadcast = r.notarization_broadcast || is_some r.notarization }) refl
@@ -212,7 +212,7 @@ module _ {K L D : Type 0} (same : D → D → Bool) (elect : Elect L) (x : State
       (λ u apart k. rw apart refl)
       (λ untracked w k. rw (ap (λ (s : RoundFacts K D). is_some s.notarization) untracked, and_false (eqb w v)) refl)
 
-  pub broadcast_nullification_follows : (v : ℕ) → Follows same elect (BroadcastNullification v) x (after_broadcast_nullification x v)
+  pub broadcast_nullification_follows : (v : ℕ) → FollowsEvent same elect (BroadcastNullification v) x (after_broadcast_nullification x v)
   broadcast_nullification_follows v =
       let r = round_of x v in
       handed_follows same elect x (BroadcastNullification v) refl v (record r { nullification_broadcast = r.nullification_broadcast || is_some r.nullification }) refl
@@ -220,7 +220,7 @@ module _ {K L D : Type 0} (same : D → D → Bool) (elect : Elect L) (x : State
       (λ u apart k. rw apart refl)
       (λ untracked w k. rw (ap (λ (s : RoundFacts K D). is_some s.nullification) untracked, and_false (eqb w v)) refl)
 
-  pub broadcast_finalization_follows : (v : ℕ) → Follows same elect (BroadcastFinalization v) x (after_broadcast_finalization x v)
+  pub broadcast_finalization_follows : (v : ℕ) → FollowsEvent same elect (BroadcastFinalization v) x (after_broadcast_finalization x v)
   broadcast_finalization_follows v =
       let r = round_of x v in
       handed_follows same elect x (BroadcastFinalization v) refl v (record r { finalization_broadcast = r.finalization_broadcast || is_some r.finalization }) refl
@@ -228,7 +228,7 @@ module _ {K L D : Type 0} (same : D → D → Bool) (elect : Elect L) (x : State
       (λ u apart k. rw apart refl)
       (λ untracked w k. rw (ap (λ (s : RoundFacts K D). is_some s.finalization) untracked, and_false (eqb w v)) refl)
 
-  pub prune_follows : Follows same elect Prune x (after_prune x)
+  pub prune_follows : FollowsEvent same elect Prune x (after_prune x)
   prune_follows = record {
     settings = refl;
     terms = refl;

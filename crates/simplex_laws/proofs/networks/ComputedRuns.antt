@@ -72,12 +72,12 @@ module _ {K L D : Type 0} (same : D → D → Bool) (elect : Elect L) where
   end_from m (step ∷ steps) = end_from (next_then m.life m step) steps
 
   -- each restart finds its record by rising view
-  abbrev pub Fits : MemberFacts K L D → List (StepFacts K L D) → Type 0
-  Fits m [] = Unit {0}
-  Fits m (Restarts r ∷ steps) =
-      IsNonDecreasingBy entry_view (cut_member m r.drop r.prune).entries × Fits (next_then m.life m (Restarts r)) steps
-  Fits m (Prunes ∷ steps) = Fits (next_then m.life m Prunes) steps
-  Fits m (Calls call ∷ steps) = Fits (next_then m.life m (Calls call)) steps
+  abbrev pub FindsRisingRecords : MemberFacts K L D → List (StepFacts K L D) → Type 0
+  FindsRisingRecords m [] = Unit {0}
+  FindsRisingRecords m (Restarts r ∷ steps) =
+      IsNonDecreasingBy entry_view (cut_member m r.drop r.prune).entries × FindsRisingRecords (next_then m.life m (Restarts r)) steps
+  FindsRisingRecords m (Prunes ∷ steps) = FindsRisingRecords (next_then m.life m Prunes) steps
+  FindsRisingRecords m (Calls call ∷ steps) = FindsRisingRecords (next_then m.life m (Calls call)) steps
 
   call_answered : (life : Option (StateFacts K L D)) (m : MemberFacts K L D) (call : CallFacts D) → AnswersAlive same elect life m call (reply_then life m (Calls call)) (next_then life m (Calls call))
   call_answered None m call = (refl, refl)
@@ -101,7 +101,7 @@ module _ {K L D : Type 0} (same : D → D → Bool) (elect : Elect L) where
   unfolding IsRestart
   restart_made m r rising = restart_by (grows_at m r) (due_error m r) m r refl rising
 
-  pub fits_run : (m : MemberFacts K L D) (steps : List (StepFacts K L D)) → Fits m steps → IsRun same elect m steps (replies_from m steps) (end_from m steps)
+  pub fits_run : (m : MemberFacts K L D) (steps : List (StepFacts K L D)) → FindsRisingRecords m steps → IsRun same elect m steps (replies_from m steps) (end_from m steps)
   fits_run m [] fits = refl
   fits_run m (Calls call ∷ steps) fits = (next_then m.life m (Calls call), call_made m call, fits_run (next_then m.life m (Calls call)) steps fits)
   fits_run m (Prunes ∷ steps) fits = (next_then m.life m Prunes, (refl, refl), fits_run (next_then m.life m Prunes) steps fits)
@@ -113,7 +113,7 @@ module _ {K L D : Type 0} (same : D → D → Bool) (elect : Elect L) where
   abbrev pub begun : StartFacts K L D → MemberFacts K L D
   begun start = started_member same elect (new_state start.setup) start.floor start.now
 
-  pub fits_run_from : (s : Execution K L D) → recover_error same (new_state s.start.setup) s.start.floor s.start.now [] ≡ None → Fits (begun s.start) s.steps → replies_from (begun s.start) s.steps ≡ s.replies → IsRunFrom same elect s.start s.steps s.replies
+  pub fits_run_from : (s : Execution K L D) → recover_error same (new_state s.start.setup) s.start.floor s.start.now [] ≡ None → FindsRisingRecords (begun s.start) s.steps → replies_from (begun s.start) s.steps ≡ s.replies → IsRunFrom same elect s.start s.steps s.replies
   unfolding IsRunFrom
   fits_run_from s none fits is = (none, end_from (begun s.start) s.steps, subst (λ (told : List (Told K D)). IsRun same elect (begun s.start) s.steps told (end_from (begun s.start) s.steps)) is (fits_run (begun s.start) s.steps fits))
 

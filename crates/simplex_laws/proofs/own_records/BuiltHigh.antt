@@ -26,7 +26,7 @@ use Rattle.simplex_member.specs.Runs.{StepFacts, Calls}
 use Rattle.simplex_record.specs.Start.{Setup, new_state}
 use Rattle.simplex_laws.specs.Events.{Event, after_event, SetFloor, AddNotarization, AddNullification, AddFinalization, Certified, Proposed, Supersede, Replay, in_context, events_of}
 use Rattle.simplex_laws.specs.Outside.{HasBuiltIn, is_floor_too_large}
-use Rattle.simplex_laws.proofs.frames.BuiltProposals.{Brings, AllHeld, event_held}
+use Rattle.simplex_laws.proofs.frames.BuiltProposals.{BringsProposals, AllHeld, event_held}
 use Rattle.simplex_laws.proofs.frames.CallsMake.{call_by_event}
 use Rattle.simplex_laws.proofs.own_records.HighViews.{entry_too_large}
 use Rattle.simplex_laws.proofs.records.NewLives.{first_none}
@@ -47,7 +47,7 @@ module _ {K L D : Type 0} where
 
 module _ {K D : Type 0} (Q : Proposal D → Type 0) where
   -- an event that brings no proposal
-  brings_nothing : {e : Event K D} → notarization_by e ≡ None → finalization_by e ≡ None → proposal_by e ≡ None → note_by e ≡ None → ((context : Context D K) (payload : D) (now : ℕ) → e ≡ Proposed context payload now → ⊥) → Brings Q e
+  brings_nothing : {e : Event K D} → notarization_by e ≡ None → finalization_by e ≡ None → proposal_by e ≡ None → note_by e ≡ None → ((context : Context D K) (payload : D) (now : ℕ) → e ≡ Proposed context payload now → ⊥) → BringsProposals Q e
   brings_nothing no_notarization no_finalization no_proposal no_note not_built = record {
     notarized = λ c says. absurd (let clash = sym no_notarization ∙ says in cc);
     finalized = λ c says. absurd (let clash = sym no_finalization ∙ says in cc);
@@ -57,9 +57,9 @@ module _ {K D : Type 0} (Q : Proposal D → Type 0) where
   }
 
   -- so has each that some events bring
-  abbrev AllBring : List (Event K D) → Type 0
-  AllBring [] = Unit {0}
-  AllBring (e ∷ events) = Brings Q e × AllBring events
+  abbrev AllBringProposals : List (Event K D) → Type 0
+  AllBringProposals [] = Unit {0}
+  AllBringProposals (e ∷ events) = BringsProposals Q e × AllBringProposals events
 
 -- calls
 
@@ -67,7 +67,7 @@ module _ {K L D : Type 0} (past : List (StepFacts K L D)) (x : StateFacts K L D)
   abbrev now_past : CallFacts D → List (StepFacts K L D)
   now_past call = past ++ Calls call ∷ []
 
-  brings_proposed : (v : ℕ) (payload : D) (now : ℕ) (context : Option (Context D K)) → context_at o v ≡ context → AllBring (IsBuilt (now_past (calls.Proposed v payload now))) (in_context (λ c. Proposed c payload now) context)
+  brings_proposed : (v : ℕ) (payload : D) (now : ℕ) (context : Option (Context D K)) → context_at o v ≡ context → AllBringProposals (IsBuilt (now_past (calls.Proposed v payload now))) (in_context (λ c. Proposed c payload now) context)
   brings_proposed v payload now None is = tt
   brings_proposed v payload now (Some c) is = (
     record {
@@ -85,11 +85,11 @@ module _ {K L D : Type 0} (past : List (StepFacts K L D)) (x : StateFacts K L D)
     tt,
   )
 
-  brings_superseded : (Q : Proposal D → Type 0) (context : Option (Context D K)) → AllBring {K = K} Q (in_context Supersede context)
+  brings_superseded : (Q : Proposal D → Type 0) (context : Option (Context D K)) → AllBringProposals {K = K} Q (in_context Supersede context)
   brings_superseded Q None = tt
   brings_superseded Q (Some c) = (brings_nothing Q refl refl refl refl (λ d other moment says. absurd (cc)), tt)
 
-  call_brings : (call : CallFacts D) → fault_of x call ≡ None → AllBring (IsBuilt (now_past call)) (events_of o call)
+  call_brings : (call : CallFacts D) → fault_of x call ≡ None → AllBringProposals (IsBuilt (now_past call)) (events_of o call)
   call_brings (calls.AddNotarization c) none = (
     record {
       notarized = λ d says. (let same : c ≡ d = cc in subst (λ (k : ProposalFacts D). IsBuilt (now_past (calls.AddNotarization c)) k.proposal) same (small_view (now_past (calls.AddNotarization c)) c.proposal (no_fault x.failed (names_too_large c.proposal) false none)));
@@ -131,7 +131,7 @@ module _ {K L D : Type 0} (same : D → D → Bool) (decides : (d e : D) → sam
   call_held past x o call placed allowed none all =
       let Q : Proposal D → Type 0 = IsBuilt (past ++ Calls call ∷ []) in
       let before : AllHeld Q x = λ v p is. built_still past (Calls call ∷ []) p (all v p is) in
-      call_by_event same elect x o (λ events y. AllBring Q events → AllHeld Q y) (λ brings. before) (λ e takes ordinary brings. event_held same decides elect Q x e brings.0 before) call allowed (call_brings past x o placed call none)
+      call_by_event same elect x o (λ events y. AllBringProposals Q events → AllHeld Q y) (λ brings. before) (λ e takes ordinary brings. event_held same decides elect Q x e brings.0 before) call allowed (call_brings past x o placed call none)
 
 -- records that are taken again
 
@@ -189,7 +189,7 @@ module _ {K L D : Type 0} (same : D → D → Bool) (decides : (d e : D) → sam
   abbrev Q : Proposal D → Type 0
   Q = IsBuilt past
 
-  by_event : (x : StateFacts K L D) (e : Event K D) → Brings Q e → AllHeld Q x → AllHeld Q (after_event same elect x e)
+  by_event : (x : StateFacts K L D) (e : Event K D) → BringsProposals Q e → AllHeld Q x → AllHeld Q (after_event same elect x e)
   by_event x e brings all = event_held same decides elect Q x e brings all
 
   floor_held : (x : StateFacts K L D) (floor : FloorFacts D) → is_floor_too_large floor ≡ false → AllHeld Q x → AllHeld Q (after_set_floor same elect x floor now)

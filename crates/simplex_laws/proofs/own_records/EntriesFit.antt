@@ -12,7 +12,7 @@ use Rattle.simplex_types.specs.declared.types.messages.Proposal.{Proposal}
 use Rattle.simplex_types.specs.declared.types.numbers.Round.{Round}
 use Rattle.simplex_record.specs.Check.{stands, agrees, is_notarization, is_verdict, is_nullify_vote, is_finalize_vote, last_view, notarizes_other, finalizes_other, lacks_notarization, contradicts_verdict, meets_opposite, contradicts_vote, lacks_true_verdict}
 use Rattle.simplex_record.specs.Entries.{entry_view}
-use Rattle.simplex_laws.proofs.own_records.Outside.{Fits, Fit}
+use Rattle.simplex_laws.proofs.own_records.Outside.{EntryFits, Fit}
 use Rattle.simplex_laws.proofs.lists.Splits.{Contains-cases, Contains-cons_rest}
 use Rattle.simplex_laws.proofs.agreement.VoteOrder.{Contains-middle}
 
@@ -106,15 +106,15 @@ abbrev pub IsTurned : {X : Type 0} → List X → List X → Type 0
 IsTurned {X} front before = ((x : X) → Contains before x → Contains front x) × ((x : X) → Contains front x → Contains before x)
 
 -- views do not fall from this one on
-abbrev pub Rises : {D : Type 0} → ℕ → List (ArtifactFacts D) → Type 0
-Rises low [] = Unit {0}
-Rises low (e ∷ rest) = (low ≤ entry_view e) × Rises (entry_view e) rest
+abbrev pub RisesFrom : {D : Type 0} → ℕ → List (ArtifactFacts D) → Type 0
+RisesFrom low [] = Unit {0}
+RisesFrom low (e ∷ rest) = (low ≤ entry_view e) × RisesFrom (entry_view e) rest
 
 module _ {D : Type 0} where
   rest_rises : (e : ArtifactFacts D) (rest : List (ArtifactFacts D)) → IsNonDecreasingBy entry_view (e ∷ rest) → IsNonDecreasingBy entry_view rest
   rest_rises e rest rising i j d low within = rising (suc i) (suc j) d (omega arith) (omega arith)
 
-  pub rises_from : (low : ℕ) (entries : List (ArtifactFacts D)) → IsNonDecreasingBy entry_view entries → ((e : ArtifactFacts D) → Contains entries e → low ≤ entry_view e) → Rises low entries
+  pub rises_from : (low : ℕ) (entries : List (ArtifactFacts D)) → IsNonDecreasingBy entry_view entries → ((e : ArtifactFacts D) → Contains entries e → low ≤ entry_view e) → RisesFrom low entries
   rises_from low [] rising above = tt
   rises_from low (e ∷ rest) rising above = (
     above e (0, omega arith, refl),
@@ -124,7 +124,7 @@ module _ {D : Type 0} where
 module _ {D : Type 0} (same : D → D → Bool) (itself : (d : D) → same d d ≡ true) (entries : List (ArtifactFacts D)) (together : HoldTogether entries) where
   -- an entry fits behind those before it
 
-  fits : (front before rest : List (ArtifactFacts D)) (e : ArtifactFacts D) → entries ≡ front ++ e ∷ rest → IsTurned front before → last_view before ≤ entry_view e → Fits same before e
+  fits : (front before rest : List (ArtifactFacts D)) (e : ArtifactFacts D) → entries ≡ front ++ e ∷ rest → IsTurned front before → last_view before ≤ entry_view e → EntryFits same before e
   fits front before rest e split turned rises = record {
     in_order = grind (arith, nat_tests);
     notarized = notarized e split;
@@ -182,7 +182,7 @@ module _ {D : Type 0} (same : D → D → Bool) (itself : (d : D) → same d d �
       judged (Accepted _) is = refl
 
   -- so do all, one behind the other
-  all_fit : (front before rest : List (ArtifactFacts D)) → entries ≡ front ++ rest → IsTurned front before → Rises (last_view before) rest → Fit same before rest
+  all_fit : (front before rest : List (ArtifactFacts D)) → entries ≡ front ++ rest → IsTurned front before → RisesFrom (last_view before) rest → Fit same before rest
   all_fit front before [] split turned rises = tt
   all_fit front before (e ∷ rest) split turned rises = (
     fits front before rest e split turned rises.0,

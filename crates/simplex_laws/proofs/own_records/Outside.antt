@@ -23,7 +23,7 @@ unbroken b found fine broken = absurd (false≢true (sym fine ∙ broken))
 
 module _ {D : Type 0} (same : D → D → Bool) where
   -- an entry that breaks none of the rules on those before it, the newest first
-  pub record Fits (before : List (ArtifactFacts D)) (e : ArtifactFacts D) : Type 0 where
+  pub record EntryFits (before : List (ArtifactFacts D)) (e : ArtifactFacts D) : Type 0 where
     pub in_order : nat_lt (entry_view e) (last_view before) ≡ false
     pub notarized : lacks_notarization before e ≡ false
     pub one_verdict : contradicts_verdict before e ≡ false
@@ -34,7 +34,7 @@ module _ {D : Type 0} (same : D → D → Bool) where
   -- each entry fits behind those before it
   abbrev pub Fit : List (ArtifactFacts D) → List (ArtifactFacts D) → Type 0
   Fit before [] = Unit {0}
-  Fit before (e ∷ rest) = Fits before e × Fit (e ∷ before) rest
+  Fit before (e ∷ rest) = EntryFits before e × Fit (e ∷ before) rest
 
 module _ {D : Type 0} (same : D → D → Bool) (epoch : ℕ) (me : Option ℕ) where
   own_outside : (e : ArtifactFacts D) → AreOutside (own_rules epoch me e)
@@ -44,7 +44,7 @@ module _ {D : Type 0} (same : D → D → Bool) (epoch : ℕ) (me : Option ℕ) 
   own_outside (Verdict round success) = (λ _. tt, (λ _. tt, (λ _. tt, tt)))
   own_outside (Accepted c) = (λ _. tt, (λ _. tt, (λ _. tt, tt)))
 
-  entry_outside : (before : List (ArtifactFacts D)) (e : ArtifactFacts D) → Fits same before e → AreOutside (entry_rules same epoch me before e)
+  entry_outside : (before : List (ArtifactFacts D)) (e : ArtifactFacts D) → EntryFits same before e → AreOutside (entry_rules same epoch me before e)
   entry_outside before e fits = (
     unbroken (nat_lt (entry_view e) (last_view before)) error.OutOfOrder fits.in_order,
     broken_joined IsFromOutside (own_rules epoch me e) (beside_rules same before e) (own_outside e) (

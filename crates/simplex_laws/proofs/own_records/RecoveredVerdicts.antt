@@ -20,25 +20,25 @@ use Rattle.simplex_laws.proofs.lists.Filters.{Contains-filter, Contains-filtered
 use Rattle.simplex_laws.proofs.records.TracesShown.{only_one}
 use Rattle.simplex_laws.proofs.own_records.Recorded.{HasNoVerdict}
 use Rattle.simplex_laws.proofs.lists.Splits.{Contains-cons_rest}
-use Rattle.simplex_laws.proofs.own_records.EntriesFit.{Rises, rises_from}
+use Rattle.simplex_laws.proofs.own_records.EntriesFit.{RisesFrom, rises_from}
 use Rattle.simplex_laws.specs.Events as event
 use Rattle.simplex_laws.specs.Events.{Event, IsEvent, after_event}
 use Rattle.simplex_laws.specs.HistoryFolds.{finalized_by_event}
 use Rattle.simplex_record.proofs.Rounds.{round_put}
 use Rattle.simplex_laws.proofs.frames.Rising.{event_goes, event_finalizes}
 use Rattle.simplex_record.proofs.Steps.{notarization_by, verdict_by}
-use Rattle.simplex_laws.proofs.own_records.Verdicts.{Shows, judged_so, event_shows}
+use Rattle.simplex_laws.proofs.own_records.Verdicts.{ShowsVerdicts, judged_so, event_shows}
 
 -- in the midst of a recovery: the state shows the entries that were taken, and what is kept begins at the base, or else no
 -- higher than the last entry
 pub record Recovers {K L D : Type 0} (base top : ℕ) (done : List (ArtifactFacts D)) (x : StateFacts K L D) : Type 0 where
-  pub shows : Shows done x
+  pub shows : ShowsVerdicts done x
   pub reached : base ≤ min_active x
   pub within : min_active x ≤ max base top
 
 module _ {K L D : Type 0} (same : D → D → Bool) (elect : Elect L) (base top : ℕ) (done : List (ArtifactFacts D)) (x : StateFacts K L D) (recovers : Recovers base top done x) (e : Event K D) (v : ℕ) (over : top ≤ v) (within : finalized_by_event e ≤ v) (handles : (v token : ℕ) → e ≡ event.SetCertifyHandle v token → IsEvent x e) where
   -- an event of a view that is no lower
-  pub more_recovers : (more : List (ArtifactFacts D)) → Shows more (after_event same elect x e) → Recovers base v more (after_event same elect x e)
+  pub more_recovers : (more : List (ArtifactFacts D)) → ShowsVerdicts more (after_event same elect x e) → Recovers base v more (after_event same elect x e)
   more_recovers more shows =
       let goes = event_goes same elect x e in
       let finalizes = event_finalizes same elect x e in
@@ -127,7 +127,7 @@ above base entries = filter (λ e. nat_le base (entry_view e)) entries
 
 -- where a recovery ends: the state shows the entries, and what it keeps begins no lower than the base
 pub record Recovered {K L D : Type 0} (base : ℕ) (entries : List (ArtifactFacts D)) (x : StateFacts K L D) : Type 0 where
-  pub shows : Shows entries x
+  pub shows : ShowsVerdicts entries x
   pub reached : base ≤ min_active x
 
 module _ {K L D : Type 0} (same : D → D → Bool) (elect : Elect L) (now base : ℕ) (copy : List (ArtifactFacts D)) (one_verdict : (round other : Round) (success given : Bool) → Contains copy (Verdict round success) → Contains copy (Verdict other given) → round.view ≡ other.view → success ≡ given) where
@@ -140,8 +140,8 @@ module _ {K L D : Type 0} (same : D → D → Bool) (elect : Elect L) (now base 
   taken_again x e is = rw is refl
 
   -- the rest of a record by rising views
-  all_recover : (rest done : List (ArtifactFacts D)) (top : ℕ) (x : StateFacts K L D) → Recovers base top done x → Rises top rest → ((e : ArtifactFacts D) → Contains done e → Contains copy e) → ((e : ArtifactFacts D) → Contains rest e → Contains copy e) → Recovered base (done ++ above base rest) (after_entries same elect x now rest)
-  all_recover [] done top x recovers rises known coming = record { shows = subst (λ es. Shows es x) (sym (append-nil done)) recovers.shows; reached = recovers.reached }
+  all_recover : (rest done : List (ArtifactFacts D)) (top : ℕ) (x : StateFacts K L D) → Recovers base top done x → RisesFrom top rest → ((e : ArtifactFacts D) → Contains done e → Contains copy e) → ((e : ArtifactFacts D) → Contains rest e → Contains copy e) → Recovered base (done ++ above base rest) (after_entries same elect x now rest)
+  all_recover [] done top x recovers rises known coming = record { shows = subst (λ es. ShowsVerdicts es x) (sym (append-nil done)) recovers.shows; reached = recovers.reached }
   all_recover (e ∷ rest) done top x recovers rises known coming = elim (cases_Bool (nat_lt (entry_view e) (min_active x))) [
     | inl passed ↦
         (let below : entry_view e < min_active x = ltb-true (entry_view e) (min_active x) passed in
@@ -160,7 +160,7 @@ module _ {K L D : Type 0} (same : D → D → Bool) (elect : Elect L) (now base 
 
 module _ {K L D : Type 0} (base : ℕ) (copy : List (ArtifactFacts D)) (x : StateFacts K L D) where
   -- what stands below the base is neither kept nor held notarized
-  whole_shown : Recovered base (above base copy) x → Shows copy x
+  whole_shown : Recovered base (above base copy) x → ShowsVerdicts copy x
   whole_shown ends = record {
     notarized = λ v is. (let c = ends.shows.notarized v is in (c.0, Contains-filtered (λ e. nat_le base (entry_view e)) copy (Accepted (Notarized c.0)) c.1, c.2));
     judged = λ round success h known. elim (cases_Bool (nat_le base round.view)) [
@@ -180,7 +180,7 @@ module _ {K L D : Type 0} (same : D → D → Bool) (elect : Elect L) (settings 
   abbrev pub fresh : StateFacts K L D
   fresh = new_facts settings me members elector terms early
 
-  pub recovered_shows : (copy : List (ArtifactFacts D)) (floor : FloorFacts D) (now : ℕ) → IsNonDecreasingBy entry_view copy → ((round other : Round) (success given : Bool) → Contains copy (Verdict round success) → Contains copy (Verdict other given) → round.view ≡ other.view → success ≡ given) → Shows copy (recovered_state same elect fresh floor now copy)
+  pub recovered_shows : (copy : List (ArtifactFacts D)) (floor : FloorFacts D) (now : ℕ) → IsNonDecreasingBy entry_view copy → ((round other : Round) (success given : Bool) → Contains copy (Verdict round success) → Contains copy (Verdict other given) → round.view ≡ other.view → success ≡ given) → ShowsVerdicts copy (recovered_state same elect fresh floor now copy)
   unfolding recovered_state
   recovered_shows copy floor now rising one_verdict =
       let x = after_set_floor same elect fresh floor now in

@@ -37,15 +37,15 @@ use Rattle.simplex_laws.proofs.records.PrunedRecords.{shown_tracked, tracked_sta
 use Rattle.simplex_laws.proofs.lists.Filters.{Contains-filtered}
 use Rattle.simplex_member.specs.Pruning.{stays_within, pruned_member}
 use Rattle.simplex_laws.proofs.own_records.VerdictsByCalls.{call_told}
-use Rattle.simplex_laws.proofs.own_records.ShownVerdicts.{Tells, shows_more}
+use Rattle.simplex_laws.proofs.own_records.ShownVerdicts.{TellsVerdicts, shows_more}
 use Rattle.simplex_laws.proofs.own_records.SmallViews.{AreSmall}
-use Rattle.simplex_laws.proofs.own_records.Verdicts.{Shows}
+use Rattle.simplex_laws.proofs.own_records.Verdicts.{ShowsVerdicts}
 use Rattle.simplex_laws.proofs.own_records.EntriesFit.{record_fits}
 
 -- a member's record keeps its verdicts in order, and while it lives its state shows them
 abbrev pub TellsOn : {K L D : Type 0} → List (TraceEvent D) → List (ArtifactFacts D) → Option (StateFacts K L D) → Type 0
 TellsOn trace entries None = OwnRecord trace entries
-TellsOn trace entries (Some x) = Tells trace entries x
+TellsOn trace entries (Some x) = TellsVerdicts trace entries x
 
 abbrev pub MemberTells : {K L D : Type 0} → List (TraceEvent D) → MemberFacts K L D → Type 0
 MemberTells trace m = TellsOn trace m.entries m.life
@@ -82,7 +82,7 @@ module _ {K L D : Type 0} (entries : List (ArtifactFacts D)) (x : StateFacts K L
   abbrev test : ArtifactFacts D → Bool
   test e = is_tracked x (entry_view e) || nat_le bound (entry_view e)
 
-  shows_still : Shows entries x → Shows (filter test entries) x
+  shows_still : ShowsVerdicts entries x → ShowsVerdicts (filter test entries) x
   shows_still shows = record {
     notarized = λ v is.
         (let c = shows.notarized v is in
@@ -114,16 +114,16 @@ module _ {K L D : Type 0} where
       by_life (Some x) alive told = record { own = own_bounded trace m.entries told.own (stays_within m); shows = rw alive (shows_still m.entries x (finalized_in m.entries - m.retention) told.shows) }
 
   -- the same entries, and the floor's finalization besides
-  shows_whole : (entries copy : List (ArtifactFacts D)) (floor : FloorFacts D) (x : StateFacts K L D) → ((v : ℕ) → filter (λ e. entry_view e == v) copy ≡ filter (λ e. entry_view e == v) entries) → Shows copy x → Shows (with_floor entries floor) x
+  shows_whole : (entries copy : List (ArtifactFacts D)) (floor : FloorFacts D) (x : StateFacts K L D) → ((v : ℕ) → filter (λ e. entry_view e == v) copy ≡ filter (λ e. entry_view e == v) entries) → ShowsVerdicts copy x → ShowsVerdicts (with_floor entries floor) x
   shows_whole entries copy floor x by_view shows =
       let into = same_entries copy entries by_view in
       let back = same_entries entries copy (λ v. sym (by_view v)) in
       let more = floor_adds entries floor in
-      let here : Shows entries x = record {
+      let here : ShowsVerdicts entries x = record {
         notarized = λ v is. (let c = shows.notarized v is in (c.0, into (Accepted (Notarized c.0)) c.1, c.2));
         judged = λ round success h known. shows.judged round success (back (Verdict round success) h) known;
       } in
-      subst (λ es. Shows es x) (sym more.1) (shows_more entries more.0 x more.2 here)
+      subst (λ es. ShowsVerdicts es x) (sym more.1) (shows_more entries more.0 x more.2 here)
 
 module _ {K L D : Type 0} (same : D → D → Bool) (elect : Elect L) (term_length : ℕ) (trace : List (TraceEvent D)) (m : MemberFacts K L D) where
   -- a call

@@ -28,10 +28,10 @@ use Rattle.simplex_laws.specs.Events as event
 use Rattle.simplex_laws.specs.Events.{Event, IsEvent, after_event}
 use Rattle.simplex_laws.proofs.lives.Lasting.{brings_kept}
 use Rattle.simplex_record.proofs.Steps.{notarization_by, verdict_by}
-use Rattle.simplex_laws.proofs.own_records.Verdicts.{Shows, given_so, event_shows, verdict_stands}
+use Rattle.simplex_laws.proofs.own_records.Verdicts.{ShowsVerdicts, given_so, event_shows, verdict_stands}
 
 module _ {K L D : Type 0} (entries : List (ArtifactFacts D)) where
-  pub shows_more : (new : List (ArtifactFacts D)) (x : StateFacts K L D) → HasNoVerdict new → Shows entries x → Shows (entries ++ new) x
+  pub shows_more : (new : List (ArtifactFacts D)) (x : StateFacts K L D) → HasNoVerdict new → ShowsVerdicts entries x → ShowsVerdicts (entries ++ new) x
   shows_more new x silent shows = record {
     notarized = λ v is. (let c = shows.notarized v is in (c.0, Contains-append_left entries new (Accepted (Notarized c.0)) c.1, c.2));
     judged = λ round success h known. elim (Contains-append_cases entries new (Verdict round success) h) [
@@ -58,21 +58,21 @@ module _ {K L D : Type 0} (x : StateFacts K L D) (v : ℕ) (success : Bool) wher
       by_round (Some r) none = absurd (false≢true (sym none))
 
 -- the record's verdicts stay in order, and the state shows them
-pub record Tells {K L D : Type 0} (trace : List (TraceEvent D)) (entries : List (ArtifactFacts D)) (x : StateFacts K L D) : Type 0 where
+pub record TellsVerdicts {K L D : Type 0} (trace : List (TraceEvent D)) (entries : List (ArtifactFacts D)) (x : StateFacts K L D) : Type 0 where
   pub own : OwnRecord trace entries
-  pub shows : Shows entries x
+  pub shows : ShowsVerdicts entries x
 
-module _ {K L D : Type 0} (same : D → D → Bool) (elect : Elect L) (trace : List (TraceEvent D)) (entries : List (ArtifactFacts D)) (x : StateFacts K L D) (tells : Tells trace entries x) where
+module _ {K L D : Type 0} (same : D → D → Bool) (elect : Elect L) (trace : List (TraceEvent D)) (entries : List (ArtifactFacts D)) (x : StateFacts K L D) (tells : TellsVerdicts trace entries x) where
   -- an event that brings neither notarization nor verdict, where none is recorded
-  pub quiet_shows : (new : List (ArtifactFacts D)) (e : Event K D) → IsEvent x e → notarization_by e ≡ None → verdict_by e ≡ None → HasNoVerdict new → Shows (entries ++ new) (after_event same elect x e)
+  pub quiet_shows : (new : List (ArtifactFacts D)) (e : Event K D) → IsEvent x e → notarization_by e ≡ None → verdict_by e ≡ None → HasNoVerdict new → ShowsVerdicts (entries ++ new) (after_event same elect x e)
   quiet_shows new e takes no_notarization no_judgement silent =
       event_shows same elect x e (λ v token is. takes) entries (entries ++ new) (λ c is. absurd (cc)) (λ round given success h is. absurd (cc)) (λ a h. Contains-append_left entries new a h) (λ c is none. absurd (cc))
       (λ round success h. elim (Contains-append_cases entries new (Verdict round success) h) [ inl old ↦ inl old | inr late ↦ absurd (silent round success late) ]) tells.shows
 
-  pub quiet_told : (more : List (TraceEvent D)) (new : List (ArtifactFacts D)) (e : Event K D) → IsEvent x e → notarization_by e ≡ None → verdict_by e ≡ None → AreQuiet new → Tells (trace ++ more) (entries ++ new) (after_event same elect x e)
+  pub quiet_told : (more : List (TraceEvent D)) (new : List (ArtifactFacts D)) (e : Event K D) → IsEvent x e → notarization_by e ≡ None → verdict_by e ≡ None → AreQuiet new → TellsVerdicts (trace ++ more) (entries ++ new) (after_event same elect x e)
   quiet_told more new e takes no_notarization no_judgement quiet = record { own = own_quiet trace entries tells.own more new quiet; shows = quiet_shows new e takes no_notarization no_judgement (no_verdict new quiet) }
 
-  notarization_told : (more : List (TraceEvent D)) (c : ProposalFacts D) → takes_proposal_certificate x c ≡ true → Tells (trace ++ more) (entries ++ if_new (notarization_added same elect x c).0 (Accepted (Notarized c))) (after_add_notarization same elect x c)
+  notarization_told : (more : List (TraceEvent D)) (c : ProposalFacts D) → takes_proposal_certificate x c ≡ true → TellsVerdicts (trace ++ more) (entries ++ if_new (notarization_added same elect x c).0 (Accepted (Notarized c))) (after_add_notarization same elect x c)
   notarization_told more c takes =
       let is_new = (notarization_added same elect x c).0 in
       let entry : ArtifactFacts D = Accepted (Notarized c) in
@@ -85,7 +85,7 @@ module _ {K L D : Type 0} (same : D → D → Bool) (elect : Elect L) (trace : L
             (λ round success h. elim (Contains-append_cases entries (if_new is_new entry) (Verdict round success) h) [ inl old ↦ inl old | inr late ↦ absurd (no_verdict (if_new is_new entry) quiet round success late) ]) tells.shows;
       }
 
-  verdict_told : (more : List (TraceEvent D)) (v : ℕ) (success : Bool) (now : ℕ) → takes_verdict x v success ≡ true → Tells (trace ++ more) (entries ++ if_new (is_first_verdict x v) (Verdict (round_number x v) success)) (after_certified elect x v success now)
+  verdict_told : (more : List (TraceEvent D)) (v : ℕ) (success : Bool) (now : ℕ) → takes_verdict x v success ≡ true → TellsVerdicts (trace ++ more) (entries ++ if_new (is_first_verdict x v) (Verdict (round_number x v) success)) (after_certified elect x v success now)
   verdict_told more v success now takes = by_tracked (is_tracked x v) refl
     where
       entry : ArtifactFacts D
@@ -103,7 +103,7 @@ module _ {K L D : Type 0} (same : D → D → Bool) (elect : Elect L) (trace : L
       same_verdict_as : (round : Round) (given : Bool) → Contains (entry ∷ []) (Verdict round given) → (round_number x v ≡ round) × (success ≡ given)
       same_verdict_as round given h = let e = only_one entry (Verdict round given) h in (cc, cc)
 
-      shown : is_tracked x v ≡ true → (new : List (ArtifactFacts D)) → ((round : Round) (given : Bool) → Contains new (Verdict round given) → (round_number x v ≡ round) × (success ≡ given)) → Shows (entries ++ new) (after_certified elect x v success now)
+      shown : is_tracked x v ≡ true → (new : List (ArtifactFacts D)) → ((round : Round) (given : Bool) → Contains new (Verdict round given) → (round_number x v ≡ round) × (success ≡ given)) → ShowsVerdicts (entries ++ new) (after_certified elect x v success now)
       shown tracked new only =
           event_shows same elect x e (λ w token is. takes) entries (entries ++ new) (λ c is. absurd (cc))
           (λ round given other h says. (let pair : (v, success) ≡ (round.view, other) = cc in agree tracked round given h (ap (λ (p : ℕ × Bool). p.0) (sym pair)) ∙ ap (λ (p : ℕ × Bool). p.1) pair))
@@ -117,19 +117,19 @@ module _ {K L D : Type 0} (same : D → D → Bool) (elect : Elect L) (trace : L
                 (subst (λ b. is_judged b (round_of (after_certified elect x v success now) v).certification ≡ true) one.1 (verdict_stands same elect x v success now tracked)))
           ]) tells.shows
 
-      by_first : is_tracked x v ≡ true → (b : Bool) → Tells (trace ++ more) (entries ++ if_new b entry) (after_certified elect x v success now)
+      by_first : is_tracked x v ≡ true → (b : Bool) → TellsVerdicts (trace ++ more) (entries ++ if_new b entry) (after_certified elect x v success now)
       by_first tracked false = record { own = own_quiet trace entries tells.own more [] quiet_none; shows = shown tracked [] (λ round given h. absurd (omega (arith, h.1))) }
       by_first tracked true =
           let c = tells.shows.notarized v (taken_beside x v success tracked takes).0 in
           record { own = own_verdict trace entries tells.own more (round_number x v) success c (agree tracked); shows = shown tracked (entry ∷ []) same_verdict_as }
 
-      by_tracked : (b : Bool) → is_tracked x v ≡ b → Tells (trace ++ more) (entries ++ if_new (is_first_verdict x v) entry) (after_certified elect x v success now)
+      by_tracked : (b : Bool) → is_tracked x v ≡ b → TellsVerdicts (trace ++ more) (entries ++ if_new (is_first_verdict x v) entry) (after_certified elect x v success now)
       by_tracked true tracked = by_first tracked (is_first_verdict x v)
       by_tracked false untracked =
           let later = untracked_later x v success untracked in
           rw (later, untracked) (record { own = own_quiet trace entries tells.own more [] quiet_none; shows = shows_more entries [] (at_moment x now) (no_verdict [] quiet_none) (record { notarized = tells.shows.notarized; judged = tells.shows.judged }) })
 
-module _ {K L D : Type 0} (same : D → D → Bool) (elect : Elect L) (trace : List (TraceEvent D)) (entries : List (ArtifactFacts D)) (x : StateFacts K L D) (tells : Tells trace entries x) where
+module _ {K L D : Type 0} (same : D → D → Bool) (elect : Elect L) (trace : List (TraceEvent D)) (entries : List (ArtifactFacts D)) (x : StateFacts K L D) (tells : TellsVerdicts trace entries x) where
   quiet_nullify : (v : ℕ) → AreQuiet (unrepeated_vote (nullify_vote x v))
   quiet_nullify v = by_key x.me (nullify_answer x v)
     where
@@ -147,11 +147,11 @@ module _ {K L D : Type 0} (same : D → D → Bool) (elect : Elect L) (trace : L
       by_key (Some m) None = quiet_none
       by_key (Some m) (Some p) = quiet_newly true (FinalizeVote p m) refl
 
-  told : (more : List (TraceEvent D)) (new : List (ArtifactFacts D)) (e : Event K D) → IsEvent x e → notarization_by e ≡ None → verdict_by e ≡ None → AreQuiet new → Tells (trace ++ more) (entries ++ new) (after_event same elect x e)
+  told : (more : List (TraceEvent D)) (new : List (ArtifactFacts D)) (e : Event K D) → IsEvent x e → notarization_by e ≡ None → verdict_by e ≡ None → AreQuiet new → TellsVerdicts (trace ++ more) (entries ++ new) (after_event same elect x e)
   told = quiet_told same elect trace entries x tells
 
   -- each call that is allowed and not refused, and not on the work of a view
-  pub plain_told : (o : OutstandingWork K D) (call : CallFacts D) → is_work call ≡ false → is_allowed x o call ≡ true → Tells (trace ++ trace_of_call call (answer same elect x o call)) (entries ++ recorded_by same elect x call) (after_call same elect x o call)
+  pub plain_told : (o : OutstandingWork K D) (call : CallFacts D) → is_work call ≡ false → is_allowed x o call ≡ true → TellsVerdicts (trace ++ trace_of_call call (answer same elect x o call)) (entries ++ recorded_by same elect x call) (after_call same elect x o call)
   plain_told o (AddNotarization c) plain allowed = notarization_told same elect trace entries x tells _ c allowed
   plain_told o (AddNullification c now) plain allowed = told _ _ (event.AddNullification c now) allowed refl refl (quiet_newly (nullification_added x c) (Accepted (Nullified c)) refl)
   plain_told o (AddFinalization c now) plain allowed = told _ _ (event.AddFinalization c now) allowed refl refl (quiet_newly (finalization_added same elect x c).0 (Accepted (Finalized c)) refl)

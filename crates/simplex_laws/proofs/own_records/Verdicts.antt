@@ -23,7 +23,7 @@ use Rattle.simplex_record.proofs.Steps.{RoundStep, notarization_by, verdict_by}
 
 -- a notarization that is held stands in the record, and a verdict in the record stands in each view that is kept or holds its
 -- notarization
-pub record Shows {K L D : Type 0} (entries : List (ArtifactFacts D)) (x : StateFacts K L D) : Type 0 where
+pub record ShowsVerdicts {K L D : Type 0} (entries : List (ArtifactFacts D)) (x : StateFacts K L D) : Type 0 where
   pub notarized : (v : ℕ) → is_some (round_of x v).notarization ≡ true → (c : ProposalFacts D) × Contains entries (Accepted (Notarized c)) × (c.proposal.round.view ≡ v)
   pub judged : (round : Round) (success : Bool) → Contains entries (Verdict round success) → (min_active x ≤ round.view) ⊎ (is_some (round_of x round.view).notarization ≡ true) → is_judged success (round_of x round.view).certification ≡ true
 
@@ -70,7 +70,7 @@ module _ {K L D : Type 0} (same : D → D → Bool) (elect : Elect L) (x : State
   event_weighs = rounds_or_gone same elect x e 0 (Weighs e) weighs_on weighs (event_path same elect 0 x e (omega arith) (asked_of_all x e))
 
   -- a record that has the event's notarization, and whose new verdicts stand
-  pub event_shows : (entries more : List (ArtifactFacts D)) → ((c : ProposalFacts D) → notarization_by e ≡ Some c → min_active x ≤ c.proposal.round.view) → ((round : Round) (given success : Bool) → Contains entries (Verdict round given) → verdict_by e ≡ Some (round.view, success) → given ≡ success) → ((a : ArtifactFacts D) → Contains entries a → Contains more a) → ((c : ProposalFacts D) → notarization_by e ≡ Some c → is_some (round_of x c.proposal.round.view).notarization ≡ false → Contains more (Accepted (Notarized c))) → ((round : Round) (success : Bool) → Contains more (Verdict round success) → Contains entries (Verdict round success) ⊎ (is_judged success (round_of (after_event same elect x e) round.view).certification ≡ true)) → Shows entries x → Shows more (after_event same elect x e)
+  pub event_shows : (entries more : List (ArtifactFacts D)) → ((c : ProposalFacts D) → notarization_by e ≡ Some c → min_active x ≤ c.proposal.round.view) → ((round : Round) (given success : Bool) → Contains entries (Verdict round given) → verdict_by e ≡ Some (round.view, success) → given ≡ success) → ((a : ArtifactFacts D) → Contains entries a → Contains more a) → ((c : ProposalFacts D) → notarization_by e ≡ Some c → is_some (round_of x c.proposal.round.view).notarization ≡ false → Contains more (Accepted (Notarized c))) → ((round : Round) (success : Bool) → Contains more (Verdict round success) → Contains entries (Verdict round success) ⊎ (is_judged success (round_of (after_event same elect x e) round.view).certification ≡ true)) → ShowsVerdicts entries x → ShowsVerdicts more (after_event same elect x e)
   event_shows entries more kept agree keeps noted given shows = record { notarized = notarized; judged = judged }
     where
       y : StateFacts K L D

@@ -21,13 +21,13 @@ use Rattle.simplex_laws.proofs.records.CallsKeepRules.{silent_trace, silent_reco
 use Rattle.simplex_laws.proofs.records.TracesShown.{only_one}
 use Rattle.simplex_laws.proofs.own_records.Recorded.{HasNoVerdict, quiet_none, no_verdict, own_quiet, own_silent}
 use Rattle.simplex_laws.proofs.frames.CallsMake.{AreSilent, work_silent, call_by_event}
-use Rattle.simplex_laws.proofs.own_records.ShownVerdicts.{Tells, shows_more, quiet_shows, plain_told}
-use Rattle.simplex_laws.proofs.own_records.Verdicts.{Shows}
+use Rattle.simplex_laws.proofs.own_records.ShownVerdicts.{TellsVerdicts, shows_more, quiet_shows, plain_told}
+use Rattle.simplex_laws.proofs.own_records.Verdicts.{ShowsVerdicts}
 
-module _ {K L D : Type 0} (same : D → D → Bool) (elect : Elect L) (trace : List (TraceEvent D)) (entries : List (ArtifactFacts D)) (x : StateFacts K L D) (o : OutstandingWork K D) (tells : Tells trace entries x) where
+module _ {K L D : Type 0} (same : D → D → Bool) (elect : Elect L) (trace : List (TraceEvent D)) (entries : List (ArtifactFacts D)) (x : StateFacts K L D) (o : OutstandingWork K D) (tells : TellsVerdicts trace entries x) where
   -- what is shown after a call, whatever it records but a verdict
   abbrev pub Left : StateFacts K L D → Type 0
-  Left y = (new : List (ArtifactFacts D)) → HasNoVerdict new → Shows (entries ++ new) y
+  Left y = (new : List (ArtifactFacts D)) → HasNoVerdict new → ShowsVerdicts (entries ++ new) y
 
   work_left : (call : CallFacts D) → is_work call ≡ true → is_allowed x o call ≡ true → Left (after_call same elect x o call)
   work_left call work allowed =
@@ -35,16 +35,16 @@ module _ {K L D : Type 0} (same : D → D → Bool) (elect : Elect L) (trace : L
       (λ e takes none silent new nothing. quiet_shows same elect trace entries x tells new e takes silent.0.notarization silent.0.verdict nothing) call allowed (work_silent o call work)
 
   -- what a vote to notarize records is cast
-  notarize_told : (call : CallFacts D) (vote : Option (ArtifactFacts D)) → Left (after_call same elect x o call) → ((e : ArtifactFacts D) → vote ≡ Some e → (p : Proposal D) × (m : ℕ) × (e ≡ NotarizeVote p m)) → Tells (trace ++ signed_in {K = K} (Notarize vote)) (entries ++ vote_entry vote) (after_call same elect x o call)
+  notarize_told : (call : CallFacts D) (vote : Option (ArtifactFacts D)) → Left (after_call same elect x o call) → ((e : ArtifactFacts D) → vote ≡ Some e → (p : Proposal D) × (m : ℕ) × (e ≡ NotarizeVote p m)) → TellsVerdicts (trace ++ signed_in {K = K} (Notarize vote)) (entries ++ vote_entry vote) (after_call same elect x o call)
   notarize_told call None left is = record {
     own = own_quiet trace entries tells.own [] [] quiet_none;
     shows = left [] (no_verdict [] quiet_none);
   }
   notarize_told call (Some e) left is =
       let one = is e refl in
-      subst (λ f. Tells (trace ++ signed_in {K = K} (Notarize (Some f))) (entries ++ f ∷ []) (after_call same elect x o call)) (sym one.2) (recorded one.0 one.1)
+      subst (λ f. TellsVerdicts (trace ++ signed_in {K = K} (Notarize (Some f))) (entries ++ f ∷ []) (after_call same elect x o call)) (sym one.2) (recorded one.0 one.1)
     where
-      recorded : (p : Proposal D) (m : ℕ) → Tells (trace ++ Signs m (subject.Notarize p) ∷ []) (entries ++ NotarizeVote p m ∷ []) (after_call same elect x o call)
+      recorded : (p : Proposal D) (m : ℕ) → TellsVerdicts (trace ++ Signs m (subject.Notarize p) ∷ []) (entries ++ NotarizeVote p m ∷ []) (after_call same elect x o call)
       recorded p m =
           let new : List (ArtifactFacts D) = NotarizeVote p m ∷ [] in
           let silent : HasNoVerdict new = λ round success h. (let f = only_one (NotarizeVote p m) (Verdict round success) h in cc) in
@@ -65,7 +65,7 @@ module _ {K L D : Type 0} (same : D → D → Bool) (elect : Elect L) (trace : L
       by_key (Some m) (Some p) told = (p, m, sym (ap (λ f. unwrap_or f e) told))
 
   abbrev pub CallTells : CallFacts D → Type 0
-  CallTells call = Tells (trace ++ trace_of_call call (answer same elect x o call)) (entries ++ recorded_by same elect x call) (after_call same elect x o call)
+  CallTells call = TellsVerdicts (trace ++ trace_of_call call (answer same elect x o call)) (entries ++ recorded_by same elect x call) (after_call same elect x o call)
 
   -- each call that is allowed and not refused
   pub call_told : (call : CallFacts D) → is_allowed x o call ≡ true → CallTells call
@@ -74,8 +74,8 @@ module _ {K L D : Type 0} (same : D → D → Bool) (elect : Elect L) (trace : L
       by_silence : (w : CallFacts D) (b : Bool) → is_silent w ≡ b → is_work w ≡ true → Left (after_call same elect x o w) → CallTells w
       by_silence w true silent work left =
           let y = after_call same elect x o w in
-          subst (λ a. Tells (trace ++ a) (entries ++ recorded_by same elect x w) y) (sym (silent_trace same elect x o w silent))
-          (subst (λ es. Tells (trace ++ []) (entries ++ es) y) (sym (silent_record same elect x o w silent))
+          subst (λ a. TellsVerdicts (trace ++ a) (entries ++ recorded_by same elect x w) y) (sym (silent_trace same elect x o w silent))
+          (subst (λ es. TellsVerdicts (trace ++ []) (entries ++ es) y) (sym (silent_record same elect x o w silent))
           (record { own = own_quiet trace entries tells.own [] [] quiet_none; shows = left [] (no_verdict [] quiet_none) }))
       by_silence (ConstructNotarize v) false loud work left = notarize_told (ConstructNotarize v) (notarize_vote same elect x v) left (is_notarize v)
       by_silence _ false loud work left = absurd (cc)

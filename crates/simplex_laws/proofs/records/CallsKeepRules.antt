@@ -25,7 +25,7 @@ use Rattle.simplex_laws.proofs.frames.CallsMake.{AreSilent, work_silent, call_by
 use Rattle.simplex_laws.proofs.votes.ShownVotes.{ShowsVotesInLife}
 use Rattle.simplex_laws.proofs.votes.ShownVotesBySteps.{silent_suits, stays_on}
 use Rattle.simplex_laws.proofs.records.TracesShown.{only_one}
-use Rattle.simplex_laws.proofs.records.Remembering.{Grows, remembers_more, single_split}
+use Rattle.simplex_laws.proofs.records.Remembering.{RecordGrows, remembers_more, single_split}
 use Rattle.simplex_laws.proofs.records.EntryTraces.{notarize_cast_stays}
 use Rattle.simplex_laws.proofs.frames.InOrder.{order_call}
 use Rattle.simplex_laws.proofs.votes.NotarizeVotesShown.{NotesStand}
@@ -36,7 +36,7 @@ use Rattle.simplex_laws.proofs.votes.NotarizeVotes.{notarize_silent, notarize_to
 use Rattle.simplex_laws.proofs.records.NewLives.{Living, high_more, within_more, plain_lives}
 
 -- a vote to notarize is recorded
-grows_notarize : {D : Type 0} (trace : List (TraceEvent D)) (entries : List (ArtifactFacts D)) (p : Proposal D) (m : ℕ) → Grows trace (Signs m (subject.Notarize p) ∷ []) entries (NotarizeVote p m ∷ [])
+grows_notarize : {D : Type 0} (trace : List (TraceEvent D)) (entries : List (ArtifactFacts D)) (p : Proposal D) (m : ℕ) → RecordGrows trace (Signs m (subject.Notarize p) ∷ []) entries (NotarizeVote p m ∷ [])
 grows_notarize trace entries p m = record {
   accepted = λ c h. absurd (let e = only_one (NotarizeVote p m) (Accepted c) h in cc);
   nullify_cast = λ r n h. absurd (let e = only_one (NotarizeVote p m) (NullifyVote r n) h in cc);

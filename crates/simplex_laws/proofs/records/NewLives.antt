@@ -27,7 +27,7 @@ use Rattle.simplex_laws.proofs.votes.LifeCalls.{IsLawfulAndShown, call_keeps}
 use Rattle.simplex_laws.proofs.records.RecoveredVotes.{recovered_stays}
 use Rattle.simplex_laws.proofs.records.RecoveredRecords.{recovered_marked}
 use Rattle.simplex_laws.proofs.records.RecordedVotes.{Marked}
-use Rattle.simplex_laws.proofs.records.CallsRemembered.{Follows, call_follows}
+use Rattle.simplex_laws.proofs.records.CallsRemembered.{RemembersAndShows, call_follows}
 use Rattle.simplex_laws.proofs.records.CutsRemembered.{in_copy, in_record, copy_remembers, floor_remembers}
 use Rattle.simplex_laws.proofs.frames.InOrder.{InOrder, order_call, order_recovered}
 use Rattle.simplex_member.specs.OutstandingWork.{OutstandingWork, no_outstanding_work}
@@ -40,7 +40,7 @@ use Rattle.simplex_laws.proofs.records.Lifetimes.{IsHigh, Between, high_known}
 -- a living member: its state keeps the rules, and its record follows them
 pub record Living {K L D : Type 0} (term_length : ℕ) (trace : List (TraceEvent D)) (closed kept : ℕ) (entries : List (ArtifactFacts D)) (o : OutstandingWork K D) (x : StateFacts K L D) : Type 0 where
   pub keeps : IsLawfulAndShown term_length trace x
-  pub follows : Follows trace kept entries x
+  pub follows : RemembersAndShows trace kept entries x
   pub in_order : InOrder x
   pub notes : RemembersNotes trace kept entries
   pub noted : (base : ℕ) × (low : ℕ) × NotesStand base low trace o x

@@ -37,7 +37,7 @@ single_split (b ∷ []) after y x e = absurd (cc)
 single_split (b ∷ (c ∷ before)) after y x e = absurd (cc)
 
 -- what has to be known of new entries and events
-pub record Grows {D : Type 0} (trace more : List (TraceEvent D)) (entries new : List (ArtifactFacts D)) : Type 0 where
+pub record RecordGrows {D : Type 0} (trace more : List (TraceEvent D)) (entries new : List (ArtifactFacts D)) : Type 0 where
   pub accepted : (c : CertificateFacts D) → Contains new (Accepted c) → Contains (trace ++ more) (Accepts (subject_of c))
   pub nullify_cast : (round : Round) (m : ℕ) → Contains new (NullifyVote round m) → HasSigned (trace ++ more) (subject.Nullify round)
   pub finalize_cast : (p : Proposal D) (m : ℕ) → Contains new (FinalizeVote p m) → HasSigned (trace ++ more) (subject.Finalize p)
@@ -46,7 +46,7 @@ pub record Grows {D : Type 0} (trace more : List (TraceEvent D)) (entries new : 
   pub judged : (before after : List (ArtifactFacts D)) (p : Proposal D) (m : ℕ) → new ≡ before ++ FinalizeVote p m ∷ after → (round : Round) × Contains entries (Verdict round true) × (round.view ≡ p.round.view)
 
 module _ {D : Type 0} (trace : List (TraceEvent D)) (entries : List (ArtifactFacts D)) where
-  pub remembers_more : (kept : ℕ) (more : List (TraceEvent D)) (new : List (ArtifactFacts D)) → Grows trace more entries new → Remembers trace kept entries → Remembers (trace ++ more) kept (entries ++ new)
+  pub remembers_more : (kept : ℕ) (more : List (TraceEvent D)) (new : List (ArtifactFacts D)) → RecordGrows trace more entries new → Remembers trace kept entries → Remembers (trace ++ more) kept (entries ++ new)
   remembers_more kept more new grows remembers = record {
     accepted = λ c h. elim (Contains-append_cases entries new (Accepted c) h) [
       | inl old ↦ Contains-append_left trace more (Accepts (subject_of c)) (remembers.accepted c old)
@@ -87,7 +87,7 @@ module _ {D : Type 0} (trace : List (TraceEvent D)) (entries : List (ArtifactFac
   }
 
   -- no event and no entry
-  pub grows_nothing : Grows trace [] entries []
+  pub grows_nothing : RecordGrows trace [] entries []
   grows_nothing = record {
     accepted = λ c h. absurd (omega (arith, h.1));
     nullify_cast = λ round m h. absurd (omega (arith, h.1));
@@ -98,7 +98,7 @@ module _ {D : Type 0} (trace : List (TraceEvent D)) (entries : List (ArtifactFac
   }
 
   -- a verdict is no event of the trace
-  pub grows_verdict : (is_new : Bool) (round : Round) (success : Bool) → Grows trace [] entries (if_new is_new (Verdict round success))
+  pub grows_verdict : (is_new : Bool) (round : Round) (success : Bool) → RecordGrows trace [] entries (if_new is_new (Verdict round success))
   grows_verdict false round success = grows_nothing
   grows_verdict true round success = record {
     accepted = λ c h. absurd (let e = only_one (Verdict round success) (Accepted c) h in cc);
@@ -110,7 +110,7 @@ module _ {D : Type 0} (trace : List (TraceEvent D)) (entries : List (ArtifactFac
   }
 
   -- a certificate is accepted, whether it is recorded or not
-  pub grows_certificate : (is_new : Bool) (c : CertificateFacts D) → Grows trace (Accepts (subject_of c) ∷ []) entries (if_new is_new (Accepted c))
+  pub grows_certificate : (is_new : Bool) (c : CertificateFacts D) → RecordGrows trace (Accepts (subject_of c) ∷ []) entries (if_new is_new (Accepted c))
   grows_certificate false c = record {
     accepted = λ d h. absurd (omega (arith, h.1));
     nullify_cast = λ round m h. absurd (omega (arith, h.1));
@@ -132,7 +132,7 @@ module _ {D : Type 0} (trace : List (TraceEvent D)) (entries : List (ArtifactFac
   }
 
   -- a vote to nullify that was recorded before
-  pub grows_again : (round : Round) (m n : ℕ) → 1 ≤ round.view → Contains entries (NullifyVote round n) → Grows trace (Signs m (subject.Nullify round) ∷ []) entries []
+  pub grows_again : (round : Round) (m n : ℕ) → 1 ≤ round.view → Contains entries (NullifyVote round n) → RecordGrows trace (Signs m (subject.Nullify round) ∷ []) entries []
   grows_again round m n one there = record {
     accepted = λ d h. absurd (omega (arith, h.1));
     nullify_cast = λ r k h. absurd (omega (arith, h.1));
@@ -146,7 +146,7 @@ module _ {D : Type 0} (trace : List (TraceEvent D)) (entries : List (ArtifactFac
   }
 
   -- a vote to nullify that is recorded now
-  pub grows_nullify : (round : Round) (m : ℕ) → 1 ≤ round.view → Grows trace (Signs m (subject.Nullify round) ∷ []) entries (NullifyVote round m ∷ [])
+  pub grows_nullify : (round : Round) (m : ℕ) → 1 ≤ round.view → RecordGrows trace (Signs m (subject.Nullify round) ∷ []) entries (NullifyVote round m ∷ [])
   grows_nullify round m one = record {
     accepted = λ c h. absurd (let e = only_one (NullifyVote round m) (Accepted c) h in cc);
     nullify_cast = λ r n h.
@@ -163,7 +163,7 @@ module _ {D : Type 0} (trace : List (TraceEvent D)) (entries : List (ArtifactFac
   }
 
   -- a vote to finalize, of a view with a true verdict
-  pub grows_finalize : (p : Proposal D) (m : ℕ) (round : Round) → Contains entries (Verdict round true) → round.view ≡ p.round.view → Grows trace (Signs m (subject.Finalize p) ∷ []) entries (FinalizeVote p m ∷ [])
+  pub grows_finalize : (p : Proposal D) (m : ℕ) (round : Round) → Contains entries (Verdict round true) → round.view ≡ p.round.view → RecordGrows trace (Signs m (subject.Finalize p) ∷ []) entries (FinalizeVote p m ∷ [])
   grows_finalize p m round verdict at = record {
     accepted = λ c h. absurd (let e = only_one (FinalizeVote p m) (Accepted c) h in cc);
     nullify_cast = λ r n h. absurd (let e = only_one (FinalizeVote p m) (NullifyVote r n) h in cc);

@@ -38,8 +38,8 @@ view_with {D} v (Some d) e is =
 
 module _ {K L D : Type 0} (x : StateFacts K L D) (v : ℕ) (some : 0 < x.terms.term_length) where
   -- p lies below v, and each view between is covered
-  abbrev pub Reaches : ℕ → Type 0
-  Reaches p = (p < v) × IsGapless x p v
+  abbrev pub IsGaplessFrom : ℕ → Type 0
+  IsGaplessFrom p = (p < v) × IsGapless x p v
 
   gapless_so : (p : ℕ) → is_gapless x p v ≡ true → IsGapless x p v
   gapless_so p is = by_gap (first_unnullified_view x p v) refl (first_unnullified_view-is x p v some) is
@@ -48,7 +48,7 @@ module _ {K L D : Type 0} (x : StateFacts K L D) (v : ℕ) (some : 0 < x.terms.t
       by_gap None none found is = found
       by_gap (Some w) there found is = absurd (false≢true is)
 
-  next_reaches : 0 < v → Reaches (v - 1)
+  next_reaches : 0 < v → IsGaplessFrom (v - 1)
   next_reaches positive = (omega arith, λ w above below. absurd (omega arith))
 
   -- the highest explicit view below
@@ -71,11 +71,11 @@ module _ {K L D : Type 0} (x : StateFacts K L D) (v : ℕ) (some : 0 < x.terms.t
   genesis_below positive f is = let at = view_with 0 x.genesis f is in omega (arith, at)
 
 module _ {K L D : Type 0} (same : D → D → Bool) (decides : (d e : D) → same d e ≡ true → d ≡ e) (elect : Elect L) (x : StateFacts K L D) (v : ℕ) (some : 0 < x.terms.term_length) where
-  by_allowed : (p : ℕ) (d : D) → is_payload same (parent_payload_for same elect x v p) d ≡ true → Reaches x v some p
+  by_allowed : (p : ℕ) (d : D) → is_payload same (parent_payload_for same elect x v p) d ≡ true → IsGaplessFrom x v some p
   unfolding parent_payload_for has_valid_parent_span
   by_allowed p d is = by_test (has_valid_parent_span x v p && is_gapless x p v) refl is
     where
-      by_test : (b : Bool) → (has_valid_parent_span x v p && is_gapless x p v) ≡ b → is_payload same (if b then ancestry_payload_for_child same elect x v p else None) d ≡ true → Reaches x v some p
+      by_test : (b : Bool) → (has_valid_parent_span x v p && is_gapless x p v) ≡ b → is_payload same (if b then ancestry_payload_for_child same elect x v p else None) d ≡ true → IsGaplessFrom x v some p
       by_test true met found =
           let a = and_parts (has_valid_parent_span x v p) (is_gapless x p v) met in
           let b = and_parts (nat_lt p v && nat_le x.finalized p) (p + 1 == v || is_term_start x v) a.0 in
@@ -83,59 +83,59 @@ module _ {K L D : Type 0} (same : D → D → Bool) (decides : (d e : D) → sam
           (grind (arith, nat_tests, c.0), gapless_so x v some p a.1)
       by_test false met found = absurd (false≢true found)
 
-  at_before : 0 < v → (o : Option D) (found : ℕ × D) → at_view (v - 1) o ≡ Some found → Reaches x v some found.0
-  at_before positive o found is = subst (λ p. Reaches x v some p) (sym (view_with (v - 1) o found is)) (next_reaches x v some positive)
+  at_before : 0 < v → (o : Option D) (found : ℕ × D) → at_view (v - 1) o ≡ Some found → IsGaplessFrom x v some found.0
+  at_before positive o found is = subst (λ p. IsGaplessFrom x v some p) (sym (view_with (v - 1) o found is)) (next_reaches x v some positive)
 
-  handed : 0 < v → (found : ℕ × D) → handoff same elect x (v - 1) ≡ Some found → Reaches x v some found.0
+  handed : 0 < v → (found : ℕ × D) → handoff same elect x (v - 1) ≡ Some found → IsGaplessFrom x v some found.0
   handed positive found is = by_test (is_handoff_parent elect x (v - 1)) is
     where
-      by_test : (b : Bool) → (if b then at_view (v - 1) (optimistic_ancestry_payload same elect x (v - 1)) else None) ≡ Some found → Reaches x v some found.0
+      by_test : (b : Bool) → (if b then at_view (v - 1) (optimistic_ancestry_payload same elect x (v - 1)) else None) ≡ Some found → IsGaplessFrom x v some found.0
       by_test true is = at_before positive (optimistic_ancestry_payload same elect x (v - 1)) found is
       by_test false is = absurd (false≢true (ap is_some is))
 
-  by_preferred : 0 < v → (found : ℕ × D) → find_parent same elect x v ≡ Some found → Reaches x v some found.0
+  by_preferred : 0 < v → (found : ℕ × D) → find_parent same elect x v ≡ Some found → IsGaplessFrom x v some found.0
   unfolding find_parent
   by_preferred positive found is = by_start (is_term_start x v) is
     where
-      over : (o : Option (ℕ × D)) → highest_explicit x v ≡ o → option_and_then (λ top. if is_gapless x top.0 v then Some top else handoff same elect x (v - 1)) o ≡ Some found → Reaches x v some found.0
+      over : (o : Option (ℕ × D)) → highest_explicit x v ≡ o → option_and_then (λ top. if is_gapless x top.0 v then Some top else handoff same elect x (v - 1)) o ≡ Some found → IsGaplessFrom x v some found.0
       over None none e = absurd (false≢true (ap is_some e))
       over (Some top) there e = by_gap (is_gapless x top.0 v) refl e
         where
-          by_gap : (b : Bool) → is_gapless x top.0 v ≡ b → (if b then Some top else handoff same elect x (v - 1)) ≡ Some found → Reaches x v some found.0
-          by_gap true closed e' = (let one : top ≡ found = ap (λ o. unwrap_or o found) e' in subst (λ (k : ℕ × D). Reaches x v some k.0) one (last_below x v some x.rounds (at_view 0 x.genesis) (genesis_below x v some positive) top there, gapless_so x v some top.0 closed))
+          by_gap : (b : Bool) → is_gapless x top.0 v ≡ b → (if b then Some top else handoff same elect x (v - 1)) ≡ Some found → IsGaplessFrom x v some found.0
+          by_gap true closed e' = (let one : top ≡ found = ap (λ o. unwrap_or o found) e' in subst (λ (k : ℕ × D). IsGaplessFrom x v some k.0) one (last_below x v some x.rounds (at_view 0 x.genesis) (genesis_below x v some positive) top there, gapless_so x v some top.0 closed))
           by_gap false gap e' = handed positive found e'
 
-      by_start : (b : Bool) → (if b then preferred_at_start same elect x v else at_view (v - 1) (ancestry_payload_for_child same elect x v (v - 1))) ≡ Some found → Reaches x v some found.0
+      by_start : (b : Bool) → (if b then preferred_at_start same elect x v else at_view (v - 1) (ancestry_payload_for_child same elect x v (v - 1))) ≡ Some found → IsGaplessFrom x v some found.0
       by_start true e = over (highest_explicit x v) refl e
       by_start false e = at_before positive (ancestry_payload_for_child same elect x v (v - 1)) found e
 
-  by_parent : 0 < v → (o : Option (ℕ × D)) → find_parent same elect x v ≡ o → (p : ℕ) (d : D) → is_parent same o p d ≡ true → Reaches x v some p
+  by_parent : 0 < v → (o : Option (ℕ × D)) → find_parent same elect x v ≡ o → (p : ℕ) (d : D) → is_parent same o p d ≡ true → IsGaplessFrom x v some p
   by_parent positive None none p d is = absurd (false≢true is)
   by_parent positive (Some found) there p d is =
       let first = (and_parts (found.0 == p) (same found.1 d) is).0 in
-      subst (λ q. Reaches x v some q) (eqb-true found.0 p first) (by_preferred positive found there)
+      subst (λ q. IsGaplessFrom x v some q) (eqb-true found.0 p first) (by_preferred positive found there)
 
   -- a bound proposal that matches
-  pub bound_reaches : 0 < v → verification_matches same elect x v ≡ true → (p : Proposal D) (d : D) → (round_of x v).slot.held ≡ Some p → (round_of x v).binding ≡ Some (p, d) → Reaches x v some p.parent
+  pub bound_reaches : 0 < v → verification_matches same elect x v ≡ true → (p : Proposal D) (d : D) → (round_of x v).slot.held ≡ Some p → (round_of x v).binding ≡ Some (p, d) → IsGaplessFrom x v some p.parent
   unfolding verification_matches
   bound_reaches positive matches p d holds bound = by_round (round_at x v) refl matches holds bound
     where
-      stands : (r : RoundFacts K D) (q : Option (Proposal D)) → q ≡ Some p → option_map_or (λ h. same_proposal same h p && (is_payload same (parent_payload_for same elect x v h.parent) d || (leads x r && is_parent same (find_parent same elect x v) h.parent d))) q false ≡ true → Reaches x v some p.parent
+      stands : (r : RoundFacts K D) (q : Option (Proposal D)) → q ≡ Some p → option_map_or (λ h. same_proposal same h p && (is_payload same (parent_payload_for same elect x v h.parent) d || (leads x r && is_parent same (find_parent same elect x v) h.parent d))) q false ≡ true → IsGaplessFrom x v some p.parent
       stands r None none is = absurd (false≢true is)
       stands r (Some h) here is =
           let one : h ≡ p = ap (λ o. unwrap_or o p) here in
           let parts = and_parts (same_proposal same h p) (is_payload same (parent_payload_for same elect x v h.parent) d || (leads x r && is_parent same (find_parent same elect x v) h.parent d)) is in
-          subst (λ (k : Proposal D). Reaches x v some k.parent) one (elim (either _ _ parts.1) [
+          subst (λ (k : Proposal D). IsGaplessFrom x v some k.parent) one (elim (either _ _ parts.1) [
             | inl allowed ↦ by_allowed h.parent d allowed
             | inr preferred ↦ by_parent positive (find_parent same elect x v) refl h.parent d (and_parts (leads x r) _ preferred).1
           ])
 
-      by_binding : (r : RoundFacts K D) (b : Option (Proposal D × D)) → b ≡ Some (p, d) → r.slot.held ≡ Some p → option_map_or (holds_binding same elect x v r) b true ≡ true → Reaches x v some p.parent
+      by_binding : (r : RoundFacts K D) (b : Option (Proposal D × D)) → b ≡ Some (p, d) → r.slot.held ≡ Some p → option_map_or (holds_binding same elect x v r) b true ≡ true → IsGaplessFrom x v some p.parent
       by_binding r None none holds is = absurd (false≢true (ap is_some none))
       by_binding r (Some b) here holds is =
           let one : b ≡ (p, d) = ap (λ o. unwrap_or o (p, d)) here in
           stands r r.slot.held holds (subst (λ (c : Proposal D × D). holds_binding same elect x v r c ≡ true) one is)
 
-      by_round : (o : Option (RoundFacts K D)) → round_at x v ≡ o → option_map_or (λ r. option_map_or (holds_binding same elect x v r) r.binding true) o true ≡ true → (unwrap_or o (new_round x.me x.members (round_number x v))).slot.held ≡ Some p → (unwrap_or o (new_round x.me x.members (round_number x v))).binding ≡ Some (p, d) → Reaches x v some p.parent
+      by_round : (o : Option (RoundFacts K D)) → round_at x v ≡ o → option_map_or (λ r. option_map_or (holds_binding same elect x v r) r.binding true) o true ≡ true → (unwrap_or o (new_round x.me x.members (round_number x v))).slot.held ≡ Some p → (unwrap_or o (new_round x.me x.members (round_number x v))).binding ≡ Some (p, d) → IsGaplessFrom x v some p.parent
       by_round None none is holds bound = absurd (false≢true (ap is_some holds))
       by_round (Some r) there is holds bound = by_binding r r.binding bound holds is

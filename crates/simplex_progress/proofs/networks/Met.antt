@@ -30,9 +30,9 @@ use Rattle.simplex_progress.specs.Reaching.{IsIn, HasFinalized, HasCertified, Is
 use Rattle.simplex_progress.specs.Standing.{StandsBefore}
 use Rattle.simplex_progress.proofs.networks.Chosen.{HighestCurrent, highest_current}
 use Rattle.simplex_progress.proofs.networks.Covers.{Skips, Covered, covered}
-use Rattle.simplex_progress.proofs.networks.Followed.{Follows, all_follow, replicas_follow, same_many, was_there, backed_still}
+use Rattle.simplex_progress.proofs.networks.Followed.{ReplicasFollow, all_follow, replicas_follow, same_many, was_there, backed_still}
 use Rattle.simplex_progress.proofs.networks.Tops.{Highest, either_highest, over_honest, finalized_highest, certified_highest}
-use Rattle.simplex_progress.proofs.runs.Coming.{Comes, Came, Fits, hand_all, stays_there, takes_final, takes_certified}
+use Rattle.simplex_progress.proofs.runs.Coming.{Comes, Came, SkipsUpTo, hand_all, stays_there, takes_final, takes_certified}
 use Rattle.simplex_progress.proofs.runs.Ends.{Shown, end_shown}
 use Rattle.simplex_progress.proofs.runs.Explicit.{came_stands, explicit_passed}
 use Rattle.simplex_progress.proofs.runs.Led.{Led}
@@ -234,7 +234,7 @@ module _ {K L D : Type 0} (same : D → D → Bool) (decides : (d e : D) → sam
       known = λ r none. absurd none;
     }
 
-    fits : (r : Round) → Contains road.rounds r → Fits Q term_length epoch view start x.finalized r
+    fits : (r : Round) → Contains road.rounds r → SkipsUpTo Q term_length epoch view start x.finalized r
     fits r h =
         let skips = road.each r h in
         let next = next_above term_length r.view some skips.some in
@@ -325,7 +325,7 @@ module _ {K L D : Type 0} (same : D → D → Bool) (decides : (d e : D) → sam
 
   -- the network
 
-  pub following : (later : List (Replica K L D)) × Follows Joins 0 network later
+  pub following : (later : List (Replica K L D)) × ReplicasFollow Joins 0 network later
   following = all_follow Joins 0 network (λ i j s at is. (let here : i ≡ j = omega (arith, is) in joins j s (subst (λ n. slice_get network n ≡ Some (Honest s)) here at)))
 
   abbrev later : List (Replica K L D)

@@ -17,7 +17,7 @@ use Rattle.simplex_laws.specs.Replicas.{Replica, Honest, faults, max_faults, quo
 use Rattle.simplex_laws.specs.Executions.{Execution, trace_of, IsExecution}
 use Rattle.simplex_laws.proofs.lists.Splits.{Contains-cases, Contains-cons_rest}
 use Rattle.simplex_progress.specs.Soon.{IsExchange, Exchanges}
-use Rattle.simplex_progress.proofs.networks.Followed.{quorum_fits, honest_enough, Follows, follows_so, one_further, replicas_follow, same_many, was_there, is_there}
+use Rattle.simplex_progress.proofs.networks.Followed.{quorum_fits, honest_enough, ReplicasFollow, follows_so, one_further, replicas_follow, same_many, was_there, is_there}
 use Rattle.simplex_progress.proofs.networks.Replicas.{map_joined, execution_joined}
 use Rattle.simplex_progress.proofs.runs.Onward.{and_calls, calls_go_on, calls_run, calls_ran, calls_trace}
 use Rattle.simplex_progress.proofs.states.Sequences.{Sequence, parted, calls_in, whole_trace, calls_joined, traces_together}
@@ -54,13 +54,13 @@ module _ {D : Type 0} where
 
 module _ {D : Type 0} (leader : ℕ) (p : Proposal D) where
   -- what is accepted in a part was signed by each before it, and a proposal that is handed in was built before
-  pub record Fits (done : ℕ → List (TraceEvent D)) (calls : ℕ → List (CallFacts D)) (part : Part D) : Type 0 where
+  pub record PartFits (done : ℕ → List (TraceEvent D)) (calls : ℕ → List (CallFacts D)) (part : Part D) : Type 0 where
     pub signed : (i : ℕ) (c : Subject D) → Contains (whole_trace (part i)) (Accepts c) → (j : ℕ) → Contains (done j) (Signs j c)
     pub built : (i v : ℕ) (o : Proposal D) → Contains (calls_in (part i)) (SetProposal v o) → (o ≡ p) × Contains (calls leader) (Proposed p.round.view p.payload 0) × Contains (done leader) (Signs leader (Notarize p))
 
   abbrev pub IsPlan : (ℕ → List (TraceEvent D)) → (ℕ → List (CallFacts D)) → List (Part D) → Type 0
   IsPlan done calls [] = Unit {0}
-  IsPlan done calls (part ∷ rest) = Fits done calls part × IsPlan (λ i. done i ++ whole_trace (part i)) (λ i. calls i ++ calls_in (part i)) rest
+  IsPlan done calls (part ∷ rest) = PartFits done calls part × IsPlan (λ i. done i ++ whole_trace (part i)) (λ i. calls i ++ calls_in (part i)) rest
 
 module _ {K L D : Type 0} (same : D → D → Bool) (elect : Elect L) (term_length : ℕ) where
   -- a member went on by these calls, with this trace, and may go on by this sequence
@@ -111,7 +111,7 @@ module _ {K L D : Type 0} (same : D → D → Bool) (elect : Elect L) (term_leng
   }
 
   module _ (leader : ℕ) (p : Proposal D) (base : List (Replica K L D)) (few : faults base ≤ max_faults (length base)) (leads : (s : Execution K L D) × (slice_get base leader ≡ Some (Honest s))) where
-    one_exchange : (done : ℕ → List (TraceEvent D)) (calls : ℕ → List (CallFacts D)) (rest : ℕ → List (CallFacts D × List (TraceEvent D))) (part : Part D) (now then_on : List (Replica K L D)) → Follows (Along done calls rest) 0 base now → Follows (Adds part) 0 now then_on → Fits leader p done calls part → IsExchange now then_on
+    one_exchange : (done : ℕ → List (TraceEvent D)) (calls : ℕ → List (CallFacts D)) (rest : ℕ → List (CallFacts D × List (TraceEvent D))) (part : Part D) (now then_on : List (Replica K L D)) → ReplicasFollow (Along done calls rest) 0 base now → ReplicasFollow (Adds part) 0 now then_on → PartFits leader p done calls part → IsExchange now then_on
     one_exchange done calls rest part now then_on f g fits = record {
       goes_on = replicas_follow (Adds part) (λ i t u a. a.goes_on) 0 now then_on g;
       certificates = λ i u at c h.
@@ -153,8 +153,8 @@ module _ {K L D : Type 0} (same : D → D → Bool) (elect : Elect L) (term_leng
             )
 
     -- all parts, one exchange for each
-    pub plan_done : (plan : List (Part D)) (done : ℕ → List (TraceEvent D)) (calls : ℕ → List (CallFacts D)) → IsPlan leader p done calls plan → (now : List (Replica K L D)) → Follows (Along done calls (at_member plan)) 0 base now
-        → (later : List (Replica K L D)) × Exchanges (parts_of plan) now later × Follows (Along (λ i. done i ++ whole_trace (at_member plan i)) (λ i. calls i ++ calls_in (at_member plan i)) (λ i. [])) 0 base later
+    pub plan_done : (plan : List (Part D)) (done : ℕ → List (TraceEvent D)) (calls : ℕ → List (CallFacts D)) → IsPlan leader p done calls plan → (now : List (Replica K L D)) → ReplicasFollow (Along done calls (at_member plan)) 0 base now
+        → (later : List (Replica K L D)) × Exchanges (parts_of plan) now later × ReplicasFollow (Along (λ i. done i ++ whole_trace (at_member plan i)) (λ i. calls i ++ calls_in (at_member plan i)) (λ i. [])) 0 base later
     plan_done [] done calls plan now f =
         (now, refl, follows_so (Along done calls (λ i. [])) (Along (λ i. done i ++ []) (λ i. calls i ++ []) (λ i. [])) (along_same done (λ i. done i ++ []) calls (λ i. calls i ++ []) (λ i. []) (λ i. sym (append-nil (done i))) (λ i. sym (append-nil (calls i)))) 0 base now f)
     plan_done (part ∷ rest) done calls plan now f =

@@ -11,7 +11,7 @@ use Rattle.simplex_member.specs.Calls.{CallFacts, SetProposal, Proposed}
 use Rattle.simplex_laws.specs.Traces.{TraceEvent, Accepts, Signs}
 use Rattle.simplex_laws.proofs.lists.Splits.{Contains-cases}
 use Rattle.simplex_laws.proofs.records.TracesShown.{only_one}
-use Rattle.simplex_progress.proofs.networks.Parts.{Part, at_member, parts_of, Fits, IsPlan}
+use Rattle.simplex_progress.proofs.networks.Parts.{Part, at_member, parts_of, PartFits, IsPlan}
 use Rattle.simplex_progress.specs.Standing.{proposal_in}
 use Rattle.simplex_progress.proofs.runs.Members.{one_has}
 use Rattle.simplex_progress.proofs.runs.Starts.{replica_of}
@@ -78,7 +78,7 @@ module _ {D : Type 0} (epoch length leader start parent : ℕ) (payload q : D) w
   only_signs i vote c h = let e = only_one _ _ h in cc
 
   -- the first part of the last view
-  first_fits : (view : ℕ) (done : ℕ → List (TraceEvent D)) (calls : ℕ → List (CallFacts D)) → ((j : ℕ) → Contains (done j) (Signs j (gives view))) → Fits leader p done calls (λ i. skips_now epoch length view ∷ builds_first i)
+  first_fits : (view : ℕ) (done : ℕ → List (TraceEvent D)) (calls : ℕ → List (CallFacts D)) → ((j : ℕ) → Contains (done j) (Signs j (gives view))) → PartFits leader p done calls (λ i. skips_now epoch length view ∷ builds_first i)
   first_fits view done calls signed = record {
     signed = λ i c h j. accepts_it view i j done (whole_trace (builds_first i)) c (signed j) (none_accepted i c) h;
     built = λ i v o h. absurd (none_heard i v o h);
@@ -107,7 +107,7 @@ module _ {D : Type 0} (epoch length leader start parent : ℕ) (payload q : D) w
   follower_votes : (j : ℕ) → (j ≡ leader → ⊥) → Contains (whole_trace (verifies_then j)) (Signs j (Notarize p))
   follower_votes j other = subst (λ b. Contains (whole_trace (if b then [] else verifies_now (replica j) q [] [])) (Signs j (Notarize p))) (sym (ne_eqb j leader other)) (0, omega arith, refl)
 
-  second_fits : (view : ℕ) (done : ℕ → List (TraceEvent D)) (calls : ℕ → List (CallFacts D)) → Fits leader p (λ i. done i ++ whole_trace (skips_now epoch length view ∷ builds_first i)) (λ i. calls i ++ calls_in (skips_now epoch length view ∷ builds_first i)) verifies_then
+  second_fits : (view : ℕ) (done : ℕ → List (TraceEvent D)) (calls : ℕ → List (CallFacts D)) → PartFits leader p (λ i. done i ++ whole_trace (skips_now epoch length view ∷ builds_first i)) (λ i. calls i ++ calls_in (skips_now epoch length view ∷ builds_first i)) verifies_then
   second_fits view done calls = record { signed = λ i c h j. absurd (none_accepted i c h); built = built_before }
     where
       none_accepted : (i : ℕ) (c : Subject D) → Contains (whole_trace (verifies_then i)) (Accepts c) → ⊥
@@ -138,7 +138,7 @@ module _ {D : Type 0} (epoch length leader start parent : ℕ) (payload q : D) w
     | inr other ↦ Contains-append_right (done j ++ whole_trace (skips_now epoch length view ∷ builds_first j)) (whole_trace (verifies_then j)) (Signs j (Notarize p)) (follower_votes j other)
   ]
 
-  third_fits : (done : ℕ → List (TraceEvent D)) (calls : ℕ → List (CallFacts D)) → ((j : ℕ) → Contains (done j) (Signs j (Notarize p))) → Fits leader p done calls certifies_then
+  third_fits : (done : ℕ → List (TraceEvent D)) (calls : ℕ → List (CallFacts D)) → ((j : ℕ) → Contains (done j) (Signs j (Notarize p))) → PartFits leader p done calls certifies_then
   third_fits done calls voted = record {
     signed = λ i c h j. elim (Contains-cases (Accepts (Notarize p)) (Signs i (Finalize p) ∷ []) (Accepts c) h) [
       | inl here ↦ (let one : Notarize p ≡ c = cc in subst (λ d. Contains (done j) (Signs j d)) one (voted j))
@@ -147,7 +147,7 @@ module _ {D : Type 0} (epoch length leader start parent : ℕ) (payload q : D) w
     built = λ i v o h. absurd (one_has (IsOther v o) (calls_in (certifies_then i)) (SetProposal v o) ((λ e. cc), ((λ e. cc), ((λ e. cc), tt))) h refl);
   }
 
-  fourth_fits : (done : ℕ → List (TraceEvent D)) (calls : ℕ → List (CallFacts D)) → ((j : ℕ) → Contains (done j) (Signs j (Finalize p))) → Fits leader p done calls finalizes_then
+  fourth_fits : (done : ℕ → List (TraceEvent D)) (calls : ℕ → List (CallFacts D)) → ((j : ℕ) → Contains (done j) (Signs j (Finalize p))) → PartFits leader p done calls finalizes_then
   fourth_fits done calls voted = record {
     signed = λ i c h j. (let e = only_one _ _ h in let one : Finalize p ≡ c = cc in subst (λ d. Contains (done j) (Signs j d)) one (voted j));
     built = λ i v o h. absurd (one_has (IsOther v o) (calls_in (finalizes_then i)) (SetProposal v o) ((λ e. cc), tt) h refl);

@@ -22,7 +22,7 @@ use Rattle.simplex_progress.specs.Living.{IsSetUpAs, LivesWith, EachLives}
 use Rattle.simplex_progress.specs.Soon.{IsExchange, Exchanges, IsFinalizedSoon}
 use Rattle.simplex_progress.specs.Standing.{StandsBefore, proposal_in}
 use Rattle.simplex_progress.specs.Together.{terms_on}
-use Rattle.simplex_progress.proofs.networks.Followed.{Follows, all_follow, follows_so, replicas_follow, was_there}
+use Rattle.simplex_progress.proofs.networks.Followed.{ReplicasFollow, all_follow, follows_so, replicas_follow, was_there}
 use Rattle.simplex_progress.proofs.networks.Going.{terms_to}
 use Rattle.simplex_progress.proofs.networks.Joined.{joined}
 use Rattle.simplex_progress.proofs.networks.Replicas.{replicas_same, replicas_joined, same_length, same_faults, honest_still}
@@ -95,13 +95,13 @@ module _ {K L D : Type 0} (same : D → D → Bool) (decides : (d e : D) → sam
         },
       )
 
-  pub all_gave : (given : List (Replica K L D)) × Follows Gave 0 network given
+  pub all_gave : (given : List (Replica K L D)) × ReplicasFollow Gave 0 network given
   all_gave = all_follow Gave 0 network (λ i j s at is. (let here : i ≡ j = omega (arith, is) in gives j s (subst (λ n. slice_get network n ≡ Some (Honest s)) here at)))
 
   abbrev End : ℕ → Execution K L D → Execution K L D → Type 0
   End = Along same elect term_length (λ i. whole_trace (first i ∷ []) ++ whole_trace (at_member plan i)) (λ i. calls_in (first i ∷ []) ++ calls_in (at_member plan i)) (λ i. [])
 
-  pub rest_done : (later : List (Replica K L D)) × Exchanges (parts_of plan) all_gave.0 later × Follows End 0 network later
+  pub rest_done : (later : List (Replica K L D)) × Exchanges (parts_of plan) all_gave.0 later × ReplicasFollow End 0 network later
   rest_done = plan_done same elect term_length leader p network few leads plan (λ i. whole_trace (first i ∷ [])) (λ i. calls_in (first i ∷ []))
       (plan_fits epoch term_length leader start parent q q terms view (λ i. whole_trace (first i ∷ [])) (λ i. calls_in (first i ∷ [])) (λ j. (0, omega arith, refl))) all_gave.0 all_gave.1
 
@@ -198,7 +198,7 @@ module _ {K L D : Type 0} (same : D → D → Bool) (decides : (d e : D) → sam
   abbrev Gives : ℕ → Execution K L D → Execution K L D → Type 0
   Gives = Gave same decides reflexive elect term_length epoch leader met.parent met.view start terms elector q met.later met.meets.runs few far may.is_term_start may.small may.elected leads met.meets.stands
 
-  abbrev given : (given : List (Replica K L D)) × Follows Gives 0 met.later given
+  abbrev given : (given : List (Replica K L D)) × ReplicasFollow Gives 0 met.later given
   given = all_gave same decides reflexive elect term_length epoch leader met.parent met.view start terms elector q met.later met.meets.runs few far may.is_term_start may.small may.elected leads met.meets.stands
 
   first_exchange : IsExchange network given.0

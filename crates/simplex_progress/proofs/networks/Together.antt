@@ -12,7 +12,7 @@ use Rattle.simplex_laws.specs.Traces.{TraceEvent, Accepts, Signs}
 use Rattle.simplex_laws.specs.Replicas.{Replica as Member, Honest, faults, max_faults, quorum, FewFaulty, AtLeastFrom, MayHaveSigned, Backed, IsNetworkOf}
 use Rattle.simplex_laws.specs.Executions.{Execution, trace_of, IsExecution}
 use Rattle.simplex_progress.proofs.networks.Replicas.{alone_backed}
-use Rattle.simplex_progress.proofs.networks.Followed.{quorum_fits, honest_enough, Follows, all_follow, replicas_follow, same_many, was_there, is_there, backed_still}
+use Rattle.simplex_progress.proofs.networks.Followed.{quorum_fits, honest_enough, ReplicasFollow, all_follow, replicas_follow, same_many, was_there, is_there, backed_still}
 
 -- they finalize the proposal, and each of them votes for each certificate that one accepts
 pub record AreEnough {D : Type 0} (p : Proposal D) (done : ℕ → List (TraceEvent D)) : Type 0 where
@@ -36,7 +36,7 @@ module _ {K L D : Type 0} (same : D → D → Bool) (elect : Elect L) (term_leng
     (good : IsNetworkOf same elect term_length network)
     (few : faults network ≤ max_faults (length network))
     (leads : (s : Execution K L D) × (slice_get network leader ≡ Some (Honest s)))
-    (later : List (Member K L D)) (following : Follows (ContinuesBy same elect term_length leader p done) 0 network later)
+    (later : List (Member K L D)) (following : ReplicasFollow (ContinuesBy same elect term_length leader p done) 0 network later)
     (all_below : (o : Proposal D) → Backed network (Finalize o) → o.round.view < p.round.view) where
   abbrev pub Q : ℕ → Execution K L D → Execution K L D → Type 0
   Q = ContinuesBy same elect term_length leader p done
@@ -117,7 +117,7 @@ module _ {K L D : Type 0} (same : D → D → Bool) (elect : Elect L) (term_leng
     (leads : (s : Execution K L D) × (slice_get network leader ≡ Some (Honest s)))
     (goes : (i : ℕ) (s : Execution K L D) → slice_get network i ≡ Some (Honest s) → (t : Execution K L D) × ContinuesBy same elect term_length leader p done i s t)
     (all_below : (o : Proposal D) → Backed network (Finalize o) → o.round.view < p.round.view) where
-  pub all_going : (later : List (Member K L D)) × Follows (ContinuesBy same elect term_length leader p done) 0 network later
+  pub all_going : (later : List (Member K L D)) × ReplicasFollow (ContinuesBy same elect term_length leader p done) 0 network later
   all_going = all_follow (ContinuesBy same elect term_length leader p done) 0 network go
     where
       go : (i j : ℕ) (s : Execution K L D) → slice_get network i ≡ Some (Honest s) → j ≡ 0 + i → (t : Execution K L D) × ContinuesBy same elect term_length leader p done j s t

@@ -22,13 +22,13 @@ use Rattle.simplex_laws.specs.OwnWork.{first_certificate_by, hears, owns}
 use Rattle.simplex_laws.specs.Shows.{verdict_of}
 use Rattle.simplex_laws.specs.HistoryFolds.{or_new, notarizes, finalizes, verdict_of_event, entered_by, finalized_by_event, sets_genesis, is_prune}
 use Rattle.simplex_laws.proofs.frames.EachRound.{pruned_view, prune_alone}
-use Rattle.simplex_laws.proofs.histories.Following.{Follows, left_from}
+use Rattle.simplex_laws.proofs.histories.Following.{FollowsEvent, left_from}
 use Rattle.simplex_laws.proofs.histories.FollowingReplays.{event_follows}
 use Rattle.simplex_progress.specs.Reaching.{IsIn, IsLedTo, First, PastFinalized, PastCertified, PastNullified, HasJudged}
 
 module _ {K L D : Type 0} (epoch : ℕ) (trace : List (TraceEvent D)) (verdicts : List (Bool × Proposal D)) (x : StateFacts K L D) where
   -- what an event brings was accepted or certified
-  pub record Brings (e : Event K D) : Type 0 where
+  pub record BringsAccepted (e : Event K D) : Type 0 where
     pub notarized : (c : ProposalFacts D) → notarization_by e ≡ Some c → Contains trace (Accepts (subject.Notarize c.proposal))
     pub nullified : (c : NullificationFacts) → nullification_by e ≡ Some c → Contains trace (Accepts (subject.Nullify c.round))
     pub finalized : (c : ProposalFacts D) → finalization_by e ≡ Some c → Contains trace (Accepts (subject.Finalize c.proposal))
@@ -42,7 +42,7 @@ module _ {K L D : Type 0} (epoch : ℕ) (trace : List (TraceEvent D)) (verdicts 
     pub held : (v : ℕ) → (is_some (round_of x v).notarization || is_some (round_of x v).finalization) ≡ true → is_some (round_of x v).slot.held ≡ true
 
   -- an event that brings nothing
-  pub brings_nothing : (e : Event K D) → notarization_by e ≡ None → nullification_by e ≡ None → finalization_by e ≡ None → ((v : ℕ) → verdict_of_event (is_tracked x) v e ≡ None) → Brings e
+  pub brings_nothing : (e : Event K D) → notarization_by e ≡ None → nullification_by e ≡ None → finalization_by e ≡ None → ((v : ℕ) → verdict_of_event (is_tracked x) v e ≡ None) → BringsAccepted e
   brings_nothing e notarization nullification finalization verdict = record {
     notarized = λ c is. absurd (cc);
     nullified = λ c is. absurd (cc);
@@ -131,11 +131,11 @@ module _ {K L D : Type 0} (x : StateFacts K L D) where
   first_held v (event.SetFloor (Finalized c) now) no_notarization no_finalization is = settles v c no_finalization (v == c.proposal.round.view) refl is
   first_held v _ no_notarization no_finalization is = absurd (false≢true is)
 
-module _ {K L D : Type 0} (same : D → D → Bool) (decides : (d e : D) → same d e ≡ true → d ≡ e) (elect : Elect L) (trace : List (TraceEvent D)) (verdicts : List (Bool × Proposal D)) (x : StateFacts K L D) (e : Event K D) (allowed : IsEvent x e) (brings : Brings x.settings.epoch trace verdicts x e) where
+module _ {K L D : Type 0} (same : D → D → Bool) (decides : (d e : D) → same d e ≡ true → d ≡ e) (elect : Elect L) (trace : List (TraceEvent D)) (verdicts : List (Bool × Proposal D)) (x : StateFacts K L D) (e : Event K D) (allowed : IsEvent x e) (brings : BringsAccepted x.settings.epoch trace verdicts x e) where
   abbrev y : StateFacts K L D
   y = after_event same elect x e
 
-  follows : Follows same elect e x y
+  follows : FollowsEvent same elect e x y
   follows = event_follows same decides elect x e allowed
 
   -- a view that is dropped
@@ -253,7 +253,7 @@ module _ {K L D : Type 0} (same : D → D → Bool) (decides : (d e : D) → sam
         by_tracked v now judged true tracked some = PastCertified v (judged v true (rw (eq-eqb v v refl, tracked) refl)) refl
         by_tracked v now judged false tracked some = absurd (omega (arith, some))
 
-        by_event : (f : Event K D) → IsEvent x f → Brings x.settings.epoch trace verdicts x f → 0 < entered_by term_length (is_tracked x) f → IsLedTo term_length x.settings.epoch trace verdicts (entered_by term_length (is_tracked x) f)
+        by_event : (f : Event K D) → IsEvent x f → BringsAccepted x.settings.epoch trace verdicts x f → 0 < entered_by term_length (is_tracked x) f → IsLedTo term_length x.settings.epoch trace verdicts (entered_by term_length (is_tracked x) f)
         by_event (event.SetFloor (Genesis payload) now) takes gets some = First refl
         by_event (event.SetFloor (Finalized c) now) takes gets some = PastFinalized c.proposal.round.view (c.proposal, gets.finalized c refl, (refl, floor_in_epoch x c takes)) refl
         by_event (event.AddFinalization c now) takes gets some = PastFinalized c.proposal.round.view (c.proposal, gets.finalized c refl, (refl, in_epoch x c.proposal.round takes)) refl

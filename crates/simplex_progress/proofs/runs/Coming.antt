@@ -29,7 +29,7 @@ use Rattle.simplex_laws.specs.Leading.{tracks_by}
 use Rattle.simplex_laws.specs.Shows.{verdict_of}
 use Rattle.simplex_laws.specs.HistoryFolds.{or_new, has_view}
 use Rattle.simplex_laws.proofs.histories.EventsWorked.{event_works}
-use Rattle.simplex_laws.proofs.histories.Following.{Follows}
+use Rattle.simplex_laws.proofs.histories.Following.{FollowsEvent}
 use Rattle.simplex_laws.proofs.histories.FollowingReplays.{event_follows}
 use Rattle.simplex_laws.proofs.lists.Splits.{Contains-cases, Contains-cons_rest}
 use Rattle.simplex_laws.proofs.records.TracesShown.{only_one}
@@ -91,7 +91,7 @@ module _ {K L D : Type 0} (same : D → D → Bool) (elect : Elect L) (Q : Subje
       told = answer same elect x m.outstanding_work call
 
 -- a nullification that may be handed in, and skips to the view or below
-pub record Fits {D : Type 0} (Q : Subject D → Type 0) (term_length epoch view start finalized : ℕ) (round : Round) : Type 0 where
+pub record SkipsUpTo {D : Type 0} (Q : Subject D → Type 0) (term_length epoch view start finalized : ℕ) (round : Round) : Type 0 where
   pub accepted : Q (subject.Nullify round)
   pub in_epoch : round.epoch ≡ epoch
   pub some : 1 ≤ round.view
@@ -119,7 +119,7 @@ module _ {K L D : Type 0} (same : D → D → Bool) (decides : (d e : D) → sam
   Arrived given x = Came term_length epoch count me elector parent view start given x
 
   -- the nullifications, one after another
-  pub hand_all : (P : StateFacts K L D → Type 0) (finalized : ℕ) (verdict : Option Bool) (rounds : List Round) (given : Round → Type 0) → ((r : Round) → Contains rounds r → Fits Q term_length epoch view start finalized r) → (m : MemberFacts K L D) (x : StateFacts K L D) → m.life ≡ Some x → Near finalized verdict given x
+  pub hand_all : (P : StateFacts K L D → Type 0) (finalized : ℕ) (verdict : Option Bool) (rounds : List Round) (given : Round → Type 0) → ((r : Round) → Contains rounds r → SkipsUpTo Q term_length epoch view start finalized r) → (m : MemberFacts K L D) (x : StateFacts K L D) → m.life ≡ Some x → Near finalized verdict given x
       → ((n : MemberFacts K L D) (y : StateFacts K L D) → n.life ≡ Some y → Near finalized verdict (λ r. Contains rounds r ⊎ given r) y → Comes same elect Q R P n)
       → Comes same elect Q R P m
   hand_all P finalized verdict [] given fits m x alive nears rest = rest m x alive (given_less term_length epoch count me elector parent view start finalized verdict given x nears (λ r. Contains [] r ⊎ given r) (λ r h. elim h [ inl none ↦ absurd (omega (arith, none.1)) | inr old ↦ old ]))
@@ -131,7 +131,7 @@ module _ {K L D : Type 0} (same : D → D → Bool) (decides : (d e : D) → sam
       c : NullificationFacts
       c = record { round = round; bytes = [] }
 
-      here : Fits Q term_length epoch view start finalized round
+      here : SkipsUpTo Q term_length epoch view start finalized round
       here = fits round (0, omega arith, refl)
 
       takes : is_allowed x m.outstanding_work (AddNullification c 0) ≡ true
@@ -281,7 +281,7 @@ module _ {K L D : Type 0} (same : D → D → Bool) (decides : (d e : D) → sam
                 let there : (round_of y parent).notarization ≡ Some d = ap (λ o. (unwrap_or o (new_round y.me y.members (round_number y parent))).notarization) at ∙ is in
                 subst (λ (s : Proposal D). s.round.view ≡ parent) (ap (λ (e : Bool × Proposal D). e.1) (only_one _ _ h)) (after.placed d there)
 
-        judging : Follows same elect g y z
+        judging : FollowsEvent same elect g y z
         judging = event_follows same decides elect y g then_takes
 
         or_true : (v : Option Bool) → (v ≡ Some false → ⊥) → Some true ≡ or_new v (Some true)

@@ -18,7 +18,7 @@ use Rattle.simplex_laws.proofs.frames.Rising.{event_goes}
 use Rattle.simplex_laws.proofs.frames.Sound.{event_ahead}
 use Rattle.simplex_laws.proofs.histories.FollowingReplays.{event_follows}
 use Rattle.simplex_progress.specs.Reaching.{HasJudged, IsLedTo, First, PastFinalized, PastCertified, PastNullified}
-use Rattle.simplex_progress.proofs.runs.Brought.{Brings, RoundsLed, brings_nothing, rounds_led, final_after, genesis_still, reached_after}
+use Rattle.simplex_progress.proofs.runs.Brought.{BringsAccepted, RoundsLed, brings_nothing, rounds_led, final_after, genesis_still, reached_after}
 
 -- what was done and certified stays so
 
@@ -61,7 +61,7 @@ module _ {K L D : Type 0} (trace more : List (TraceEvent D)) (verdicts others : 
 
 -- an event
 
-module _ {K L D : Type 0} (same : D → D → Bool) (decides : (d e : D) → same d e ≡ true → d ≡ e) (elect : Elect L) (term_length : ℕ) (trace : List (TraceEvent D)) (verdicts : List (Bool × Proposal D)) (x : StateFacts K L D) (e : Event K D) (allowed : IsEvent x e) (brings : Brings x.settings.epoch trace verdicts x e) where
+module _ {K L D : Type 0} (same : D → D → Bool) (decides : (d e : D) → same d e ≡ true → d ≡ e) (elect : Elect L) (term_length : ℕ) (trace : List (TraceEvent D)) (verdicts : List (Bool × Proposal D)) (x : StateFacts K L D) (e : Event K D) (allowed : IsEvent x e) (brings : BringsAccepted x.settings.epoch trace verdicts x e) where
   abbrev after : StateFacts K L D
   after = after_event same elect x e
 
@@ -86,7 +86,7 @@ module _ {K L D : Type 0} (same : D → D → Bool) (decides : (d e : D) → sam
   abbrev new : StateFacts K L D
   new = new_facts settings me members elector terms early
 
-  floor_brings : (floor : FloorFacts D) (now : ℕ) → Brings settings.epoch (trace ++ of_floor floor) verdicts new (event.SetFloor floor now)
+  floor_brings : (floor : FloorFacts D) (now : ℕ) → BringsAccepted settings.epoch (trace ++ of_floor floor) verdicts new (event.SetFloor floor now)
   floor_brings (Genesis payload) now = brings_nothing settings.epoch (trace ++ []) verdicts new (event.SetFloor (Genesis payload) now) refl refl refl (λ v. refl)
   floor_brings (Finalized c) now = record {
     notarized = λ d is. absurd (cc);

@@ -32,7 +32,7 @@ use Rattle.simplex_laws.proofs.lists.Signed.{signed_none, only_signed}
 use Rattle.simplex_laws.proofs.records.TracesShown.{only_one}
 use Rattle.simplex_laws.proofs.votes.LifeCalls.{nullify_silent, nullify_told, no_key, no_rule}
 use Rattle.simplex_progress.specs.Reaching.{IsLedTo, judged_by, HasJudged}
-use Rattle.simplex_progress.proofs.runs.Brought.{Brings, brings_nothing}
+use Rattle.simplex_progress.proofs.runs.Brought.{BringsAccepted, brings_nothing}
 use Rattle.simplex_progress.proofs.runs.Led.{Led, event_led, state_more}
 
 -- no vote is an entry of a verdict, and none but one to nullify signs that
@@ -99,18 +99,18 @@ module _ {K L D : Type 0} (same : D → D → Bool) (decides : (d e : D) → sam
 
   -- its event
 
-  abbrev AllBring : CallFacts D → List (Event K D) → Type 0
-  AllBring call [] = Unit {0}
-  AllBring call (e ∷ rest) = Brings x.settings.epoch (more call) (others call) x e
+  abbrev AllBringAccepted : CallFacts D → List (Event K D) → Type 0
+  AllBringAccepted call [] = Unit {0}
+  AllBringAccepted call (e ∷ rest) = BringsAccepted x.settings.epoch (more call) (others call) x e
 
-  brings_none : (call : CallFacts D) (e : Event K D) → Brings x.settings.epoch (more call) (others call) x e → AllBring call (e ∷ [])
+  brings_none : (call : CallFacts D) (e : Event K D) → BringsAccepted x.settings.epoch (more call) (others call) x e → AllBringAccepted call (e ∷ [])
   brings_none call e brings = brings
 
-  in_context_brings : (call : CallFacts D) (f : Context D K → Event K D) → ((c : Context D K) → Brings x.settings.epoch (more call) (others call) x (f c)) → (c : Option (Context D K)) → AllBring call (in_context f c)
+  in_context_brings : (call : CallFacts D) (f : Context D K → Event K D) → ((c : Context D K) → BringsAccepted x.settings.epoch (more call) (others call) x (f c)) → (c : Option (Context D K)) → AllBringAccepted call (in_context f c)
   in_context_brings call f each None = tt
   in_context_brings call f each (Some c) = each c
 
-  call_brings : (call : CallFacts D) → is_allowed x o call ≡ true → AllBring call (events_of o call)
+  call_brings : (call : CallFacts D) → is_allowed x o call ≡ true → AllBringAccepted call (events_of o call)
   call_brings (calls.AddNotarization c) allowed = record {
     notarized = λ d is. (let one : c ≡ d = cc in subst (λ (f : ProposalFacts D). Contains (more (calls.AddNotarization c)) (Accepts (subject.Notarize f.proposal))) one (Contains-append_right trace _ _ (0, omega arith, refl)));
     nullified = λ d is. absurd (cc);
@@ -151,7 +151,7 @@ module _ {K L D : Type 0} (same : D → D → Bool) (decides : (d e : D) → sam
   pub call_led : (call : CallFacts D) → is_allowed x o call ≡ true → Led term_length (more call) (others call) (after_call same elect x o call)
   call_led call allowed =
       let here = state_more trace _ verdicts _ term_length x led in
-      call_by_event same elect x o (λ es y. AllBring call es → Led term_length (more call) (others call) y) (λ none. here) (λ e is_event not_floor brings. event_led same decides elect term_length (more call) (others call) x e is_event brings here) call allowed (call_brings call allowed)
+      call_by_event same elect x o (λ es y. AllBringAccepted call es → Led term_length (more call) (others call) y) (λ none. here) (λ e is_event not_floor brings. event_led same decides elect term_length (more call) (others call) x e is_event brings here) call allowed (call_brings call allowed)
 
   -- what the record grows by
 

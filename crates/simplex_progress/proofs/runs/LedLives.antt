@@ -50,7 +50,7 @@ use Rattle.simplex_laws.proofs.records.NewLives.{all_of_epoch, first_none}
 use Rattle.simplex_laws.proofs.records.RunsLawful.{MemberLives, between_of, cut_between, call_lives_on, prune_lives_on, restart_lives_on, start_lives}
 use Rattle.simplex_progress.specs.Living.{LivesWith}
 use Rattle.simplex_progress.specs.Reaching.{HasJudged, IsLedTo, judged_by, judged_in, judged_of}
-use Rattle.simplex_progress.proofs.runs.Brought.{Brings, brings_nothing}
+use Rattle.simplex_progress.proofs.runs.Brought.{BringsAccepted, brings_nothing}
 use Rattle.simplex_progress.proofs.runs.Ends.{terms_kept}
 use Rattle.simplex_progress.proofs.runs.Led.{Led, event_led, led_more, judged_more, floor_led}
 use Rattle.simplex_progress.proofs.runs.LedCalls.{call_led, recorded_verdict, answered_vote, judged_notarized}
@@ -146,11 +146,11 @@ module _ {K L D : Type 0} (same : D → D → Bool) (decides : (d e : D) → sam
   IsLed x = Led term_length trace verdicts x × (x.settings.epoch ≡ epoch)
 
   -- an event that brings nothing
-  quietly : (x : StateFacts K L D) (e : Event K D) → event.IsEvent x e → Brings epoch trace verdicts x e → IsLed x → IsLed (after_event same elect x e)
+  quietly : (x : StateFacts K L D) (e : Event K D) → event.IsEvent x e → BringsAccepted epoch trace verdicts x e → IsLed x → IsLed (after_event same elect x e)
   quietly x e allowed brings (led, is) =
-      (event_led same decides elect term_length trace verdicts x e allowed (subst (λ n. Brings n trace verdicts x e) (sym is) brings) led, ap (λ s. s.epoch) (event_goes same elect x e).settings ∙ is)
+      (event_led same decides elect term_length trace verdicts x e allowed (subst (λ n. BringsAccepted n trace verdicts x e) (sym is) brings) led, ap (λ s. s.epoch) (event_goes same elect x e).settings ∙ is)
 
-  given_verdict : (x : StateFacts K L D) (round : Round) (success : Bool) → HasJudged success epoch verdicts round.view → Brings epoch trace verdicts x (event.Certified round.view success now)
+  given_verdict : (x : StateFacts K L D) (round : Round) (success : Bool) → HasJudged success epoch verdicts round.view → BringsAccepted epoch trace verdicts x (event.Certified round.view success now)
   given_verdict x round success known = record {
     notarized = λ d is. absurd (cc);
     nullified = λ d is. absurd (cc);
@@ -158,7 +158,7 @@ module _ {K L D : Type 0} (same : D → D → Bool) (decides : (d e : D) → sam
     judged = λ w told is. given_by epoch verdicts round.view w success told (is_tracked x round.view) known (w == round.view) refl is;
   }
 
-  replayed_verdict : (x : StateFacts K L D) (round : Round) (success : Bool) → HasJudged success epoch verdicts round.view → Brings epoch trace verdicts x (event.Replay (Verdict round success))
+  replayed_verdict : (x : StateFacts K L D) (round : Round) (success : Bool) → HasJudged success epoch verdicts round.view → BringsAccepted epoch trace verdicts x (event.Replay (Verdict round success))
   replayed_verdict x round success known = record {
     notarized = λ d is. absurd (cc);
     nullified = λ d is. absurd (cc);
@@ -166,7 +166,7 @@ module _ {K L D : Type 0} (same : D → D → Bool) (decides : (d e : D) → sam
     judged = λ w told is. replayed_by epoch verdicts round.view w success told known (w == round.view) refl is;
   }
 
-  replayed_certificate : (x : StateFacts K L D) (c : CertificateFacts D) → Brings epoch trace verdicts x (event.Replay (Accepted c))
+  replayed_certificate : (x : StateFacts K L D) (c : CertificateFacts D) → BringsAccepted epoch trace verdicts x (event.Replay (Accepted c))
   replayed_certificate x (Notarized c) = brings_nothing epoch trace verdicts x (event.Replay (Accepted (Notarized c))) refl refl refl (λ v. refl)
   replayed_certificate x (Nullified c) = brings_nothing epoch trace verdicts x (event.Replay (Accepted (Nullified c))) refl refl refl (λ v. refl)
   replayed_certificate x (Finalized c) = brings_nothing epoch trace verdicts x (event.Replay (Accepted (Finalized c))) refl refl refl (λ v. refl)
@@ -180,15 +180,15 @@ module _ {K L D : Type 0} (same : D → D → Bool) (decides : (d e : D) → sam
       quietly y (event.Certified round.view success now) takes.gives (given_verdict y round success known) (quietly x (event.Replay (Verdict round success)) takes.replays (replayed_verdict x round success known) led)
   retaken_led x (Accepted (Notarized c)) known takes led =
       let y : StateFacts K L D = after_event same elect x (event.AddNotarization c) in
-      let brings : Brings epoch trace verdicts x (event.AddNotarization c) = record { notarized = λ d is. (let one : c ≡ d = cc in subst (λ f. Contains trace (Accepts (subject.Notarize f.proposal))) one known); nullified = λ d is. absurd (cc); finalized = λ d is. absurd (cc); judged = λ v told is. absurd (cc) } in
+      let brings : BringsAccepted epoch trace verdicts x (event.AddNotarization c) = record { notarized = λ d is. (let one : c ≡ d = cc in subst (λ f. Contains trace (Accepts (subject.Notarize f.proposal))) one known); nullified = λ d is. absurd (cc); finalized = λ d is. absurd (cc); judged = λ v told is. absurd (cc) } in
       quietly y (event.Replay (Accepted (Notarized c))) takes.replays (replayed_certificate y (Notarized c)) (quietly x (event.AddNotarization c) takes.kept brings led)
   retaken_led x (Accepted (Nullified c)) known takes led =
       let y : StateFacts K L D = after_event same elect x (event.AddNullification c now) in
-      let brings : Brings epoch trace verdicts x (event.AddNullification c now) = record { notarized = λ d is. absurd (cc); nullified = λ d is. (let one : c ≡ d = cc in subst (λ f. Contains trace (Accepts (subject.Nullify f.round))) one known); finalized = λ d is. absurd (cc); judged = λ v told is. absurd (cc) } in
+      let brings : BringsAccepted epoch trace verdicts x (event.AddNullification c now) = record { notarized = λ d is. absurd (cc); nullified = λ d is. (let one : c ≡ d = cc in subst (λ f. Contains trace (Accepts (subject.Nullify f.round))) one known); finalized = λ d is. absurd (cc); judged = λ v told is. absurd (cc) } in
       quietly y (event.Replay (Accepted (Nullified c))) takes.replays (replayed_certificate y (Nullified c)) (quietly x (event.AddNullification c now) takes.kept brings led)
   retaken_led x (Accepted (Finalized c)) known takes led =
       let y : StateFacts K L D = after_event same elect x (event.AddFinalization c now) in
-      let brings : Brings epoch trace verdicts x (event.AddFinalization c now) = record { notarized = λ d is. absurd (cc); nullified = λ d is. absurd (cc); finalized = λ d is. (let one : c ≡ d = cc in subst (λ f. Contains trace (Accepts (subject.Finalize f.proposal))) one known); judged = λ v told is. absurd (cc) } in
+      let brings : BringsAccepted epoch trace verdicts x (event.AddFinalization c now) = record { notarized = λ d is. absurd (cc); nullified = λ d is. absurd (cc); finalized = λ d is. (let one : c ≡ d = cc in subst (λ f. Contains trace (Accepts (subject.Finalize f.proposal))) one known); judged = λ v told is. absurd (cc) } in
       quietly y (event.Replay (Accepted (Finalized c))) takes.replays (replayed_certificate y (Finalized c)) (quietly x (event.AddFinalization c now) takes.kept brings led)
 
   taken_led : (x : StateFacts K L D) (e : ArtifactFacts D) → IsKnown epoch trace verdicts e → (nat_lt (entry_view e) (min_active x) ≡ false → TakesEntry (λ b. b) same elect x now (as_artifact {K = K} e)) → IsLed x → IsLed (after_kept_entry same elect x now e)

@@ -61,7 +61,7 @@ module _ {K L D : Type 0} (p : Proposal D) where
 
 module _ {K L D : Type 0} (same : D → D → Bool) (elect : Elect L) where
   -- the member goes on to finalize the proposal, which it is handed or builds
-  pub record Finalizes (term_length leader : ℕ) (p : Proposal D) (i : ℕ) (s t : Execution K L D) : Type 0 where
+  pub record MemberFinalizes (term_length leader : ℕ) (p : Proposal D) (i : ℕ) (s t : Execution K L D) : Type 0 where
     pub goes_on : ExecutionGoesOn s t
     pub ran : IsExecution same elect term_length i t
     pub trace : trace_of t ≡ trace_of s ++ trace_done (replica_of p.round.epoch p.round.view p.parent p.payload i) p.payload
@@ -74,7 +74,7 @@ module _ {K L D : Type 0} (same : D → D → Bool) (decides : (d e : D) → sam
   abbrev p : Proposal D
   p = proposal_in epoch start parent q
 
-  pub member_finalizes : (t : Execution K L D) × Finalizes same elect term_length leader p i s t
+  pub member_finalizes : (t : Execution K L D) × MemberFinalizes same elect term_length leader p i s t
   member_finalizes = elim (cases_eq i leader) [ inl same ↦ as_leader same | inr other ↦ as_follower other ]
     where
       l : StandingMember D
@@ -98,13 +98,13 @@ module _ {K L D : Type 0} (same : D → D → Bool) (decides : (d e : D) → sam
         | inr new ↦ inr (one_has (HearsOnly {K = K} {L = L} p) (map Calls calls) (Calls (SetProposal v o)) all new v o refl)
       ]
 
-      as_follower : (i ≡ leader → ⊥) → (t : Execution K L D) × Finalizes same elect term_length leader p i s t
+      as_follower : (i ≡ leader → ⊥) → (t : Execution K L D) × MemberFinalizes same elect term_length leader p i s t
       as_follower other =
           let does = does_of same elect (follower_sequence l q [] []) lives.0 (follower_done same elect reflexive l q [] [] fresh.round fresh.pending fresh.no_finalization lead.0 lead.1 lives.0 x lives.2 stands (signs ∙ ne_eqb i leader other)) in
           let on = execution_on same elect term_length i s lives.0 (follower_calls p) (trace_done l q) ran lives.1 does in
           (on.execution, record { goes_on = on.goes_on; ran = on.ran; trace = on.trace; heard = hears (follower_calls p) (follower_hears p) on.execution on.steps; builds = λ is. absurd (other is) })
 
-      as_leader : i ≡ leader → (t : Execution K L D) × Finalizes same elect term_length leader p i s t
+      as_leader : i ≡ leader → (t : Execution K L D) × MemberFinalizes same elect term_length leader p i s t
       as_leader leads =
           let above = builds leads in
           let same_payload : above.0 ≡ can.payload = ap (λ o. unwrap_or o (above.0)) (sym (highest_is x start (parent, above.0) above.1) ∙ can.explicit) in

@@ -22,7 +22,7 @@ use Rattle.simplex_laws.specs.Timing.{enters}
 use Rattle.simplex_laws.proofs.frames.Rising.{event_goes}
 use Rattle.simplex_laws.proofs.frames.Sound.{event_ahead}
 use Rattle.simplex_laws.proofs.histories.EventsWorked.{event_works}
-use Rattle.simplex_laws.proofs.histories.Following.{Follows, left_from}
+use Rattle.simplex_laws.proofs.histories.Following.{FollowsEvent, left_from}
 use Rattle.simplex_laws.proofs.histories.FollowingReplays.{event_follows}
 use Rattle.simplex_progress.specs.Living.{IsSetUpAs}
 use Rattle.simplex_progress.proofs.runs.Brought.{new_or_old, notarizes_by}
@@ -70,7 +70,7 @@ module _ {K L D : Type 0} (same : D → D → Bool) (decides : (d e : D) → sam
       nothing_left no_prune = subst (λ b. (if b then min_active x else 0) ≤ start) (sym no_prune) (omega arith)
 
   module _ (allowed : IsEvent x e) (no_prune : is_prune e ≡ false) (far : view < start) (finalized finalized_then : ℕ) (verdict verdict_then : Option Bool) (given : Round → Type 0) (nears : Nears term_length epoch count me elector parent view start finalized verdict given x) where
-    follows : Follows same elect e x y
+    follows : FollowsEvent same elect e x y
     follows = event_follows same decides elect x e allowed
 
     none_left : (v : ℕ) → left_from x e ≤ v
@@ -181,7 +181,7 @@ module _ {K L D : Type 0} (same : D → D → Bool) (decides : (d e : D) → sam
       after : Nears term_length epoch count me elector parent view start finalized verdict given y
       after = event_nears same decides elect term_length epoch count me elector parent view start x e takes refl far finalized finalized verdict verdict given nears next silent (omega arith) refl
 
-      follows : Follows same elect e x y
+      follows : FollowsEvent same elect e x y
       follows = event_follows same decides elect x e takes
 
       known_now : (has_view y.nullified c.round.view ≡ true) × (next_term_start term_length c.round.view ≤ y.current)

@@ -76,11 +76,11 @@ impl<S: CertificateScheme, L: Elector<S>, D> Model for State<S, L, D> {
 
     ghost Value = { StateFacts S.PublicKey L D };
 
-    ghost use Rattle.simplex_voter.specs.StateView.{state_view, IsKept};
+    ghost use Rattle.simplex_voter.specs.StateView.{state_view, IsStateKept};
 
     ghost view = { state_view L.terms L.elects_early };
 
-    ghost invariant = { IsKept L.terms L.members };
+    ghost invariant = { IsStateKept L.terms L.members };
 }
 
 impl<S: CertificateScheme, L: Elector<S>, D: Digest> State<S, L, D> {

@@ -18,7 +18,7 @@ use Rattle.simplex_laws.proofs.histories.work.Leaders.{with_leader, with_entry}
 use Rattle.simplex_laws.proofs.histories.Worked.{Worked, work_of, timed, adds_work, WorkFollows}
 
 -- what a certificate says of a view
-pub record Said (K : Type 0) : Type 0 where
+pub record SaidOfView (K : Type 0) : Type 0 where
   -- the view is the certificate's own, the one after it, or one that it opens
   pub here : Bool
   pub next : Bool
@@ -31,11 +31,11 @@ pub record Said (K : Type 0) : Type 0 where
   pub chosen : Option (Leader K)
   pub inherited : Option (Leader K)
 
-abbrev pub with_said : {K L D : Type 0} → StateFacts K L D → Said K → Worked K D → Worked K D
+abbrev pub with_said : {K L D : Type 0} → StateFacts K L D → SaidOfView K → Worked K D → Worked K D
 with_said x s k = with_leader s.opened s.inherited (with_settled s.here s.overruled (with_leader s.next s.chosen (with_entry x s.entry (with_certification s.from k))))
 
 -- this is what the event says of the view
-pub record Says {K L D : Type 0} (same : D → D → Bool) (elect : Elect L) (x : StateFacts K L D) (e : Event K D) (v : ℕ) (s : Said K) : Type 0 where
+pub record Says {K L D : Type 0} (same : D → D → Bool) (elect : Elect L) (x : StateFacts K L D) (e : Event K D) (v : ℕ) (s : SaidOfView K) : Type 0 where
   pub entered : enters v x e ≡ s.entry
   pub tracked : tracks same elect v x e ≡ (s.here || s.next || s.opened)
   pub led : leader_by_event same elect v x e ≡ option_or s.chosen s.inherited
@@ -80,7 +80,7 @@ true_or true old = refl
 true_or false old = refl
 
 module _ {K L D : Type 0} (same : D → D → Bool) (elect : Elect L) (x : StateFacts K L D) (e : Event K D) where
-  said_added : (v : ℕ) (s : Said K) → Says same elect x e v s → (k : Worked K D) → with_said x s k ≡ adds_work same elect x e v k
+  said_added : (v : ℕ) (s : SaidOfView K) → Says same elect x e v s → (k : Worked K D) → with_said x s k ≡ adds_work same elect x e v k
   said_added v s a k = sym ((λ i. record k {
     tracked = is_some (a.entered i) || (a.tracked i || k.tracked);
     entered_at = or_new k.entered_at (a.entered i);
@@ -101,7 +101,7 @@ module _ {K L D : Type 0} (same : D → D → Bool) (elect : Elect L) (x : State
     build_requested = true_or s.overruled k.build_requested i;
   }))
 
-  pub said_follows : (y : StateFacts K L D) (said : ℕ → Said K) → UnchangedSetUp x y → ((v : ℕ) → has_view y.named v ≡ unwrap_or (names elect v x e) (has_view x.named v)) → ((v : ℕ) → Says same elect x e v (said v)) → ((v : ℕ) → work_of y v ≡ with_said x (said v) (work_of x v)) → WorkFollows same elect e x y
+  pub said_follows : (y : StateFacts K L D) (said : ℕ → SaidOfView K) → UnchangedSetUp x y → ((v : ℕ) → has_view y.named v ≡ unwrap_or (names elect v x e) (has_view x.named v)) → ((v : ℕ) → Says same elect x e v (said v)) → ((v : ℕ) → work_of y v ≡ with_said x (said v) (work_of x v)) → WorkFollows same elect e x y
   said_follows y said steady named says work = record {
     me = ap (λ (a : StateFacts K L D). a.me) steady;
     members = ap (λ (a : StateFacts K L D). a.members) steady;

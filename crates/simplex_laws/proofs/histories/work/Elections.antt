@@ -15,7 +15,7 @@ use Rattle.simplex_laws.specs.Leading.{same_member, window_leader, opens, electe
 use Rattle.simplex_laws.specs.OwnWork.{contradicts}
 use Rattle.simplex_laws.proofs.histories.work.Certificates.{with_settled, with_certification, settled_by}
 use Rattle.simplex_laws.proofs.histories.work.Windows.{SameLeaders, window_alike, slid_work}
-use Rattle.simplex_laws.proofs.histories.work.CertificateSaid.{Said, with_said}
+use Rattle.simplex_laws.proofs.histories.work.CertificateSaid.{SaidOfView, with_said}
 use Rattle.simplex_laws.proofs.histories.work.SetUp.{UnchangedSetUp, entered_steady, elected_steady}
 use Rattle.simplex_laws.proofs.histories.work.Leaders.{with_leader, with_entry, entry_at, elected_work, entered_work}
 use Rattle.simplex_laws.proofs.histories.Worked.{Worked, work_of, untimed}
@@ -58,7 +58,7 @@ module _ {K L D : Type 0} where
 
 module _ {K L D : Type 0} (same : D → D → Bool) (elect : Elect L) (x : StateFacts K L D) (c : ProposalFacts D) where
   -- what a certificate of a proposal says, where it enters a view and ends certifications like this
-  abbrev pub proposal_said : Bool → Option ℕ → Option Certification → ℕ → Said K
+  abbrev pub proposal_said : Bool → Option ℕ → Option Certification → ℕ → SaidOfView K
   proposal_said first entry from v = record {
     here = eqb v c.proposal.round.view;
     next = eqb v (c.proposal.round.view + 1);
@@ -105,7 +105,7 @@ module _ {K L D : Type 0} (same : D → D → Bool) (elect : Elect L) (x : State
 
 module _ {K L D : Type 0} (elect : Elect L) (x : StateFacts K L D) where
   -- what an election says that follows an entry of the view
-  abbrev pub entry_said : Bool → ℕ → ℕ → Option (List ℕ) → ℕ → Said K
+  abbrev pub entry_said : Bool → ℕ → ℕ → Option (List ℕ) → ℕ → SaidOfView K
   entry_said here w now seed v = record {
     here = here;
     next = eqb v w;

@@ -6,7 +6,7 @@ ghost use Rattle.simplex_member.specs.Calls as told;
 ghost use Rattle.simplex_member.specs.Lives.{IsCall};
 ghost use Rattle.simplex_member.specs.CallSemantics.{unrepeated_vote, vote_entry};
 ghost use Rattle.simplex_member.specs.Signed.{IsSignedReply, signed_notarize, signed_nullify, signed_finalize};
-ghost use Rattle.simplex_member.specs.MethodContracts.{told_of, UnchangedButLife, IsAnswered, HasNotarized, HasNullified, HasFinalized};
+ghost use Rattle.simplex_member.specs.MethodContracts.{told_of, UnchangedButLife, IsAnswered, HasNotarizeVote, HasNullifyVote, HasFinalizeVote};
 ghost use Rattle.simplex_member.specs.declared.member.calls.Reply.TheVariants as reply;
 
 use crate::member::call_error::{ended, is_lost};
@@ -31,8 +31,8 @@ impl<S: Scheme<D>, L: Elector<S>, D: Digest> Member<S, L, D> {
         ensures recorded { IfOk result (λ vote. self.new.facts.entries ≡ self.old.facts.entries ++ vote_entry (told_notarize vote)) }
         ensures votes { IfOk result (λ vote. self.new.votes ≡ self.old.votes ++ signed_notarize vote) }
         ensures same_votes { OnErr result (self.new.votes ≡ self.old.votes) }
-        ensures decided { IfOk result (λ vote. IfSome vote (λ _. HasNotarized self.new.facts view)) }
-        ensures once { HasNotarized self.old.facts view → IfOk result (λ vote. IsNone vote) }
+        ensures decided { IfOk result (λ vote. IfSome vote (λ _. HasNotarizeVote self.new.facts view)) }
+        ensures once { HasNotarizeVote self.old.facts view → IfOk result (λ vote. IsNone vote) }
     {
         if self.failed {
             return Err(Refusal::Fault(Fault::Failed));
@@ -61,8 +61,8 @@ impl<S: Scheme<D>, L: Elector<S>, D: Digest> Member<S, L, D> {
         ensures recorded { IfOk result (λ vote. self.new.facts.entries ≡ self.old.facts.entries ++ unrepeated_vote (told_nullify vote)) }
         ensures votes { IfOk result (λ vote. self.new.votes ≡ self.old.votes ++ signed_nullify vote) }
         ensures same_votes { OnErr result (self.new.votes ≡ self.old.votes) }
-        ensures decided { IfOk result (λ vote. IfSome vote (λ _. HasNullified self.new.facts view)) }
-        ensures barred { HasFinalized self.old.facts view → IfOk result (λ vote. IsNone vote) }
+        ensures decided { IfOk result (λ vote. IfSome vote (λ _. HasNullifyVote self.new.facts view)) }
+        ensures barred { HasFinalizeVote self.old.facts view → IfOk result (λ vote. IsNone vote) }
     {
         if self.failed {
             return Err(Refusal::Fault(Fault::Failed));
@@ -92,9 +92,9 @@ impl<S: Scheme<D>, L: Elector<S>, D: Digest> Member<S, L, D> {
         ensures recorded { IfOk result (λ vote. self.new.facts.entries ≡ self.old.facts.entries ++ vote_entry (told_finalize vote)) }
         ensures votes { IfOk result (λ vote. self.new.votes ≡ self.old.votes ++ signed_finalize vote) }
         ensures same_votes { OnErr result (self.new.votes ≡ self.old.votes) }
-        ensures decided { IfOk result (λ vote. IfSome vote (λ _. HasFinalized self.new.facts view)) }
-        ensures once { HasFinalized self.old.facts view → IfOk result (λ vote. IsNone vote) }
-        ensures barred { HasNullified self.old.facts view → IfOk result (λ vote. IsNone vote) }
+        ensures decided { IfOk result (λ vote. IfSome vote (λ _. HasFinalizeVote self.new.facts view)) }
+        ensures once { HasFinalizeVote self.old.facts view → IfOk result (λ vote. IsNone vote) }
+        ensures barred { HasNullifyVote self.old.facts view → IfOk result (λ vote. IsNone vote) }
     {
         if self.failed {
             return Err(Refusal::Fault(Fault::Failed));
