@@ -1,4 +1,6 @@
-// Certificates and artifacts read back from their bytes.
+//! Certificates and artifacts as bytes: written, read back, and framed one behind the other with a check sum.
+//!
+//! What is read has just the bytes that were given; bytes of nothing are refused, with the cause.
 #![tactic(auto)]
 
 pub mod artifact;

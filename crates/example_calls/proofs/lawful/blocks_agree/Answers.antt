@@ -1,3 +1,4 @@
+-- How the contract of `blocks_agree` follows: two backed finalize votes of one view are for one proposal, by agreement.
 use Rattle.std.proofs.Common.{ap, ◌∙◌, inr}
 use Rattle.example_calls.proofs.lawful.blocks_agree.Goals as goal
 

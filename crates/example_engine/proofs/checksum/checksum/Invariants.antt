@@ -1,3 +1,4 @@
+-- The loop of `checksum`: the sum so far and the bytes that are left make the whole sum, in 32 bits.
 use Rattle.std.proofs.Common.{◌≡◌, ◌<◌, ◌^◌, drop}
 use Rattle.example_engine.specs.Checksum.{checksum_from}
 use Rattle.example_engine.proofs.checksum.checksum.Given as goal

@@ -1,3 +1,4 @@
+-- The loop of `copies`: the copies so far have the entries of what was copied.
 use Rattle.std.proofs.Common.{◌≡◌, take}
 use Rattle.simplex_record.specs.Entries.{entries_of}
 use Rattle.example_engine.specs.Sealing.{seal_bytes}

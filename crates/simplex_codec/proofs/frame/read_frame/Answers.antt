@@ -1,3 +1,4 @@
+-- How the contract of `read_frame` follows: each way that a front is no frame, by its header, its length or its check sum, is the error.
 use Rattle.std.proofs.Common.{◌≡◌, ◌∙◌}
 use Rattle.std.proofs.lemmas.Result.{err_from_is_err_and}
 use Rattle.sha2.specs.Sha256.{sha256}

@@ -1,3 +1,4 @@
+-- How the contract of `strip_front` follows: bytes that do not begin with the front end within it, or differ from it.
 use Rattle.std.proofs.Common.{sym, ◌∙◌}
 use Rattle.std.proofs.lemmas.Bool.Decides.{Decides-eqb}
 use Rattle.std.proofs.lemmas.Slice.Eq.{starts_is, strip_prefix_is}

@@ -1,3 +1,4 @@
+-- How the contract of `take_header` follows: fewer bytes than a header end within one, and a check that differs is damage.
 use Rattle.std.proofs.Common.{arith}
 use Rattle.std.proofs.lemmas.Result.{err_from_is_err_and}
 use Rattle.simplex_codec.proofs.FrameLaw.{short_header, off_check}

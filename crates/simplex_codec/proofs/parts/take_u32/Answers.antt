@@ -1,3 +1,4 @@
+-- How the contract of `take_u32` follows: the first four bytes are those of the number.
 use Rattle.std.proofs.Common.{arith}
 use Rattle.simplex_codec.proofs.Numbers.{front_4}
 use Rattle.simplex_codec.proofs.parts.take_u32.Goals as goal

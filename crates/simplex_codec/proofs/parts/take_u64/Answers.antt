@@ -1,3 +1,4 @@
+-- How the contract of `take_u64` follows: the first eight bytes are those of the number.
 use Rattle.std.proofs.Common.{arith}
 use Rattle.simplex_codec.proofs.Numbers.{front_8}
 use Rattle.simplex_codec.proofs.parts.take_u64.Goals as goal

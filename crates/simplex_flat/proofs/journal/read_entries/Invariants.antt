@@ -1,3 +1,4 @@
+-- The loop of `read_entries`: the journal as the frames of the entries so far and the bytes that are left.
 use Rattle.std.proofs.Common.{◌≡◌, ◌++◌, length}
 use Rattle.simplex_flat.specs.Journals.{framed}
 use Rattle.simplex_flat.proofs.journal.read_entries.Given as goal

@@ -1,3 +1,4 @@
+-- How the contract of `scan` follows: the whole frames so far are counted, each has some bytes, so their number fits.
 use Rattle.std.proofs.Common.{arith}
 use Rattle.simplex_flat.proofs.Framing.{scanned_least, scanned_more}
 use Rattle.simplex_flat.proofs.journal.scan.Goals as goal

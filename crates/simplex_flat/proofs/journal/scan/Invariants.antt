@@ -1,3 +1,4 @@
+-- The loop of `scan`: the whole frames so far, counted, and the bytes that are left.
 use Rattle.std.proofs.Common.{length}
 use Rattle.simplex_flat.specs.Journals.{HasScanned}
 use Rattle.simplex_flat.proofs.journal.scan.Given as goal

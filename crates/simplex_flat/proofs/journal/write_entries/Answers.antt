@@ -1,3 +1,4 @@
+-- How the contract of `write_entries` follows: one entry more is one frame more, and fits it.
 use Rattle.std.proofs.Common.{◌≡◌, ◌<◌, length, get_or, arith}
 use Rattle.std.proofs.lemmas.Grind.{common_steps}
 use Rattle.simplex_flat.proofs.Framing.{fit_more, framed_more}

@@ -1,3 +1,4 @@
+-- The loop of `write_entries`: the frames of the entries so far, each of which fits one.
 use Rattle.std.proofs.Common.{◌≡◌, ◌++◌, take}
 use Rattle.std.specs.List.{All}
 use Rattle.simplex_flat.specs.Journals.{FitsFrame, framed}

@@ -1,8 +1,8 @@
+-- The loop of `put_views`: the views so far and those that are left.
 use Rattle.std.proofs.Common.{◌≡◌, ◌++◌, length}
 use Rattle.simplex_flat.specs.Resolving.{view_bytes}
 use Rattle.simplex_flat.proofs.resolving.put_views.Given as goal
 
--- the views so far and those that are left
 abbrev pub invariant-loop-view : goal.invariant-loop-view
 invariant-loop-view l = l.out.items ++ view_bytes l.rest ≡ l.initial.out.items ++ view_bytes l.views.keys
 

@@ -1,3 +1,4 @@
+-- How the contract of `start_of` follows: the numbers' first rule comes before the engine's, and both are of the one configuration that they make.
 use Rattle.simplex_flat.proofs.Tested.{both_kept, due_of, made_of, none_due}
 use Rattle.simplex_flat.proofs.settings.start_of.Goals as goal
 

@@ -1,3 +1,4 @@
+-- How the contract of `front_of` follows: fewer bytes than a chunk has room for are all of them.
 use Rattle.std.proofs.Common.{sym, arith}
 use Rattle.std.proofs.lemmas.List.{take_all}
 use Rattle.simplex_flat.proofs.showing.front_of.Goals as goal

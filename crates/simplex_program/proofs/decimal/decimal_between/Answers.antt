@@ -1,3 +1,4 @@
+-- How the contract of `decimal_between` follows: a decimal writes one number, and it lies in the range or not.
 use Rattle.std.proofs.Common.{◌≡◌, arith}
 use Rattle.std.proofs.lemmas.Fmt.{decimal_injective}
 use Rattle.simplex_program.proofs.decimal.decimal_between.Goals as goal

@@ -1,3 +1,4 @@
+-- How the contract of `move_buffered` follows: what is taken from the buffer is taken from what remains to be read.
 use Rattle.simplex_program.proofs.Parts.{taken_ahead}
 use Rattle.simplex_program.proofs.line_reader.move_buffered.Goals as goal
 

@@ -1,3 +1,4 @@
+-- How the contract of `next_byte` follows: an interrupted read takes nothing, and the end is where none is given.
 use Rattle.std.proofs.Common.{refl, arith}
 use Rattle.simplex_program.proofs.Lines.{keeps_bytes, nothing_taken, none_given, one_given}
 use Rattle.simplex_program.proofs.line_reader.next_byte.Goals as goal

@@ -1,10 +1,10 @@
+-- The loop of `read_line`: the bytes that are read stand in the line, and have no feed among them; each part has one at least.
 use Rattle.std.proofs.Common.{◌<◌, ◌≤◌, length}
 use Rattle.std.specs.Io.Buffered.{reader_remaining}
 use Rattle.std.specs.Io.KnownBytes.{Consumes}
 use Rattle.simplex_program.proofs.Lines.{IsPassed}
 use Rattle.simplex_program.proofs.line_reader.read_line.Given as goal
 
--- the bytes that are read stand in the line, and have no feed among them; each part has one at least
 abbrev pub invariant-loop-part : goal.invariant-loop-part
 invariant-loop-part g l = record {
   least : l._part ≤ length l.line.items;

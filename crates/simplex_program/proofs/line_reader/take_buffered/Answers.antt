@@ -1,3 +1,4 @@
+-- How the contract of `take_buffered` follows: what the buffer holds up to its first feed is the line's part.
 use Rattle.std.proofs.Common.{ap, length, arith}
 use Rattle.std.specs.Io.Buffered.{reader_buffer, reader_remaining}
 use Rattle.simplex_program.proofs.Parts.{up_to_its_feed}

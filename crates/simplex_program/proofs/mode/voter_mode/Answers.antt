@@ -1,3 +1,4 @@
+-- How the contract of `voter_mode` follows: words that name no member are those of no mode.
 use Rattle.std.proofs.Common.{rules}
 use Rattle.simplex_program.proofs.Modes.{no_member}
 use Rattle.simplex_program.proofs.mode.voter_mode.Goals as goal

@@ -1,3 +1,4 @@
+-- How the contract of `answer_line` follows: a reply that is not written whole is of the line that was read and answered.
 use Rattle.std.proofs.Common.{string_bytes}
 use Rattle.std.specs.Io.Buffered.{reader_remaining}
 use Rattle.simplex_program.specs.Session.{asked_of}

@@ -1,3 +1,4 @@
+-- How the contract of `answer_lines` follows: the lines so far are served, one more is served behind them, and each end is one of the definition.
 use Rattle.std.proofs.Common.{refl, arith}
 use Rattle.std.proofs.lemmas.Result.{err_from_is_err_and}
 use Rattle.std.specs.Io.Buffered.{reader_remaining}

@@ -1,3 +1,4 @@
+-- The loop of `answer_lines`: the lines so far, each of which is served.
 use Rattle.std.specs.Io.Buffered.{reader_remaining}
 use Rattle.simplex_program.specs.Session.{asked_of}
 use Rattle.simplex_program.proofs.Turns.{HasServed}

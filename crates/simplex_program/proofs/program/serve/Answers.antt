@@ -1,3 +1,4 @@
+-- How the contract of `serve` follows: the reader begins with an empty buffer, so all that remains is what its source holds.
 use Rattle.std.proofs.Common.{inr}
 use Rattle.simplex_program.specs.Session.{asked_of}
 use Rattle.simplex_program.proofs.Turns.{reader_begins}

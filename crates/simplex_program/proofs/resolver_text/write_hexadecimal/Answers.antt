@@ -1,3 +1,4 @@
+-- How the contract of `write_hexadecimal` follows: one byte more is two digits more.
 use Rattle.std.proofs.Common.{refl, arith}
 use Rattle.std.proofs.Output.{has_written_append, has_written_of_eq}
 use Rattle.simplex_program.proofs.Spaces.{byte_more}

@@ -1,3 +1,4 @@
+-- How the contract of `start_at` follows: the settings' scheme has a key for each member, so the start is the network's.
 use Rattle.std.proofs.Common.{◌∙◌, ap, sym, length}
 use Rattle.simplex_program.proofs.Genesis.{count_of_keys, set_up_alike}
 use Rattle.simplex_program.proofs.voter.start_at.Goals as goal

@@ -1,3 +1,4 @@
+-- The loop of `write_offers`: the words of the offers so far, which are written.
 use Rattle.std.proofs.Common.{◌∷◌, take}
 use Rattle.std.specs.Fmt.{HasWritten, IsPlainFormatter}
 use Rattle.std.specs.List.{flat_map}

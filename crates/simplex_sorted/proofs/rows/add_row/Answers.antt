@@ -1,3 +1,4 @@
+-- How the contract of `add_row` follows: an empty row behind full ones adds no entry, and has room.
 use Rattle.std.proofs.Common.{◌≡◌, ◌-◌, ◌∙◌, ap, length, arith}
 use Rattle.std.specs.VecDeque.{deque_len}
 use Rattle.simplex_sorted.specs.Rows.{row_entries}

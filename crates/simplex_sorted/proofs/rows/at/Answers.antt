@@ -1,3 +1,4 @@
+-- How the contract of `at` follows: the place by the size of a row is a row and a spot in it, and both are within.
 use Rattle.std.proofs.Common.{◌+◌, ◌*◌, ◌<◌, ◌/◌, ◌%◌, ◌∙◌, ap, length, get_or, arith}
 use Rattle.std.proofs.Math.Nat.{mod-lt}
 use Rattle.std.proofs.lemmas.Nat.{div-add-mod'}

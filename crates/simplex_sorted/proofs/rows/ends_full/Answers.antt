@@ -1,3 +1,4 @@
+-- How the contract of `ends_full` follows: the last row has as many entries as a full one, or fewer.
 use Rattle.std.proofs.Common.{◌≡◌, ◌<◌, ◌-◌, ◌∙◌, suc, length, arith, refl}
 use Rattle.std.specs.VecDeque.{deque_len}
 use Rattle.std.proofs.lemmas.Bool.{eqb-true, eqb-false}

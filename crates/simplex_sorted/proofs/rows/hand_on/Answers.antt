@@ -1,3 +1,4 @@
+-- How the contract of `hand_on` follows: the last entry of a row in front of the next row leaves all entries in order, and moves the room.
 use Rattle.std.proofs.Common.{◌≡◌, ◌+◌, ◌^◌, ◌<◌, suc, set, subst, ap, ◌∙◌, arith, rules}
 use Rattle.simplex_sorted.specs.Rows.{row_entries, HasRoomAt}
 use Rattle.simplex_sorted.proofs.CutRows.{room_within, has_room, full_before, next_row, handed_same, handed_room}

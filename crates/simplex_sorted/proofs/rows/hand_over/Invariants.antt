@@ -1,8 +1,8 @@
+-- The loop of `hand_over`: the room has come to a row, and the entries are the same.
 use Rattle.std.proofs.Common.{◌≡◌, ◌≤◌, ◌-◌}
 use Rattle.simplex_sorted.specs.Rows.{row_entries, HasRoomAt}
 use Rattle.simplex_sorted.proofs.rows.hand_over.Given as goal
 
--- the room has come to a row, and the entries are the same
 abbrev pub invariant-loop-row : goal.invariant-loop-row
 invariant-loop-row g l = record {
   above : l.from ≤ l.row;

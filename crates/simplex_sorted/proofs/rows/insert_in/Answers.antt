@@ -1,3 +1,4 @@
+-- How the contract of `insert_in` follows: with the room moved to its row, an insertion at the entry's spot is one at its place, and keeps rows full.
 use Rattle.std.proofs.Common.{◌+◌, ◌-◌, ◌*◌, ◌≤◌, ◌/◌, ◌%◌, ◌∙◌, ap, length, arith}
 use Rattle.std.specs.List.{insert}
 use Rattle.std.proofs.Math.Nat.{mod-lt}

@@ -1,3 +1,4 @@
+-- How the contract of `make_room` follows: a last row with more capacity holds the same entries, and has room for one more.
 use Rattle.std.proofs.Common.{◌≡◌, ◌<◌, ◌-◌, suc, length, arith, refl}
 use Rattle.std.specs.VecDeque.{deque_len}
 use Rattle.std.proofs.lemmas.Result.{on_ok_weaker}

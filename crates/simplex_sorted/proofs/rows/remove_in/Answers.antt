@@ -1,3 +1,4 @@
+-- How the contract of `remove_in` follows: a removal at the entry's spot leaves room in its row, which is then moved to the first.
 use Rattle.std.proofs.Common.{◌+◌, ◌*◌, ◌<◌, ◌/◌, ◌%◌, ◌∙◌, ap, length, arith}
 use Rattle.std.specs.List.{remove}
 use Rattle.std.proofs.Math.Nat.{mod-lt}

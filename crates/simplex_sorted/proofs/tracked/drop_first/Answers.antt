@@ -1,3 +1,4 @@
+-- How the contract of `drop_first` follows: one entry more is dropped each time.
 use Rattle.std.proofs.Common.{◌∙◌, ap, drop}
 use Rattle.std.proofs.lemmas.List.{drop-drop}
 use Rattle.simplex_sorted.proofs.tracked.drop_first.Goals as goal

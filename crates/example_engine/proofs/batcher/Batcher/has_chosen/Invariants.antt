@@ -1,3 +1,4 @@
+-- The loop of `has_chosen`: what the ballots that are left answer is the answer.
 use Rattle.std.proofs.Common.{◌≡◌, drop}
 use Rattle.example_engine.specs.Ballots.{has_chosen}
 use Rattle.example_engine.proofs.batcher.Batcher.has_chosen.Given as goal

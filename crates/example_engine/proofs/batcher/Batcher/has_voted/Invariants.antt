@@ -1,3 +1,4 @@
+-- The loop of `has_voted`: what the ballots that are left answer is the answer.
 use Rattle.std.proofs.Common.{◌≡◌, drop}
 use Rattle.example_engine.specs.Ballots.{has_voted}
 use Rattle.example_engine.proofs.batcher.Batcher.has_voted.Given as goal

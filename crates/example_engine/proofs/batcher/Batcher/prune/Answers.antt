@@ -1,3 +1,4 @@
+-- How the contract of `prune` follows: a filter by view keeps each ballot of the views that are kept.
 use Rattle.std.proofs.Common.{rules, nat_le}
 use Rattle.std.proofs.lemmas.Fn.{filter_same}
 use Rattle.example_engine.proofs.batcher.Batcher.prune.Goals as goal

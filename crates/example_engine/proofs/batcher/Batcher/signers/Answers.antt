@@ -1,3 +1,4 @@
+-- How the contract of `signers` follows: a member that has chosen it is put behind those below it, another one is passed over.
 use Rattle.std.proofs.Common.{ap, sym, ◌∙◌}
 use Rattle.example_engine.specs.Ballots.{has_chosen}
 use Rattle.example_engine.proofs.Ranges.{filter_passed, filter_failed}

@@ -1,3 +1,4 @@
+-- The loop of `signers`: the signers so far are those among the members so far.
 use Rattle.std.proofs.Common.{◌≡◌}
 use Rattle.example_engine.specs.Ballots.{signers_of}
 use Rattle.example_engine.proofs.batcher.Batcher.signers.Given as goal

@@ -1,3 +1,4 @@
+-- How the contract of `resume` follows: the copies have the entries that are stored, so the member is resumed from just these.
 use Rattle.std.proofs.Common.{true, List, ap, subst, ◌∙◌}
 use Rattle.simplex_types.specs.Certificates.{ArtifactFacts}
 use Rattle.simplex_types.specs.Plain.{terms_of}

@@ -1,3 +1,4 @@
+-- The loop of `new`: as many keys as were counted.
 use Rattle.std.proofs.Common.{◌≡◌, length}
 use Rattle.example_engine.proofs.scheme.SealScheme.new.Given as goal
 

@@ -1,3 +1,4 @@
+-- How the contract of `item` follows: a proposal to certify is shown as its numbers and its payload's bytes.
 use Rattle.simplex_flat.proofs.Items.{proposal_shown}
 use Rattle.simplex_flat.proofs.held.Held.item.Goals as goal
 

@@ -1,3 +1,4 @@
+-- How the contract of `resume` follows: the frames are the entries of the record, and fewer entries than were closed are lost ones.
 use Rattle.std.proofs.Common.{inr, arith}
 use Rattle.std.proofs.lemmas.Grind.{common_steps}
 use Rattle.simplex_flat.proofs.Items.{fewer_than_closed}

@@ -1,3 +1,4 @@
+-- How the contract of `start` follows: the flat settings are those that the member starts by, or is refused for.
 use Rattle.simplex_flat.proofs.held.Held.start.Goals as goal
 
 pub returns-in-Ok-start-clause-started : goal.returns-in-Ok-start-clause-started

@@ -1,3 +1,4 @@
+-- How the contract of `certified` follows: a refused certificate loses the effects that were kept, and tells nothing.
 use Rattle.std.proofs.Common.{inr}
 use Rattle.simplex_flat.proofs.resolving.HeldResolver.certified.Goals as goal
 

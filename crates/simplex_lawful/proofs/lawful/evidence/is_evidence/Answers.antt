@@ -1,3 +1,4 @@
+-- How the contract of `is_evidence` follows: two votes that contradict each other by the rules alone show a broken one.
 use Rattle.simplex_lawful.proofs.Evidence.{evidence_shows}
 use Rattle.simplex_lawful.specs.Evidence.{vote_in}
 use Rattle.simplex_lawful.proofs.lawful.evidence.is_evidence.Goals as goal

@@ -1,3 +1,4 @@
+-- How the contract of `conflicts_are_left` follows: the network of four and its continuation are computed.
 use Rattle.std.proofs.Common.{refl}
 use Rattle.simplex_laws.proofs.networks.DividedNetwork.{divided_network, divided_goes_on, none_notarized}
 use Rattle.simplex_laws.proofs.laws.continuations.conflicts_are_left.Goals as goal

@@ -1,3 +1,4 @@
+-- How the contract of `gaps_are_closed` follows: the network of four and its continuation are computed.
 use Rattle.std.proofs.Common.{refl}
 use Rattle.simplex_laws.proofs.networks.LackingNetwork.{lacking_network, lacking_goes_on, none_skipped, none_notarized}
 use Rattle.simplex_laws.proofs.laws.continuations.gaps_are_closed.Goals as goal

@@ -1,3 +1,4 @@
+-- How the contract of `nullified_handoffs_are_left` follows: the network of four and its continuation are computed.
 use Rattle.std.proofs.Common.{refl}
 use Rattle.simplex_laws.proofs.networks.HandoffNetwork.{taken_over_network, taken_over_goes_on, leader_voted, none_notarized}
 use Rattle.simplex_laws.proofs.laws.continuations.nullified_handoffs_are_left.Goals as goal

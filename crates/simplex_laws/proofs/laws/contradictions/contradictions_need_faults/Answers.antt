@@ -1,3 +1,4 @@
+-- How the contract of `contradictions_need_faults` follows: both quorums of a contradiction have a member that broke a rule, so it is faulty.
 use Rattle.simplex_laws.proofs.agreement.Accountability.{need_faults, traced_in_networks}
 use Rattle.simplex_laws.proofs.laws.contradictions.contradictions_need_faults.Goals as goal
 

@@ -1,3 +1,4 @@
+-- How the contract of `contradictions_are_answered_for` follows: the network of four, and who of it signed what, are computed.
 use Rattle.std.proofs.Common.{refl, inl, inr, arith}
 use Rattle.simplex_laws.proofs.networks.Scripts.{overrun_network, overrun_nullified, overrun_finalized, misled_by_final, known_accept, known_nullified, known_finalized}
 use Rattle.simplex_laws.proofs.laws.instances.contradictions_are_answered_for.Goals as goal

@@ -1,3 +1,4 @@
+-- How the contract of `lives_may_differ` follows: the runs of the member's lives are computed.
 use Rattle.std.proofs.Common.{refl}
 use Rattle.simplex_laws.proofs.networks.ChangingLives.{changing_ran, changing_network}
 use Rattle.simplex_laws.proofs.laws.instances.lives_may_differ.Goals as goal

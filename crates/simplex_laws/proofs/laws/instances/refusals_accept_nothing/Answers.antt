@@ -1,3 +1,4 @@
+-- How the contract of `refusals_accept_nothing` follows: the run of refused calls is computed.
 use Rattle.std.proofs.Common.{refl}
 use Rattle.simplex_laws.proofs.networks.ChangingLives.{refusing_ran, refusing_network}
 use Rattle.simplex_laws.proofs.laws.instances.refusals_accept_nothing.Goals as goal

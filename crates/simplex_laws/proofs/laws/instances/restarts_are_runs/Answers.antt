@@ -1,3 +1,4 @@
+-- How the contract of `restarts_are_runs` follows: the run with its three restarts is computed.
 use Rattle.std.proofs.Common.{refl}
 use Rattle.simplex_laws.proofs.networks.Scripts.{restarting_ran}
 use Rattle.simplex_laws.proofs.laws.instances.restarts_are_runs.Goals as goal

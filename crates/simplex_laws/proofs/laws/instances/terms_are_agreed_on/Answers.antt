@@ -1,3 +1,4 @@
+-- How the contract of `terms_are_agreed_on` follows: the network of four, and who of it signed what, are computed.
 use Rattle.std.proofs.Common.{refl}
 use Rattle.simplex_laws.proofs.networks.Scripts.{four_network, finalized_one, finalized_two}
 use Rattle.simplex_laws.proofs.laws.instances.terms_are_agreed_on.Goals as goal

@@ -1,3 +1,4 @@
+-- How the contract of `views_ahead_are_agreed_on` follows: the network of four, and who of it signed what, are computed.
 use Rattle.std.proofs.Common.{refl}
 use Rattle.simplex_laws.proofs.networks.AheadNetwork.{ahead_network, ahead_finalized}
 use Rattle.simplex_laws.proofs.laws.instances.views_ahead_are_agreed_on.Goals as goal

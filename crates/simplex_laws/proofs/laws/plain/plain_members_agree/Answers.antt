@@ -1,3 +1,4 @@
+-- How the contract of `plain_members_agree` follows: the network of plain members, and what is finalized in it, are computed.
 use Rattle.std.proofs.Common.{refl}
 use Rattle.simplex_laws.proofs.networks.PlainNetwork.{elector, payload, four_members, plain_network, plain_finalized}
 use Rattle.simplex_laws.proofs.laws.plain.plain_members_agree.Goals as goal

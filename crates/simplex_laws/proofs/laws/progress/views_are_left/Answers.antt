@@ -1,3 +1,4 @@
+-- How the contract of `views_are_left` follows: each state of a run is sound and has not failed, so each certificate that ends its view does.
 use Rattle.simplex_laws.proofs.lives.Progress.{states_are_left}
 use Rattle.simplex_laws.proofs.laws.progress.views_are_left.Goals as goal
 

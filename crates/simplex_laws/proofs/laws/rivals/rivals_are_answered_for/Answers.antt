@@ -1,3 +1,4 @@
+-- How the contract of `rivals_are_answered_for` follows: the network of four, and who of it signed both proposals, are computed.
 use Rattle.std.proofs.Common.{refl, inl, inr, arith}
 use Rattle.simplex_types.specs.declared.types.messages.Subject.TheVariants.{Notarize}
 use Rattle.simplex_laws.specs.DividedNetwork.{rival}

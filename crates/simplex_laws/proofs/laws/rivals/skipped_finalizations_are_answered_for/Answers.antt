@@ -1,3 +1,4 @@
+-- How the contract of `skipped_finalizations_are_answered_for` follows: the network of four, and who of it passed over the finalized view, are computed.
 use Rattle.std.proofs.Common.{refl, inl, inr, arith}
 use Rattle.simplex_types.specs.declared.types.messages.Subject.TheVariants.{Notarize, Finalize}
 use Rattle.simplex_laws.specs.Rivals.{past_two, known_of_skipped}

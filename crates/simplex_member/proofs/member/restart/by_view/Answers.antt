@@ -1,3 +1,4 @@
+-- How the contract of `by_view` follows: a stable sort of a copy by view is the entries by rising view, in their order within one.
 use Rattle.std.proofs.Common.{rules}
 use Rattle.std.proofs.lemmas.List.Sorted.{IsNonDecreasingBy-from_sort_by_key, answers_always}
 use Rattle.simplex_types.specs.Viewed.{artifact_view}

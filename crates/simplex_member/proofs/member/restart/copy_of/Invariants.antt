@@ -1,8 +1,8 @@
+-- The loop of `copy_of`: what was copied and what is left to be copied.
 use Rattle.std.proofs.Common.{◌≡◌, ◌++◌, drop}
 use Rattle.simplex_record.specs.Entries.{entries_of}
 use Rattle.simplex_member.proofs.member.restart.copy_of.Given as goal
 
--- what was copied and what is left to be copied
 abbrev pub invariant-loop-artifact : goal.invariant-loop-artifact
 invariant-loop-artifact g l =
     let bytes_of = g.S.CertificateScheme.certificate_bytes in

@@ -1,3 +1,4 @@
+-- How the contract of `keep_finalization` follows: a finalization that stands in the record leaves it as it was, another one is recorded last.
 use Rattle.std.proofs.Common.{◌≡◌, ◌∙◌, sym, ap}
 use Rattle.std.specs.Prelude.{true, false}
 use Rattle.simplex_record.specs.Check.{stands}

@@ -1,3 +1,4 @@
+-- How the contract of `renew` follows: the record has the floor's finalization before the state is remade from it.
 use Rattle.std.proofs.lemmas.Result.{err_from_is_err_and}
 use Rattle.simplex_member.proofs.member.restart.renew.Goals as goal
 

@@ -1,3 +1,4 @@
+-- How the contract of `run` follows: the started member takes the steps, or the run ends at the first restart that is refused.
 use Rattle.std.proofs.Common.{map, refl}
 use Rattle.std.proofs.lemmas.Result.{err_from_is_err_and, IfOk-weaker, IfErr-weaker}
 use Rattle.simplex_member.specs.Calls.{told}

@@ -1,3 +1,4 @@
+-- How the contract of `take_step` follows: a restart that is refused ends the run with its error.
 use Rattle.std.proofs.lemmas.Result.{err_from_is_err_and}
 use Rattle.simplex_member.proofs.member.runs.take_step.Goals as goal
 

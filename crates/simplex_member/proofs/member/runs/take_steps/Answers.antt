@@ -1,3 +1,4 @@
+-- How the contract of `take_steps` follows: a run with one step more is a run, and a step that is refused ends it there.
 use Rattle.std.proofs.Common.{ap, ◌∙◌, sym, map, map-id, ◌+◌, drop, length, ◌∷◌, [], inr}
 use Rattle.std.proofs.lemmas.Iterator.Consumers.{YieldsList-so_far, YieldsList-turn, YieldsList-end}
 use Rattle.std.proofs.lemmas.Iterator.Adapters.{YieldsList-from_vec}

@@ -1,9 +1,9 @@
+-- The loop of `take_steps`: the replies so far are those of the steps so far.
 use Rattle.std.proofs.Common.{map}
 use Rattle.simplex_member.specs.Calls.{told}
 use Rattle.simplex_member.specs.Runs.{steps_of, IsRun}
 use Rattle.simplex_member.proofs.member.runs.take_steps.Given as goal
 
--- the replies so far are those of the steps so far
 abbrev pub invariant-loop-step : goal.invariant-loop-step
 invariant-loop-step g l =
     let bytes_of = g.S.CertificateScheme.certificate_bytes in

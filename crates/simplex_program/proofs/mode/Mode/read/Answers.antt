@@ -1,3 +1,4 @@
+-- How the contract of `read` follows: two words ask for a resolver and five for a voter, and are those of the mode.
 use Rattle.std.proofs.Common.{rules, string_bytes}
 use Rattle.simplex_program.proofs.Modes.{two_words, five_words}
 use Rattle.simplex_program.proofs.mode.Mode.read.Goals as goal

@@ -1,3 +1,4 @@
+-- How the contract of `certify` follows: the verdict's call is of the proposal of the line's view.
 use Rattle.std.proofs.Common.{◌∙◌}
 use Rattle.simplex_program.proofs.Reported.{reported, same_verdict}
 use Rattle.simplex_program.proofs.resolver.Resolver.certify.Goals as goal

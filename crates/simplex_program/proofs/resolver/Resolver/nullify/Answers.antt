@@ -1,3 +1,4 @@
+-- How the contract of `nullify` follows: the nullification's call is of the line's view.
 use Rattle.std.proofs.Common.{◌∙◌, rules}
 use Rattle.simplex_program.proofs.Reported.{reported, same_nullification}
 use Rattle.simplex_program.proofs.resolver.Resolver.nullify.Goals as goal

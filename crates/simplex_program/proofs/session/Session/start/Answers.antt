@@ -1,3 +1,4 @@
+-- How the contract of `start` follows: the member of the network starts as its definition has it.
 use Rattle.std.proofs.Common.{sym, ap, subst}
 use Rattle.simplex_program.specs.declared.network.Network.{Network}
 use Rattle.simplex_program.specs.Setup.{StartsAtGenesis}

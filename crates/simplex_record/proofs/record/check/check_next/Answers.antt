@@ -1,3 +1,4 @@
+-- How the contract of `check_next` follows: the entry breaks a rule by itself, or beside what was seen of its view.
 use Rattle.std.proofs.Common.{◌≡◌, ap, ◌∙◌, sym, nat_lt, false}
 use Rattle.std.proofs.lemmas.Result.{err_from_is_err_and}
 use Rattle.simplex_sorted.proofs.Maps.{is_lt-nat_cmp}

@@ -1,3 +1,4 @@
+-- How the contract of `drop_last` follows: each entry that is dropped is the last and no vote, and the first that may not be ends it.
 use Rattle.std.proofs.Common.{◌≡◌, true, ◌∙◌, sym}
 use Rattle.simplex_record.specs.Cuts.{may_drop}
 use Rattle.simplex_record.specs.Entries.{entries_of}

@@ -1,10 +1,10 @@
+-- The loop of `drop_last`: what is left to drop leaves what was asked for, and each vote stays.
 use Rattle.std.proofs.Common.{◌≡◌}
 use Rattle.simplex_record.specs.Entries.{entries_of}
 use Rattle.simplex_record.specs.Cuts.{without_last}
 use Rattle.simplex_record.specs.Votes.{votes_of}
 use Rattle.simplex_record.proofs.record.cuts.drop_last.Given as goal
 
--- what is left to drop leaves what was asked for, and each vote stays
 abbrev pub invariant-loop-left : goal.invariant-loop-left
 invariant-loop-left g l =
     (without_last l.fn.closed l.left (entries_of g.S.CertificateScheme.certificate_bytes l.entries.items)

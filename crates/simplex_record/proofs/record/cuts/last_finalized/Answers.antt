@@ -1,3 +1,4 @@
+-- How the contract of `last_finalized` follows: the highest view so far and the rest's highest are the record's.
 use Rattle.std.proofs.Common.{◌≡◌, ◌∙◌, ap, max}
 use Rattle.simplex_types.specs.Certificates.{artifact_facts}
 use Rattle.simplex_record.specs.Cuts.{finalized_by}

@@ -1,9 +1,9 @@
+-- The loop of `last_finalized`: what was met and what is left to be met.
 use Rattle.std.proofs.Common.{◌≡◌, max, drop}
 use Rattle.simplex_record.specs.Entries.{entries_of}
 use Rattle.simplex_record.specs.Cuts.{finalized_in}
 use Rattle.simplex_record.proofs.record.cuts.last_finalized.Given as goal
 
--- what was met and what is left to be met
 abbrev pub invariant-loop-artifact : goal.invariant-loop-artifact
 invariant-loop-artifact g l =
     max l.highest (finalized_in (entries_of g.S.CertificateScheme.certificate_bytes (drop l.artifact-index l.entries)))

@@ -1,3 +1,4 @@
+-- How the contract of `may_drop` follows: where each entry is closed none may be dropped, else the last one decides.
 use Rattle.std.proofs.Common.{rules, ap, not, ◌∙◌, sym}
 use Rattle.simplex_record.proofs.Cuts.{all_closed, last_open}
 use Rattle.simplex_record.proofs.record.cuts.may_drop.Goals as goal

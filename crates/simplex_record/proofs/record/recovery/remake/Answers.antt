@@ -1,3 +1,4 @@
+-- How the contract of `remake` follows: the record's first broken rule, then the floor's, is the error; else the entries are taken in order above the floor.
 use Rattle.std.proofs.Common.{refl, ap, ◌∙◌}
 use Rattle.std.proofs.lemmas.Result.{err_from_is_err_and}
 use Rattle.simplex_types.specs.Config.{floor_facts}

@@ -1,3 +1,4 @@
+-- How the contract of `begin` follows: the floor's own rule comes first, then the fault of the state, and the floor's finalization is the record.
 use Rattle.std.proofs.Common.{refl, sym, ap, ◌∙◌, option_map}
 use Rattle.std.proofs.lemmas.Result.{err_from_is_err_and}
 use Rattle.simplex_types.specs.Config.{floor_facts}

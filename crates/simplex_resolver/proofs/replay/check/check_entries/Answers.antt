@@ -1,3 +1,4 @@
+-- How the contract of `check_entries` follows: the entries so far break no rule and their notarizations are noted, which decides of the next one.
 use Rattle.std.proofs.Common.{take, refl, ap, sym, ◌∙◌, subst}
 use Rattle.std.specs.Option.{option_or}
 use Rattle.std.proofs.lemmas.Result.{err_from_is_err_and}

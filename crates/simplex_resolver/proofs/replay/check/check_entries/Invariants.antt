@@ -1,3 +1,4 @@
+-- The loop of `check_entries`: the entries so far, whose notarizations are noted and which break no rule.
 use Rattle.std.proofs.Common.{◌≡◌, None, take}
 use Rattle.simplex_resolver.specs.RecordCalls.{newest_first}
 use Rattle.simplex_resolver.specs.RecordRules.{record_error}

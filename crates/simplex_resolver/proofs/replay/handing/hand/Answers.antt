@@ -1,3 +1,4 @@
+-- How the contract of `hand` follows: the call that the entry stands for is made, and a vote is none.
 use Rattle.std.proofs.Common.{◌≡◌, OnOk, sym, subst}
 use Rattle.simplex_types.specs.Certificates.{Nullified, Finalized, artifact_facts}
 use Rattle.simplex_resolver.specs.Steps.{after, update}

@@ -1,3 +1,4 @@
+-- How the contract of `hand_all` follows: the facts are those after the calls of the entries so far, and none of these fails the resolver.
 use Rattle.std.proofs.Common.{take, refl, ap, sym, ◌∙◌, subst}
 use Rattle.simplex_types.specs.Certificates.{artifact_facts}
 use Rattle.simplex_resolver.specs.RecordCalls.{newest_first, entry_calls, calls_of, all_after}

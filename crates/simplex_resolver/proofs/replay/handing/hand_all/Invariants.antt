@@ -1,3 +1,4 @@
+-- The loop of `hand_all`: the entries so far, whose notarizations are noted and whose calls were made.
 use Rattle.std.proofs.Common.{◌≡◌, take}
 use Rattle.simplex_resolver.specs.RecordCalls.{newest_first, calls_of, all_after}
 use Rattle.simplex_resolver.specs.Places.{AreNoted}

@@ -1,3 +1,4 @@
+-- How the contract of `hand_verdict` follows: a sound record has a notarization before the verdict, and the places find it.
 use Rattle.std.proofs.Common.{◌≡◌, ◌<◌, ◌≤◌, ◌^◌, Some, ap, sym, subst, ◌∙◌}
 use Rattle.std.specs.Option.{option_map, option_copied}
 use Rattle.std.proofs.lemmas.Result.{err_from_is_err_and}

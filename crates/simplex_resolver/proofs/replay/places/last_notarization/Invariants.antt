@@ -1,8 +1,8 @@
+-- The loop of `last_notarization`: the last one stands in what is left.
 use Rattle.std.proofs.Common.{◌≡◌}
 use Rattle.simplex_resolver.specs.RecordCalls.{newest_first, newest_notarization}
 use Rattle.simplex_resolver.proofs.replay.places.last_notarization.Given as goal
 
--- the last one stands in what is left
 abbrev pub invariant-loop-artifact : goal.invariant-loop-artifact
 invariant-loop-artifact g l = record {
   can_next : (goal.iterator-loop-artifact g).can_next l.artifact-iterator;

@@ -1,3 +1,4 @@
+-- How the contract of `add_view` follows: a set with the view put in has the view and those before.
 use Rattle.std.proofs.Common.{ap, ◌∙◌}
 use Rattle.simplex_resolver.specs.Repair.{has}
 use Rattle.simplex_resolver.proofs.Views.{has-insert_key}

@@ -1,3 +1,4 @@
+-- How the contract of `apply` follows: the effects so far are applied, and one more settles its views and opens its own.
 use Rattle.std.proofs.Common.{◌&&◌, ◌||◌, not, ap, sym, subst, ◌∙◌, take, ◌++◌, [], ◌∷◌, arith}
 use Rattle.std.proofs.lemmas.List.{take_more, take_all}
 use Rattle.std.proofs.lemmas.Result.{err_from_is_err_and}

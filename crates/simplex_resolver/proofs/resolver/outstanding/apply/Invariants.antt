@@ -1,3 +1,4 @@
+-- The loop of `apply`: the effects so far, which are applied.
 use Rattle.std.proofs.Common.{take}
 use Rattle.simplex_resolver.specs.Repair.{IsApplied}
 use Rattle.simplex_resolver.proofs.resolver.outstanding.apply.Given as goal

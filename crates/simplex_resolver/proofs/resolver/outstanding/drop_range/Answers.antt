@@ -1,3 +1,4 @@
+-- How the contract of `drop_range` follows: each view of the range that is found is taken out, and the end is where none is left.
 use Rattle.std.proofs.Common.{◌≡◌, ◌&&◌, ◌+◌, ◌==◌, nat_le, false, if◌then◌else◌, length, sym, subst, ◌∙◌, arith}
 use Rattle.std.proofs.lemmas.Bool.Decides.{nat_tests}
 use Rattle.std.specs.Ordering.{nat_cmp, is_eq}

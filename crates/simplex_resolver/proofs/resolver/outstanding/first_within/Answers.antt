@@ -1,3 +1,4 @@
+-- How the contract of `first_within` follows: the first view that the range yields is the lowest one in it.
 use Rattle.std.proofs.Common.{slice_get, ◌∙◌, ap}
 use Rattle.std.proofs.lemmas.List.Elements.{filter_agree}
 use Rattle.simplex_resolver.proofs.Ranges.{within, first_is}

@@ -1,3 +1,4 @@
+-- How the contract of `scan` follows: the anchors go on from one to the next term's start, and each uncovered one is fetched.
 use Rattle.std.proofs.Common.{arith, ◌∙◌, sym, ap, not, ◌<◌, append-nil, subst, true, false}
 use Rattle.std.proofs.lemmas.Bool.Decides.{nat_tests}
 use Rattle.simplex_types.specs.Terms.{next_term_start}

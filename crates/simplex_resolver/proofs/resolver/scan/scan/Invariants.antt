@@ -1,3 +1,4 @@
+-- The loop of `scan`: what is fetched so far, which with what is missing from the anchor on is all that is missing.
 use Rattle.std.proofs.Common.{◌≡◌, ◌-◌, ◌≤◌, ◌++◌}
 use Rattle.simplex_resolver.specs.Facts.{uncovered_anchors, end_of_scan}
 use Rattle.simplex_resolver.specs.Steps.{missing_fetches}

@@ -1,3 +1,4 @@
+-- How the contract of `set_leader` follows: the participants are the round's members, so the leader's key is read within them.
 use Rattle.std.proofs.Common.{◌<◌, ◌∙◌, ap, refl, get_or, length, arith}
 use Rattle.std.proofs.lemmas.Option.{slice_get_read}
 use Rattle.simplex_round.specs.Round.{RoundFacts, leader_at}

@@ -1,3 +1,4 @@
+-- How the contract of `insert` follows: the run stays covered with one entry more, and so does the one that the entry lengthens.
 use Rattle.std.proofs.Common.{arith}
 use Rattle.simplex_sorted.proofs.Runs.{inserted_covers, insert_covers, followed}
 use Rattle.simplex_sorted.proofs.by_term.ByTerm.insert.Goals as goal

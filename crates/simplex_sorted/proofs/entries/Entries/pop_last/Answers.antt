@@ -1,3 +1,4 @@
+-- How the contract of `pop_last` follows: the last place of the range is the last of its entries, unboxed.
 use Rattle.std.proofs.Common.{◌∙◌, ◌<◌, ◌≤◌, ◌-◌, length, sym, arith}
 use Rattle.simplex_sorted.specs.Tracked.{unboxed}
 use Rattle.simplex_sorted.proofs.Unboxed.{unboxed_at, same_length, opened, last_of_range}

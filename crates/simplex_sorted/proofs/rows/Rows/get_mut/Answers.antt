@@ -1,3 +1,4 @@
+-- How the contract of `get_mut` follows: a place lies in the first row or in one of the rest, and what is written there is the entry at that place.
 use Rattle.std.proofs.Common.{◌≡◌, ◌+◌, ◌-◌, ◌*◌, ◌<◌, ◌≤◌, ◌/◌, ◌%◌, ◌++◌, ◌∙◌, ap, length, get_or, set, sym, refl, arith, length-append}
 use borrow.Follows.Closed.{read_of}
 use Rattle.std.specs.Option.{ghost_name_of}

@@ -1,3 +1,4 @@
+-- How the contract of `insert` follows: an insertion into the first row or the rest is one into the entries, and each row but the last stays full.
 use Rattle.std.proofs.Common.{◌++◌, ◌∙◌, ap, sym, length, length-append, arith}
 use Rattle.std.specs.List.{insert}
 use Rattle.std.proofs.lemmas.List.Edits.{insert-append_left, insert-append_right}

@@ -1,3 +1,4 @@
+-- How the contract of `remove` follows: a removal from the first row or from the rest is one from the entries of both, and the room that it leaves is filled.
 use Rattle.std.proofs.Common.{◌++◌, ◌∙◌, ap, sym, length, length-append, arith}
 use Rattle.std.specs.List.{remove}
 use Rattle.std.proofs.lemmas.List.Edits.{remove-append_left, remove-append_right, length-remove}

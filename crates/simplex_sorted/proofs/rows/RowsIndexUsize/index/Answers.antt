@@ -1,3 +1,4 @@
+-- How the contract of `index` follows: the places of all rows fit, so those of the first row and of the rest do.
 use Rattle.std.proofs.Common.{ap, length, arith}
 use Rattle.simplex_sorted.proofs.rows.RowsIndexUsize.index.Goals as goal
 

@@ -1,3 +1,4 @@
+-- How the contract of `covering` follows: the last entry up to the view covers it just where both stand in one term.
 use Rattle.std.proofs.Common.{◌+◌, eqb, ltb, ap, sym, ◌∙◌}
 use Rattle.simplex_types.specs.Terms.{term_start, covers}
 use Rattle.simplex_sorted.proofs.Terms.{some_together, none_together, none_at_all, up_to_covers, up_to_low}

@@ -1,3 +1,4 @@
+-- How the contract of `covering_below` follows: the last entry below the view is in its term just where both stand in one.
 use Rattle.std.proofs.Common.{eqb, ltb, ◌&&◌, ap, sym, ◌∙◌}
 use Rattle.simplex_types.specs.Terms.{term_start, covers}
 use Rattle.simplex_sorted.proofs.Terms.{some_together, none_together, none_at_all, below_covers, below_low}

@@ -1,3 +1,4 @@
+-- How the contract of `drop_ended` follows: what ends at or below the view stands below the start of the view's own next term.
 use Rattle.std.proofs.Common.{◌≡◌, ◌+◌, ◌<◌, ◌≤◌, ap, ◌∙◌, arith}
 use Rattle.simplex_types.specs.Terms.{term_start}
 use Rattle.simplex_sorted.specs.Tracked.{at_or_above}

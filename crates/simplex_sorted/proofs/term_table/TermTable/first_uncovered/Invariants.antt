@@ -1,8 +1,8 @@
+-- The loop of `first_uncovered`: the views up to the cursor are covered.
 use Rattle.std.proofs.Common.{◌<◌, ◌-◌}
 use Rattle.simplex_sorted.specs.ByTerm.{Gapless}
 use Rattle.simplex_sorted.proofs.term_table.TermTable.first_uncovered.Given as goal
 
--- the views up to the cursor are covered
 abbrev pub invariant-loop-before : goal.invariant-loop-before
 invariant-loop-before g l = record {
   above : l.fn.after < l.cursor;

@@ -1,3 +1,4 @@
+-- How the contract of `at_or_above` follows: the place of the view is the number of entries below it, so those from there on are the ones at or above.
 use Rattle.std.proofs.Common.{◌∙◌, arith}
 use Rattle.simplex_sorted.proofs.Maps.{entries_of_made, place_within, above_read}
 use Rattle.simplex_sorted.proofs.Unboxed.{same_length}

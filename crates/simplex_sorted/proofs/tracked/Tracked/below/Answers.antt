@@ -1,3 +1,4 @@
+-- How the contract of `below` follows: the place of the view is the number of entries below it, so those up to there are the ones below.
 use Rattle.std.proofs.Common.{◌∙◌, arith}
 use Rattle.simplex_sorted.proofs.Maps.{entries_of_made, place_within, below_read}
 use Rattle.simplex_sorted.proofs.Unboxed.{same_length}

@@ -1,3 +1,4 @@
+-- How the contract of `between` follows: the places of the two views bound the entries between them, and rise as the views do.
 use Rattle.std.proofs.Common.{◌∙◌}
 use Rattle.simplex_sorted.proofs.Maps.{entries_of_made, place_within, places_rise, between_read}
 use Rattle.simplex_sorted.proofs.Unboxed.{same_length}

@@ -1,3 +1,4 @@
+-- How the contract of `bounds` follows: no more views stand between two views than numbers, so the place is bounded by the first and the last view.
 use Rattle.std.proofs.Common.{◌≡◌, ◌+◌, ◌<◌, length, refl, arith}
 use Rattle.std.specs.FinMap as map
 use Rattle.simplex_sorted.proofs.Maps.{entries_of_made, length_of_made, len-below-le-len}

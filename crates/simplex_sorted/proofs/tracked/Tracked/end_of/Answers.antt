@@ -1,3 +1,4 @@
+-- How the contract of `end_of` follows: an entry at the view counts besides those below it, and without one the place is the end.
 use Rattle.std.proofs.Common.{sym, arith, rules, ◌∙◌, ◌<◌, ◌≤◌, ◌+◌, ◌^◌}
 use Rattle.simplex_sorted.proofs.Maps.{len-below-there, len-below-not_there, len-below-end, len-below-le-len}
 use Rattle.simplex_sorted.proofs.tracked.Tracked.end_of.Goals as goal

@@ -1,10 +1,10 @@
+-- The loop of `find`: the place is among those that are left, and each probe has halved them.
 use Rattle.std.proofs.Common.{◌+◌, ◌-◌, ◌≤◌}
 use Rattle.std.specs.FinMap as map
 use Rattle.simplex_sorted.specs.Tracked.{below}
 use Rattle.simplex_types.proofs.Digits.{IsLeft}
 use Rattle.simplex_sorted.proofs.tracked.Tracked.find.Given as goal
 
--- the place is among those that are left, and each probe has halved them
 abbrev pub invariant-loop-low : goal.invariant-loop-low
 invariant-loop-low g l =
     let place = map.len (below l.self l.view) in

@@ -1,3 +1,4 @@
+-- How the contract of `from_to` follows: the end of the last view bounds the entries up to it, as its place would those below.
 use Rattle.std.proofs.Common.{◌∙◌, ◌+◌}
 use Rattle.simplex_sorted.proofs.Maps.{entries_of_made, place_within, places_rise, between_read}
 use Rattle.simplex_sorted.proofs.Unboxed.{same_length}

@@ -1,3 +1,4 @@
+-- How the contract of `get_mut` follows: where the view stands at its place, a write there is one at the view, and the entries stay sorted.
 use Rattle.std.proofs.Common.{◌<◌, sym, refl, length, set, arith}
 use Rattle.std.specs.Box.{with_value}
 use Rattle.simplex_sorted.specs.Tracked.{unboxed}

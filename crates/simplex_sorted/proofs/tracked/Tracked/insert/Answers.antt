@@ -1,3 +1,4 @@
+-- How the contract of `insert` follows: an entry at the place of its view keeps the entries sorted, and is the view's value in the map.
 use Rattle.std.proofs.Common.{sym, arith}
 use Rattle.simplex_sorted.proofs.Maps.{entries_of_made, place_within, inserted, sorted_from_entries, made_from_entries}
 use Rattle.simplex_sorted.proofs.Unboxed.{unboxed-insert, same_length}

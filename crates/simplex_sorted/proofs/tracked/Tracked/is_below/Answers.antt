@@ -1,3 +1,4 @@
+-- How the contract of `is_below` follows: the entries rise, so the one at a place is below the view just where the place is below the view's.
 use Rattle.std.proofs.Common.{ap, ◌∙◌, ltb, get_or, arith}
 use Rattle.simplex_sorted.proofs.Maps.{length_of_made, entries_of_made, is_lt-nat_cmp, below_at}
 use Rattle.simplex_sorted.proofs.Unboxed.{unboxed_at, same_length, opened}

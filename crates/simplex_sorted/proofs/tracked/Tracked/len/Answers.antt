@@ -1,3 +1,4 @@
+-- How the contract of `len` follows: as many entries stand in the rows as views in the map.
 use Rattle.std.proofs.Common.{◌∙◌}
 use Rattle.simplex_sorted.proofs.Maps.{length_of_made}
 use Rattle.simplex_sorted.proofs.Unboxed.{same_length}

@@ -1,3 +1,4 @@
+-- How the contract of `new` follows: no rows are the empty map.
 use Rattle.std.proofs.Common.{ap}
 use Rattle.simplex_sorted.specs.Tracked.{unboxed}
 use Rattle.simplex_sorted.proofs.Maps.{made_empty}

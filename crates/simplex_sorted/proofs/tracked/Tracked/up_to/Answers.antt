@@ -1,3 +1,4 @@
+-- How the contract of `up_to` follows: the end of the view bounds the entries at or below it.
 use Rattle.std.proofs.Common.{◌∙◌, arith}
 use Rattle.simplex_sorted.proofs.Maps.{entries_of_made, place_within, below_read}
 use Rattle.simplex_sorted.proofs.Unboxed.{same_length}

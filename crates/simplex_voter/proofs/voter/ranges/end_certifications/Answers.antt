@@ -1,3 +1,4 @@
+-- How the contract of `end_certifications` follows: none is under way below where the walk begins, and each round that it meets is ended.
 use Rattle.std.proofs.Common.{◌≡◌, ◌<◌, ◌≤◌, ◌∙◌, refl, arith}
 use Rattle.std.specs.FinMap as map
 use Rattle.simplex_sorted.proofs.Gaps.{gt_no, gt_yes}

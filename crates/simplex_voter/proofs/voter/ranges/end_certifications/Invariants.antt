@@ -1,10 +1,10 @@
+-- The loop of `end_certifications`: the certifications below the next view are ended, and the others stay.
 use Rattle.std.proofs.Common.{◌≡◌, ◌≤◌, ◌+◌, ◌-◌, ℕ, nat_lt, if◌then◌else◌}
 use Rattle.std.specs.Option.{option_map}
 use Rattle.std.specs.FinMap as map
 use Rattle.simplex_voter.specs.Certification.{without_token}
 use Rattle.simplex_voter.proofs.voter.ranges.end_certifications.Given as goal
 
--- the certifications below the next view are ended, and the others stay
 abbrev pub invariant-loop-entry : goal.invariant-loop-entry
 invariant-loop-entry g l = record {
   in_range : l.next ≤ l.view + 1;

@@ -1,3 +1,4 @@
+-- How the contract of `first_deadline` follows: the first entered round of the range has the deadline, and those before it are passed by.
 use Rattle.std.proofs.Common.{ap, sym, ◌∙◌}
 use Rattle.std.specs.Prelude.{option_and_then}
 use Rattle.simplex_voter.specs.Timeouts.{is_entered_between, standing_deadline}

@@ -1,3 +1,4 @@
+-- How the contract of `keeps_the_laws` follows: what the member has done is a run, and runs are lawful.
 use Rattle.simplex_laws.proofs.executions.Living.{done_lawful, done_ran}
 use Rattle.simplex_lawful.proofs.lawful.living.LawfulMember.keeps_the_laws.Goals as goal
 

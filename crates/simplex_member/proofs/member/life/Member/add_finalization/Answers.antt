@@ -1,3 +1,4 @@
+-- How the contract of `add_finalization` follows: a new finalization is recorded behind the other entries, and a refusal leaves all as it was.
 use Rattle.std.proofs.Common.{ap, false, refl, sym, ◌∙◌}
 use Rattle.std.proofs.lemmas.Result.{IfOk-weaker}
 use Rattle.simplex_types.specs.Certificates.{finalization_facts, Accepted, Finalized}

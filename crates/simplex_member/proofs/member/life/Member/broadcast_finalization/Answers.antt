@@ -1,3 +1,4 @@
+-- How the contract of `broadcast_finalization` follows: the state hands the finalization out once, and nothing is recorded.
 use Rattle.std.proofs.Common.{ap, false, option_map, refl, sym, ◌∙◌}
 use Rattle.std.proofs.lemmas.List.{append-nil}
 use Rattle.std.proofs.lemmas.Result.{IfOk-weaker}

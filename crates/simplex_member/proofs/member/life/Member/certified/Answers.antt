@@ -1,3 +1,4 @@
+-- How the contract of `certified` follows: the first verdict of a tracked view is recorded, a later one or one of an untracked view is not.
 use Rattle.std.proofs.Common.{ap, false, option_map, refl, sym, ◌∙◌}
 use Rattle.std.proofs.lemmas.Result.{IfOk-weaker}
 use Rattle.simplex_types.specs.Certificates.{notarization_facts}

@@ -1,3 +1,4 @@
+-- How the contract of `certify_candidates` follows: the state's offers are open until their verdicts, and nothing is recorded.
 use Rattle.std.proofs.Common.{List, ap, false, refl, sym, ◌∙◌}
 use Rattle.std.proofs.lemmas.List.{append-nil}
 use Rattle.std.proofs.lemmas.Result.{IfOk-weaker}

@@ -1,3 +1,4 @@
+-- How the contract of `get_best_certificate` follows: the state's answer is the member's, and nothing is recorded.
 use Rattle.std.proofs.Common.{ap, false, refl, sym}
 use Rattle.simplex_record.specs.Entries.{entries_of}
 use Rattle.simplex_member.specs.Calls.{GetBestCertificate, Handed}

@@ -1,3 +1,4 @@
+-- How the contract of `prune` follows: the state drops the rounds by its definition, and nothing is recorded.
 use Rattle.std.proofs.Common.{ap, false, refl, sym, ◌∙◌}
 use Rattle.std.proofs.lemmas.Result.{IfOk-weaker}
 use Rattle.simplex_record.specs.Entries.{entries_of}

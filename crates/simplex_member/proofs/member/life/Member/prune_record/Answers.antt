@@ -1,3 +1,4 @@
+-- How the contract of `prune_record` follows: each entry that is left counts as closed, and the votes are those of the entries left.
 use Rattle.std.proofs.Common.{sym, ◌∙◌}
 use Rattle.simplex_record.specs.Entries.{entries_of}
 use Rattle.simplex_record.proofs.Cuts.{length_entries}

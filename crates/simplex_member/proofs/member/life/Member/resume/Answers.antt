@@ -1,3 +1,4 @@
+-- How the contract of `resume` follows: entries that were lost and a retention that grew refuse it; else it is the restart that drops and prunes nothing.
 use Rattle.std.proofs.Common.{◌≡◌, ◌∙◌, sym, false}
 use Rattle.simplex_record.specs.Entries.{entries_of}
 use Rattle.simplex_member.specs.Journal.{has_lost}

@@ -1,3 +1,4 @@
+-- How the contract of `set_certify_handle` follows: the state notes the token by its definition, and nothing is recorded.
 use Rattle.std.proofs.Common.{false, refl, sym, ◌∙◌}
 use Rattle.simplex_record.specs.Entries.{entries_of}
 use Rattle.simplex_member.specs.Calls.{SetCertifyHandle}

@@ -1,3 +1,4 @@
+-- How the contract of `set_proposal` follows: the state takes the proposal by its definition, and nothing is recorded.
 use Rattle.std.proofs.Common.{ap, false, refl, sym, ◌∙◌}
 use Rattle.std.proofs.lemmas.Result.{IfOk-weaker}
 use Rattle.simplex_voter.specs.Refusals.{names_too_large}

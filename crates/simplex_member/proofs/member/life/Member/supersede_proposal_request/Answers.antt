@@ -1,3 +1,4 @@
+-- How the contract of `supersede_proposal_request` follows: a request that is superseded is closed, and another one stays as it was.
 use Rattle.std.proofs.Common.{ap, false, refl, sym}
 use Rattle.simplex_record.specs.Entries.{entries_of}
 use Rattle.simplex_member.specs.Calls.{SupersedeProposalRequest, Answered}

@@ -1,3 +1,4 @@
+-- How the contract of `trigger_timeout` follows: the state latches the timeout by its definition, and nothing is recorded.
 use Rattle.std.proofs.Common.{ap, false, refl, sym}
 use Rattle.simplex_record.specs.Entries.{entries_of}
 use Rattle.simplex_member.specs.Calls.{TriggerTimeout, Triggered}

@@ -1,3 +1,4 @@
+-- How the contract of `try_verify` follows: there is room for the verification before the state is called, so the one that it asks for is open after it.
 use Rattle.std.proofs.Common.{ap, false, refl, sym}
 use Rattle.simplex_record.specs.Entries.{entries_of}
 use Rattle.simplex_member.specs.Calls.{TryVerify, Standing}

@@ -1,3 +1,4 @@
+-- How the contract of `verification_failed` follows: the state times the view out by its definition, and the verification is closed.
 use Rattle.std.proofs.Common.{false, refl, sym, ◌∙◌}
 use Rattle.simplex_record.specs.Entries.{entries_of}
 use Rattle.simplex_member.specs.Calls.{VerificationFailed}

@@ -1,3 +1,4 @@
+-- How the contract of `verified` follows: the state marks the proposal by its definition, and the verification is closed.
 use Rattle.std.proofs.Common.{ap, false, refl, sym, ◌∙◌}
 use Rattle.simplex_record.specs.Entries.{entries_of}
 use Rattle.simplex_member.specs.Calls.{Verified, Answered}

@@ -1,3 +1,4 @@
+-- How the contract of `new` follows: nothing is open in empty lists.
 use Rattle.std.proofs.Common.{refl}
 use Rattle.simplex_voter.proofs.RoundsKept.{keys_empty}
 use Rattle.simplex_member.proofs.member.outstanding_work.OutstandingWork.new.Goals as goal

@@ -1,3 +1,4 @@
+-- How the contract of `open_offers` follows: each proposal that is offered puts its view among the offers.
 use Rattle.std.proofs.Common.{sym, ap, ◌∙◌, ◌∷◌, ◌+◌, drop}
 use Rattle.std.proofs.lemmas.List.{drop_more}
 use Rattle.std.specs.FinMap as map

@@ -1,3 +1,4 @@
+-- How the contract of `open_verification` follows: a proposal that is ready puts its view among the verifications.
 use Rattle.std.proofs.Common.{refl}
 use Rattle.simplex_voter.proofs.Containers.{keys-put}
 use Rattle.simplex_member.proofs.member.outstanding_work.OutstandingWork.open_verification.Goals as goal

@@ -1,3 +1,4 @@
+-- How the contract of `get` follows: the view is the newest one's, or it is looked for among the others.
 use Rattle.std.proofs.Common.{sym, ◌∙◌}
 use Rattle.std.specs.FinMap as map
 use Rattle.simplex_member.proofs.Waiting.{found_newest, found_other}

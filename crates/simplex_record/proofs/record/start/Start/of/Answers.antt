@@ -1,3 +1,4 @@
+-- How the contract of `of` follows: the first broken rule of the settings is the error, then the number of the elector's members.
 use Rattle.std.proofs.Common.{◌≡◌, sym, ap, ◌∙◌, List, length, ◌==◌}
 use Rattle.simplex_types.specs.Config.{first_broken_rule}
 use Rattle.simplex_record.specs.Settings.{skip_budget_of, start_by}

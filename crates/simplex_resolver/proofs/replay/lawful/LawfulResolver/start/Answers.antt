@@ -1,3 +1,4 @@
+-- How the contract of `start` follows: the calls of the record, and then the end of the replay, are the first that it was told.
 use Rattle.std.proofs.Common.{refl, subst}
 use Rattle.simplex_resolver.specs.Repair.{IsApplied}
 use Rattle.simplex_resolver.proofs.Told.{told_by_record}

@@ -1,3 +1,4 @@
+-- How the contract of `note` follows: the entry's place is noted where it is a notarization, and no other entry changes the places.
 use Rattle.std.proofs.Common.{◌≡◌, ◌+◌, length, arith}
 use Rattle.simplex_resolver.proofs.Noted.{not_noted, one_noted, ok_gives, err_gives}
 use Rattle.simplex_resolver.proofs.replay.places.Places.note.Goals as goal

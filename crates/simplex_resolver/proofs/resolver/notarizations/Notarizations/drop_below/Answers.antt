@@ -1,3 +1,4 @@
+-- How the contract of `drop_below` follows: each of the three sets is lowered, so the map is, and they stay apart.
 use Rattle.simplex_resolver.proofs.ViewSets.{seen_lowered, lowered_apart}
 use Rattle.simplex_resolver.proofs.resolver.notarizations.Notarizations.drop_below.Goals as goal
 

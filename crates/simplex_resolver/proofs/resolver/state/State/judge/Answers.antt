@@ -1,3 +1,4 @@
+-- How the contract of `judge` follows: a true verdict is recorded as a success.
 use Rattle.simplex_resolver.proofs.resolver.state.State.judge.Goals as goal
 
 pub returns-then-success-clause-after : goal.returns-then-success-clause-after

@@ -1,3 +1,4 @@
+-- How the contract of `keep_certified` follows: what was kept is of the view and the encoding of this certificate.
 use Rattle.std.proofs.Common.{◌≡◌, ℕ, List, ◌∙◌, ap}
 use Rattle.std.proofs.lemmas.Result.{on_ok_weaker}
 use Rattle.simplex_resolver.specs.Facts.{ResolverFacts}

@@ -1,3 +1,4 @@
+-- How the contract of `record` follows: by the certificate's kind: what it settles, and behind it what the scan fetches.
 use Rattle.std.proofs.Common.{◌≡◌, List, ◌++◌, ap, ◌∙◌}
 use Rattle.simplex_resolver.specs.Steps.{after_scan, scan_fetches}
 use Rattle.simplex_resolver.proofs.resolver.state.State.record.Goals as goal

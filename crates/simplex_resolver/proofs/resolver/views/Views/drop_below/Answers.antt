@@ -1,3 +1,4 @@
+-- How the contract of `drop_below` follows: the keys from the view on stay sorted, and are the set from the view on.
 use Rattle.simplex_resolver.proofs.ViewSets.{keyed_sorted, lowered}
 use Rattle.simplex_resolver.proofs.resolver.views.Views.drop_below.Goals as goal
 

@@ -1,3 +1,4 @@
+-- How the contract of `iter` follows: the keys of the map are the views of the set.
 use Rattle.std.proofs.Common.{◌∙◌}
 use Rattle.simplex_resolver.proofs.ViewSets.{keys_keyed}
 use Rattle.simplex_resolver.proofs.resolver.views.Views.iter.Goals as goal

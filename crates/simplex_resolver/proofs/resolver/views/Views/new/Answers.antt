@@ -1,3 +1,4 @@
+-- How the contract of `new` follows: no keys are the empty set.
 use Rattle.std.proofs.Common.{ap}
 use Rattle.simplex_sorted.proofs.Maps.{made_empty}
 use Rattle.simplex_resolver.specs.ViewSets.{keyed}

@@ -1,3 +1,4 @@
+-- How the contract of `sign` follows: the signer is a member, so its key is read within the keys.
 use Rattle.std.proofs.Common.{◌∙◌, ap, refl, get_or, arith}
 use Rattle.std.proofs.lemmas.Option.{slice_get_read}
 use Rattle.simplex_types.proofs.types.plain.PlainSchemeSchemePlainDigest.sign.Goals as goal

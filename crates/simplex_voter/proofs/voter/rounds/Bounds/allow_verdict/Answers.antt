@@ -1,3 +1,4 @@
+-- How the contract of `allow_verdict` follows: the bounds are wider by the verdict alone: explicit for a true one, refused for a false one.
 use Rattle.std.proofs.Common.{sym, ◌∙◌, arith}
 use Rattle.std.proofs.lemmas.Bool.{false≢true}
 use Rattle.simplex_voter.proofs.RoundsKept.{noted, noted_there, noted_still}

@@ -1,3 +1,4 @@
+-- How the contract of `after_notarized` follows: a notarized view is small enough that there is a next one.
 use Rattle.std.proofs.Common.{ap, sym, subst, arith}
 use Rattle.simplex_voter.specs.Rounds.{AreKept}
 use Rattle.simplex_voter.proofs.Changed.{notarized_there, notarized_small}

@@ -1,3 +1,4 @@
+-- How the contract of `ask_to_build` follows: the round at the view has its request set, and none is set at an untracked one.
 use Rattle.std.proofs.Common.{true, ap, sym, refl, ◌∙◌, inl}
 use Rattle.simplex_round.specs.Round.{should_propose}
 use Rattle.simplex_voter.specs.Proposing.{build_requested}

@@ -1,3 +1,4 @@
+-- How the contract of `at_or_above` follows: the entries of the map at or above the view are those of the rounds.
 use Rattle.std.proofs.Common.{ap, ◌∙◌, filter}
 use Rattle.std.specs.Prelude.{nat_le}
 use Rattle.simplex_voter.proofs.Containers.{entries-kept}

@@ -1,3 +1,4 @@
+-- How the contract of `decide_nullify` follows: the view is tracked first, and its decision is the only change of its round.
 use Rattle.std.proofs.Common.{◌∙◌, refl}
 use Rattle.simplex_round.specs.Round.{after_nullify}
 use Rattle.simplex_voter.proofs.RoundChanges.{decided_alike}

@@ -1,3 +1,4 @@
+-- How the contract of `down_from` follows: no view above the bound is explicit, so those above it may be left out.
 use Rattle.std.proofs.Common.{◌+◌, ◌<◌, nat_lt, filter, ap, ◌∙◌, arith}
 use Rattle.simplex_sorted.proofs.Gaps.{lt_yes}
 use Rattle.simplex_sorted.proofs.Maps.{entries-retain_keys}

@@ -1,3 +1,4 @@
+-- How the contract of `drop_below` follows: the rounds from the view on are left, each as it was kept.
 use Rattle.std.proofs.Common.{refl}
 use Rattle.simplex_voter.proofs.Containers.{entries-kept}
 use Rattle.simplex_voter.proofs.Changed.{left_kept}

@@ -1,3 +1,4 @@
+-- How the contract of `end_certifications` follows: no certification is under way below the bound, so the walk from there ends them all.
 use Rattle.std.proofs.Common.{refl}
 use Rattle.simplex_voter.proofs.Changed.{quiet_below}
 use Rattle.simplex_voter.proofs.Raising.{ended_kept}

@@ -1,3 +1,4 @@
+-- How the contract of `enter_view` follows: the view is tracked first, and its moments are the only change of its round.
 use Rattle.std.proofs.Common.{◌∙◌, ap, refl}
 use Rattle.simplex_round.specs.Round.{with_deadlines}
 use Rattle.simplex_voter.specs.Rounds.{with_entry}

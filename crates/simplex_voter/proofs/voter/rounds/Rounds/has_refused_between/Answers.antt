@@ -1,3 +1,4 @@
+-- How the contract of `has_refused_between` follows: a range that ends below the view has no view above it, else the refused ones of the range are looked at.
 use Rattle.std.proofs.Common.{ℕ, Bool, ◌+◌, ap, ◌∙◌, sym, subst}
 use Rattle.std.specs.List.{list_any}
 use Rattle.std.specs.FinMap as map

@@ -1,3 +1,4 @@
+-- How the contract of `keep_finalization` follows: the view is tracked and the bounds allow it before the round has it, so the round stays kept.
 use Rattle.std.proofs.Common.{◌∙◌, refl}
 use Rattle.simplex_types.specs.Proposal.{same_proposal}
 use Rattle.simplex_types.specs.Certificates.{finalization_facts}

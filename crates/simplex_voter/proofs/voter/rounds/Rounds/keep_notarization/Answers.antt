@@ -1,3 +1,4 @@
+-- How the contract of `keep_notarization` follows: the view is tracked first, and a certificate names only a view that may be notarized.
 use Rattle.std.proofs.Common.{◌∙◌, refl}
 use Rattle.simplex_types.specs.Proposal.{same_proposal}
 use Rattle.simplex_types.specs.Certificates.{notarization_facts}

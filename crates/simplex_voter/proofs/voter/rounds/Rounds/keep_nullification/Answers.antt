@@ -1,3 +1,4 @@
+-- How the contract of `keep_nullification` follows: the view is tracked first, and the nullification is the only change of its round.
 use Rattle.std.proofs.Common.{◌∙◌, refl}
 use Rattle.simplex_types.specs.Certificates.{nullification_facts}
 use Rattle.simplex_round.specs.Round.{with_nullification}

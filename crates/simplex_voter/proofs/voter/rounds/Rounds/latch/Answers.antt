@@ -1,3 +1,4 @@
+-- How the contract of `latch` follows: the round at the view is latched, and an untracked one has no timeout.
 use Rattle.std.proofs.Common.{refl, ap, sym, ◌∙◌, inl}
 use Rattle.std.specs.Prelude.{◌&&◌, is_some, unwrap_or}
 use Rattle.simplex_round.specs.Round.{awaits_latch, new_round, with_latch}

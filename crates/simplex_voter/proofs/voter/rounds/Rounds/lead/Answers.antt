@@ -1,3 +1,4 @@
+-- How the contract of `lead` follows: the round's members are the state's, so a leader among these is one of the round's.
 use Rattle.std.proofs.Common.{◌∙◌, ap, sym, refl}
 use Rattle.simplex_round.specs.Round.{leader_at}
 use Rattle.simplex_voter.proofs.Changed.{never_none, kept_at, kept_led, changed_tracked}

@@ -1,3 +1,4 @@
+-- How the contract of `mark` follows: the round at the view is marked where it holds an unverified proposal, and an untracked one holds none.
 use Rattle.std.proofs.Common.{false, not, ◌&&◌, ap, sym, refl, ◌∙◌}
 use Rattle.std.specs.Option.{option_map_or}
 use Rattle.simplex_round.specs.Slot.{is_unverified}

@@ -1,3 +1,4 @@
+-- How the contract of `poll` follows: the round's own poll is the answer and the only change, and an untracked view has no timeout.
 use Rattle.std.proofs.Common.{ap, sym, refl, ◌∙◌}
 use Rattle.std.specs.Prelude.{option_and_then}
 use Rattle.simplex_round.specs.Round.{with_retry, round_timeout}

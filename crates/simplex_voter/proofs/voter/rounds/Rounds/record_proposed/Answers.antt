@@ -1,3 +1,4 @@
+-- How the contract of `record_proposed` follows: the round takes an own proposal with its binding, and one that it can't take is put back as it was.
 use Rattle.std.proofs.Common.{false, not, ◌&&◌, ap, sym, refl, ◌∙◌}
 use Rattle.std.specs.Option.{option_map_or}
 use Rattle.simplex_types.specs.Proposal.{same_proposal}

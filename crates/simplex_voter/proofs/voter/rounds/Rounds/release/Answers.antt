@@ -1,3 +1,4 @@
+-- How the contract of `release` follows: the round at the view loses its request, and an untracked one has none.
 use Rattle.std.proofs.Common.{refl, inl}
 use Rattle.std.proofs.Common.{false}
 use Rattle.simplex_voter.specs.Proposing.{build_requested}

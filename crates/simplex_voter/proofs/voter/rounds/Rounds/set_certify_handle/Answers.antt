@@ -1,3 +1,4 @@
+-- How the contract of `set_certify_handle` follows: the bounds allow a certification that is under way before the round has the token.
 use Rattle.std.proofs.Common.{refl}
 use Rattle.simplex_round.specs.declared.round.Certification.TheVariants.{Outstanding}
 use Rattle.simplex_voter.proofs.RoundChanges.{asked_alike}

@@ -1,3 +1,4 @@
+-- How the contract of `take_proposal` follows: the view is tracked first, and the proposal in the slot is the only change of its round.
 use Rattle.std.proofs.Common.{◌∙◌, refl}
 use Rattle.simplex_voter.specs.Verifying.{with_proposal}
 use Rattle.simplex_voter.proofs.RoundChanges.{proposed_alike}

@@ -1,3 +1,4 @@
+-- How the contract of `views_below` follows: the keys of the map below the view are the tracked views there.
 use Rattle.std.proofs.Common.{ap, ◌∙◌, nat_lt, filter}
 use Rattle.std.specs.Prelude.{map as map_list}
 use Rattle.simplex_voter.proofs.RoundsKept.{keys-below}

@@ -1,3 +1,4 @@
+-- How the contract of `within` follows: the entries of the map in the range are the rounds there, by rising view.
 use Rattle.std.proofs.Common.{ap, sym}
 use Rattle.simplex_voter.proofs.Scans.{within_shown, in_order}
 use Rattle.simplex_voter.proofs.voter.rounds.Rounds.within.Goals as goal

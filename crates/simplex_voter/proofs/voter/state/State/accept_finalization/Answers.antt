@@ -1,3 +1,4 @@
+-- How the contract of `accept_finalization` follows: a second finalization of a view adds nothing, a first one raises, elects and enters.
 use Rattle.std.proofs.Common.{ap, ◌∙◌}
 use Rattle.simplex_types.specs.Certificates.{finalization_facts}
 use Rattle.simplex_voter.specs.Leaders.{with_window_leaders}

@@ -1,3 +1,4 @@
+-- How the contract of `accept_notarization` follows: a second notarization of a view adds nothing, a first one waits for certification.
 use Rattle.std.proofs.Common.{◌∙◌}
 use Rattle.simplex_types.specs.Certificates.{notarization_facts}
 use Rattle.simplex_voter.proofs.Accepting.{notarization_stays_added, notarized_again, notarized_first}

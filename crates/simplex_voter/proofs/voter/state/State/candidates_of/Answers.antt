@@ -1,3 +1,4 @@
+-- How the contract of `candidates_of` follows: each view adds its offer and its fetch to those so far.
 use Rattle.simplex_voter.specs.Certification.{offered_of, fetched_of}
 use Rattle.simplex_voter.proofs.Offers.{gathers_next}
 use Rattle.simplex_voter.proofs.voter.state.State.candidates_of.Goals as goal

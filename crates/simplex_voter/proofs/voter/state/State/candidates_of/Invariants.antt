@@ -1,9 +1,9 @@
+-- The loop of `candidates_of`: both lists, with what the rest gives, are the answer.
 use Rattle.std.proofs.Common.{length}
 use Rattle.simplex_voter.specs.Certification.{offered_of, fetched_of}
 use Rattle.simplex_voter.proofs.Offers.{Gathers}
 use Rattle.simplex_voter.proofs.voter.state.State.candidates_of.Given as goal
 
--- both lists, with what the rest gives, are the answer
 abbrev pub invariant-loop-entry : goal.invariant-loop-entry
 invariant-loop-entry g l = record {
   offers : Gathers (λ e. offered_of g.D.PartialEq.eq g.L.Elector.elect l.self e.0) l.fn.views l.offers.items l.views;

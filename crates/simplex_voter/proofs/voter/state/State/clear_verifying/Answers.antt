@@ -1,3 +1,4 @@
+-- How the contract of `clear_verifying` follows: the rounds' part is the whole change of the state.
 use Rattle.std.proofs.Common.{refl}
 use Rattle.simplex_voter.proofs.Shown.{where_true, kept_with_rounds}
 use Rattle.simplex_voter.specs.Rounds.{is_tracked}

@@ -1,3 +1,4 @@
+-- How the contract of `construct_nullify` follows: want of memory fails the state, and leaves its set-up.
 use Rattle.simplex_voter.proofs.Faults.{failed_now}
 use Rattle.simplex_voter.proofs.voter.state.State.construct_nullify.Goals as goal
 

@@ -1,3 +1,4 @@
+-- How the contract of `deadlines_above` follows: a finalization that is not refused is of a small view, so there is a next one with deadlines.
 use Rattle.std.proofs.Common.{◌+◌, ap, sym, ◌∙◌}
 use Rattle.simplex_voter.specs.Refusals.{names_too_large, enters_late}
 use Rattle.simplex_voter.proofs.Faults.{none_due, small_view}

@@ -1,3 +1,4 @@
+-- How the contract of `enter_view` follows: a view above the current one is entered, and the bound of current views holds.
 use Rattle.std.proofs.Common.{length, ap, sym, refl, ◌∙◌}
 use Rattle.simplex_voter.specs.Setup.{deadlines_at}
 use Rattle.simplex_voter.proofs.Shown.{not_le, entered_by, kept_with_rounds}

@@ -1,3 +1,4 @@
+-- How the contract of `first_unnullified_view` follows: the first gap of the nullified views by terms is the first view that none covers.
 use Rattle.std.proofs.Common.{◌<◌, ap, sym, subst, ◌∙◌}
 use Rattle.simplex_voter.proofs.Covered.{first_found}
 use Rattle.simplex_voter.proofs.voter.state.State.first_unnullified_view.Goals as goal

@@ -1,3 +1,4 @@
+-- How the contract of `first_within` follows: the first of the views in the range is the lowest.
 use Rattle.std.proofs.Common.{slice_get, ap, sym, ◌∙◌}
 use Rattle.std.specs.Prelude.{option_map}
 use Rattle.simplex_voter.proofs.voter.state.State.first_within.Goals as goal

@@ -1,3 +1,4 @@
+-- How the contract of `follow_verdict` follows: a notarized view has a next one with deadlines; a true verdict enters it, a false one times the view out.
 use Rattle.simplex_types.specs.declared.reasons.TimeoutReason.TheVariants.{FailedCertification}
 use Rattle.simplex_voter.proofs.Judging.{next_enterable, next_countable, setup_judged, setup_triggered, deadlines_judged, verdict_refused, verdict_kept}
 use Rattle.simplex_voter.proofs.Sliding.{same_setup_joins}

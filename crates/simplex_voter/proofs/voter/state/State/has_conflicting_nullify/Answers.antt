@@ -1,3 +1,4 @@
+-- How the contract of `has_conflicting_nullify` follows: the highest nullify vote below the view in its term decides, and without one there is none.
 use Rattle.std.proofs.Common.{◌∙◌, refl}
 use Rattle.simplex_voter.proofs.Gate.{gated_by, not_gated}
 use Rattle.simplex_voter.proofs.voter.state.State.has_conflicting_nullify.Goals as goal

@@ -1,3 +1,4 @@
+-- How the contract of `highest_explicit` follows: the last explicit round below is the highest, and genesis is where there is none.
 use Rattle.std.proofs.Common.{None, nat_lt, filter, ap, ◌∙◌}
 use Rattle.std.specs.List.{filter_map, last_or}
 use Rattle.simplex_voter.specs.Facts.{round_at}

@@ -1,3 +1,4 @@
+-- How the contract of `inherit_leader` follows: the rounds' part is the whole change of the state, and its set-up stays.
 use Rattle.std.proofs.Common.{refl}
 use Rattle.simplex_round.specs.Round.{leader_at}
 use Rattle.simplex_voter.specs.Rounds.{round_of}

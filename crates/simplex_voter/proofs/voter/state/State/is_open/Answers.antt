@@ -1,3 +1,4 @@
+-- How the contract of `is_open` follows: above a floor that is not genesis, the rounds between answer.
 use Rattle.simplex_voter.proofs.Between.{not_zero}
 use Rattle.simplex_voter.proofs.voter.state.State.is_open.Goals as goal
 

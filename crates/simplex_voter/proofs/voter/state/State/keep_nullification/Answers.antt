@@ -1,3 +1,4 @@
+-- How the contract of `keep_nullification` follows: the rounds' part is the whole change of the state, and its set-up stays.
 use Rattle.simplex_voter.proofs.Shown.{on_ok, by_rounds, same_setup, kept_with_rounds}
 use Rattle.simplex_voter.proofs.voter.state.State.keep_nullification.Goals as goal
 

@@ -1,3 +1,4 @@
+-- How the contract of `last_ahead` follows: the current view is bounded, so the next term's start fits.
 use Rattle.std.proofs.Common.{◌<◌, ◌^◌, ap, ◌∙◌, subst, arith}
 use Rattle.simplex_types.specs.Terms.{next_term_start}
 use Rattle.simplex_voter.proofs.Near.{next_near}

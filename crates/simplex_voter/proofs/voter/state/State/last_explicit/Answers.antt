@@ -1,3 +1,4 @@
+-- How the contract of `last_explicit` follows: the first explicit view from the end is the last of all.
 use Rattle.std.proofs.Common.{None, ap, sym, ◌∙◌}
 use Rattle.std.specs.List.{filter_map, last_or}
 use Rattle.simplex_voter.specs.Parents.{explicit_at}

@@ -1,3 +1,4 @@
+-- How the contract of `may_notarize` follows: a view that may be voted for is near the current one, so a next one fits.
 use Rattle.std.proofs.Common.{◌<◌, ◌^◌, ap, sym, ◌∙◌, subst, arith}
 use Rattle.simplex_voter.proofs.Near.{admitted_near}
 use Rattle.simplex_voter.proofs.voter.state.State.may_notarize.Goals as goal

@@ -1,3 +1,4 @@
+-- How the contract of `next_request` follows: the views near the current one and the next term's start are all that may have a request.
 use Rattle.std.proofs.Common.{◌<◌, slice_get, ap, ◌∙◌, arith}
 use Rattle.std.specs.List.{filter_map}
 use Rattle.simplex_sorted.proofs.Gaps.{lt_yes}

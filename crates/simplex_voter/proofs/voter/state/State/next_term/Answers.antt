@@ -1,3 +1,4 @@
+-- How the contract of `next_term` follows: a term has fewer than 2^32 views, so the next one's start fits.
 use Rattle.std.proofs.Common.{◌-◌, arith}
 use Rattle.std.proofs.Math.Nat.{div-mul-le_self}
 use Rattle.simplex_voter.proofs.voter.state.State.next_term.Goals as goal

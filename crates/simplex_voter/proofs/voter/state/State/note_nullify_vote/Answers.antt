@@ -1,3 +1,4 @@
+-- How the contract of `note_nullify_vote` follows: the view is put among the nullify votes.
 use Rattle.std.proofs.Common.{refl}
 use Rattle.simplex_voter.proofs.Shown.{on_ok, nullify_vote_shown}
 use Rattle.simplex_voter.proofs.voter.state.State.note_nullify_vote.Goals as goal

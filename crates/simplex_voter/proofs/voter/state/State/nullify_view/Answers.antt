@@ -1,3 +1,4 @@
+-- How the contract of `nullify_view` follows: the view is put among the nullified ones.
 use Rattle.std.proofs.Common.{refl}
 use Rattle.simplex_voter.proofs.Shown.{on_ok, nullified_shown}
 use Rattle.simplex_voter.proofs.voter.state.State.nullify_view.Goals as goal

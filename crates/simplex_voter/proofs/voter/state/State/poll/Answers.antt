@@ -1,3 +1,4 @@
+-- How the contract of `poll` follows: the rounds' part is the whole change of the state, and a late deadline refuses it.
 use Rattle.std.proofs.Common.{refl, ap, sym, ◌∙◌}
 use Rattle.simplex_voter.specs.Rounds.{is_tracked, round_at}
 use Rattle.simplex_voter.specs.Timeouts.{has_skip_budget}

@@ -1,3 +1,4 @@
+-- How the contract of `record_proposed` follows: the rounds' part is the whole change of the state.
 use Rattle.std.proofs.Common.{refl}
 use Rattle.simplex_voter.proofs.Shown.{where_true, kept_with_rounds}
 use Rattle.simplex_voter.proofs.voter.state.State.record_proposed.Goals as goal

@@ -1,3 +1,4 @@
+-- How the contract of `restore_round` follows: the round takes the artifact with the binding that the record's vote had.
 use Rattle.simplex_voter.proofs.Recalled.{restored_on_ok}
 use Rattle.simplex_voter.proofs.voter.state.State.restore_round.Goals as goal
 

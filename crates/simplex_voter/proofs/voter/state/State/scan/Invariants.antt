@@ -1,3 +1,4 @@
+-- The loop of `scan`: the views below the next one are passed, and none had an answer.
 use Rattle.std.proofs.Common.{◌≡◌, ◌+◌, ◌-◌, ◌<◌, ◌≤◌, ◌^◌, true}
 use Rattle.std.specs.Prelude.{min}
 use Rattle.std.specs.Ordering.{nat_cmp}
@@ -6,7 +7,6 @@ use Rattle.simplex_types.specs.Terms.{next_term_start}
 use Rattle.simplex_voter.proofs.Scanning.{IsScanned}
 use Rattle.simplex_voter.proofs.voter.state.State.scan.Given as goal
 
--- the views below the next one are passed, and none had an answer
 abbrev pub invariant-loop-view : goal.invariant-loop-view
 invariant-loop-view g l = record {
   above : l.fn.self.current ≤ l.from;

@@ -1,3 +1,4 @@
+-- How the contract of `set_floor` follows: a fault at genesis is passed on as it is.
 use Rattle.simplex_voter.proofs.Faults.{passed_on}
 use Rattle.simplex_voter.proofs.voter.state.State.set_floor.Goals as goal
 

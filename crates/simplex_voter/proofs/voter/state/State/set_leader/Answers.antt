@@ -1,3 +1,4 @@
+-- How the contract of `set_leader` follows: the rounds' part is the whole change of the state, and a view with a leader stays.
 use Rattle.std.proofs.Common.{is_some, refl}
 use Rattle.simplex_voter.proofs.Shown.{on_ok, where_false, same_setup, kept_with_rounds}
 use Rattle.simplex_voter.specs.Rounds.{round_of}

@@ -1,10 +1,10 @@
+-- The loop of `slide_optimistic_frontier`: what is left of the views leads from the facts of now to the whole slide.
 use Rattle.std.proofs.Common.{◌≡◌, ◌+◌, ◌-◌, ◌≤◌}
 use Rattle.std.specs.List.{fold, range_with_len}
 use Rattle.simplex_voter.specs.Setup.{HasSameSetup}
 use Rattle.simplex_voter.specs.Leaders.{with_leader_of, with_window_leaders}
 use Rattle.simplex_voter.proofs.voter.state.State.slide_optimistic_frontier.Given as goal
 
--- what is left of the views leads from the facts of now to the whole slide
 abbrev pub invariant-loop-last : goal.invariant-loop-last
 invariant-loop-last g l = record {
   reached : l.from ≤ l.last;

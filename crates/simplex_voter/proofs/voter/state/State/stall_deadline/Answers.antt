@@ -1,3 +1,4 @@
+-- How the contract of `stall_deadline` follows: the first entered round of the term above the last finalized view has the deadline.
 use Rattle.simplex_voter.proofs.Stalls.{stall_shown}
 use Rattle.simplex_voter.proofs.voter.state.State.stall_deadline.Goals as goal
 

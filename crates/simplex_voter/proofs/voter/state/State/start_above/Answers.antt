@@ -1,3 +1,4 @@
+-- How the contract of `start_above` follows: the finalization is accepted and then counted as handed out, and its copy is of the same view.
 use Rattle.std.proofs.Common.{ℕ, Result, Ok, Err, OnOk, IfOk, Some, option_map, ◌≡◌, ap, sym, subst, ◌∙◌}
 use Rattle.simplex_types.specs.Terms.{IsVotable}
 use Rattle.simplex_types.specs.Certificates.{ProposalFacts, finalization_facts}

@@ -1,3 +1,4 @@
+-- How the contract of `take_artifact` follows: what is restored of the round and of the sets leaves the set-up.
 use Rattle.simplex_voter.proofs.Sliding.{same_setup_joins}
 use Rattle.simplex_voter.proofs.voter.state.State.take_artifact.Goals as goal
 

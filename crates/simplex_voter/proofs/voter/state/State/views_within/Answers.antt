@@ -1,3 +1,4 @@
+-- How the contract of `views_within` follows: the rounds' views in the range are the state's.
 use Rattle.simplex_voter.proofs.voter.state.State.views_within.Goals as goal
 
 pub returns-clause-within : goal.returns-clause-within
