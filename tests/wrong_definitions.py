@@ -76,8 +76,8 @@ WRONG_DEFINITIONS = (
     Wrong(
         "the lowest nullification of a term helps into the next one", "simplex_voter/specs/Serving.antt",
         (("map, filter}", "map, filter, slice_get}"),
-         ("highest_nullified x v = last_or None (filter (λ u. covers x.terms.term_length u v) x.nullified)",
-          "highest_nullified x v = slice_get (filter (λ u. covers x.terms.term_length u v) x.nullified) 0")), VOTER,
+         ("highest_nullification_in_term x v = last_or None (filter (λ u. covers x.terms.term_length u v) x.nullified)",
+          "highest_nullification_in_term x v = slice_get (filter (λ u. covers x.terms.term_length u v) x.nullified) 0")), VOTER,
     ),
     Wrong(
         "a stall deadline at a round's timeout comes second", "simplex_voter/specs/Timeouts.antt",
