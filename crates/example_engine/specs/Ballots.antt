@@ -39,5 +39,6 @@ module _ {C : Type 0} where
   abbrev pub IsCounted : (C → C → Bool) → ℕ → Type 0 → List (Ballot C) → Ballot C → List (Ballot C) → Option Seal → Type 0
   IsCounted same members May old ballot new seal =
       let signers = signers_of same members new ballot.view ballot.choice in
-      (May × (new ≡ old ++ ballot ∷ []) × MatchOption seal (length signers < quorum_of members) (λ s. (s.signers.items ≡ signers) × (quorum_of members ≤ length signers)))
+      (May × (new ≡ old ++ ballot ∷ [])
+      × MatchOption seal (length signers < quorum_of members) (λ s. (s.signers.items ≡ signers) × (quorum_of members ≤ length signers)))
       ⊎ ((¬ May) × (new ≡ old) × (seal ≡ None))

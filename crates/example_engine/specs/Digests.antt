@@ -14,7 +14,8 @@ bytes_of d = d.bytes
 -- digests of the same bytes are equal
 pub same_bytes : (d e : BlockDigest) → d.bytes ≡ e.bytes → d ≡ e
 same_bytes d e same =
-    ap (λ (t : (bs : List ℕ) × (length bs ≡ 8)). let made : BlockDigest = record { bytes = t.0; sized = t.1 } in made) (Σ_prop_path (λ bs. hedberg ℕ_discrete (length bs) 8) same)
+    ap (λ (t : (bs : List ℕ) × (length bs ≡ 8)). let made : BlockDigest = record { bytes = t.0; sized = t.1 } in made)
+    (Σ_prop_path (λ bs. hedberg ℕ_discrete (length bs) 8) same)
 
 -- so they are where the code finds them equal
 pub from_eq : (d e : BlockDigest) → bytes_eq d.bytes e.bytes ≡ true → d ≡ e

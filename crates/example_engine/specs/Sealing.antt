@@ -50,4 +50,5 @@ quorum_of members = members - (members - 1) / 3
 -- a quorum of rising members
 abbrev pub is_good : SealScheme → Seal → Bool
 is_good s seal =
-    nat_lt 0 (length (seal_keys s)) && nat_le (quorum_of (length (seal_keys s))) (length (seal_bytes seal)) && are_members (length (seal_keys s)) 0 (seal_bytes seal)
+    nat_lt 0 (length (seal_keys s)) && nat_le (quorum_of (length (seal_keys s))) (length (seal_bytes seal))
+    && are_members (length (seal_keys s)) 0 (seal_bytes seal)

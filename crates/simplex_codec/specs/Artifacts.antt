@@ -78,7 +78,8 @@ IsVerdictRefusal bytes TrailingBytes = (17 < length bytes) × (get_or bytes 16 0
 IsVerdictRefusal bytes _ = ⊥
 
 -- why bytes are no artifact's encoding: by the kind it is what is wrong behind it
-abbrev pub IsArtifactRefusal : {D G C : Type 0} → (D → List ℕ) → ℕ → (C → List ℕ) → (List ℕ → Option G) → List ℕ → DecodeError → Type 0
+abbrev pub IsArtifactRefusal : {D G C : Type 0} → (D → List ℕ) → ℕ → (C → List ℕ) → (List ℕ → Option G) → List ℕ
+    → DecodeError → Type 0
 IsArtifactRefusal payload size _ signature_of (suc (suc (suc zero)) ∷ rest) e = IsProposalVoteRefusal payload size signature_of rest e
 IsArtifactRefusal payload size _ signature_of (suc (suc (suc (suc zero))) ∷ rest) e = IsRoundVoteRefusal signature_of rest e
 IsArtifactRefusal payload size _ signature_of (suc (suc (suc (suc (suc zero)))) ∷ rest) e = IsProposalVoteRefusal payload size signature_of rest e

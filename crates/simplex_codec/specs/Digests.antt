@@ -14,7 +14,8 @@ digest_bytes d = d.bytes
 -- digests of the same bytes are equal
 pub same_digest : {n : ℕ} (d e : BytesDigest n) → d.bytes ≡ e.bytes → d ≡ e
 same_digest {n} d e same =
-    ap (λ (t : (bs : List ℕ) × (length bs ≡ n)). let made : BytesDigest n = record { bytes = t.0; sized = t.1 } in made) (Σ_prop_path (λ bs. hedberg ℕ_discrete (length bs) n) same)
+    ap (λ (t : (bs : List ℕ) × (length bs ≡ n)). let made : BytesDigest n = record { bytes = t.0; sized = t.1 } in made)
+    (Σ_prop_path (λ bs. hedberg ℕ_discrete (length bs) n) same)
 
 -- so they are where the code finds them equal
 pub digest_from_eq : {n : ℕ} (d e : BytesDigest n) → bytes_eq d.bytes e.bytes ≡ true → d ≡ e

@@ -66,7 +66,8 @@ IsCertificateRefusal payload_bytes size bytes_of (suc (suc zero) ∷ rest) error
 IsCertificateRefusal payload_bytes size bytes_of (suc (suc (suc more)) ∷ rest) error = error ≡ UnknownKind (suc (suc (suc more)))
 
 -- an encoding of any certificate is read back, with the same facts, unless memory is wanting
-abbrev pub ReadsCertificates : {S D K G C : Type 0} → (D → List ℕ) → (C → List ℕ) → List ℕ → Result (Certificate S D K G C) DecodeError → Type 0
+abbrev pub ReadsCertificates : {S D K G C : Type 0} → (D → List ℕ) → (C → List ℕ) → List ℕ
+    → Result (Certificate S D K G C) DecodeError → Type 0
 ReadsCertificates {S} {D} {K} {G} {C} payload_bytes bytes_of bytes result =
     (c : Certificate S D K G C) → IsEncodable (certificate_facts bytes_of c) → encoding payload_bytes (certificate_facts bytes_of c) ≡ bytes
     → IfOk result (λ d. certificate_facts bytes_of d ≡ certificate_facts bytes_of c) × IsOkUnless result OutOfMemory

@@ -45,7 +45,8 @@ module _ {S D K G C : Type 0} where
   abbrev pub AreGiven : List (Vote D G) → Batcher S D K G C → Type 0
   AreGiven given batcher =
       (kind : Kind) (view member : ℕ) (ballot : Ballot D G)
-      → ballot_of (held batcher kind view) member ≡ Some ballot → Contains given (record { subject = ballot.subject; signer = member; signature = ballot.signature })
+      → ballot_of (held batcher kind view) member ≡ Some ballot
+      → Contains given (record { subject = ballot.subject; signer = member; signature = ballot.signature })
 
   -- of another kind or view than this one's the same votes are held
   abbrev pub KeepsOthers : Subject D → Batcher S D K G C → Batcher S D K G C → Type 0

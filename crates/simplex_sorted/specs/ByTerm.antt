@@ -15,7 +15,8 @@ pub record ByTermFacts (V : Type 0) : Type 0 where
 -- such a map as a number and a map, so that two can be told apart
 abbrev pub by_term_code : {V : Type 0} → Coded V → Coded (ByTermFacts V)
 by_term_code {V} value =
-    code_by (ℕ × FinMap nat_cmp V) (coded× coded_ℕ (code coded_ℕ value)) (λ m. (m.term_length, m.by_view)) (λ p. record { term_length = p.0; by_view = p.1 }) (λ _. refl)
+    code_by (ℕ × FinMap nat_cmp V) (coded× coded_ℕ (code coded_ℕ value)) (λ m. (m.term_length, m.by_view))
+    (λ p. record { term_length = p.0; by_view = p.1 }) (λ _. refl)
 
 -- the entry of the highest view that covers a view
 abbrev pub covering : {V : Type 0} → ByTermFacts V → ℕ → Option (ℕ × V)

@@ -50,7 +50,8 @@ leader_in_turn e view = term_index e.terms.term_length view % e.count
 
 pub same_digest : (d e : PlainDigest) → d.bytes ≡ e.bytes → d ≡ e
 same_digest d e same =
-    ap (λ (t : (bs : List ℕ) × (length bs ≡ 8)). let made : PlainDigest = record { bytes = t.0; sized = t.1 } in made) (Σ_prop_path (λ bs. hedberg ℕ_discrete (length bs) 8) same)
+    ap (λ (t : (bs : List ℕ) × (length bs ≡ 8)). let made : PlainDigest = record { bytes = t.0; sized = t.1 } in made)
+    (Σ_prop_path (λ bs. hedberg ℕ_discrete (length bs) 8) same)
 
 pub digest_from_eq : (d e : PlainDigest) → bytes_eq d.bytes e.bytes ≡ true → d ≡ e
 digest_from_eq d e h = same_digest d e ((bytes_eq-Decides d.bytes e.bytes).0 h)
