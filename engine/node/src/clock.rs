@@ -40,11 +40,13 @@ impl Clock {
         self.begun.elapsed() + self.ahead
     }
 
-    /// Jumps ahead, once in each hundred views: a fault that is tried.
-    pub fn jump(&mut self, by: Duration, view: u64) {
-        if view / 100 > self.jumped {
+    /// Jumps ahead, once in each hundred views: a fault that is tried. Whether it did.
+    pub fn jump(&mut self, by: Duration, view: u64) -> bool {
+        let is_due = view / 100 > self.jumped;
+        if is_due {
             self.jumped = view / 100;
             self.ahead += by;
         }
+        is_due
     }
 }

@@ -39,6 +39,8 @@ const MOST_ROUNDS: usize = 32;
 const BLOCKS_SERVED: usize = 64;
 /// After how long a block is asked for again, in milliseconds.
 const BLOCK_RETRY_MS: u64 = 100;
+/// How far a clock jumps in a trial.
+const AN_HOUR: Duration = Duration::from_secs(3600);
 
 /// What a replica is made of.
 pub struct Parts<A> {
@@ -582,8 +584,8 @@ impl<A: Application> Replica<A> {
         counters.record_entries.store(entries, Relaxed);
         counters.open_fetches.store((fetches + self.block_fetches.len()) as u64, Relaxed);
         counters.not_allowed.store(self.parts.driver.ignored().not_allowed, Relaxed);
-        if self.parts.settings.trial.fault == Some(Fault::Jumps) {
-            self.parts.clock.jump(Duration::from_secs(3600), views.current.get());
+        if self.parts.settings.trial.fault == Some(Fault::Jumps) && self.parts.clock.jump(AN_HOUR, views.current.get()) {
+            info!(view = views.current.get(), "the clock jumps");
         }
         if self.parts.settings.trial.cut.is_some() {
             let members = self.parts.settings.trial.cut_off();

@@ -12,7 +12,7 @@ use std::fs;
 use std::path::Path;
 use std::process::Command;
 use std::thread::sleep;
-use std::time::Duration;
+use std::time::{Duration, Instant};
 
 /// Within what time something has to be finalized after each fault.
 const SOON: Duration = Duration::from_secs(10);
@@ -120,9 +120,32 @@ fn a_node_that_votes_in_the_names_of_others() {
     with_fault("forges", Fault::Forges);
 }
 
+/// Node 3 is away, so each of its views ends once the three others have timed out. In the hundredth of all views, which is one of them,
+/// node 1's clock jumps: that costs one timeout there, as ever. A clock that fell would not time out until it is where it was.
 #[test]
 fn a_clock_that_jumps_an_hour() {
-    with_fault("jumps", Fault::Jumps);
+    let mut jumps = plan("jumps", 4);
+    jumps.faults = vec![(1, Fault::Jumps)];
+    jumps.protocol.leader_timeout_ms = 200;
+    jumps.protocol.inactivity_ms = 60_000;
+    let mut network = Network::new(jumps).expect("keys and settings");
+    (0..3).for_each(|index| network.begin(index).expect("a process"));
+    let given_up = |index| network.metric(index, "nullifies").expect("it answers");
+    let begun = Instant::now();
+    let [first, half, before, after, last] = [2, 50, 98, 102, 150].map(|view| {
+        assert!(network.wait_for(&[0, 1, 2], view, START), "view {view}: {}", logs(&network));
+        (begun.elapsed(), (0..3).map(given_up).sum::<u64>())
+    });
+    assert!(fs::read_to_string(network.log(1)).expect("a log").contains("the clock jumps"));
+    assert!(after.0 - before.0 < before.0 / 2, "views stood still: {before:?}, {after:?}");
+    assert!(after.1 - before.1 <= 20, "votes to nullify at the jump: {before:?}, {after:?}");
+    // Of each 48 views 12 are node 3's, with a vote of each of the others.
+    let (least, most) = (half.1 - first.1, last.1 - after.1);
+    assert!(
+        most <= 2 * least + 20,
+        "votes to nullify before the jump: {least}, behind it: {most}"
+    );
+    ends_well(network, 1);
 }
 
 #[test]
