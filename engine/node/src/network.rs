@@ -10,7 +10,7 @@ use std::io::{Read, Write};
 use std::net::{Ipv4Addr, SocketAddr, TcpListener, TcpStream};
 use std::path::{Path, PathBuf};
 use std::process::{Child, Command, Stdio};
-use std::sync::atomic::{AtomicU32, Ordering};
+use std::sync::atomic::{AtomicU16, Ordering};
 use std::thread::sleep;
 use std::time::{Duration, Instant};
 
@@ -202,12 +202,14 @@ impl Network {
 
     /// Waits until these nodes have all finalized a view, or the time is over. Whether they have.
     pub fn wait_for(&self, nodes: &[u32], view: u64, within: Duration) -> bool {
+        self.wait_until(nodes, "last_finalized", view, within)
+    }
+
+    /// Waits until these nodes all count so much under a name, or the time is over. Whether they do.
+    pub fn wait_until(&self, nodes: &[u32], name: &str, least: u64, within: Duration) -> bool {
         let begun = Instant::now();
         while begun.elapsed() < within {
-            if nodes
-                .iter()
-                .all(|index| self.metric(*index, "last_finalized").is_some_and(|it| it >= view))
-            {
+            if nodes.iter().all(|index| self.metric(*index, name).is_some_and(|it| it >= least)) {
                 return true;
             }
             sleep(Duration::from_millis(50));
@@ -273,19 +275,25 @@ impl Drop for Network {
     }
 }
 
-/// Where the search for free ports goes on in this process: below those that connections begin at, so that nobody takes one meanwhile.
-static NEXT_PORT: AtomicU32 = AtomicU32::new(0);
+/// Where the search for free ports goes on in this process.
+static NEXT_PORT: AtomicU16 = AtomicU16::new(0);
 
-/// Addresses of this machine that nobody listens at.
+/// An address of this machine that is this process's own: networks of other processes take other ones, so a node that begins late finds
+/// its port free. Connections begin at 127.0.0.1.
+fn own_address() -> Ipv4Addr {
+    let [_, high, middle, low] = std::process::id().to_be_bytes();
+    Ipv4Addr::new(127, 128 | high, middle, low)
+}
+
+/// Addresses of this machine that nobody listens at, each handed out once.
 fn free_addresses(count: usize) -> Outcome<Vec<SocketAddr>> {
-    let begin = std::process::id() * 97;
     let mut addresses = Vec::new();
     for _ in 0..20_000 {
         if addresses.len() == count {
             return Ok(addresses);
         }
-        let port = 10_000 + (begin + NEXT_PORT.fetch_add(1, Ordering::Relaxed)) % 20_000;
-        let address = SocketAddr::from((Ipv4Addr::LOCALHOST, port as u16));
+        let port = 10_000 + NEXT_PORT.fetch_add(1, Ordering::Relaxed) % 20_000;
+        let address = SocketAddr::from((own_address(), port));
         if TcpListener::bind(address).is_ok() {
             addresses.push(address);
         }
