@@ -3,7 +3,7 @@
 use crate::blocks::now_us;
 use crate::vote::Vote;
 use simplex_view_state::{Participant, Subject};
-use std::fs::{File, OpenOptions};
+use std::fs::{self, File, OpenOptions};
 use std::io::{self, BufWriter, Write};
 use std::path::Path;
 
@@ -28,9 +28,11 @@ pub struct Line {
 }
 
 impl Trace {
-    /// Goes on with a file.
+    /// Goes on with a file. A last line that a crash cut off goes: the next one would run into it.
     pub fn open(path: &Path) -> io::Result<Trace> {
         let file = OpenOptions::new().create(true).append(true).open(path)?;
+        let end = fs::read(path)?.iter().rposition(|it| *it == b'\n');
+        file.set_len(end.map_or(0, |it| it as u64 + 1))?;
         Ok(Trace {
             file: BufWriter::new(file),
         })
@@ -55,7 +57,7 @@ impl Trace {
 
 /// The votes of a trace. A last line that was cut off is left out.
 pub fn read(path: &Path) -> io::Result<Vec<Line>> {
-    match std::fs::read_to_string(path) {
+    match fs::read_to_string(path) {
         Ok(text) => Ok(text.split_inclusive('\n').filter_map(read_line).collect()),
         Err(error) if error.kind() == io::ErrorKind::NotFound => Ok(Vec::new()),
         Err(error) => Err(error),
@@ -77,7 +79,30 @@ fn read_line(line: &str) -> Option<Line> {
 #[cfg(test)]
 pub fn scratch(name: &str) -> std::path::PathBuf {
     let folder = std::env::temp_dir().join(format!("simplex-node-{}-{name}", std::process::id()));
-    let _ = std::fs::remove_dir_all(&folder);
-    std::fs::create_dir_all(&folder).expect("a folder for a test");
+    let _ = fs::remove_dir_all(&folder);
+    fs::create_dir_all(&folder).expect("a folder for a test");
     folder
+}
+
+#[cfg(test)]
+mod tests {
+    use super::*;
+    use simplex_view_state::Round;
+
+    #[test]
+    fn a_line_that_was_cut_off_runs_into_no_other() {
+        let path = scratch("trace").join("votes");
+        let round = Round::default();
+        let vote = Vote {
+            subject: Subject::Nullify(round),
+            signer: Participant::new(2),
+            signature: [0; 64],
+        };
+        fs::write(&path, "7 1 x 5 -\n8 1 n 6 5 a4").expect("a disk");
+        let mut trace = Trace::open(&path).expect("a disk");
+        trace.write(&vote).expect("a disk");
+        trace.flush().expect("a disk");
+        let signers: Vec<(u32, char)> = read(&path).expect("a disk").iter().map(|it| (it.signer, it.kind)).collect();
+        assert_eq!(signers, [(1, 'x'), (2, 'x')]);
+    }
 }

@@ -6,11 +6,12 @@
 use simplex_node::audit::{contradictions, disagreements};
 use simplex_node::faults::Fault;
 use simplex_node::network::{Network, Plan, folder_of};
-use simplex_node::settings::Protocol;
+use simplex_node::settings::{Protocol, Settings, genesis};
 use simplex_node::{journal, trace};
+use simplex_view_state::{Floor, Member, Moment};
 use std::fs;
 use std::path::Path;
-use std::process::Command;
+use std::process::{Command, Stdio};
 use std::thread::sleep;
 use std::time::{Duration, Instant};
 
@@ -245,9 +246,20 @@ fn fewer_than_a_quorum() {
     ends_well(network, 1);
 }
 
+/// The current view of the member that a node's journal leads to.
+fn stored_view(network: &Network, index: u32) -> u64 {
+    let settings = Settings::read(&network.config(index)).expect("settings");
+    let config = settings.config(Floor::Genesis(genesis(settings.protocol.epoch)));
+    let kept = journal::read(&settings.data).expect("a journal").expect("it began");
+    let member = Member::resume(&config, Moment::from_millis(0), &kept.stored, &kept.frames).expect("a record");
+    member.views().expect("it lives").current.get()
+}
+
 #[test]
 fn a_disk_that_is_full() {
     let mut network = Network::new(plan("full", 4)).expect("keys and settings");
+    // It would be its trace that fills the disk first.
+    network.set(0, |it| it.trace = None).expect("settings");
     network.begin_on_small_disk(0, 200).expect("a process");
     (1..4).for_each(|index| network.begin(index).expect("a process"));
     assert!(network.wait_for(&[1, 2, 3], 5, START), "{}", logs(&network));
@@ -260,6 +272,12 @@ fn a_disk_that_is_full() {
     assert!(network.has_ended(0).expect("a process"), "it can't store, so it must not go on");
     assert!(fs::read_to_string(network.log(0)).expect("a log").contains("simplex-node: "));
     goes_on(&network, &[1, 2, 3]);
+    let votes = network.votes().expect("traces");
+    let voted = votes.iter().filter(|it| it.signer == 0).map(|it| it.view).max().expect("it voted");
+    assert!(
+        voted <= stored_view(&network, 0),
+        "it voted in view {voted}, and did not store that"
+    );
     network.begin(0).expect("a process");
     goes_on(&network, &[0, 1, 2, 3]);
     ends_well(network, 1);
@@ -331,12 +349,22 @@ fn text_of(path: &Path) -> &str {
     path.to_str().expect("a path of letters")
 }
 
-/// Runs the program to its end, and answers what it said.
+/// Runs the program, which has to end soon, and answers what it said.
 fn run(arguments: &[&str], is_good: bool) -> String {
-    let done = Command::new(env!("CARGO_BIN_EXE_simplex-node"))
+    let mut child = Command::new(env!("CARGO_BIN_EXE_simplex-node"))
         .args(arguments)
-        .output()
+        .stderr(Stdio::piped())
+        .spawn()
         .expect("a process");
+    let begun = Instant::now();
+    while child.try_wait().expect("a process").is_none() {
+        if begun.elapsed() > SOON {
+            child.kill().expect("a process");
+            panic!("it goes on: {arguments:?}");
+        }
+        sleep(Duration::from_millis(20));
+    }
+    let done = child.wait_with_output().expect("a process");
     let said = String::from_utf8_lossy(&done.stderr).into_owned();
     assert_eq!(done.status.success(), is_good, "{said}");
     said
