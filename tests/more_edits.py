@@ -1,7 +1,7 @@
 #!/usr/bin/env python3
 """Tries the must-fail edits that the gate leaves alone: those of `tests/more_edits/CRATE`.
 
-The gate tries one edit for about four public functions, since each costs it up to a minute. This script puts the others in
+The gate tries one edit for seven or eight public functions, since each costs it up to a minute. This script puts the others in
 their places in a copy of the repository and runs `rt must-fail` there, which proves the crates first.
 
     tests/more_edits.py                          all of them: hours of processor time
