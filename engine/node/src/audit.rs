@@ -32,44 +32,47 @@ pub fn disagreements(chains: &[Vec<Link>]) -> Vec<String> {
     found
 }
 
-/// Votes of one member that no honest member signs: for two proposals in one view, or to nullify a view and to finalize it or a later one
-/// of its term.
+/// Votes of one member that no honest member signs: for two proposals in one view, to nullify a view and to finalize it, or to nullify one
+/// after a vote to finalize a later one of its term. The other way round a finalization may have come between.
 pub fn contradictions<'a>(votes: impl Iterator<Item = &'a Line>, term_length: u64) -> Vec<String> {
     let mut found = Vec::new();
     let mut proposals: BTreeMap<(u32, char, u64), &str> = BTreeMap::new();
-    let mut nullified: BTreeMap<(u32, u64), u64> = BTreeMap::new();
-    let mut finalized: BTreeMap<(u32, u64), u64> = BTreeMap::new();
+    let mut terms: BTreeMap<(u32, u64), FirstSeen> = BTreeMap::new();
     for vote in votes {
-        let term = (vote.signer, vote.view.saturating_sub(1) / term_length);
-        match vote.kind {
-            'x' => {
-                let lowest = nullified.entry(term).or_insert(vote.view);
-                *lowest = vote.view.min(*lowest);
-            }
-            kind => {
-                if *proposals.entry((vote.signer, kind, vote.view)).or_insert(&vote.proposal) != vote.proposal {
-                    found.push(format!("member {} signed two votes ({kind}) in view {}", vote.signer, vote.view));
-                }
-                if kind == 'f' {
-                    let highest = finalized.entry(term).or_insert(vote.view);
-                    *highest = vote.view.max(*highest);
-                }
-            }
-        }
-    }
-    for (term, lowest) in nullified {
-        if let Some(highest) = finalized.get(&term)
-            && lowest <= *highest
-        {
+        let is_the_same =
+            vote.kind == 'x' || *proposals.entry((vote.signer, vote.kind, vote.view)).or_insert(&vote.proposal) == vote.proposal;
+        if !is_the_same {
             found.push(format!(
-                "member {} signed to nullify view {lowest} and to finalize view {highest}",
-                term.0
+                "member {} signed two votes ({}) in view {}",
+                vote.signer, vote.kind, vote.view
             ));
         }
+        let term = (vote.signer, vote.view.saturating_sub(1) / term_length);
+        let seen = terms.entry(term).or_default().entry((vote.kind, vote.view)).or_insert(vote.seen_us);
+        *seen = vote.seen_us.min(*seen);
     }
+    found.extend(terms.iter().flat_map(|((signer, _), seen)| misordered(*signer, seen)));
     found.sort();
     found.dedup();
     found
+}
+
+/// When a member's votes of a term were first seen, by kind and view.
+type FirstSeen = BTreeMap<(char, u64), u64>;
+
+/// Votes of a member to nullify a view of a term, and to finalize it, or a later one before.
+fn misordered(signer: u32, seen: &FirstSeen) -> Vec<String> {
+    let of = |kind| seen.range((kind, 0)..=(kind, u64::MAX)).map(|((_, view), at)| (*view, *at));
+    of('x')
+        .flat_map(|nullified| of('f').map(move |finalized| (nullified, finalized)))
+        .filter(|(nullified, finalized)| nullified.0 == finalized.0 || nullified.0 < finalized.0 && finalized.1 < nullified.1)
+        .map(|(nullified, finalized)| {
+            format!(
+                "member {signer} signed to nullify view {} and to finalize view {}",
+                nullified.0, finalized.0
+            )
+        })
+        .collect()
 }
 
 /// The value below which this share of sorted values lies.
@@ -115,17 +118,22 @@ mod tests {
     }
 
     #[test]
-    fn a_nullification_contradicts_a_later_finalization_of_its_term_alone() {
+    fn a_vote_to_nullify_contradicts_one_to_finalize_its_view_or_a_later_one_before() {
+        let at = |seen_us, it: Line| Line { seen_us, ..it };
         let votes = [
-            vote(0, 'x', 5, "-"),
-            vote(0, 'f', 4, "3 a"),
-            vote(0, 'f', 9, "8 a"),
-            vote(1, 'f', 5, "4 a"),
+            at(2, vote(0, 'x', 5, "-")),
+            at(1, vote(0, 'f', 4, "3 a")),
+            at(1, vote(0, 'f', 9, "8 a")),
+            at(1, vote(1, 'f', 5, "4 a")),
+            at(3, vote(0, 'f', 6, "4 a")),
+            at(4, vote(0, 'x', 5, "-")),
         ];
         assert!(contradictions(votes.iter(), 4).is_empty());
-        let later = vote(0, 'f', 6, "4 a");
-        assert_eq!(contradictions(votes.iter().chain([&later]), 4).len(), 1);
-        assert!(contradictions(votes.iter().chain([&later]), 1).is_empty());
+        let before = at(1, vote(0, 'f', 7, "6 a"));
+        assert_eq!(contradictions(votes.iter().chain([&before]), 4).len(), 1);
+        assert!(contradictions(votes.iter().chain([&before]), 1).is_empty());
+        let same = at(3, vote(0, 'f', 5, "4 a"));
+        assert_eq!(contradictions(votes.iter().chain([&same]), 4).len(), 1);
     }
 
     #[test]
