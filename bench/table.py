@@ -1,4 +1,4 @@
-"""The table of the figures: its rows as they are printed, and as docs/TESTED.md has them."""
+"""The table of the figures: its rows as they are printed, and as docs/inside/SPEED.md has them."""
 
 import math
 

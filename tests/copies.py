@@ -18,6 +18,7 @@ import edits
 import schedules
 import scripts
 import wrong_bodies
+import wrong_definitions
 from draw import drawn
 from floors import lacking
 from member import Served
@@ -124,6 +125,9 @@ def listed_names():
     for name in wrong_bodies.ALL_WRONG:
         if name.split("/")[1] not in text_of("docs/TESTED.md"):
             yield f"docs/TESTED.md does not tell of the wrong body {name}"
+    refused = [name for name, _ in table_rows("docs/inside/REFUSED.md")[1:]]
+    if refused != [it.name for it in wrong_definitions.WRONG_DEFINITIONS]:
+        yield "docs/inside/REFUSED.md has other wrong definitions than tests/wrong_definitions.py"
 
 
 def edits_not_made():

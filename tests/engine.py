@@ -43,7 +43,7 @@ WRONG_BODIES = (
     ("two processes have one key", "start.rs", 'Err(TryLockError::WouldBlock) => Err(format!("another process has {}", folder.display()).into()),',
      "Err(TryLockError::WouldBlock) => Ok(file),"),
     ("a peer that floods holds up the others", "inbox.rs", "self.turn = (index + 1) % count;", "self.turn = 0;"),
-    ("the chain's clock is the machine's", "clock.rs", "self.ahead += by;", "self.ahead = Duration::ZERO; self.begun = Instant::now();"),
+    ("a clock falls back with the machine's", "clock.rs", "self.ahead += by;", "self.ahead = Duration::ZERO; self.begun = Instant::now();"),
 )
 
 

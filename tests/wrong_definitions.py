@@ -8,7 +8,7 @@ source. A minute each, on one processor.
 
     tests/wrong_definitions.py                     all of them
     tests/wrong_definitions.py --only verdict      those whose name holds a word
-    tests/wrong_definitions.py --table             prints the rows of `docs/TESTED.md`
+    tests/wrong_definitions.py --page              writes `docs/inside/REFUSED.md` besides
     tests/wrong_definitions.py --built             reads the crates that a wrong definition leaves alone as `rt lib` builds them:
                                                    quicker where they are proved already
 
@@ -27,6 +27,14 @@ from program import ROOT
 
 KIT = Path(shutil.which("rt") or "/").resolve().parent.parent
 FUNCTION = "examples_compute"
+PAGE = ROOT / "docs/inside/REFUSED.md"
+HEAD = """# Wrong definitions that are refused
+
+Written by `tests/wrong_definitions.py --page`; `docs/TESTED.md` says what it tries.
+
+| Wrong definition | In `specs/` | Refused by |
+|---|---|---|
+"""
 
 
 class Examples(NamedTuple):
@@ -376,7 +384,7 @@ WRONG_DEFINITIONS = (
 def options():
     parser = argparse.ArgumentParser(description=__doc__, formatter_class=argparse.RawDescriptionHelpFormatter)
     parser.add_argument("--only", default="", help="those alone whose name holds this")
-    parser.add_argument("--table", action="store_true", help="print rows of a table")
+    parser.add_argument("--page", action="store_true", help="write the page")
     parser.add_argument("--built", action="store_true", help="prove what a wrong definition leaves alone, and read that as built")
     return parser.parse_args()
 
@@ -486,19 +494,17 @@ def build(crates, used):
     return names
 
 
-def told_of(wrong, crate, told, as_row):
-    """What is printed of a wrong definition."""
-    if crate and as_row:
-        file = wrong.file.removesuffix(".antt").replace("/specs/", "`: `")
-        return f"| {wrong.name} | `{file}` | `{crate}`: `{told[0]}` |"
-    return f"{wrong.name}: {f'refused by {crate}: ' if crate else ''}{', '.join(told[:4])}"
+def row_of(wrong, crate, told):
+    """The row of a wrong definition that is refused."""
+    file = wrong.file.removesuffix(".antt").replace("/specs/", "`: `")
+    return f"| {wrong.name} | `{file}` | `{crate}`: `{told[0]}` |\n"
 
 
 def main():
     given = options()
     chosen = [it for it in WRONG_DEFINITIONS if given.only in it.name]
     crates = sorted({crate for it in chosen for crate in it.crates})
-    used, failed = uses(), 0
+    used, failed, rows = uses(), 0, []
     built = build(crates, used) if given.built else set()
     with tempfile.TemporaryDirectory() as folder:
         root, kept = Path(folder) / "crates", Path(folder) / "kept"
@@ -512,7 +518,10 @@ def main():
         for wrong in chosen:
             crate, told = tried(root, wrong, used, kept, built)
             failed += crate is None
-            print(told_of(wrong, crate, told, given.table), flush=True)
+            rows += [row_of(wrong, crate, told)] if crate else []
+            print(f"{wrong.name}: {f'refused by {crate}: ' if crate else ''}{', '.join(told[:4])}", flush=True)
+    if given.page and not failed and not given.only:
+        PAGE.write_text(HEAD + "".join(rows))
     print(f"{len(chosen)} wrong definitions, {failed} not refused")
     return 1 if failed or not chosen else 0
 
