@@ -1,9 +1,10 @@
 #!/usr/bin/env python3
-"""That the paths in pages lead somewhere.
+"""That the paths in pages lead somewhere, and how many words they have.
 
 Each `ghost use` and `use` line in a fenced block of the README, of `docs/**/*.md` and of `crates/*/CALLING.md`, and each path of
 the repository's crates between backquotes, names a module that stands here, and the names that are taken from it stand in it. Of
 the kit's own `std` the module alone is looked for, and in Rust nothing. Crates whose names begin with `my_` are the reader's own.
+Words are those between spaces, outside fenced blocks, which are code or output, and of pages that no script writes.
 
     tests/pages.py
 
@@ -24,6 +25,7 @@ RATTLE_PATH = re.compile(r"^Rattle\.([^\s{]+?)(?:\.\{([^}]*)\})?$")
 SIBLING = re.compile(r"^((?:\w+\.)*[A-Z]\w*)(?:\.\{([^}]*)\})?$")
 GENERATED = ("Goals", "Given", "Answers", "TheVariants")
 PACKAGE = "bindings/rust/src/lib.rs"
+WRITTEN_BY_SCRIPTS = ("DEFINITIONS.md", "REFUSED.md", "SPEED.md")
 LEAST = {"paths in blocks": 45, "paths between backquotes": 25, "names": 120}
 
 
@@ -163,6 +165,11 @@ def paths_of(page):
         yield from (("paths between backquotes", *it) for it in told_in(cell))
 
 
+def words_by_hand(texts):
+    """How many words some pages have."""
+    return sum(len(FENCED.sub("", page.read_text()).split()) for page in texts if page.name not in WRITTEN_BY_SCRIPTS)
+
+
 def main():
     seen, faults = dict.fromkeys(LEAST, 0), []
     for page in pages():
@@ -176,6 +183,9 @@ def main():
     faults += lacking(seen, LEAST)
     print(f"pages: {', '.join(f'{count} {what}' for what, count in seen.items())}; {len(faults)} lead nowhere or are lacking")
     print("".join(f"  {fault}\n" for fault in faults), end="")
+    callings = [page for page in pages() if page.name == "CALLING.md"]
+    others = [ROOT / "CONTRIBUTING.md", ROOT / "CHANGELOG.md", *(page for page in pages() if page not in callings)]
+    print(f"words by hand: {words_by_hand(others)}, and {words_by_hand(callings)} for callers of one crate")
     return 1 if faults else 0
 
 
