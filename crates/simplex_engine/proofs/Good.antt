@@ -31,7 +31,7 @@ same_round-true r s is =
     ap (λ e. made e r.view) (eqb-true r.epoch s.epoch parts.0) ∙ ap (made s.epoch) (eqb-true r.view s.view parts.1)
 
 module _ {D : Type 0} (same : D → D → Bool) (law : (d e : D) → same d e ≡ true → d ≡ e) where
-  same_subject-true : (a b : Subject D) → same_subject same a b ≡ true → a ≡ b
+  pub same_subject-true : (a b : Subject D) → same_subject same a b ≡ true → a ≡ b
   same_subject-true (subject.Notarize p) (subject.Notarize q) is = ap subject.Notarize (same_proposal-true same law p q is)
   same_subject-true (subject.Nullify r) (subject.Nullify s) is = ap subject.Nullify (same_round-true r s is)
   same_subject-true (subject.Finalize p) (subject.Finalize q) is = ap subject.Finalize (same_proposal-true same law p q is)

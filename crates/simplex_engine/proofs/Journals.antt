@@ -19,7 +19,7 @@ use Rattle.simplex_engine.specs.declared.output.Output.{Output}
 use Rattle.simplex_engine.specs.declared.output.Output.TheVariants as output
 use Rattle.simplex_engine.specs.declared.votes.Vote.{Vote}
 use Rattle.simplex_engine.specs.Entries.{votes_in, AreCopies}
-use Rattle.simplex_engine.specs.Outputs.{storing, is_work}
+use Rattle.simplex_engine.specs.Outputs.{storing}
 use Rattle.simplex_engine.specs.Journals.{Journal, empty_journal, written, written_all, journal_of, IsRecordOf, IsBeginningOf}
 
 module _ {S D J K G C : Type 0} where
@@ -31,22 +31,6 @@ module _ {S D J K G C : Type 0} where
   votes_unwritten : (journal : Journal S D J K G C) (votes : List (Vote D G)) → written_all journal (map output.Vote votes) ≡ journal
   votes_unwritten journal [] = refl
   votes_unwritten journal (v ∷ vs) = votes_unwritten journal vs
-
-  -- nor other work
-  pub work_unwritten : (journal : Journal S D J K G C) (work : Output S D J K G C) → is_work work ≡ true → written journal work ≡ journal
-  work_unwritten journal (output.Store _) works = cc
-  work_unwritten journal (output.Replace _ _) works = cc
-  work_unwritten journal (output.Vote _) works = refl
-  work_unwritten journal (output.Broadcast _) works = refl
-  work_unwritten journal (output.Verify _ _) works = refl
-  work_unwritten journal (output.Build _) works = refl
-  work_unwritten journal (output.StopBuilding _) works = refl
-  work_unwritten journal (output.Certify _) works = refl
-  work_unwritten journal (output.Fetch _) works = refl
-  work_unwritten journal (output.Finalized _) works = refl
-  work_unwritten journal (output.Equivocated _ _) works = refl
-  work_unwritten journal (output.ProposedTwice _ _) works = refl
-  work_unwritten journal (output.Forget _) works = refl
 
   -- behind others
   pub behind_others : (outs more : List (Output S D J K G C)) → journal_of (outs ++ more) ≡ written_all (journal_of outs) more

@@ -20,15 +20,16 @@ use Rattle.simplex_engine.specs.declared.journaled.Journaled.{Journaled}
 use Rattle.simplex_engine.specs.declared.outbox.Outbox.{Outbox}
 use Rattle.simplex_engine.specs.declared.output.Output.{Output}
 use Rattle.simplex_engine.specs.declared.output.Output.TheVariants as output
+use Rattle.simplex_engine.specs.declared.output.Work.{Work}
 use Rattle.simplex_engine.specs.declared.votes.Vote.{Vote}
 use Rattle.simplex_engine.specs.Doing.{IsDoneOn}
 use Rattle.simplex_engine.specs.Entries.{AreCopies}
 use Rattle.simplex_engine.specs.Outboxes.{IsLawful, HasBecome, HasStayed, IsStored, IsReplaced, IsRepeated}
-use Rattle.simplex_engine.specs.Outputs.{is_work, storing}
+use Rattle.simplex_engine.specs.Outputs.{storing}
 use Rattle.simplex_engine.specs.Journals.{Journal, written_all, journal_of, IsBeginningOf}
 use Rattle.simplex_engine.specs.Going.{IsKept, GoesOn}
 use Rattle.simplex_engine.proofs.Going.{does_nothing}
-use Rattle.simplex_engine.proofs.Journals.{behind_others, stored_behind, work_unwritten, still_begun, stored_too, stored_whole, copied_votes}
+use Rattle.simplex_engine.proofs.Journals.{behind_others, stored_behind, still_begun, stored_too, stored_whole, copied_votes}
 
 module _ {S L D K G C : Type 0} (bytes_of : C → List ℕ) (old new : Journaled S L D K G C) where
   abbrev pub Keeps : Type 0
@@ -68,10 +69,10 @@ module _ {S L D K G C : Type 0} (bytes_of : C → List ℕ) (old new : Journaled
     kept_as_it_was stayed given kept = same_journal given kept same_member same_stored same_failed (ap (λ q. journal_of (given ++ q)) stayed.0) (lawful given kept.lawful)
 
     -- work was
-    pub pushed : (work : Output S D Stored K G C) → is_work work ≡ true → HasBecome (work ∷ []) old.outbox.repeat old.outbox new.outbox → Keeps
-    pushed work works become given kept =
+    pub pushed : (work : Work S D K G C) → HasBecome (output.Work work ∷ []) old.outbox.repeat old.outbox new.outbox → Keeps
+    pushed work become given kept =
         same_journal given kept same_member same_stored same_failed
-        (ap journal_of (queued given (work ∷ []) old.outbox.repeat become) ∙ behind_others (before given) (work ∷ []) ∙ work_unwritten (journal_of (before given)) work works)
+        (ap journal_of (queued given (output.Work work ∷ []) old.outbox.repeat become) ∙ behind_others (before given) (output.Work work ∷ []))
         (lawful given kept.lawful)
 
     voted : (vote : Vote D G) → HasBecome (output.Vote vote ∷ []) old.outbox.repeat old.outbox new.outbox → Keeps

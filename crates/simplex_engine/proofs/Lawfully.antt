@@ -1,14 +1,14 @@
 -- Calls of an outbox keep its law.
 use Rattle.std.proofs.Common.{◌≡◌, ℕ, Bool, true, false, List, [], ◌∷◌, ◌++◌, Option, Some, None, Result, Ok, Err, refl, ap, sym, ◌∙◌, subst, append_assoc, append-nil}
 use Rattle.std.specs.Prelude.{Contains, IfSome, IfOk, OnOk, OnErr, option_to_list}
-use Rattle.std.proofs.lemmas.Bool.{false≢true}
 use Rattle.simplex_types.specs.declared.types.messages.Artifact.{Artifact}
 use Rattle.simplex_engine.specs.declared.output.Output.{Output}
 use Rattle.simplex_engine.specs.declared.output.Output.TheVariants as output
+use Rattle.simplex_engine.specs.declared.output.Work.{Work}
 use Rattle.simplex_engine.specs.declared.outbox.Outbox.{Outbox}
 use Rattle.simplex_engine.specs.declared.votes.Vote.{Vote}
 use Rattle.simplex_engine.specs.Entries.{votes_in, newest_from}
-use Rattle.simplex_engine.specs.Outputs.{stored_in, storing, is_work, AreBehind}
+use Rattle.simplex_engine.specs.Outputs.{stored_in, storing, AreBehind}
 use Rattle.simplex_engine.specs.Outboxes.{IsLawful, HasBecome, HasStayed, IsStored, IsReplaced, IsRepeated}
 use Rattle.simplex_engine.proofs.Behind.{contains_left, votes_in-append, newest_recorded, stored_in-append, joined, storing_behind, stored_by}
 
@@ -68,23 +68,8 @@ module _ {S D J K G C : Type 0} (given : List (Output S D J K G C)) (old new : O
   pub repeated_lawful : (view : ℕ) (sent : Bool) → IsRepeated view old.repeat sent old new → IsLawful given new
   repeated_lawful view sent repeated = repeated_by view old.repeat refl sent repeated
 
-  work_behind : (stored : List (Artifact S D K G C)) (work : Output S D J K G C) → is_work work ≡ true → AreBehind stored (work ∷ [])
-  work_behind stored (output.Store _) works = absurd (false≢true works)
-  work_behind stored (output.Replace _ _) works = absurd (false≢true works)
-  work_behind stored (output.Vote _) works = absurd (false≢true works)
-  work_behind stored (output.Broadcast _) works = (tt, tt)
-  work_behind stored (output.Verify _ _) works = (tt, tt)
-  work_behind stored (output.Build _) works = (tt, tt)
-  work_behind stored (output.StopBuilding _) works = (tt, tt)
-  work_behind stored (output.Certify _) works = (tt, tt)
-  work_behind stored (output.Fetch _) works = (tt, tt)
-  work_behind stored (output.Finalized _) works = (tt, tt)
-  work_behind stored (output.Equivocated _ _) works = (tt, tt)
-  work_behind stored (output.ProposedTwice _ _) works = (tt, tt)
-  work_behind stored (output.Forget _) works = (tt, tt)
-
-  pub pushed_lawful : (work : Output S D J K G C) → is_work work ≡ true → HasBecome (work ∷ []) old.repeat old new → IsLawful given new
-  pushed_lawful work works become = more_lawful (work ∷ []) old.repeat become (work_behind (stored_in before) work works) (wider (work ∷ []) old.repeat lawful.repeat)
+  pub pushed_lawful : (work : Work S D K G C) → HasBecome (output.Work work ∷ []) old.repeat old new → IsLawful given new
+  pushed_lawful work become = more_lawful (output.Work work ∷ []) old.repeat become (tt, tt) (wider (output.Work work ∷ []) old.repeat lawful.repeat)
 
   -- what is given out
   pub given_lawful : (out : Option (Output S D J K G C)) → old.queue.items ≡ option_to_list out ++ new.queue.items → new.repeat ≡ old.repeat → IsLawful (given ++ option_to_list out) new

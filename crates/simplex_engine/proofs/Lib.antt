@@ -12,3 +12,4 @@ mod Journals
 mod Doing
 mod Kept
 mod Begun
+mod Backing

@@ -2,6 +2,7 @@
 use Rattle.std.specs.Prelude.{◌≡◌, ℕ, ◌≤◌, Bool, false, List, ◌++◌, length, All, Option}
 use Rattle.simplex_types.specs.declared.types.messages.Subject.{Subject}
 use Rattle.simplex_voter.specs.Facts.{Elect}
+use Rattle.simplex_member.specs.Lives.{MemberFacts}
 use Rattle.simplex_member.specs.declared.member.journal.Stored.{Stored}
 use Rattle.simplex_laws.specs.Traces.{TraceEvent}
 use Rattle.simplex_laws.specs.Living.{DoesMore}
@@ -34,3 +35,15 @@ module _ {S L D K G C : Type 0} (same : D → D → Bool) (elect : Elect L) (byt
     pub more : List (TraceEvent D)
     pub on_this : All (IsDoneOn taken) more
     pub done : DoesMore same elect old.member.facts more new.member.facts
+
+module _ {S L D K G C : Type 0} (bytes_of : C → List ℕ) where
+  -- what was kept stays kept, with these outputs given out behind all that was
+  abbrev pub HasGivenOut : List (Output S D Stored K G C) → Journaled S L D K G C → Journaled S L D K G C → Type 0
+  HasGivenOut out old new = (given : List (Output S D Stored K G C)) → IsKept bytes_of given old → IsKept bytes_of (given ++ out) new
+
+module _ {L D K : Type 0} (same : D → D → Bool) (elect : Elect L) (taken : Option (Subject D)) where
+  -- a member accepts certificates on this subject alone, and signs votes
+  pub record DoesMoreOn (old new : MemberFacts K L D) : Type 0 where
+    pub more : List (TraceEvent D)
+    pub on_this : All (IsDoneOn taken) more
+    pub done : DoesMore same elect old more new

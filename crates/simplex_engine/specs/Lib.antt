@@ -11,3 +11,7 @@ pub mod Outboxes
 pub mod Journals
 pub mod Doing
 pub mod Going
+pub mod Inputs
+pub mod Quiet
+pub mod Settled
+pub mod Backing

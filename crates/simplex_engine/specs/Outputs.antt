@@ -1,5 +1,5 @@
 -- What is given out: each vote behind what stores it.
-use Rattle.std.specs.Prelude.{Bool, true, false, List, [], ◌∷◌, ◌++◌, map, Contains, Vec}
+use Rattle.std.specs.Prelude.{List, [], ◌∷◌, ◌++◌, map, Contains, Vec}
 use Rattle.std.specs.declared.alloc.Global.{Global}
 use Rattle.simplex_types.specs.declared.types.messages.Artifact.{Artifact}
 use Rattle.simplex_engine.specs.declared.output.Output.{Output}
@@ -27,13 +27,6 @@ module _ {S D J K G C : Type 0} where
   abbrev pub AreBehind : List (Artifact S D K G C) → List (Output S D J K G C) → Type 0
   AreBehind stored [] = Unit {0}
   AreBehind stored (out ∷ rest) = IsBehind stored out × AreBehind (stored ++ entries_in out) rest
-
-  -- neither stores anything nor is a vote
-  abbrev pub is_work : Output S D J K G C → Bool
-  is_work (Store _) = false
-  is_work (Replace _ _) = false
-  is_work (Vote _) = false
-  is_work _ = true
 
   -- entries to be stored, and behind them each vote among them
   abbrev pub storing : Vec (Artifact S D K G C) Global → List (Output S D J K G C)

@@ -200,6 +200,13 @@ impl Fetches {
         Some(ask)
     }
 
+    /// Whether the fetch is open.
+    pub fn is_open(&self, kind: FetchKind, view: View) -> bool
+        ensures { result ≡ is_open kind view self.now.wanted.items }
+    {
+        is_among(&self.wanted, kind, view)
+    }
+
     /// The moment of the next asking; none where no fetch is open.
     pub fn wake(&self) -> Option<u64>
         ensures { IsEarliest self.now.wanted.items result }

@@ -3,7 +3,7 @@
 //! It owes that a journal which carries its outputs out holds the member's record, and that each vote stands behind its entry.
 #![tactic(auto, using(crate::proofs::Going::stays))]
 
-ghost use Rattle.std.specs.Prelude.{◌≡◌, ◌++◌, [], true, false, All, Some, None, IfOk, OnOk, IsNone, IsTrue, ◌↔◌, option_to_list};
+ghost use Rattle.std.specs.Prelude.{◌≡◌, ◌||◌, ◌++◌, [], is_none, true, false, All, Some, None, IfOk, OnOk, IsNone, IsTrue, ◌↔◌, option_to_list};
 ghost use Rattle.std.specs.Option.{option_copied};
 ghost use Rattle.simplex_types.specs.Certificates.{certificate_facts};
 ghost use Rattle.simplex_types.specs.Encoding.{certificate_subject};
@@ -11,7 +11,7 @@ ghost use Rattle.simplex_laws.specs.Shown.{certificates_in};
 ghost use Rattle.simplex_engine.specs.Doing.{IsDoneOn};
 
 use crate::outbox::Outbox;
-use crate::output::Output;
+use crate::output::{Output, Work};
 use simplex_lawful::lawful::LawfulMember;
 use simplex_member::member::{Call, Reply, Stored};
 use simplex_types::types::{
@@ -43,7 +43,7 @@ impl<S: Scheme<D>, L: Elector<S>, D: Digest> Journaled<S, L, D> {
     ghost use Rattle.simplex_laws.specs.Lawful.{IsLawful};
     ghost use Rattle.simplex_laws.specs.Living.{OfAllDone, MayBeDoneBy};
     ghost use Rattle.simplex_member.specs.Journal.{stored_of};
-    ghost use Rattle.simplex_engine.specs.Outputs.{is_work, AreBehind};
+    ghost use Rattle.simplex_engine.specs.Outputs.{AreBehind};
     ghost use Rattle.simplex_engine.specs.Journals.{journal_of, IsRecordOf};
     ghost use Rattle.simplex_engine.specs.Going.{IsKept, IsWhole, GoesOn};
 
@@ -129,8 +129,7 @@ impl<S: Scheme<D>, L: Elector<S>, D: Digest> Journaled<S, L, D> {
     }
 
     /// Queues other work. Without memory nothing has changed.
-    pub fn push(&mut self, work: Output<S, D, Stored>) -> Result<(), AllocError>
-        requires { is_work work ≡ true }
+    pub fn push(&mut self, work: Work<S, D>) -> Result<(), AllocError>
         ensures goes_on { GoesOn D.eq L.elect S.certificate_bytes None self.old self.new }
         ensures member { self.new.member ≡ self.old.member }
     {
@@ -173,7 +172,9 @@ impl<S: Scheme<D>, L: Elector<S>, D: Digest> Journaled<S, L, D> {
     }
 
     /// Whether it failed, or the member did.
-    pub fn has_failed(&self) -> bool {
+    pub fn has_failed(&self) -> bool
+        ensures { result ≡ (self.now.failed || is_none self.now.member.facts.life) }
+    {
         self.failed || self.member.state().is_none()
     }
 

@@ -3,7 +3,9 @@
 
 pub mod assembly;
 pub mod batcher;
+pub mod engine;
 pub mod fetches;
+pub mod input;
 pub mod journaled;
 pub mod outbox;
 pub mod output;

@@ -11,7 +11,7 @@ ghost use Rattle.simplex_engine.specs.Outputs.{storing};
 
 mod votes;
 
-use crate::output::Output;
+use crate::output::{Output, Work};
 use crate::votes::Vote;
 use simplex_types::types::{Artifact, CertificateScheme, Digest, View, Viewable};
 use std::alloc::{AllocError, Global};
@@ -28,7 +28,7 @@ pub struct Outbox<S: CertificateScheme, D, J> {
 }
 
 impl<S: CertificateScheme, D: Digest, J: Drop> Outbox<S, D, J> {
-    ghost use Rattle.simplex_engine.specs.Outputs.{is_work, AreBehind};
+    ghost use Rattle.simplex_engine.specs.Outputs.{AreBehind};
     ghost use Rattle.simplex_engine.specs.Outboxes.{IsLawful, HasBecome, HasStayed, IsStored, IsReplaced, IsRepeated};
 
     /// Nothing is to be carried out.
@@ -76,9 +76,8 @@ impl<S: CertificateScheme, D: Digest, J: Drop> Outbox<S, D, J> {
     }
 
     /// Queues other work. Without memory nothing has changed.
-    pub fn push(&mut self, work: Output<S, D, J>) -> Result<(), AllocError>
-        requires { is_work work ≡ true }
-        ensures queued { OnOk result (HasBecome (work ∷ []) self.old.repeat self.old self.new) }
+    pub fn push(&mut self, work: Work<S, D>) -> Result<(), AllocError>
+        ensures queued { OnOk result (HasBecome (output.Work work ∷ []) self.old.repeat self.old self.new) }
         ensures kept { OnErr result (HasStayed self.old self.new) }
         ensures goes_on { (given : _) → IsLawful given self.old → IsLawful given self.new }
     {
@@ -155,11 +154,11 @@ impl<S: CertificateScheme, D: Digest, J: Drop> Outbox<S, D, J> {
     }
 
     /// Queues one output.
-    fn queue_work(&mut self, work: Output<S, D, J>) -> Result<(), AllocError>
-        ensures queued { OnOk result (HasBecome (work ∷ []) self.old.repeat self.old self.new) }
+    fn queue_work(&mut self, work: Work<S, D>) -> Result<(), AllocError>
+        ensures queued { OnOk result (HasBecome (output.Work work ∷ []) self.old.repeat self.old self.new) }
         ensures kept { OnErr result (HasStayed self.old self.new) }
     {
-        self.queue.push_back(work)?;
+        self.queue.push_back(Output::Work(work))?;
         Ok(())
     }
 

@@ -11,8 +11,15 @@ pub enum Output<S: CertificateScheme, D, J> {
     Store(Vec<Artifact<S, D>>),
     /// To be stored in place of all that is stored, in one step with what is stored beside it.
     Replace(Vec<Artifact<S, D>>, J),
-    /// This member's vote, to be sent to all others.
+    /// This member's vote, to be sent to all members.
     Vote(Vote<D, S::Signature>),
+    /// Anything else: nothing of it has to be stored before.
+    Work(Work<S, D>),
+}
+
+/// What is to be carried out and is neither stored nor a vote.
+#[derive(Drop)]
+pub enum Work<S: CertificateScheme, D> {
     /// A certificate, to be sent to all others.
     Broadcast(Certificate<S, D>),
     /// A proposal that the application is to verify in its context.
@@ -25,7 +32,7 @@ pub enum Output<S: CertificateScheme, D, J> {
     Certify(Proposal<D>),
     /// What is to be asked of a peer.
     Fetch(Ask),
-    /// A proposal that is final: each view once, rising.
+    /// A proposal that is final, and all below it: rising, each view once.
     Finalized(Proposal<D>),
     /// Two votes of one member that contradict each other.
     Equivocated(Vote<D, S::Signature>, Vote<D, S::Signature>),

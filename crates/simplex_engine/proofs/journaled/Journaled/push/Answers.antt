@@ -10,5 +10,5 @@ returns-clause-goes_on g c =
     let new = record old { outbox = c.push.new.self } in
     does_no_more old new refl
     (by_result c.push.result c.push.ensures.queued c.push.ensures.kept
-    (pushed bytes_of old new refl refl refl c.push.ensures.goes_on c.args.work c.requires)
+    (pushed bytes_of old new refl refl refl c.push.ensures.goes_on c.args.work)
     (kept_as_it_was bytes_of old new refl refl refl c.push.ensures.goes_on))

@@ -4,5 +4,5 @@ use Rattle.simplex_engine.proofs.outbox.Outbox.push.Goals as goal
 pub returns-clause-goes_on : goal.returns-clause-goes_on
 returns-clause-goes_on g c = λ given lawful.
     by_result c.queue_work.result c.queue_work.ensures.queued c.queue_work.ensures.kept
-    (pushed_lawful given c.args.self.now c.queue_work.new.self lawful c.args.work c.requires)
+    (pushed_lawful given c.args.self.now c.queue_work.new.self lawful c.args.work)
     (stayed_lawful given c.args.self.now c.queue_work.new.self lawful)

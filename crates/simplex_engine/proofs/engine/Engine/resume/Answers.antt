@@ -1,0 +1,22 @@
+-- That the engine's member is the one that was resumed.
+use Rattle.std.proofs.Common.{sym, subst}
+use Rattle.simplex_record.specs.Entries.{entries_of}
+use Rattle.simplex_record.specs.Start.{start_facts}
+use Rattle.simplex_member.specs.Journal.{IsResumed}
+use Rattle.simplex_laws.specs.Living.{HasGoneOn}
+use Rattle.simplex_engine.proofs.Going.{where_ok}
+use Rattle.simplex_engine.proofs.engine.Engine.resume.Goals as goal
+
+pub returns-in-Ok-clause-resumed : goal.returns-in-Ok-clause-resumed
+returns-in-Ok-clause-resumed g c =
+    where_ok c.begin.result c.begin.ensures.member
+    (λ engine is. subst (λ m. IsResumed g.D.PartialEq.eq g.L.Elector.elect c.args.stored
+    (entries_of g.S.CertificateScheme.certificate_bytes c.args.entries.items)
+    (start_facts g.S.CertificateScheme.me g.S.CertificateScheme.participants g.L.Elector.terms g.L.Elector.elects_early g.S.CertificateScheme.certificate_bytes c.args.start)
+    m.facts) (sym is) c.in-Ok.ensures.resumed)
+
+pub returns-in-Ok-clause-goes_on : goal.returns-in-Ok-clause-goes_on
+returns-in-Ok-clause-goes_on g c =
+    where_ok c.begin.result c.begin.ensures.member
+    (λ engine is. subst (λ m. HasGoneOn g.D.PartialEq.eq g.L.Elector.elect g.S.CertificateScheme.me g.L.Elector.terms c.args.stored
+    (entries_of g.S.CertificateScheme.certificate_bytes c.args.entries.items) c.args.start m.facts) (sym is) c.in-Ok.ensures.goes_on)

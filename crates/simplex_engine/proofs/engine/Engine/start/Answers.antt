@@ -1,0 +1,20 @@
+-- That the engine's member is the one that was started.
+use Rattle.std.proofs.Common.{◌≡◌, sym, subst}
+use Rattle.simplex_types.specs.Config.{floor_facts}
+use Rattle.simplex_record.specs.Start.{set_up}
+use Rattle.simplex_member.specs.Start.{started_member}
+use Rattle.simplex_laws.specs.Living.{HasBegun}
+use Rattle.simplex_engine.proofs.Going.{where_ok}
+use Rattle.simplex_engine.proofs.engine.Engine.start.Goals as goal
+
+pub returns-in-Ok-clause-started : goal.returns-in-Ok-clause-started
+returns-in-Ok-clause-started g c =
+    where_ok c.begin.result c.begin.ensures.member
+    (λ engine is. subst (λ m. m.facts ≡ started_member g.D.PartialEq.eq g.L.Elector.elect
+    (set_up g.S.CertificateScheme.me g.S.CertificateScheme.participants g.L.Elector.terms g.L.Elector.elects_early c.args.start.settings)
+    (floor_facts g.S.CertificateScheme.certificate_bytes c.args.start.floor) c.args.start.now) (sym is) c.in-Ok.ensures.started)
+
+pub returns-in-Ok-clause-begins : goal.returns-in-Ok-clause-begins
+returns-in-Ok-clause-begins g c =
+    where_ok c.begin.result c.begin.ensures.member
+    (λ engine is. subst (λ m. HasBegun g.D.PartialEq.eq g.L.Elector.elect g.S.CertificateScheme.me g.L.Elector.terms c.args.start m.facts) (sym is) c.in-Ok.ensures.begins)

@@ -1,0 +1,18 @@
+-- What an engine is told and what it gives out.
+use Rattle.std.specs.Prelude.{ℕ, List, [], Option, Some, None, Result, Ok, Err, option_to_list}
+use Rattle.simplex_types.specs.Certificates.{certificate_facts}
+use Rattle.simplex_types.specs.Encoding.{certificate_subject}
+use Rattle.simplex_types.specs.declared.types.messages.Subject.{Subject}
+use Rattle.simplex_engine.specs.declared.input.Input.{Input}
+use Rattle.simplex_engine.specs.declared.input.Input.TheVariants as input
+
+-- what a certificate that is accepted for this input is on: what is handed in, or what the vote is on that is handed in
+abbrev pub subject_in : {S D K G C : Type 0} → (C → List ℕ) → Input S D K G C → Option (Subject D)
+subject_in bytes_of (input.Vote vote) = Some vote.subject
+subject_in bytes_of (input.Certificate certificate) = Some (certificate_subject (certificate_facts bytes_of certificate))
+subject_in bytes_of _ = None
+
+-- what a poll gives out
+abbrev pub given_out : {A E : Type 0} → Result (Option A) E → List A
+given_out (Ok out) = option_to_list out
+given_out (Err _) = []

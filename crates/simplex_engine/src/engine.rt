@@ -1,0 +1,198 @@
+//! The engine of a member: it is told what came in, and hands out all that follows, in the order in which it is carried out.
+//!
+//! It holds no network, clock, disk or key but its scheme. Moments are milliseconds that are handed in, and do not fall.
+#![tactic(auto, using(crate::proofs::Going::stays, crate::proofs::Going::goes_further, crate::proofs::Backing::takes_nothing, crate::proofs::Backing::takes_no_more, crate::proofs::Backing::takes_anyway))]
+
+ghost use Rattle.std.specs.Prelude.{◌≡◌, ◌||◌, ◌++◌, [], is_none, length, None, IfOk, IsNone, false};
+ghost use Rattle.std.specs.Option.{option_copied};
+
+mod begin;
+mod plan;
+mod steps;
+mod task;
+
+use crate::assembly::Assembly;
+use crate::batcher::Batcher;
+use crate::fetches::Fetches;
+use crate::input::Input;
+use crate::journaled::Journaled;
+use crate::output::Output;
+pub use begin::StartError;
+pub use plan::Options;
+use plan::Plan;
+use simplex_member::member::Stored;
+use simplex_resolver::replay::LawfulResolver;
+use simplex_types::types::{Artifact, CertificateScheme, Digest, Elector, Fault};
+use simplex_voter::voter::State;
+use std::alloc::Global;
+
+/// A member, its votes' batcher, its resolver and its open fetches, and what is to be carried out.
+///
+/// `IsKept` of `core` says what was given out so far, in order: `start` and `resume` begin the list, `poll` adds what it answers,
+/// and `keeps_the_laws` says what holds of the whole. After an error it has failed: nothing more is given out, and another life
+/// begins from what was stored.
+#[derive(Drop)]
+pub struct Engine<S: CertificateScheme, L: Elector<S>, D: Digest> {
+    alloc: Global,
+    core: Journaled<S, L, D>,
+    batcher: Batcher<S, D>,
+    plan: Plan<S, D>,
+    options: Options,
+    /// How many entries the record had when it was made short last.
+    compacted: usize,
+}
+
+impl<S: Assembly<D>, L: Elector<S>, D: Digest> Engine<S, L, D> {
+    ghost use Rattle.simplex_record.specs.Entries.{entries_of};
+    ghost use Rattle.simplex_record.specs.Votes.{votes_of};
+    ghost use Rattle.simplex_laws.specs.Lawful.{IsLawful};
+    ghost use Rattle.simplex_laws.specs.Living.{OfAllDone, MayBeDoneBy};
+    ghost use Rattle.simplex_engine.specs.Outputs.{AreBehind};
+    ghost use Rattle.simplex_engine.specs.Journals.{journal_of, IsRecordOf};
+    ghost use Rattle.simplex_engine.specs.Going.{IsKept, IsWhole, GoesOn, DoesMoreOn, HasGivenOut};
+    ghost use Rattle.simplex_engine.specs.Settled.{IsSettled, IsWake};
+    ghost use Rattle.simplex_engine.specs.Inputs.{subject_in, given_out};
+    ghost use Rattle.simplex_engine.specs.Backing.{votes_in, TakesVotes, TakesNone, IsBackedInput};
+
+    /// Tells what came in. Answers whether it was of use: what is not is dropped, and changes nothing.
+    ///
+    /// A proposal is dropped where it is of another member than its view's leader, of this member's own view, or of a view that
+    /// takes no votes; one of a view that comes soon is kept until then. A vote is dropped where its view takes none, and where
+    /// its signer voted before. An answer of the application is dropped where it was not asked for.
+    ///
+    /// - `goes_on`: no certificate is accepted but the one that is handed in, or one on what the vote that is handed in is on.
+    /// - `votes`: of each member it holds votes alone that were handed in.
+    /// - `backed`: a certificate that a vote completes is backed by votes of n - f different members on just that, each handed in.
+    ///
+    /// # Errors
+    ///
+    /// `OutOfMemory` fails the engine. After it each call answers `Failed`.
+    pub fn handle(&mut self, input: Input<S, D>, now: u64) -> Result<bool, Fault>
+        ensures goes_on { GoesOn D.eq L.elect S.certificate_bytes (subject_in S.certificate_bytes input) self.old.core self.new.core }
+        ensures votes { TakesVotes (votes_in input) self.old.batcher self.new.batcher }
+        ensures backed { IsBackedInput D.eq L.elect S.certificate_bytes (length (S.participants self.old.batcher.scheme))
+            input self.old.batcher self.old.core self.new.core }
+    {
+        if self.core.has_failed() {
+            return Err(Fault::Failed);
+        }
+        match self.take(input, now) {
+            Ok(is_of_use) => Ok(is_of_use),
+            Err(fault) => {
+                self.core.fail();
+                Err(fault)
+            }
+        }
+    }
+
+    /// What is to be carried out next, at a moment in milliseconds; none where nothing is until another input, or until the
+    /// moment that `wake` tells.
+    ///
+    /// - `given`: what is answered is given out.
+    /// - `does`: no certificate is accepted.
+    /// - `votes`: as of `handle`.
+    /// - `none`: where nothing is answered, all of the record was given out to be stored, and the member was asked for all its
+    ///   work last, and had nothing new.
+    ///
+    /// # Errors
+    ///
+    /// As of `handle`.
+    pub fn poll(&mut self, now: u64) -> Result<Option<Output<S, D, Stored>>, Fault>
+        ensures given { HasGivenOut S.certificate_bytes (given_out result) self.old.core self.new.core }
+        ensures does { DoesMoreOn D.eq L.elect None self.old.core.member.facts self.new.core.member.facts }
+        ensures none { IfOk result (λ out. IsNone out → IsSettled D.eq L.elect S.certificate_bytes self.new.core) }
+        ensures votes { TakesNone self.old.batcher self.new.batcher }
+    {
+        if self.core.has_failed() {
+            return Err(Fault::Failed);
+        }
+        match self.core.next() {
+            Some(output) => Ok(Some(output)),
+            None => self.poll_after_work(now),
+        }
+    }
+
+    /// What is to be carried out next once all steps are taken.
+    fn poll_after_work(&mut self, now: u64) -> Result<Option<Output<S, D, Stored>>, Fault>
+        ensures given { HasGivenOut S.certificate_bytes (given_out result) self.old.core self.new.core }
+        ensures does { DoesMoreOn D.eq L.elect None self.old.core.member.facts self.new.core.member.facts }
+        ensures none { IfOk result (λ out. IsNone out → IsSettled D.eq L.elect S.certificate_bytes self.new.core) }
+        ensures votes { TakesNone self.old.batcher self.new.batcher }
+    {
+        match self.work(now) {
+            Ok(()) => Ok(self.core.next()),
+            Err(fault) => {
+                self.core.fail();
+                Err(fault)
+            }
+        }
+    }
+
+    /// Whether it has failed, or its member has.
+    pub fn has_failed(&self) -> bool
+        ensures { result ≡ (self.now.core.failed || is_none self.now.core.member.facts.life) }
+    {
+        self.core.has_failed()
+    }
+
+    /// The moment in milliseconds at which `poll` is to be called where nothing comes before.
+    pub fn wake(&self) -> u64
+        ensures { IsWake self.now.plan.fetches.wanted.items self.now.plan.timeout result }
+    {
+        self.plan.wake()
+    }
+
+    /// How many inputs were of no use.
+    pub fn ignored(&self) -> u64
+        ensures { result ≡ self.now.plan.ignored }
+    {
+        self.plan.ignored()
+    }
+
+    /// The fetches that are open.
+    pub fn fetches(&self) -> &Fetches
+        ensures { result.now ≡ self.now.plan.fetches }
+    {
+        self.plan.fetches()
+    }
+
+    /// The resolver, whose state serves peers that lag behind.
+    pub fn resolver(&self) -> &LawfulResolver
+        ensures { result.now ≡ self.now.plan.resolver }
+    {
+        self.plan.resolver()
+    }
+
+    /// The member's state, which tells views, leaders and certificates, while it has not failed.
+    pub fn state(&self) -> Option<&State<S, L, D>>
+        ensures { option_copied result ≡ self.now.core.member.facts.life }
+    {
+        self.core.state()
+    }
+
+    /// The record, oldest entry first.
+    pub fn record(&self) -> &[Artifact<S, D>]
+        ensures entries { entries_of S.certificate_bytes result.now ≡ self.now.core.member.facts.entries }
+        ensures votes { votes_of result.now ≡ self.now.core.member.votes }
+    {
+        self.core.record()
+    }
+
+    /// The laws of all that it gave out, and of all that its member has done. It does nothing: its contract is the laws.
+    ///
+    /// - `behind`: each vote stands behind an output that stores it, with its very signature.
+    /// - `stored`: until it fails, where all of the record is queued or was given out, a journal that carries out what was given
+    ///   out and what is queued holds the record, and beside it what a journal stores.
+    /// - `lawful`: what its member has done keeps the voting rules, over all its lives.
+    /// - `ran`: a network of `agreement` may have it as member `i`.
+    pub fn keeps_the_laws(&self)
+        ensures behind { (given : _) → IsKept S.certificate_bytes given self.now.core → AreBehind [] given }
+        ensures stored { (given : _) → IsKept S.certificate_bytes given self.now.core → self.now.core.failed ≡ false
+            → IsWhole S.certificate_bytes self.now.core
+            → IsRecordOf S.certificate_bytes self.now.core.member (journal_of (given ++ self.now.core.outbox.queue.items)) }
+        ensures lawful { OfAllDone D.eq L.elect self.now.core.member.facts (λ term_length i all. IsLawful term_length all) }
+        ensures ran { OfAllDone D.eq L.elect self.now.core.member.facts (MayBeDoneBy S.PublicKey D.eq L.elect) }
+    {
+        self.core.keeps_the_laws();
+    }
+}

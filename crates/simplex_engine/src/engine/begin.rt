@@ -1,0 +1,221 @@
+//! How an engine begins: a first life at a floor, or another from what was stored.
+#![tactic(auto)]
+
+ghost use Rattle.std.specs.Prelude.{◌≡◌, [], IfOk, length};
+ghost use Rattle.simplex_engine.specs.Batching.{AreGiven};
+ghost use Rattle.simplex_engine.specs.Going.{IsKept, IsWhole};
+
+use super::Engine;
+use super::plan::{Options, Plan, Views};
+use crate::assembly::Assembly;
+use crate::batcher::Batcher;
+use crate::fetches::{FetchKind, Fetches, Peers};
+use crate::journaled::Journaled;
+use simplex_lawful::lawful::LawfulMember;
+use simplex_member::member::{RecoverError, ResumeError, Start, Stored};
+use simplex_resolver::replay::{LawfulResolver, ReplayError};
+use simplex_types::types::{
+    Artifact, CertificateScheme, Digest, Elector, Scheme, TermLength, View,
+};
+use std::alloc::{AllocError, Global};
+use std::collections::BTreeSet;
+use std::error::Error;
+use std::fmt;
+
+/// Why no engine begins.
+#[derive(Clone, Copy, PartialEq, Eq, Debug)]
+pub enum StartError {
+    /// The floor or what was stored is refused.
+    Resume(ResumeError),
+    /// The resolver refuses the record.
+    Replay(ReplayError),
+}
+
+impl fmt::Display for StartError {
+    fn fmt<W: fmt::Write>(&self, f: &mut fmt::Formatter<W>) -> fmt::Result {
+        match self {
+            StartError::Resume(error) => write!(f, "{error}"),
+            StartError::Replay(error) => write!(f, "{error}"),
+        }
+    }
+}
+
+impl Error for StartError {}
+
+impl From<AllocError> for StartError {
+    ghost use Rattle.std.specs.Prelude.{◌≡◌};
+    ghost use Rattle.simplex_member.specs.declared.member.resume.ResumeError.TheVariants.{Recover};
+    ghost use Rattle.simplex_record.specs.declared.record.error.RecoverError.TheVariants.{OutOfMemory};
+    ghost use Rattle.simplex_engine.specs.declared.engine.begin.StartError.TheVariants.{Resume};
+
+    ghost from_gives = { λ _ error. error ≡ Resume (Recover OutOfMemory) };
+
+    fn from(_refused: AllocError) -> StartError {
+        StartError::Resume(ResumeError::Recover(RecoverError::OutOfMemory))
+    }
+}
+
+/// What an engine has beside its member.
+#[derive(Drop)]
+struct Company<S: CertificateScheme, D> {
+    batcher: Batcher<S, D>,
+    peers: Peers,
+    term_length: TermLength,
+    is_alone: bool,
+}
+
+impl<S: Assembly<D>, L: Elector<S>, D: Digest> Engine<S, L, D> {
+    ghost use Rattle.simplex_types.specs.Config.{floor_facts};
+    ghost use Rattle.simplex_record.specs.Entries.{entries_of};
+    ghost use Rattle.simplex_record.specs.Start.{set_up, start_facts};
+    ghost use Rattle.simplex_member.specs.Journal.{IsResumed};
+    ghost use Rattle.simplex_member.specs.Start.{started_member};
+    ghost use Rattle.simplex_laws.specs.Living.{HasBegun, HasGoneOn};
+
+    /// The engine of a member that begins at a floor, where nothing was stored.
+    ///
+    /// The elector's members are the scheme's participants.
+    /// - `started`: its member is the one that `LawfulMember::start` makes.
+    /// - `begins`: it has accepted the floor's finalization, if there is one, and done nothing else.
+    /// - `kept`, `whole`, `votes`: nothing was given out, the whole record stands to be stored in place of all that is, and no vote
+    ///   is held.
+    ///
+    /// # Errors
+    ///
+    /// Those of `LawfulMember::start`.
+    pub fn start(
+        alloc: Global,
+        start: Start<S, L, D>,
+        options: Options,
+    ) -> Result<Engine<S, L, D>, StartError>
+        requires { L.members start.settings.elector ≡ length (S.participants start.settings.scheme) }
+        ensures kept { IfOk result (λ engine. IsKept S.certificate_bytes [] engine.core) }
+        ensures whole { IfOk result (λ engine. IsWhole S.certificate_bytes engine.core) }
+        ensures votes { IfOk result (λ engine. AreGiven [] engine.batcher) }
+        ensures started { IfOk result (λ engine. engine.core.member.facts ≡ started_member D.eq L.elect
+            (set_up S.me S.participants L.terms L.elects_early start.settings)
+            (floor_facts S.certificate_bytes start.floor) start.now) }
+        ensures begins { IfOk result (λ engine. HasBegun D.eq L.elect S.me L.terms start engine.core.member.facts) }
+    {
+        let company = company_of(alloc, &start)?;
+        match LawfulMember::start(alloc, start) {
+            Ok(member) => begin(alloc, member, company, options),
+            Err(error) => Err(StartError::Resume(ResumeError::Recover(error))),
+        }
+    }
+
+    /// The engine of a member that goes on from what was stored, also at a later floor.
+    ///
+    /// The elector's members are the scheme's participants.
+    /// - `resumed`: its member is the one that `LawfulMember::resume` makes.
+    /// - `goes_on`: in terms of the same length and with the key of the same member or none, what was done before stays done,
+    ///   and the floor's finalization is accepted too.
+    /// - `kept`, `whole`, `votes`: as of `start`.
+    ///
+    /// # Errors
+    ///
+    /// Those of `LawfulMember::resume`.
+    pub fn resume(
+        alloc: Global,
+        start: Start<S, L, D>,
+        stored: Stored,
+        entries: Vec<Artifact<S, D>>,
+        options: Options,
+    ) -> Result<Engine<S, L, D>, StartError>
+        requires { L.members start.settings.elector ≡ length (S.participants start.settings.scheme) }
+        ensures kept { IfOk result (λ engine. IsKept S.certificate_bytes [] engine.core) }
+        ensures whole { IfOk result (λ engine. IsWhole S.certificate_bytes engine.core) }
+        ensures votes { IfOk result (λ engine. AreGiven [] engine.batcher) }
+        ensures resumed { IfOk result (λ engine. IsResumed D.eq L.elect stored
+            (entries_of S.certificate_bytes entries.items)
+            (start_facts S.me S.participants L.terms L.elects_early S.certificate_bytes start) engine.core.member.facts) }
+        ensures goes_on { IfOk result (λ engine. HasGoneOn D.eq L.elect S.me L.terms stored
+            (entries_of S.certificate_bytes entries.items) start engine.core.member.facts) }
+    {
+        let company = company_of(alloc, &start)?;
+        match LawfulMember::resume(alloc, start, stored, entries) {
+            Ok(member) => begin(alloc, member, company, options),
+            Err(refusal) => Err(StartError::Resume(refusal.error)),
+        }
+    }
+}
+
+/// What an engine has beside its member, by its settings.
+fn company_of<S: Assembly<D>, L: Elector<S>, D: Digest>(
+    alloc: Global,
+    start: &Start<S, L, D>,
+) -> Result<Company<S, D>, AllocError>
+    ensures { IfOk result (λ company. AreGiven [] company.batcher) }
+{
+    let scheme = start.settings.scheme.copy(alloc)?;
+    let members = scheme.participants().len();
+    let peers = Peers::new(members.min(u32::MAX as usize) as u32, scheme.me());
+    Ok(Company {
+        batcher: Batcher::new(alloc, scheme),
+        peers,
+        term_length: start.settings.elector.terms().term_length,
+        is_alone: members == 1,
+    })
+}
+
+/// An engine round a member that has begun: its resolver is told of the record, and what is wanted is asked for at once.
+fn begin<S: Assembly<D>, L: Elector<S>, D: Digest>(
+    alloc: Global,
+    member: LawfulMember<S, L, D>,
+    company: Company<S, D>,
+    options: Options,
+) -> Result<Engine<S, L, D>, StartError>
+    ensures kept { IfOk result (λ engine. IsKept S.certificate_bytes [] engine.core) }
+    ensures whole { IfOk result (λ engine. IsWhole S.certificate_bytes engine.core) }
+    ensures votes { AreGiven [] company.batcher → IfOk result (λ engine. AreGiven [] engine.batcher) }
+    ensures member { IfOk result (λ engine. engine.core.member ≡ member) }
+{
+    let resolver = resolver_of(alloc, company.term_length, member.record())?;
+    let mut fetches = Fetches::new(alloc, company.peers, options.retry);
+    open_all(&mut fetches, resolver.fetches())?;
+    let views = views_of(&member);
+    let compacted = member.record().len();
+    let core = Journaled::begin(alloc, member)?;
+    Ok(Engine {
+        alloc,
+        core,
+        batcher: company.batcher,
+        plan: Plan::new(alloc, options, company.is_alone, views, resolver, fetches),
+        options,
+        compacted,
+    })
+}
+
+/// The resolver of a record.
+fn resolver_of<S: CertificateScheme, D: Digest>(
+    alloc: Global,
+    term_length: TermLength,
+    record: &[Artifact<S, D>],
+) -> Result<LawfulResolver, StartError> {
+    match LawfulResolver::start(alloc, term_length, record) {
+        Ok(resolver) => Ok(resolver),
+        Err(error) => Err(StartError::Replay(error)),
+    }
+}
+
+/// Opens the fetch of each view.
+fn open_all(fetches: &mut Fetches, views: &BTreeSet<View>) -> Result<(), AllocError> {
+    for view in views {
+        fetches.open(FetchKind::Nullification, *view, None, 0)?;
+    }
+    Ok(())
+}
+
+/// The views that a member begins at.
+fn views_of<S: Scheme<D>, L: Elector<S>, D: Digest>(member: &LawfulMember<S, L, D>) -> Views {
+    match member.state() {
+        Some(state) => Views {
+            current: state.current_view(),
+            last_finalized: state.last_finalized(),
+        },
+        None => Views {
+            current: View::zero(),
+            last_finalized: View::zero(),
+        },
+    }
+}

@@ -1,0 +1,237 @@
+//! What an engine does next, and what it keeps for that: steps, open fetches, blocks that are built, early proposals.
+
+mod accepting;
+mod following;
+mod working;
+
+ghost use Rattle.std.specs.Prelude.{◌≡◌};
+ghost use Rattle.simplex_engine.specs.Settled.{IsWake};
+
+use super::task::Task;
+use crate::fetches::{FetchKind, Fetches};
+use crate::output::Work;
+use simplex_resolver::replay::LawfulResolver;
+use simplex_types::types::{
+    CertificateScheme, Context, Digest, Fault, Participant, Proposal, View,
+};
+use std::alloc::{AllocError, Global};
+use std::collections::VecDeque;
+
+/// Intervals, in milliseconds, and how long a record grows.
+#[derive(Clone, Copy)]
+pub struct Options {
+    /// After how long a fetch is asked again, of the next peer.
+    pub retry: u64,
+    /// How long a certificate that is lacking may be on its way before it is asked for.
+    pub on_its_way: u64,
+    /// The record is made short once it has more entries than this, and twice as many as when it was made short last.
+    pub long_record: usize,
+}
+
+/// One step of the engine.
+#[derive(Drop)]
+pub enum Step<S: CertificateScheme, D> {
+    /// A call of the member, and what follows from its answer.
+    Ask(Task<D>),
+    /// A proposal of a member that came early.
+    Offer(Participant, Proposal<D>),
+    /// A certificate of a view is lacking for a proposal of a later one, whose leader is asked first.
+    Resolve(FetchKind, View, View),
+    /// The newest vote to nullify is sent once more, where it is one of the view.
+    Repeat(View),
+    /// What is kept of the views below may go.
+    Forget(View),
+    /// Work to be carried out.
+    Push(Work<S, D>),
+}
+
+/// The views that the engine has come to.
+#[derive(Clone, Copy)]
+pub struct Views {
+    pub current: View,
+    pub last_finalized: View,
+}
+
+/// A proposal that came before its view, and whose it is.
+#[derive(Clone, Copy)]
+struct Early<D> {
+    from: Participant,
+    view: View,
+    proposal: Proposal<D>,
+}
+
+/// A block that is to be built.
+#[derive(Clone, Copy)]
+struct Building<D, P: Copy> {
+    context: Context<D, P>,
+    /// The application was asked for it.
+    is_told: bool,
+}
+
+/// How many early proposals are kept at most.
+const MOST_EARLY: usize = 8;
+
+/// What is to be done and looked after.
+#[derive(Drop)]
+pub struct Plan<S: CertificateScheme, D> {
+    alloc: Global,
+    options: Options,
+    /// There is no other member.
+    is_alone: bool,
+    views: Views,
+    /// The highest view whose finalization was told.
+    told: View,
+    steps: VecDeque<Step<S, D>>,
+    resolver: LawfulResolver,
+    fetches: Fetches,
+    builds: Vec<Building<D, S::PublicKey>>,
+    early: Vec<Early<D>>,
+    is_watch_due: bool,
+    is_timeout_due: bool,
+    is_prune_due: bool,
+    /// The moment of the next timeout.
+    timeout: u64,
+    /// How many inputs were of no use.
+    ignored: u64,
+}
+
+impl<S: CertificateScheme, D: Digest> Plan<S, D> {
+    /// A plan of a life that begins at these views.
+    pub fn new(
+        alloc: Global,
+        options: Options,
+        is_alone: bool,
+        views: Views,
+        resolver: LawfulResolver,
+        fetches: Fetches,
+    ) -> Plan<S, D> {
+        Plan {
+            alloc,
+            options,
+            is_alone,
+            views,
+            told: views.last_finalized,
+            steps: VecDeque::new(alloc),
+            resolver,
+            fetches,
+            builds: Vec::new(alloc),
+            early: Vec::new(alloc),
+            is_watch_due: true,
+            is_timeout_due: true,
+            is_prune_due: true,
+            timeout: 0,
+            ignored: 0,
+        }
+    }
+
+    /// The resolver, with its open fetches.
+    pub fn resolver(&self) -> &LawfulResolver
+        ensures { result.now ≡ self.now.resolver }
+    {
+        &self.resolver
+    }
+
+    /// The fetches that are open.
+    pub fn fetches(&self) -> &Fetches
+        ensures { result.now ≡ self.now.fetches }
+    {
+        &self.fetches
+    }
+
+    /// How many inputs were of no use.
+    pub fn ignored(&self) -> u64
+        ensures { result ≡ self.now.ignored }
+    {
+        self.ignored
+    }
+
+    /// The moment at which something is due, where nothing comes before.
+    pub fn wake(&self) -> u64
+        ensures { IsWake self.now.fetches.wanted.items self.now.timeout result }
+    {
+        match self.fetches.wake() {
+            Some(moment) => moment.min(self.timeout),
+            None => self.timeout,
+        }
+    }
+
+    /// An input was of no use.
+    pub fn ignore(&mut self) {
+        self.ignored = self.ignored.saturating_add(1);
+    }
+
+    /// A moment has come.
+    pub fn begin(&mut self) {
+        self.is_timeout_due = true;
+        self.is_prune_due = true;
+    }
+
+    /// Whether nothing is planned.
+    pub fn is_done(&self) -> bool {
+        self.steps.is_empty()
+    }
+
+    /// The next step; none where nothing is to be done now.
+    pub fn next(&mut self, now: u64) -> Result<Option<Step<S, D>>, Fault> {
+        if self.steps.is_empty() {
+            self.plan_more(now)?;
+        }
+        Ok(self.steps.pop_front())
+    }
+
+    /// Plans what is due: first whether blocks are of use still, then timeouts, then what is dropped, and then what is asked of
+    /// peers.
+    fn plan_more(&mut self, now: u64) -> Result<(), Fault> {
+        if self.is_watch_due {
+            self.is_watch_due = false;
+            return self.watch_builds();
+        }
+        if self.is_timeout_due {
+            self.is_timeout_due = false;
+            return self.ask(Task::Timeout);
+        }
+        if self.is_prune_due {
+            self.is_prune_due = false;
+            return self.ask(Task::Prune);
+        }
+        match self.fetches.ask(now) {
+            Some(ask) => self.push(Work::Fetch(ask)),
+            None => Ok(()),
+        }
+    }
+
+    /// Plans a step.
+    fn plan(&mut self, step: Step<S, D>) -> Result<(), Fault> {
+        queue(&mut self.steps, step)?;
+        Ok(())
+    }
+
+    /// Plans a call of the member.
+    pub fn ask(&mut self, task: Task<D>) -> Result<(), Fault> {
+        self.plan(Step::Ask(task))
+    }
+
+    /// Plans work to be carried out.
+    pub fn push(&mut self, work: Work<S, D>) -> Result<(), Fault> {
+        self.plan(Step::Push(work))
+    }
+
+    /// Something of the view has changed: its votes and certificates are asked for.
+    pub fn touch(&mut self, view: View) -> Result<(), Fault> {
+        self.is_watch_due = true;
+        self.ask(Task::Notarize(view))?;
+        self.ask(Task::Finalize(view))?;
+        self.ask(Task::BroadcastNotarization(view))?;
+        self.ask(Task::BroadcastNullification(view))?;
+        self.ask(Task::BroadcastFinalization(view))
+    }
+}
+
+/// Queues a step.
+fn queue<S: CertificateScheme, D: Digest>(
+    steps: &mut VecDeque<Step<S, D>>,
+    step: Step<S, D>,
+) -> Result<(), AllocError> {
+    steps.push_back(step)?;
+    Ok(())
+}

@@ -1,0 +1,157 @@
+//! Work on proposals: what is asked for, what is built, and what came early.
+
+use super::super::task::Task;
+use super::{Building, Early, MOST_EARLY, Plan, Step, Views, queue};
+use crate::fetches::FetchKind;
+use crate::output::Work;
+use simplex_types::types::{
+    CertificateScheme, Context, Digest, Fault, Participant, Proposal, View,
+};
+use std::alloc::AllocError;
+use std::collections::VecDeque;
+
+impl<S: CertificateScheme, D: Digest> Plan<S, D> {
+    /// Asks of each block that is to be built whether it has to be given up.
+    pub(super) fn watch_builds(&mut self) -> Result<(), Fault> {
+        watch_all(&self.builds, &mut self.steps)?;
+        Ok(())
+    }
+
+    /// The member has come to these views.
+    pub fn see(&mut self, views: Views) -> Result<(), Fault> {
+        if self.views.last_finalized < views.last_finalized {
+            self.fetches.pass(views.last_finalized);
+        }
+        let is_entered = self.views.current != views.current;
+        self.views = views;
+        if is_entered {
+            self.touch(views.current)?;
+            self.build_entered()?;
+            self.offer_early()?;
+        }
+        Ok(())
+    }
+
+    /// Keeps a proposal that came before its view, where few are kept: nobody sends it again, and its view would be lost.
+    pub fn keep_early(
+        &mut self,
+        from: Participant,
+        view: View,
+        proposal: Proposal<D>,
+    ) -> Result<(), Fault> {
+        let ahead = view.get().saturating_sub(self.views.current.get());
+        if 0 < ahead && ahead <= MOST_EARLY as u64 && self.early.len() < MOST_EARLY {
+            self.early.push(Early {
+                from,
+                view,
+                proposal,
+            })?;
+        }
+        Ok(())
+    }
+
+    /// Offers what came early, and is no longer.
+    fn offer_early(&mut self) -> Result<(), Fault> {
+        let current = self.views.current;
+        offer_until(current, &self.early, &mut self.steps)?;
+        self.early.retain(|early| current < early.view);
+        Ok(())
+    }
+
+    /// A certificate is lacking, and is asked for unless it comes soon, of this member first.
+    pub fn resolve(
+        &mut self,
+        kind: FetchKind,
+        view: View,
+        of: Option<Participant>,
+        now: u64,
+    ) -> Result<(), Fault> {
+        let moment = now.saturating_add(self.options.on_its_way);
+        self.fetches.open(kind, view, of, moment)?;
+        Ok(())
+    }
+
+    /// A block is to be built in the context, at once or when its view is entered.
+    pub(super) fn build(
+        &mut self,
+        context: Context<D, S::PublicKey>,
+        is_told: bool,
+    ) -> Result<(), Fault> {
+        self.builds.push(Building { context, is_told })?;
+        if is_told {
+            self.push(Work::Build(context))?;
+        }
+        Ok(())
+    }
+
+    /// Asks for the blocks that waited for their view.
+    fn build_entered(&mut self) -> Result<(), Fault> {
+        tell_entered(self.views.current, &mut self.builds, &mut self.steps)?;
+        Ok(())
+    }
+
+    /// Whether the application was asked for a block in just this context.
+    pub fn is_building(&self, context: &Context<D, S::PublicKey>) -> bool {
+        self.builds.iter().any(|it| {
+            it.is_told && it.context.round == context.round && it.context.parent == context.parent
+        })
+    }
+
+    /// What is built in the view is of no use any more.
+    pub(super) fn stop_building(&mut self, view: View) -> Result<(), Fault> {
+        let is_told = self
+            .builds
+            .iter()
+            .any(|it| it.is_told && it.context.round.view == view);
+        self.end_building(view);
+        if is_told {
+            self.push(Work::StopBuilding(view))?;
+        }
+        Ok(())
+    }
+
+    /// Nothing is built in the view any more.
+    pub(super) fn end_building(&mut self, view: View) {
+        self.builds.retain(|it| it.context.round.view != view);
+    }
+}
+
+/// Asks of each block that is to be built whether it has to be given up.
+fn watch_all<S: CertificateScheme, D: Digest>(
+    builds: &[Building<D, S::PublicKey>],
+    steps: &mut VecDeque<Step<S, D>>,
+) -> Result<(), AllocError> {
+    for building in builds {
+        queue(steps, Step::Ask(Task::Abandon(building.context.round.view)))?;
+    }
+    Ok(())
+}
+
+/// Asks for the blocks that waited for this view or one below it.
+fn tell_entered<S: CertificateScheme, D: Digest>(
+    current: View,
+    builds: &mut [Building<D, S::PublicKey>],
+    steps: &mut VecDeque<Step<S, D>>,
+) -> Result<(), AllocError> {
+    for building in builds {
+        if !building.is_told && building.context.round.view <= current {
+            building.is_told = true;
+            queue(steps, Step::Push(Work::Build(building.context)))?;
+        }
+    }
+    Ok(())
+}
+
+/// Offers the early proposals of the views up to this one.
+fn offer_until<S: CertificateScheme, D: Digest>(
+    current: View,
+    early: &[Early<D>],
+    steps: &mut VecDeque<Step<S, D>>,
+) -> Result<(), AllocError> {
+    for it in early {
+        if it.view <= current {
+            queue(steps, Step::Offer(it.from, it.proposal))?;
+        }
+    }
+    Ok(())
+}

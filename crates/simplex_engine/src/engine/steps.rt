@@ -1,0 +1,430 @@
+//! Inputs and steps, each with the calls of the member that it takes.
+#![tactic(auto, using(crate::proofs::Going::stays, crate::proofs::Going::goes_further, crate::proofs::Backing::takes_nothing, crate::proofs::Backing::takes_no_more, crate::proofs::Backing::takes_anyway))]
+
+ghost use Rattle.std.specs.Prelude.{◌≡◌, ◌∷◌, [], length, None, Some, OnOk, IfOk, IsTrue};
+ghost use Rattle.simplex_types.specs.Certificates.{certificate_facts};
+ghost use Rattle.simplex_types.specs.Encoding.{certificate_subject};
+ghost use Rattle.simplex_member.specs.Calls.{told, asked};
+ghost use Rattle.simplex_laws.specs.Shown.{certificates_in};
+ghost use Rattle.simplex_engine.specs.Quiet.{is_nothing};
+
+use super::Engine;
+use super::plan::{Step, Views};
+use super::task::Task;
+use crate::assembly::Assembly;
+use crate::batcher::Counted;
+use crate::fetches::FetchKind;
+use crate::input::Input;
+use crate::journaled::handing_in;
+use crate::output::Work;
+use crate::votes::Vote;
+use simplex_member::member::{Call, Reply};
+use simplex_types::types::{
+    Certificate, CertificateScheme, Context, Digest, Elector, Fault, Participant, Proposal, View,
+    Viewable,
+};
+use simplex_voter::voter::Verify;
+
+impl<S: Assembly<D>, L: Elector<S>, D: Digest> Engine<S, L, D> {
+    ghost use Rattle.simplex_engine.specs.Going.{IsWhole, GoesOn};
+    ghost use Rattle.simplex_engine.specs.Inputs.{subject_in};
+    ghost use Rattle.simplex_engine.specs.Backing.{votes_in, TakesVotes, TakesNone, IsBacked, IsBackedInput};
+    ghost use Rattle.simplex_engine.specs.Quiet.{AnswersNothing, HasNothingNew};
+
+    /// Takes what came in, while the engine has not failed.
+    pub(super) fn take(&mut self, input: Input<S, D>, now: u64) -> Result<bool, Fault>
+        ensures goes_on { GoesOn D.eq L.elect S.certificate_bytes (subject_in S.certificate_bytes input) self.old.core self.new.core }
+        ensures votes { TakesVotes (votes_in input) self.old.batcher self.new.batcher }
+        ensures backed { IsBackedInput D.eq L.elect S.certificate_bytes (length (S.participants self.old.batcher.scheme))
+            input self.old.batcher self.old.core self.new.core }
+    {
+        match input {
+            Input::Proposal(from, proposal) => self.offer(from, proposal, now),
+            Input::Vote(vote) => self.count(vote, now),
+            Input::Certificate(certificate) => self.accept(certificate, now),
+            Input::Verified(view, is_valid) => self.verified(view, is_valid, now),
+            Input::Built(context, payload) => self.build(&context, payload, now),
+            Input::Certified(view, is_success) => self.ask(Task::Certified(view, is_success), now),
+            Input::GivenUp(view, reason) => self.ask(Task::GiveUp(view, reason), now),
+        }
+    }
+
+    /// Takes all steps that are due, until the member has nothing new, and queues what the record has grown by.
+    ///
+    /// - `quiet`: it was asked for all its work last, and had nothing new.
+    pub(super) fn work(&mut self, now: u64) -> Result<(), Fault>
+        ensures goes_on { GoesOn D.eq L.elect S.certificate_bytes None self.old.core self.new.core }
+        ensures votes { TakesNone self.old.batcher self.new.batcher }
+        ensures whole { OnOk result (IsWhole S.certificate_bytes self.new.core) }
+        ensures quiet { OnOk result (HasNothingNew D.eq L.elect self.new.core.member.facts) }
+    {
+        self.prepare()?;
+        self.finish(now)
+    }
+
+    /// A moment has come; a record that is long is made short before anything else.
+    fn prepare(&mut self) -> Result<(), Fault>
+        ensures goes_on { GoesOn D.eq L.elect S.certificate_bytes None self.old.core self.new.core }
+        ensures votes { TakesNone self.old.batcher self.new.batcher }
+    {
+        self.plan.begin();
+        if self.is_long() {
+            return self.prune_record();
+        }
+        Ok(())
+    }
+
+    /// Takes all steps, and queues what the record has grown by.
+    fn finish(&mut self, now: u64) -> Result<(), Fault>
+        ensures goes_on { GoesOn D.eq L.elect S.certificate_bytes None self.old.core self.new.core }
+        ensures votes { TakesNone self.old.batcher self.new.batcher }
+        ensures whole { OnOk result (IsWhole S.certificate_bytes self.new.core) }
+        ensures quiet { OnOk result (HasNothingNew D.eq L.elect self.new.core.member.facts) }
+    {
+        self.run_all(now)?;
+        self.core.store()?;
+        Ok(())
+    }
+
+    /// Takes steps until none is due and the member has nothing new.
+    fn run_all(&mut self, now: u64) -> Result<(), Fault>
+        ensures goes_on { GoesOn D.eq L.elect S.certificate_bytes None self.old.core self.new.core }
+        ensures votes { TakesNone self.old.batcher self.new.batcher }
+        ensures quiet { OnOk result (HasNothingNew D.eq L.elect self.new.core.member.facts) }
+    {
+        for _ in 0..u64::MAX {
+            if self.is_settled(now)? {
+                return Ok(());
+            }
+        }
+        Err(Fault::Failed)
+    }
+
+    /// Takes steps until none is due, and asks for all work. Whether there is nothing new, and nothing follows.
+    fn is_settled(&mut self, now: u64) -> Result<bool, Fault>
+        ensures goes_on { GoesOn D.eq L.elect S.certificate_bytes None self.old.core self.new.core }
+        ensures votes { TakesNone self.old.batcher self.new.batcher }
+        ensures quiet { IfOk result (λ settled. IsTrue settled → HasNothingNew D.eq L.elect self.new.core.member.facts) }
+    {
+        self.run(now)?;
+        let is_quiet = self.is_quiet(now)?;
+        Ok(is_quiet && self.plan.is_done())
+    }
+
+    /// Asks for all work: proposals to verify, a block to build, proposals to certify. Whether there is nothing new.
+    fn is_quiet(&mut self, now: u64) -> Result<bool, Fault>
+        ensures goes_on { GoesOn D.eq L.elect S.certificate_bytes None self.old.core self.new.core }
+        ensures votes { TakesNone self.old.batcher self.new.batcher }
+        ensures quiet { IfOk result (λ quiet. IsTrue quiet → HasNothingNew D.eq L.elect self.new.core.member.facts) }
+    {
+        let verifies_nothing = self.asks_nothing(Call::TryVerify, Task::Verify, now)?;
+        let builds_nothing = self.asks_nothing(Call::TryPropose, Task::Propose, now)?;
+        let certifies_nothing = self.asks_nothing(Call::CertifyCandidates, Task::Candidates, now)?;
+        Ok(verifies_nothing && builds_nothing && certifies_nothing)
+    }
+
+    /// Makes a call that asks for work, and follows its answer. Whether it has nothing new.
+    fn asks_nothing(&mut self, call: Call<S, D>, task: Task<D>, now: u64) -> Result<bool, Fault>
+        requires { certificates_in call ≡ [] }
+        ensures goes_on { GoesOn D.eq L.elect S.certificate_bytes None self.old.core self.new.core }
+        ensures votes { TakesNone self.old.batcher self.new.batcher }
+        ensures nothing { IfOk result (λ nothing. IsTrue nothing
+            → AnswersNothing D.eq L.elect self.old.core.member.facts (asked S.certificate_bytes call) self.new.core.member.facts) }
+    {
+        let reply = self.core.call(call);
+        let is_nothing = is_nothing(&reply);
+        self.follow(task, reply, now)?;
+        Ok(is_nothing)
+    }
+
+    /// Takes steps until none is due. A run that had no end would be one of 2^64 steps.
+    fn run(&mut self, now: u64) -> Result<(), Fault>
+        ensures goes_on { GoesOn D.eq L.elect S.certificate_bytes None self.old.core self.new.core }
+        ensures votes { TakesNone self.old.batcher self.new.batcher }
+    {
+        for _ in 0..u64::MAX {
+            if !self.step(now)? {
+                return Ok(());
+            }
+        }
+        Err(Fault::Failed)
+    }
+
+    /// Takes the next step, where one is due.
+    fn step(&mut self, now: u64) -> Result<bool, Fault>
+        ensures goes_on { GoesOn D.eq L.elect S.certificate_bytes None self.old.core self.new.core }
+        ensures votes { TakesNone self.old.batcher self.new.batcher }
+    {
+        match self.plan.next(now)? {
+            Some(step) => self.take_step(step, now),
+            None => Ok(false),
+        }
+    }
+
+    /// Takes a step.
+    fn take_step(&mut self, step: Step<S, D>, now: u64) -> Result<bool, Fault>
+        ensures goes_on { GoesOn D.eq L.elect S.certificate_bytes None self.old.core self.new.core }
+        ensures votes { TakesNone self.old.batcher self.new.batcher }
+    {
+        match step {
+            Step::Ask(task) => {
+                self.ask(task, now)?;
+            }
+            Step::Offer(from, proposal) => {
+                self.offer(from, proposal, now)?;
+            }
+            Step::Resolve(kind, view, proposal) => self.resolve(kind, view, proposal, now)?,
+            Step::Repeat(view) => {
+                self.core.repeat(view)?;
+            }
+            Step::Forget(lowest) => self.forget(lowest)?,
+            Step::Push(work) => self.core.push(work)?,
+        }
+        Ok(true)
+    }
+
+    /// Makes a call of the member, and follows its answer. Whether it was of use.
+    fn ask(&mut self, task: Task<D>, now: u64) -> Result<bool, Fault>
+        ensures goes_on { GoesOn D.eq L.elect S.certificate_bytes None self.old.core self.new.core }
+        ensures votes { TakesNone self.old.batcher self.new.batcher }
+    {
+        let reply = self.core.call(task.call(now));
+        self.follow(task, reply, now)
+    }
+
+    /// Follows the answer to a call.
+    fn follow(&mut self, task: Task<D>, reply: Reply<S, D>, now: u64) -> Result<bool, Fault>
+        ensures core { self.new.core ≡ self.old.core }
+        ensures votes { TakesNone self.old.batcher self.new.batcher }
+    {
+        let is_of_use = is_answer(&reply);
+        self.see()?;
+        self.plan.follow(task, reply, now)?;
+        Ok(is_of_use)
+    }
+
+    /// The member may have come to other views. One that has failed since found no memory.
+    fn see(&mut self) -> Result<(), Fault>
+        ensures core { self.new.core ≡ self.old.core }
+        ensures votes { TakesNone self.old.batcher self.new.batcher }
+    {
+        let Some(state) = self.core.state() else {
+            return Err(Fault::OutOfMemory);
+        };
+        let views = Views {
+            current: state.current_view(),
+            last_finalized: state.last_finalized(),
+        };
+        self.plan.see(views)
+    }
+
+    /// A proposal of another member: it is handed in where that member leads its view, which takes votes, and else kept where
+    /// its view comes soon.
+    fn offer(&mut self, from: Participant, proposal: Proposal<D>, now: u64) -> Result<bool, Fault>
+        ensures goes_on { GoesOn D.eq L.elect S.certificate_bytes None self.old.core self.new.core }
+        ensures votes { TakesNone self.old.batcher self.new.batcher }
+    {
+        let view = proposal.view();
+        if self.is_admitted(from, view) {
+            return self.ask(Task::SetProposal(view, proposal), now);
+        }
+        self.keep_early(from, view, proposal)?;
+        Ok(false)
+    }
+
+    /// Keeps a proposal whose view comes soon.
+    fn keep_early(
+        &mut self,
+        from: Participant,
+        view: View,
+        proposal: Proposal<D>,
+    ) -> Result<(), Fault>
+        ensures core { self.new.core ≡ self.old.core }
+        ensures votes { TakesNone self.old.batcher self.new.batcher }
+    {
+        self.plan.ignore();
+        self.plan.keep_early(from, view, proposal)
+    }
+
+    /// Whether a proposal may be handed in. One of this member itself never is: its key would have been used elsewhere.
+    fn is_admitted(&self, from: Participant, view: View) -> bool {
+        match self.core.state() {
+            Some(state) => {
+                state.admits_vote(view)
+                    && state.leader_index(view) == Some(from)
+                    && !state.is_me(from)
+            }
+            None => false,
+        }
+    }
+
+    /// Whether the application found the view's proposal valid.
+    fn verified(&mut self, view: View, is_valid: bool, now: u64) -> Result<bool, Fault>
+        ensures goes_on { GoesOn D.eq L.elect S.certificate_bytes None self.old.core self.new.core }
+        ensures votes { TakesNone self.old.batcher self.new.batcher }
+    {
+        if is_valid {
+            self.ask(Task::Verified(view), now)
+        } else {
+            self.ask(Task::VerificationFailed(view), now)
+        }
+    }
+
+    /// What the application built, where it was asked to build just there.
+    fn build(
+        &mut self,
+        context: &Context<D, S::PublicKey>,
+        payload: D,
+        now: u64,
+    ) -> Result<bool, Fault>
+        ensures goes_on { GoesOn D.eq L.elect S.certificate_bytes None self.old.core self.new.core }
+        ensures votes { TakesNone self.old.batcher self.new.batcher }
+    {
+        if !self.plan.is_building(context) {
+            self.plan.ignore();
+            return Ok(false);
+        }
+        self.ask(Task::Proposed(context.round.view, payload), now)
+    }
+
+    /// Whether the view takes votes.
+    fn admits_vote(&self, view: View) -> bool {
+        match self.core.state() {
+            Some(state) => state.admits_vote(view),
+            None => false,
+        }
+    }
+
+    /// Counts a vote, and takes the certificate that it completes.
+    fn count(&mut self, vote: Vote<D, S::Signature>, now: u64) -> Result<bool, Fault>
+        ensures goes_on { GoesOn D.eq L.elect S.certificate_bytes (Some vote.subject) self.old.core self.new.core }
+        ensures votes { TakesVotes (vote ∷ []) self.old.batcher self.new.batcher }
+        ensures backed { IsBacked D.eq L.elect S.certificate_bytes (length (S.participants self.old.batcher.scheme))
+            (vote ∷ []) vote.subject self.old.batcher self.old.core self.new.core }
+    {
+        let is_admitted = self.admits_vote(vote.subject.view());
+        match self.batcher.count(vote, is_admitted)? {
+            Counted::Certified(certificate) => self.accept(certificate, now),
+            Counted::Equivocated(first, second) => {
+                self.plan.push(Work::Equivocated(first, second))?;
+                Ok(true)
+            }
+            Counted::Taken => Ok(true),
+            Counted::Known | Counted::Refused => {
+                self.plan.ignore();
+                Ok(false)
+            }
+        }
+    }
+
+    /// Hands a certificate in, where its view is admitted.
+    fn accept(&mut self, certificate: Certificate<S, D>, now: u64) -> Result<bool, Fault>
+        ensures goes_on { GoesOn D.eq L.elect S.certificate_bytes
+            (Some (certificate_subject (certificate_facts S.certificate_bytes certificate))) self.old.core self.new.core }
+        ensures votes { TakesNone self.old.batcher self.new.batcher }
+    {
+        if !self.admits_certificate(certificate.view()) {
+            self.plan.ignore();
+            return Ok(false);
+        }
+        let copy = certificate.clone(self.alloc)?;
+        let reply = self.core.call(handing_in(certificate, now));
+        self.follow_certificate(&copy, reply, now)
+    }
+
+    /// Whether certificates of the view are taken.
+    fn admits_certificate(&self, view: View) -> bool {
+        match self.core.state() {
+            Some(state) => state.admits_certificate(view),
+            None => false,
+        }
+    }
+
+    /// Follows the answer to a certificate.
+    fn follow_certificate(
+        &mut self,
+        certificate: &Certificate<S, D>,
+        reply: Reply<S, D>,
+        now: u64,
+    ) -> Result<bool, Fault>
+        ensures core { self.new.core ≡ self.old.core }
+        ensures votes { TakesNone self.old.batcher self.new.batcher }
+    {
+        let is_new = is_new(&reply);
+        self.see()?;
+        self.plan.follow_certificate(certificate, &reply, now)?;
+        Ok(is_new)
+    }
+
+    /// A certificate is lacking for a proposal, whose leader is asked first.
+    fn resolve(
+        &mut self,
+        kind: FetchKind,
+        view: View,
+        proposal: View,
+        now: u64,
+    ) -> Result<(), Fault>
+        ensures core { self.new.core ≡ self.old.core }
+        ensures votes { TakesNone self.old.batcher self.new.batcher }
+    {
+        let leader = match self.core.state() {
+            Some(state) => state.leader_index(proposal),
+            None => None,
+        };
+        self.plan.resolve(kind, view, leader, now)
+    }
+
+    /// What is kept of the views below goes, here and elsewhere.
+    fn forget(&mut self, lowest: View) -> Result<(), Fault>
+        ensures goes_on { GoesOn D.eq L.elect S.certificate_bytes None self.old.core self.new.core }
+        ensures votes { TakesNone self.old.batcher self.new.batcher }
+    {
+        self.batcher.forget(lowest);
+        self.core.push(Work::Forget(lowest))?;
+        Ok(())
+    }
+
+    /// Whether the record has grown long since it was made short last.
+    fn is_long(&self) -> bool {
+        let count = self.core.record().len();
+        self.options.long_record < count && self.compacted < count / 2
+    }
+
+    /// Makes the record short.
+    fn prune_record(&mut self) -> Result<(), Fault>
+        ensures goes_on { GoesOn D.eq L.elect S.certificate_bytes None self.old.core self.new.core }
+        ensures votes { TakesNone self.old.batcher self.new.batcher }
+    {
+        self.core.prune_record()?;
+        self.compacted = self.core.record().len();
+        Ok(())
+    }
+}
+
+/// Whether an answer has no work, or none that is new: a certificate that is lacking is asked for already, or is from now on.
+fn is_nothing<S: CertificateScheme, D: Digest>(reply: &Reply<S, D>) -> bool
+    ensures { result ≡ is_nothing (told S.certificate_bytes reply.now) }
+{
+    match reply {
+        Reply::Work(verify) => match verify {
+            Verify::Wait | Verify::Resolve { .. } => true,
+            Verify::Ready(_, _) => false,
+        },
+        Reply::Request(request) => request.is_none(),
+        Reply::Candidates(proposals, _) => proposals.is_empty(),
+        _ => false,
+    }
+}
+
+/// Whether a call was made.
+fn is_answer<S: CertificateScheme, D>(reply: &Reply<S, D>) -> bool {
+    !matches!(reply, Reply::Fault(_) | Reply::NotAllowed)
+}
+
+/// Whether what was handed in is new.
+fn is_new<S: CertificateScheme, D>(reply: &Reply<S, D>) -> bool {
+    matches!(
+        reply,
+        Reply::Added(true, _) | Reply::AddedNullification(true)
+    )
+}
