@@ -1,10 +1,5 @@
-pub mod Ballots
 pub mod Checksum
 pub mod Digests
-pub mod Journals
-pub mod Messages
-pub mod Owing
-pub mod Parts
 pub mod Rising
 pub mod Sealing
-pub mod Votes
+pub mod Assembling

@@ -1,8 +1,9 @@
 -- What the scheme of the example signs, and which certificates it takes.
-use Rattle.std.specs.Prelude.{◌≡◌, ℕ, Bool, ◌&&◌, ◌==◌, ◌-◌, ◌/◌, List, ◌++◌, length, take, drop, slice_get, Option, Some, None, MatchOption, if◌then◌else◌, nat_le, nat_lt}
+use Rattle.std.specs.Prelude.{◌≡◌, ℕ, Bool, ◌&&◌, ◌==◌, List, ◌++◌, length, take, drop, slice_get, Option, Some, None, MatchOption, if◌then◌else◌, nat_le, nat_lt}
 use Rattle.std.specs.Int.{w32, w64, to_be_bytes, from_be_bytes}
 use Rattle.simplex_types.specs.declared.types.messages.Subject.{Subject}
 use Rattle.simplex_types.specs.Encoding.{subject_bytes}
+use Rattle.simplex_engine.specs.Quorums.{quorum_of}
 use Rattle.example_engine.specs.declared.digest.BlockDigest.{BlockDigest}
 use Rattle.example_engine.specs.declared.scheme.MemberKey.{MemberKey}
 use Rattle.example_engine.specs.declared.scheme.Signature.{Signature}
@@ -42,10 +43,6 @@ signature_from_bytes bytes =
     if length bytes == 12
     then Some (record { key = record { number = from_be_bytes w32 (take 4 bytes) }; sum = from_be_bytes w64 (drop 4 bytes) })
     else None
-
--- all members but the faulty ones, fewer than a third
-abbrev pub quorum_of : ℕ → ℕ
-quorum_of members = members - (members - 1) / 3
 
 -- a quorum of rising members
 abbrev pub is_good : SealScheme → Seal → Bool

@@ -1,11 +1,12 @@
 //! Who signs, and what certificates are. No security is meant: a real scheme has signatures that nobody else can make.
 
-ghost use Rattle.std.specs.Prelude.{◌≡◌, ◌<◌, ◌^◌, ◌-◌, ◌/◌, ◌&&◌, ◌↔◌, ℕ, true, IsTrue, List, Option, Some, None, length, map, nat_le, IfOk, option_map};
+ghost use Rattle.std.specs.Prelude.{◌≡◌, ◌<◌, ◌^◌, ◌&&◌, ◌↔◌, ℕ, true, IsTrue, List, Option, Some, None, length, map, nat_le, IfOk, option_map};
 ghost use Rattle.std.specs.Option.{ForSome};
 ghost use Rattle.example_engine.specs.Rising.{are_members};
 
 use crate::checksum::checksum;
 use crate::digest::BlockDigest;
+use simplex_engine::assembly::quorum;
 use simplex_types::types::{CertificateScheme, Participant, PublicKey, Scheme, Subject};
 use std::alloc::{AllocError, Global};
 
@@ -35,20 +36,14 @@ pub struct Seal {
     pub signers: Vec<u8>,
 }
 
-/// How many of so many members make a certificate: all but the faulty ones, of which there are fewer than a third.
-pub(crate) fn quorum(members: usize) -> usize
-    requires { 0 < members }
-    ensures { result ≡ members - (members - 1) / 3 }
-{
-    members - (members - 1) / 3
-}
-
-/// The members' keys, and the index of the one that signs here.
+/// The members' keys, and the index of the one that signs here. An index fits in a byte.
 #[derive(Drop)]
 pub struct SealScheme {
     keys: Vec<MemberKey>,
     signer: Option<Participant>,
     ghost signer_is_member: { ForSome signer (λ m. m < length keys.items) },
+    ghost has_members: { 0 < length keys.items },
+    ghost few: { length keys.items < 256 },
 }
 
 impl SealScheme {

@@ -1,4 +1,4 @@
-//! How a member is set up, and the calls that are made of it.
+//! How a member is set up.
 
 ghost use Rattle.std.specs.Prelude.{◌≡◌, ◌<◌, IfOk, length};
 ghost use Rattle.simplex_types.specs.Plain.{members_of};
@@ -6,23 +6,14 @@ ghost use Rattle.example_engine.specs.Sealing.{seal_keys};
 
 use crate::digest::BlockDigest;
 use crate::scheme::SealScheme;
-use simplex_member::member::{Call, Member, Reply, Start};
+use simplex_member::member::Start;
 use simplex_types::config::Floor;
 use simplex_types::types::plain::PlainElector;
-use simplex_types::types::{Epoch, TermLength, Terms, ViewDelta};
+use simplex_types::types::{Epoch, Terms, ViewDelta};
 use simplex_voter::voter::Config;
 use std::alloc::{AllocError, Global};
 
-/// The member that an engine drives.
-pub type Core = Member<SealScheme, PlainElector, BlockDigest>;
-
-/// A call of it.
-pub type CoreCall = Call<SealScheme, BlockDigest>;
-
-/// What it answers.
-pub type CoreReply = Reply<SealScheme, BlockDigest>;
-
-/// How it starts.
+/// How a member starts.
 pub type CoreStart = Start<SealScheme, PlainElector, BlockDigest>;
 
 /// The epoch that every message is of.
@@ -40,16 +31,17 @@ const CERTIFICATION_TIMEOUT: u64 = 400;
 /// From a vote to nullify until it is repeated, in milliseconds.
 const TIMEOUT_RETRY: u64 = 300;
 
-/// How a member starts at genesis, in terms of one view.
-pub fn start_of(alloc: Global, members: u8, me: u8, now: u64) -> Result<CoreStart, AllocError>
+/// How a member starts at genesis.
+pub fn start_of(
+    alloc: Global,
+    members: u8,
+    me: u8,
+    terms: Terms,
+    now: u64,
+) -> Result<CoreStart, AllocError>
     requires { me < members }
     ensures { IfOk result (λ start. members_of start.settings.elector ≡ length (seal_keys start.settings.scheme)) }
 {
-    let terms = Terms {
-        term_length: TermLength::ONE,
-        optimistic_views: 0,
-        stall_timeout: None,
-    };
     let settings = Config {
         scheme: SealScheme::new(alloc, members, me)?,
         elector: PlainElector::new(u32::from(members), terms),

@@ -1,75 +1,89 @@
-//! What goes wrong on purpose: a faulty leader, and a member that crashes and comes back.
+//! What faulty members do where they lead: their proposals are held back, or differ from member to member.
 
+use crate::message::{Ballot, Message, proposal_of};
 use example_engine::digest::BlockDigest;
-use example_engine::messages::Message;
 use example_engine::parts::Block;
-use simplex_types::types::{Fault, Proposal, View};
+use example_engine::scheme::SealScheme;
+use simplex_engine::votes::Vote;
+use simplex_types::types::{Fault, Participant, Proposal, Scheme, Subject, View, Viewable};
 use std::alloc::Global;
 
-/// The member whose process ends and begins again.
-pub const CRASHING: u8 = 1;
-
-/// The member that is faulty where it leads.
-pub const FAULTY: u8 = 3;
-
-/// What the faulty member does in a view that it leads.
+/// What a faulty leader does in a view.
 #[derive(Clone, Copy)]
 pub enum Behavior {
     /// It sends its proposal to nobody.
     StaysSilent,
-    /// It sends another proposal to one member.
-    DeceivesOne,
-    /// It sends another proposal to two members.
-    DeceivesTwo,
+    /// It sends another proposal to one member in four.
+    DeceivesFew,
+    /// It sends another proposal to one member in two.
+    DeceivesHalf,
     /// It sends its proposal to all.
     Obeys,
 }
 
-/// What the faulty member does in the view.
+/// What a faulty leader does in the view.
 pub(crate) fn behavior_in(view: View) -> Behavior {
     match view.get() / 4 % 4 {
         1 => Behavior::StaysSilent,
-        2 => Behavior::DeceivesOne,
-        3 => Behavior::DeceivesTwo,
+        2 => Behavior::DeceivesFew,
+        3 => Behavior::DeceivesHalf,
         _ => Behavior::Obeys,
     }
 }
 
-/// What is sent to a member of a message, if anything is.
+/// What a faulty member sends to another of a message of its own, if it sends anything.
 pub(crate) fn sent(
     alloc: Global,
-    from: u8,
+    scheme: &SealScheme,
     to: u8,
-    message: &Message,
+    message: Message,
+    is_leader: bool,
 ) -> Result<Option<Message>, Fault> {
     match message {
-        Message::Propose(block) if from == FAULTY => match shown(to, block) {
-            Some(block) => Ok(Some(Message::Propose(block))),
-            None => Ok(None),
-        },
-        _ => Ok(Some(message.copy(alloc)?)),
+        Message::Vote(vote) if is_leader => shown(alloc, scheme, to, vote),
+        message => Ok(Some(message)),
     }
 }
 
-/// The proposal that the faulty leader sends to a member, if it sends one.
-fn shown(to: u8, block: &Block) -> Option<Block> {
-    let is_deceived = match behavior_in(block.round.view) {
-        Behavior::StaysSilent => return None,
-        Behavior::DeceivesOne => to == 2,
-        Behavior::DeceivesTwo => to == 1 || to == 2,
-        Behavior::Obeys => false,
+/// What a faulty leader shows of its vote.
+fn shown(
+    alloc: Global,
+    scheme: &SealScheme,
+    to: u8,
+    vote: Ballot,
+) -> Result<Option<Message>, Fault> {
+    let Some(proposal) = proposal_of(&vote) else {
+        return Ok(Some(Message::Vote(vote)));
     };
-    if is_deceived {
-        return Some(another(block));
+    let signer = vote.signer;
+    match behavior_in(proposal.view()) {
+        Behavior::StaysSilent => Ok(None),
+        Behavior::Obeys => Ok(Some(Message::Vote(vote))),
+        Behavior::DeceivesFew if to % 4 == 0 => another(alloc, scheme, signer, &proposal),
+        Behavior::DeceivesHalf if to % 2 == 0 => another(alloc, scheme, signer, &proposal),
+        Behavior::DeceivesFew | Behavior::DeceivesHalf => Ok(Some(Message::Vote(vote))),
     }
-    Some(*block)
 }
 
-/// Another block in the same place.
-fn another(block: &Block) -> Block {
-    Proposal {
-        round: block.round,
-        parent: block.parent,
-        payload: BlockDigest::of_block(&block.payload, block.round.view, 1),
-    }
+/// A vote for another block in the same place.
+fn another(
+    alloc: Global,
+    scheme: &SealScheme,
+    signer: Participant,
+    proposal: &Block,
+) -> Result<Option<Message>, Fault> {
+    let payload = BlockDigest::of_block(&proposal.payload, proposal.round.view, 1);
+    let subject = Subject::Notarize(Proposal {
+        round: proposal.round,
+        parent: proposal.parent,
+        payload,
+    });
+    let Some(signature) = scheme.sign(alloc, &subject)? else {
+        return Ok(None);
+    };
+    Ok(Some(Message::Vote(Vote {
+        subject,
+        signer,
+        signature,
+    })))
 }

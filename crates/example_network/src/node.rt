@@ -1,146 +1,189 @@
-//! A member with its four parts: what comes in goes to the core, and what the core answers is carried out.
+//! A member: its engine, its disk and its application. What comes in is tested and told, and what is handed out is carried out.
 
-ghost use Rattle.std.specs.Prelude.{◌≡◌, ◌<◌};
+ghost use Rattle.std.specs.Prelude.{◌<◌};
 
-use crate::error::EngineError;
-use crate::news::News;
-use crate::polls::Polls;
-use example_engine::driver::{Driver, Topic};
-use example_engine::journal::Journal;
-use example_engine::messages::{Letter, Message, VoteKind};
-use example_engine::resolver::PeerResolver;
+mod carrying;
+mod receiving;
+
+use crate::disk::Disk;
+use crate::error::RunError;
+use crate::message::Message;
+use crate::options::Options;
+use crate::report::News;
+use example_engine::digest::BlockDigest;
 use example_engine::scheme::SealScheme;
-use example_engine::start::{CoreCall, start_of};
-use simplex_member::member::{Call, Member};
+use example_engine::start::start_of;
+use simplex_engine::engine::{Engine, Options as EngineOptions};
 use simplex_types::types::plain::PlainElector;
-use simplex_types::types::{Elector, Fault, Round, TermLength, Terms, View};
+use simplex_types::types::{Fault, View};
 use std::alloc::Global;
 
-mod answers;
-mod arrivals;
+/// The engine of a member.
+pub type Core = Engine<SealScheme, PlainElector, BlockDigest>;
 
-/// A journal with more entries than this is made short. A view leaves up to six: three certificates, two votes and a verdict.
-const MOST_ENTRIES: usize = 256;
+/// How the engines wait, in milliseconds, and when they make their records short.
+const ENGINE: EngineOptions = EngineOptions {
+    retry: 100,
+    on_its_way: 30,
+    long_record: 400,
+};
 
-/// The most answers that are carried out in a row.
-const MOST_ANSWERS: u32 = 100_000;
+/// A message to one member, or to all others.
+#[derive(Drop)]
+pub struct Letter {
+    pub to: Option<u8>,
+    pub message: Message,
+}
 
-/// A member that takes part in the network.
+/// A member that takes part.
 #[derive(Drop)]
 pub struct Node {
     alloc: Global,
-    /// On the heap: it holds the member, which is large.
-    driver: Box<Driver>,
-    resolver: PeerResolver,
-    polls: Polls,
-    elector: PlainElector,
-    /// What `TryVerify` asked for last: the proposal's view, and the view that is lacking.
-    lacking: Option<(View, View)>,
-    /// The moment of the next timeout, in milliseconds.
-    pub(crate) wake: Option<u64>,
-    /// The letters to be sent, oldest first.
-    pub(crate) outbox: Vec<Letter>,
+    me: u8,
+    options: Options,
+    scheme: SealScheme,
+    /// The engine, while the process runs; on the heap, since it is large.
+    engine: Option<Box<Core>>,
+    disk: Disk,
+    /// What is to be sent, oldest first.
+    pub(crate) letters: Vec<Letter>,
     /// What has happened and is not read yet, oldest first.
     pub(crate) news: Vec<News>,
+    pub(crate) counts: Counts,
+    ghost is_member: { me < options.members },
+}
+
+/// How often what has happened at a member.
+#[derive(Clone, Copy)]
+pub struct Counts {
+    pub finalized: u64,
+    pub restarts: u64,
+    pub fetches: u64,
+    pub contradictions: u64,
 }
 
 impl Node {
-    /// A member that never voted, at the clock's first moment.
-    pub(crate) fn start(alloc: Global, members: u8, me: u8) -> Result<Node, EngineError>
-        requires { me < members }
+    /// A member whose process begins at genesis.
+    pub(crate) fn start(alloc: Global, options: Options, me: u8) -> Result<Node, RunError>
+        requires { me < options.members }
     {
-        let member = Member::start(alloc, start_of(alloc, members, me, 0)?)?;
-        let journal = Journal::open(alloc, &member)?;
-        let driver = Box::new(alloc, Driver::new(alloc, member, journal))?;
-        Node::begin(alloc, members, me, driver)
-    }
-
-    /// A member that goes on from its journal, in a process that begins now.
-    pub(crate) fn resume(
-        alloc: Global,
-        members: u8,
-        me: u8,
-        journal: &Journal,
-        now: u64,
-    ) -> Result<Node, EngineError>
-        requires { me < members }
-    {
-        match journal.resume(start_of(alloc, members, me, now)?) {
-            Ok((member, journal)) => {
-                let driver = Box::new(alloc, Driver::new(alloc, member, journal))?;
-                Node::begin(alloc, members, me, driver)
-            }
-            Err(error) => Err(EngineError::NotResumed(error)),
-        }
-    }
-
-    /// The parts round a driver, with the resolver that its member's record begins.
-    fn begin(alloc: Global, members: u8, me: u8, driver: Box<Driver>) -> Result<Node, EngineError>
-        requires { me < members }
-    {
-        let polls = Polls::new(alloc, members, me)?;
-        let resolver = PeerResolver::start(alloc, TermLength::ONE, driver.member().record())?;
+        let start = start_of(alloc, options.members, me, options.terms(), 0)?;
         Ok(Node {
             alloc,
-            driver,
-            resolver,
-            polls,
-            elector: elector_of(members),
-            lacking: None,
-            wake: None,
-            outbox: Vec::new(alloc),
+            me,
+            options,
+            scheme: SealScheme::new(alloc, options.members, me)?,
+            engine: Some(Box::new(alloc, Engine::start(alloc, start, ENGINE)?)?),
+            disk: Disk::new(alloc),
+            letters: Vec::new(alloc),
             news: Vec::new(alloc),
+            counts: Counts {
+                finalized: 0,
+                restarts: 0,
+                fetches: 0,
+                contradictions: 0,
+            },
         })
     }
 
-    /// Tells of the fetches that are open as the process begins, asks for them, and goes on.
-    pub(crate) fn set_out(&mut self, now: u64) -> Result<(), Fault> {
-        for view in self.resolver.fetches() {
-            self.news.push(News::FetchOpened(*view))?;
+    /// Ends the process. What is on the disk stays.
+    pub(crate) fn crash(&mut self) -> Result<(), Fault> {
+        if self.engine.is_some() {
+            self.engine = None;
+            self.news.push(News::Crashed(self.disk.count()))?;
         }
-        self.ask_peers()?;
-        self.follow(self.current_view())?;
-        self.settle(now)
+        Ok(())
     }
 
-    /// What is left when the process ends: the disk.
-    pub(crate) fn into_journal(self) -> Journal {
-        Box::into_inner(self.driver).into_journal()
+    /// Begins the process from the disk, where it has ended.
+    pub(crate) fn come_back(&mut self, now: u64) -> Result<(), RunError> {
+        if self.engine.is_some() {
+            return Ok(());
+        }
+        let Some(stored) = self.disk.stored() else {
+            return Ok(());
+        };
+        let start = start_of(
+            self.alloc,
+            self.options.members,
+            self.me,
+            self.options.terms(),
+            now,
+        )?;
+        let engine = Engine::resume(self.alloc, start, stored, self.disk.read()?, ENGINE)?;
+        self.engine = Some(Box::new(self.alloc, engine)?);
+        self.counts.restarts = self.counts.restarts.saturating_add(1);
+        let view = self.current_view();
+        self.news.push(News::CameBack(view))?;
+        self.settle(now)?;
+        Ok(())
     }
 
-    /// The view that was entered last; 0 where the core has failed.
+    /// The member's index.
+    pub(crate) fn me(&self) -> u8 {
+        self.me
+    }
+
+    /// When the member is to be polled next, while it runs.
+    pub(crate) fn wake(&self) -> Option<u64> {
+        Some(self.engine.as_ref()?.wake())
+    }
+
+    /// The view that was entered last; 0 where the process has ended.
     pub(crate) fn current_view(&self) -> View {
-        match self.driver.state() {
-            Some(state) => state.current_view(),
+        match &self.engine {
+            Some(engine) => match engine.state() {
+                Some(state) => state.current_view(),
+                None => View::zero(),
+            },
             None => View::zero(),
         }
     }
 
-    /// The highest finalized view; 0 where the core has failed.
+    /// The highest finalized view; 0 where the process has ended.
     pub(crate) fn last_finalized(&self) -> View {
-        match self.driver.state() {
-            Some(state) => state.last_finalized(),
+        match &self.engine {
+            Some(engine) => match engine.state() {
+                Some(state) => state.last_finalized(),
+                None => View::zero(),
+            },
             None => View::zero(),
         }
     }
 
     /// How many entries are on the disk.
     pub(crate) fn stored_entries(&self) -> usize {
-        self.driver.stored_entries()
+        self.disk.count()
     }
 
     /// How many fetches are open.
     pub(crate) fn open_fetches(&self) -> usize {
-        self.resolver.fetches().len()
+        match &self.engine {
+            Some(engine) => engine.fetches().len(),
+            None => 0,
+        }
     }
 
-    /// The leader of a round.
-    fn leader(&self, round: Round) -> u32 {
-        Elector::<SealScheme>::elect(&self.elector, round, None).get()
+    /// Whether the member leads the view.
+    pub(crate) fn is_leading(&self, view: View) -> bool {
+        self.options.leader(view) == self.me
+    }
+
+    /// The member's keys.
+    pub(crate) fn scheme(&self) -> &SealScheme {
+        &self.scheme
     }
 
     fn send_to_all(&mut self, message: Message) -> Result<(), Fault> {
-        self.outbox.push(Letter { to: None, message })?;
+        self.letters.push(Letter { to: None, message })?;
+        Ok(())
+    }
+
+    fn send_to(&mut self, to: u8, message: Message) -> Result<(), Fault> {
+        self.letters.push(Letter {
+            to: Some(to),
+            message,
+        })?;
         Ok(())
     }
 
@@ -148,73 +191,4 @@ impl Node {
         self.news.push(news)?;
         Ok(())
     }
-
-    /// Asks the core for what follows an event about a view.
-    fn follow(&mut self, view: View) -> Result<(), Fault> {
-        self.ask(Call::TryVerify)?;
-        self.ask(Call::TryPropose)?;
-        self.ask(Call::CertifyCandidates)?;
-        self.ask_for_votes(view)?;
-        self.ask_for_certificates(view)
-    }
-
-    /// Asks for the votes in a view that answer proposals and verdicts.
-    fn ask_for_votes(&mut self, view: View) -> Result<(), Fault> {
-        self.driver.call(
-            Topic::Voted(VoteKind::Notarize, view),
-            Call::ConstructNotarize(view),
-        )?;
-        self.driver.call(
-            Topic::Voted(VoteKind::Finalize, view),
-            Call::ConstructFinalize(view),
-        )
-    }
-
-    /// Asks for the certificates of a view that are to be handed on.
-    fn ask_for_certificates(&mut self, view: View) -> Result<(), Fault> {
-        self.ask(Call::BroadcastNotarization(view))?;
-        self.ask(Call::BroadcastNullification(view))?;
-        self.ask(Call::BroadcastFinalization(view))
-    }
-
-    fn ask(&mut self, call: CoreCall) -> Result<(), Fault> {
-        self.driver.call(Topic::Next, call)
-    }
-
-    /// Carries out all that is owed, then asks for the next timeout and for what can be forgotten, and stores the record, made
-    /// short where it has grown long.
-    fn settle(&mut self, now: u64) -> Result<(), Fault> {
-        self.carry_out_all(now)?;
-        self.ask(Call::NextTimeout(now))?;
-        self.ask(Call::Prune)?;
-        self.carry_out_all(now)?;
-        self.driver.store()?;
-        if self.driver.stored_entries() > MOST_ENTRIES {
-            self.driver.compact()?;
-        }
-        Ok(())
-    }
-
-    /// Carries out what is owed. What is left after very many answers waits for the next event.
-    fn carry_out_all(&mut self, now: u64) -> Result<(), Fault> {
-        for _ in 0..MOST_ANSWERS {
-            let Some(owed) = self.driver.next() else {
-                return Ok(());
-            };
-            self.carry_out(&owed.topic, &owed.reply, now)?;
-        }
-        Ok(())
-    }
-}
-
-/// Leaders who take turns, as `start_of` sets them up.
-fn elector_of(members: u8) -> PlainElector
-    requires { 0 < members }
-{
-    let terms = Terms {
-        term_length: TermLength::ONE,
-        optimistic_views: 0,
-        stall_timeout: None,
-    };
-    PlainElector::new(u32::from(members), terms)
 }

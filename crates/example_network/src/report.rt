@@ -1,17 +1,40 @@
 //! What a person reads: a line for each view, and a summary.
 
-use crate::faults::{Behavior, FAULTY, behavior_in};
-use crate::news::News;
+use crate::error::RunError;
+use crate::options::Options;
+use example_engine::digest::BlockDigest;
+use example_engine::parts::Block;
 use simplex_types::types::View;
 use std::alloc::{AllocError, Global};
-use std::collections::BTreeSet;
+use std::collections::{BTreeMap, BTreeSet};
 use std::io;
+
+/// How many views below the highest are remembered, to compare what members tell of them.
+const REMEMBERED: u64 = 1000;
+
+/// Something that has happened at a member.
+#[derive(Clone, Copy)]
+pub enum News {
+    /// The proposal is final.
+    Finalized(Block),
+    /// The view is passed over.
+    Nullified(View),
+    /// The view's leader signed two proposals.
+    ProposedTwice(View),
+    /// The member's process ended, with so many entries on its disk.
+    Crashed(usize),
+    /// The member's process began again, in the view.
+    CameBack(View),
+}
 
 /// What has happened in the network.
 #[derive(Drop)]
 pub struct Report {
-    finalized: BTreeSet<View>,
+    options: Options,
+    finalized: BTreeMap<View, BlockDigest>,
+    count: u64,
     nullified: BTreeSet<View>,
+    nullified_count: u64,
     deceived: BTreeSet<View>,
     /// What is not printed yet.
     lines: Vec<Line>,
@@ -27,10 +50,13 @@ struct Line {
 
 impl Report {
     /// Nothing has happened yet.
-    pub(crate) fn new(alloc: Global) -> Report {
+    pub(crate) fn new(alloc: Global, options: Options) -> Report {
         Report {
-            finalized: BTreeSet::new(alloc),
+            options,
+            finalized: BTreeMap::new(alloc),
+            count: 0,
             nullified: BTreeSet::new(alloc),
+            nullified_count: 0,
             deceived: BTreeSet::new(alloc),
             lines: Vec::new(alloc),
         }
@@ -38,75 +64,115 @@ impl Report {
 
     /// How many views are finalized.
     pub(crate) fn finalized(&self) -> u64 {
-        self.finalized.len() as u64
+        self.count
     }
 
     /// The highest finalized view; 0 where there is none.
     pub(crate) fn highest(&self) -> View {
-        match self.finalized.last() {
-            Some(view) => *view,
+        match self.finalized.last_key_value() {
+            Some((view, _)) => *view,
             None => View::zero(),
         }
     }
 
     /// Keeps what a member tells, where nobody told it before.
-    pub(crate) fn note(&mut self, member: u8, news: News, now: u64) -> Result<(), AllocError> {
-        let is_new = match news {
-            News::Finalized { view, .. } => self.finalized.insert(view)?,
-            News::Nullified(view) => self.nullified.insert(view)?,
-            News::TwoProposals(view) => self.deceived.insert(view)?,
-            News::FetchOpened(_) => false,
-            News::Crashed(_) | News::CameBack(_) => true,
-        };
-        if is_new {
+    pub(crate) fn note(&mut self, member: u8, news: News, now: u64) -> Result<(), RunError> {
+        let is_new = self.is_new(&news)?;
+        if is_new && !self.options.is_quiet {
             self.lines.push(Line { now, member, news })?;
         }
         Ok(())
     }
 
+    /// Whether nobody told it before, which is kept.
+    fn is_new(&mut self, news: &News) -> Result<bool, RunError> {
+        match news {
+            News::Finalized(proposal) => self.note_finalized(proposal),
+            News::Nullified(view) => Ok(self.note_nullified(*view)?),
+            News::ProposedTwice(view) => Ok(self.deceived.insert(*view)?),
+            News::Crashed(_) | News::CameBack(_) => Ok(true),
+        }
+    }
+
+    /// Keeps what is final. Where something else is in the same view, the members disagree.
+    fn note_finalized(&mut self, proposal: &Block) -> Result<bool, RunError> {
+        let view = proposal.round.view;
+        if let Some(payload) = self.finalized.get(&view) {
+            return if *payload == proposal.payload {
+                Ok(false)
+            } else {
+                Err(RunError::Disagreed)
+            };
+        }
+        if view.get().saturating_add(REMEMBERED) < self.highest().get() {
+            return Ok(false);
+        }
+        self.finalized.insert(view, proposal.payload)?;
+        self.count = self.count.saturating_add(1);
+        if self.finalized.len() as u64 > REMEMBERED {
+            let _ = self.finalized.pop_first();
+        }
+        Ok(true)
+    }
+
+    fn note_nullified(&mut self, view: View) -> Result<bool, AllocError> {
+        let is_new = self.nullified.insert(view)?;
+        if is_new {
+            self.nullified_count = self.nullified_count.saturating_add(1);
+        }
+        if self.nullified.len() as u64 > REMEMBERED {
+            let _ = self.nullified.pop_first();
+        }
+        Ok(is_new)
+    }
+
     /// Prints what is not printed yet.
     pub(crate) fn print_lines(&mut self, rt: &impl Print) -> Result<(), io::Error> {
         for line in &self.lines {
-            line.print(rt)?;
+            line.print(rt, &self.options)?;
         }
         self.lines.clear();
         Ok(())
     }
 
     /// Prints what came of it all.
-    pub(crate) fn print_summary(&self, rt: &impl Print, now: u64) -> Result<(), io::Error> {
-        let (finalized, nullified) = (self.finalized.len(), self.nullified.len());
+    pub(crate) fn print_summary(
+        &self,
+        rt: &impl Print,
+        now: u64,
+        counts: (u64, u64),
+    ) -> Result<(), io::Error> {
+        let (finalized, nullified) = (self.count, self.nullified_count);
         let deceived = self.deceived.len();
+        let (sent, lost) = counts;
         println!(rt;
-            "\n{finalized} views finalized and {nullified} nullified in {now} ms\n{deceived} views with two proposals of the leader"
+            "\n{finalized} views finalized and {nullified} nullified in {now} ms, {sent} messages sent and {lost} lost\n{deceived} views with two proposals of the leader"
         )
     }
 }
 
 impl Line {
-    fn print(&self, rt: &impl Print) -> Result<(), io::Error> {
+    fn print(&self, rt: &impl Print, options: &Options) -> Result<(), io::Error> {
         let (now, member) = (self.now, self.member);
         match self.news {
-            News::Finalized {
-                view,
-                parent,
-                block,
-            } => {
-                let (number, leader, parent) = (view.get(), leader(view), parent.get());
+            News::Finalized(proposal) => {
+                let view = proposal.round.view;
+                let (number, leader, parent) = (
+                    view.get(),
+                    options.leader(view),
+                    proposal.parent.get(),
+                );
+                let block = proposal.payload;
                 println!(rt;
-                    "{now:>7} ms  view {number:>4}  leader {leader}  finalized  block {block} on view {parent}{}",
-                    remark(view)
+                    "{now:>7} ms  view {number:>4}  leader {leader}  finalized  block {block} on view {parent}"
                 )
             }
             News::Nullified(view) => {
-                let (number, leader) = (view.get(), leader(view));
-                println!(rt;
-                    "{now:>7} ms  view {number:>4}  leader {leader}  nullified{}",
-                    remark(view)
-                )
+                let (number, leader) = (view.get(), options.leader(view));
+                println!(rt; "{now:>7} ms  view {number:>4}  leader {leader}  nullified")
             }
-            News::TwoProposals(view) => {
-                let (number, leader) = (view.get(), leader(view));
+            News::ProposedTwice(view) => {
+                let (number, leader) = (view.get(), options.leader(view));
                 println!(rt;
                     "{now:>7} ms  view {number:>4}  member {member} sees that leader {leader} signed two proposals"
                 )
@@ -118,25 +184,6 @@ impl Line {
                 let view = view.get();
                 println!(rt; "{now:>7} ms  member {member} is back, in view {view}")
             }
-            News::FetchOpened(_) => Ok(()),
         }
-    }
-}
-
-/// The leader of a view.
-fn leader(view: View) -> u64 {
-    view.get().saturating_sub(1) % 4
-}
-
-/// What the faulty member does where it leads.
-fn remark(view: View) -> &'static str {
-    if leader(view) != u64::from(FAULTY) {
-        return "";
-    }
-    match behavior_in(view) {
-        Behavior::StaysSilent => "  (its leader proposed nothing)",
-        Behavior::DeceivesOne => "  (its leader deceived one member)",
-        Behavior::DeceivesTwo => "  (its leader deceived two members)",
-        Behavior::Obeys => "",
     }
 }
