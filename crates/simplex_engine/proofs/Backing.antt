@@ -13,7 +13,7 @@ use Rattle.simplex_engine.specs.declared.journaled.Journaled.{Journaled}
 use Rattle.simplex_engine.specs.declared.votes.Vote.{Vote}
 use Rattle.simplex_engine.specs.Subjects.{same_subject}
 use Rattle.simplex_engine.specs.Polls.{ballot_of, signature_in, signatures_on}
-use Rattle.simplex_engine.specs.Quorums.{quorum_of}
+use Rattle.simplex_assembly.specs.Quorums.{quorum_of}
 use Rattle.simplex_engine.specs.Batching.{kind_of, held, AreGiven, IsCounted}
 use Rattle.simplex_engine.specs.Backing.{HasQuorum, TakesVotes, TakesNone, IsBacked, IsBackedInput}
 use Rattle.simplex_engine.specs.declared.input.Input.{Input}

@@ -15,7 +15,7 @@ use Rattle.simplex_engine.specs.declared.batcher.poll.Ballot.{Ballot}
 use Rattle.simplex_engine.specs.declared.votes.Vote.{Vote}
 use Rattle.simplex_engine.specs.Subjects.{same_subject}
 use Rattle.simplex_engine.specs.Polls.{ballot_of, signature_in, signatures_on}
-use Rattle.simplex_engine.specs.Quorums.{quorum_of, AreSigned, IsSignedByQuorum}
+use Rattle.simplex_assembly.specs.Quorums.{quorum_of, AreSigned, IsSignedByQuorum}
 use Rattle.simplex_engine.specs.Counting.{certificate_of}
 use Rattle.simplex_engine.specs.Batching.{kind_of, held, AreGiven, AreGood, is_found_good, IsGoodIfCertified, IsCounted}
 use Rattle.simplex_engine.proofs.Polls.{rising_on}

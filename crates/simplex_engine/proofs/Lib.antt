@@ -13,3 +13,4 @@ mod Doing
 mod Kept
 mod Begun
 mod Backing
+mod Quiet

@@ -3,7 +3,7 @@ use Rattle.std.proofs.Common.{◌≡◌, ℕ, zero, suc, ◌+◌, ◌≤◌, Boo
 use Rattle.simplex_types.specs.declared.types.messages.Subject.{Subject}
 use Rattle.simplex_engine.specs.declared.batcher.poll.Ballot.{Ballot}
 use Rattle.simplex_engine.specs.Polls.{ballot_of, is_on, signature_in, signatures_on}
-use Rattle.simplex_engine.specs.Quorums.{AreRising}
+use Rattle.simplex_assembly.specs.Quorums.{AreRising}
 use Rattle.simplex_engine.specs.Subjects.{same_subject}
 
 -- an empty slot behind the others holds nothing

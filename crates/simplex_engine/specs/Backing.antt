@@ -8,7 +8,7 @@ use Rattle.simplex_engine.specs.declared.input.Input.TheVariants as input
 use Rattle.simplex_engine.specs.declared.journaled.Journaled.{Journaled}
 use Rattle.simplex_engine.specs.declared.votes.Vote.{Vote}
 use Rattle.simplex_engine.specs.Batching.{AreGiven}
-use Rattle.simplex_engine.specs.Quorums.{quorum_of, AreRising}
+use Rattle.simplex_assembly.specs.Quorums.{quorum_of, AreRising}
 use Rattle.simplex_engine.specs.Going.{GoesOn}
 
 -- the votes that an input hands in

@@ -9,7 +9,7 @@ use Rattle.simplex_engine.specs.declared.batcher.Counted.TheVariants.{Refused, K
 use Rattle.simplex_engine.specs.declared.batcher.poll.Ballot.{Ballot}
 use Rattle.simplex_engine.specs.declared.votes.Vote.{Vote}
 use Rattle.simplex_engine.specs.Polls.{ballot_of, signatures_on, HoldsTheSame}
-use Rattle.simplex_engine.specs.Quorums.{quorum_of}
+use Rattle.simplex_assembly.specs.Quorums.{quorum_of}
 
 module _ {D G : Type 0} where
   -- a vote, as it is held at its signer's place

@@ -1,5 +1,5 @@
 -- A member with its outbox, from one moment of a life to a later one.
-use Rattle.std.specs.Prelude.{◌≡◌, ℕ, ◌≤◌, Bool, false, List, ◌++◌, length, All, Option}
+use Rattle.std.specs.Prelude.{◌≡◌, ℕ, ◌≤◌, Bool, false, ◌||◌, List, ◌++◌, length, All, Option, is_none}
 use Rattle.simplex_types.specs.declared.types.messages.Subject.{Subject}
 use Rattle.simplex_voter.specs.Facts.{Elect}
 use Rattle.simplex_member.specs.Lives.{MemberFacts}
@@ -11,6 +11,11 @@ use Rattle.simplex_engine.specs.declared.output.Output.{Output}
 use Rattle.simplex_engine.specs.Outboxes.{IsLawful}
 use Rattle.simplex_engine.specs.Journals.{journal_of, IsBeginningOf}
 use Rattle.simplex_engine.specs.Doing.{IsDoneOn}
+
+module _ {S L D K G C : Type 0} where
+  -- it has failed, or its member has
+  abbrev pub has_failed : Journaled S L D K G C → Bool
+  has_failed member = member.failed || is_none member.member.facts.life
 
 module _ {S L D K G C : Type 0} (bytes_of : C → List ℕ) where
   -- over all that was given out and what is queued: each vote stands behind an output that stores it; and until the engine fails,

@@ -1,5 +1,4 @@
 pub mod Subjects
-pub mod Quorums
 pub mod Polls
 pub mod Counting
 pub mod Batching
@@ -14,4 +13,5 @@ pub mod Going
 pub mod Inputs
 pub mod Quiet
 pub mod Settled
+pub mod Planning
 pub mod Backing

@@ -13,9 +13,9 @@ ghost use Rattle.simplex_engine.specs.Counting.{IsCountedIn};
 
 mod poll;
 
-use crate::assembly::Assembly;
 use crate::votes::Vote;
 use poll::{Ballot, count};
+use simplex_assembly::assembly::Assembly;
 use simplex_sorted::tracked::Tracked;
 use simplex_types::types::{
     Certificate, CertificateScheme, Digest, Participant, Subject, View, Viewable,

@@ -3,15 +3,15 @@
 //! It holds no network, clock, disk or key but its scheme. Moments are milliseconds that are handed in, and do not fall.
 #![tactic(auto, using(crate::proofs::Going::stays, crate::proofs::Going::goes_further, crate::proofs::Backing::takes_nothing, crate::proofs::Backing::takes_no_more, crate::proofs::Backing::takes_anyway))]
 
-ghost use Rattle.std.specs.Prelude.{◌≡◌, ◌||◌, ◌++◌, [], is_none, length, None, IfOk, IsNone, false};
+ghost use Rattle.std.specs.Prelude.{◌≡◌, ◌++◌, [], length, None, Err, IfOk, IfSome, OnErr, IsNone, true, false};
 ghost use Rattle.std.specs.Option.{option_copied};
+ghost use Rattle.simplex_types.specs.declared.types.fault.Fault.TheVariants.{Failed};
 
 mod begin;
 mod plan;
 mod steps;
 mod task;
 
-use crate::assembly::Assembly;
 use crate::batcher::Batcher;
 use crate::fetches::Fetches;
 use crate::input::Input;
@@ -20,6 +20,7 @@ use crate::output::Output;
 pub use begin::StartError;
 pub use plan::Options;
 use plan::Plan;
+use simplex_assembly::assembly::Assembly;
 use simplex_member::member::Stored;
 use simplex_resolver::replay::LawfulResolver;
 use simplex_types::types::{Artifact, CertificateScheme, Digest, Elector, Fault};
@@ -43,14 +44,16 @@ pub struct Engine<S: CertificateScheme, L: Elector<S>, D: Digest> {
 }
 
 impl<S: Assembly<D>, L: Elector<S>, D: Digest> Engine<S, L, D> {
+    ghost use Rattle.simplex_voter.specs.Refusals.{is_started};
     ghost use Rattle.simplex_record.specs.Entries.{entries_of};
     ghost use Rattle.simplex_record.specs.Votes.{votes_of};
     ghost use Rattle.simplex_laws.specs.Lawful.{IsLawful};
     ghost use Rattle.simplex_laws.specs.Living.{OfAllDone, MayBeDoneBy};
     ghost use Rattle.simplex_engine.specs.Outputs.{AreBehind};
     ghost use Rattle.simplex_engine.specs.Journals.{journal_of, IsRecordOf};
-    ghost use Rattle.simplex_engine.specs.Going.{IsKept, IsWhole, GoesOn, DoesMoreOn, HasGivenOut};
+    ghost use Rattle.simplex_engine.specs.Going.{IsKept, IsWhole, GoesOn, DoesMoreOn, HasGivenOut, has_failed};
     ghost use Rattle.simplex_engine.specs.Settled.{IsSettled, IsWake};
+    ghost use Rattle.simplex_engine.specs.Planning.{IsIdle};
     ghost use Rattle.simplex_engine.specs.Inputs.{subject_in, given_out};
     ghost use Rattle.simplex_engine.specs.Backing.{votes_in, TakesVotes, TakesNone, IsBackedInput};
 
@@ -63,6 +66,7 @@ impl<S: Assembly<D>, L: Elector<S>, D: Digest> Engine<S, L, D> {
     /// - `goes_on`: no certificate is accepted but the one that is handed in, or one on what the vote that is handed in is on.
     /// - `votes`: of each member it holds votes alone that were handed in.
     /// - `backed`: a certificate that a vote completes is backed by votes of n - f different members on just that, each handed in.
+    /// - `failed`, `refused`: after an error it has failed; one that has failed answers `Failed`, and nothing changes.
     ///
     /// # Errors
     ///
@@ -72,6 +76,8 @@ impl<S: Assembly<D>, L: Elector<S>, D: Digest> Engine<S, L, D> {
         ensures votes { TakesVotes (votes_in input) self.old.batcher self.new.batcher }
         ensures backed { IsBackedInput D.eq L.elect S.certificate_bytes (length (S.participants self.old.batcher.scheme))
             input self.old.batcher self.old.core self.new.core }
+        ensures failed { OnErr result (has_failed self.new.core ≡ true) }
+        ensures refused { has_failed self.old.core ≡ true → (result ≡ Err Failed) × (self.new ≡ self.old) }
     {
         if self.core.has_failed() {
             return Err(Fault::Failed);
@@ -90,9 +96,11 @@ impl<S: Assembly<D>, L: Elector<S>, D: Digest> Engine<S, L, D> {
     ///
     /// - `given`: what is answered is given out.
     /// - `does`: no certificate is accepted.
-    /// - `votes`: as of `handle`.
-    /// - `none`: where nothing is answered, all of the record was given out to be stored, and the member was asked for all its
-    ///   work last, and had nothing new.
+    /// - `votes`, `failed`, `refused`: as of `handle`.
+    /// - `none`: where nothing is answered, all of the record was given out to be stored, and the member was asked last for all
+    ///   its work, its votes on the current view and the certificates of it, and had nothing new.
+    /// - `idle`: where nothing is answered, nothing is to be done at the moment: no step is queued, the timeout was asked for, and
+    ///   no fetch is due.
     ///
     /// # Errors
     ///
@@ -101,7 +109,10 @@ impl<S: Assembly<D>, L: Elector<S>, D: Digest> Engine<S, L, D> {
         ensures given { HasGivenOut S.certificate_bytes (given_out result) self.old.core self.new.core }
         ensures does { DoesMoreOn D.eq L.elect None self.old.core.member.facts self.new.core.member.facts }
         ensures none { IfOk result (λ out. IsNone out → IsSettled D.eq L.elect S.certificate_bytes self.new.core) }
+        ensures idle { IfOk result (λ out. IsNone out → IsIdle now self.new.plan) }
         ensures votes { TakesNone self.old.batcher self.new.batcher }
+        ensures failed { OnErr result (has_failed self.new.core ≡ true) }
+        ensures refused { has_failed self.old.core ≡ true → (result ≡ Err Failed) × (self.new ≡ self.old) }
     {
         if self.core.has_failed() {
             return Err(Fault::Failed);
@@ -117,7 +128,9 @@ impl<S: Assembly<D>, L: Elector<S>, D: Digest> Engine<S, L, D> {
         ensures given { HasGivenOut S.certificate_bytes (given_out result) self.old.core self.new.core }
         ensures does { DoesMoreOn D.eq L.elect None self.old.core.member.facts self.new.core.member.facts }
         ensures none { IfOk result (λ out. IsNone out → IsSettled D.eq L.elect S.certificate_bytes self.new.core) }
+        ensures idle { IfOk result (λ out. IsNone out → IsIdle now self.new.plan) }
         ensures votes { TakesNone self.old.batcher self.new.batcher }
+        ensures failed { OnErr result (has_failed self.new.core ≡ true) }
     {
         match self.work(now) {
             Ok(()) => Ok(self.core.next()),
@@ -130,7 +143,7 @@ impl<S: Assembly<D>, L: Elector<S>, D: Digest> Engine<S, L, D> {
 
     /// Whether it has failed, or its member has.
     pub fn has_failed(&self) -> bool
-        ensures { result ≡ (self.now.core.failed || is_none self.now.core.member.facts.life) }
+        ensures { result ≡ has_failed self.now.core }
     {
         self.core.has_failed()
     }
@@ -163,9 +176,10 @@ impl<S: Assembly<D>, L: Elector<S>, D: Digest> Engine<S, L, D> {
         self.plan.resolver()
     }
 
-    /// The member's state, which tells views, leaders and certificates, while it has not failed.
+    /// The member's state, which tells views, leaders and certificates, while it has not failed: it has a floor then.
     pub fn state(&self) -> Option<&State<S, L, D>>
-        ensures { option_copied result ≡ self.now.core.member.facts.life }
+        ensures life { option_copied result ≡ self.now.core.member.facts.life }
+        ensures started { IfSome result (λ state. (state.now.failed ≡ false) × (is_started state.now ≡ true)) }
     {
         self.core.state()
     }

@@ -4,7 +4,7 @@
 //! retry interval is over, of the next peer in turn and never of this member; and that `wake` is the moment of the next
 //! asking. Moments are milliseconds, and do not fall.
 
-ghost use Rattle.std.specs.Prelude.{◌≡◌, ◌≢◌, ◌≤◌, [], ◌++◌, ◌∷◌, not, filter, length, nat_lt, IfOk, OnOk, OnErr, IfSome, if◌then◌else◌};
+ghost use Rattle.std.specs.Prelude.{◌≡◌, ◌≢◌, ◌≤◌, [], ◌++◌, ◌∷◌, not, filter, is_some, length, nat_lt, IfOk, OnOk, OnErr, IfSome, if◌then◌else◌};
 ghost use Rattle.simplex_engine.specs.Fetches.{same_kind, is_of, is_within, is_open, due_at, fresh, asked, first_of, peers_of, place_of, whose_turn, IsEarliest};
 
 use simplex_types::types::{Participant, View};
@@ -200,6 +200,13 @@ impl Fetches {
         Some(ask)
     }
 
+    /// Whether the moment of one has come.
+    pub fn is_due(&self, now: u64) -> bool
+        ensures { result ≡ is_some (due_at now self.now.wanted.items) }
+    {
+        due_at(&self.wanted, now).is_some()
+    }
+
     /// Whether the fetch is open.
     pub fn is_open(&self, kind: FetchKind, view: View) -> bool
         ensures { result ≡ is_open kind view self.now.wanted.items }
@@ -212,6 +219,13 @@ impl Fetches {
         ensures { IsEarliest self.now.wanted.items result }
     {
         earliest(&self.wanted)
+    }
+
+    /// The open fetches, in the order in which they were opened.
+    pub fn all(&self) -> &[Fetch]
+        ensures { result.now ≡ self.now.wanted.items }
+    {
+        &self.wanted
     }
 
     /// How many are open.

@@ -3,7 +3,7 @@
 //! It owes that a journal which carries its outputs out holds the member's record, and that each vote stands behind its entry.
 #![tactic(auto, using(crate::proofs::Going::stays))]
 
-ghost use Rattle.std.specs.Prelude.{◌≡◌, ◌||◌, ◌++◌, [], is_none, true, false, All, Some, None, IfOk, OnOk, IsNone, IsTrue, ◌↔◌, option_to_list};
+ghost use Rattle.std.specs.Prelude.{◌≡◌, ◌++◌, [], true, false, All, Some, None, IfOk, IfSome, OnOk, IsNone, IsTrue, ◌↔◌, option_to_list};
 ghost use Rattle.std.specs.Option.{option_copied};
 ghost use Rattle.simplex_types.specs.Certificates.{certificate_facts};
 ghost use Rattle.simplex_types.specs.Encoding.{certificate_subject};
@@ -36,6 +36,7 @@ pub struct Journaled<S: CertificateScheme, L: Elector<S>, D: Digest> {
 }
 
 impl<S: Scheme<D>, L: Elector<S>, D: Digest> Journaled<S, L, D> {
+    ghost use Rattle.simplex_voter.specs.Refusals.{is_started};
     ghost use Rattle.simplex_member.specs.Calls.{told, asked};
     ghost use Rattle.simplex_member.specs.Lives.{IsCall};
     ghost use Rattle.simplex_record.specs.Entries.{entries_of};
@@ -45,7 +46,7 @@ impl<S: Scheme<D>, L: Elector<S>, D: Digest> Journaled<S, L, D> {
     ghost use Rattle.simplex_member.specs.Journal.{stored_of};
     ghost use Rattle.simplex_engine.specs.Outputs.{AreBehind};
     ghost use Rattle.simplex_engine.specs.Journals.{journal_of, IsRecordOf};
-    ghost use Rattle.simplex_engine.specs.Going.{IsKept, IsWhole, GoesOn};
+    ghost use Rattle.simplex_engine.specs.Going.{IsKept, IsWhole, GoesOn, has_failed};
 
     /// A life begins: the whole record is to be stored in place of all that is stored, before anything else.
     ///
@@ -173,14 +174,15 @@ impl<S: Scheme<D>, L: Elector<S>, D: Digest> Journaled<S, L, D> {
 
     /// Whether it failed, or the member did.
     pub fn has_failed(&self) -> bool
-        ensures { result ≡ (self.now.failed || is_none self.now.member.facts.life) }
+        ensures { result ≡ has_failed self.now }
     {
         self.failed || self.member.state().is_none()
     }
 
-    /// The member's state, while it has not failed.
+    /// The member's state, while it has not failed: it has a floor, and has not failed either.
     pub fn state(&self) -> Option<&State<S, L, D>>
-        ensures { option_copied result ≡ self.now.member.facts.life }
+        ensures life { option_copied result ≡ self.now.member.facts.life }
+        ensures started { IfSome result (λ state. (state.now.failed ≡ false) × (is_started state.now ≡ true)) }
     {
         self.member.state()
     }

@@ -1,7 +1,6 @@
 //! The engine of a member, without network, clock or disk: events in, and all that is to be carried out, in order.
 #![tactic(auto)]
 
-pub mod assembly;
 pub mod batcher;
 pub mod engine;
 pub mod fetches;
@@ -9,5 +8,4 @@ pub mod input;
 pub mod journaled;
 pub mod outbox;
 pub mod output;
-pub mod plain;
 pub mod votes;

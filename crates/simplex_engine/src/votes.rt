@@ -2,9 +2,10 @@
 
 ghost use Rattle.std.specs.Prelude.{◌≡◌, ◌↔◌, IsTrue};
 ghost use Rattle.simplex_types.specs.Proposal.{same_proposal};
+ghost use Rattle.simplex_types.specs.Viewed.{subject_view};
 ghost use Rattle.simplex_engine.specs.Subjects.{same_subject};
 
-use simplex_types::types::{Digest, Participant, Proposal, Subject};
+use simplex_types::types::{Digest, Participant, Proposal, Round, Subject};
 
 /// A member's vote: what it is on, whose it is, and the signature, of type `G`.
 #[derive(Drop)]
@@ -12,6 +13,17 @@ pub struct Vote<D, G> {
     pub subject: Subject<D>,
     pub signer: Participant,
     pub signature: G,
+}
+
+/// The epoch and the view that a vote is of.
+pub fn round_of<D: Copy>(subject: &Subject<D>) -> Round
+    ensures { result.view ≡ subject_view subject.now }
+{
+    match subject {
+        Subject::Notarize(proposal) => proposal.round,
+        Subject::Nullify(round) => *round,
+        Subject::Finalize(proposal) => proposal.round,
+    }
 }
 
 /// Whether two votes are on the same: of one kind, on one proposal or round.

@@ -1,2 +1,3 @@
 pub mod Electing
 pub mod Host
+pub mod Assembling

@@ -2,5 +2,6 @@
 //! it is ordered to sign, and leaders by a table or drawn from certificates.
 #![tactic(auto)]
 
+pub mod assembly;
 pub mod elector;
 pub mod scheme;

@@ -3,12 +3,12 @@
 ghost use Rattle.std.specs.Prelude.{◌≡◌, ◌≢◌, ◌≤◌, ◌<◌, ◌^◌, ℕ, length, IfOk, OnOk, OnErr, MatchOption, Some, None, vec_len};
 ghost use Rattle.std.specs.Option.{option_copied};
 ghost use Rattle.simplex_engine.specs.Polls.{ballot_of, is_on, signature_in, signatures_on, signed_by, HoldsTheSame};
-ghost use Rattle.simplex_engine.specs.Quorums.{quorum_of};
+ghost use Rattle.simplex_assembly.specs.Quorums.{quorum_of};
 ghost use Rattle.simplex_engine.specs.Counting.{certificate_of, IsCountedIn, ShowsBoth};
 
 use super::Counted;
-use crate::assembly::{Assembly, quorum};
 use crate::votes::{Vote, is_same_subject};
+use simplex_assembly::assembly::{Assembly, quorum};
 use simplex_types::types::{
     Certificate, CertificateScheme, Digest, Finalization, Notarization, Nullification, Participant,
     Subject,

@@ -7,10 +7,10 @@ ghost use Rattle.simplex_engine.specs.Going.{IsKept, IsWhole};
 
 use super::Engine;
 use super::plan::{Options, Plan, Views};
-use crate::assembly::Assembly;
 use crate::batcher::Batcher;
 use crate::fetches::{FetchKind, Fetches, Peers};
 use crate::journaled::Journaled;
+use simplex_assembly::assembly::Assembly;
 use simplex_lawful::lawful::LawfulMember;
 use simplex_member::member::{RecoverError, ResumeError, Start, Stored};
 use simplex_resolver::replay::{LawfulResolver, ReplayError};

@@ -4,8 +4,10 @@ mod accepting;
 mod following;
 mod working;
 
-ghost use Rattle.std.specs.Prelude.{◌≡◌};
+ghost use Rattle.std.specs.Prelude.{◌≡◌, ◌≢◌, ◌+◌, ◌-◌, ◌^◌, min, true, false, [], ◌∷◌, ◌++◌, Some, Ok, IfOk, OnOk, IsOk, IsNone, IsTrue, ◌↔◌};
 ghost use Rattle.simplex_engine.specs.Settled.{IsWake};
+ghost use Rattle.simplex_engine.specs.Planning.{IsIdle, HasPlanned, for_votes, for_certificates, touching};
+ghost use Rattle.simplex_engine.specs.declared.engine.plan.Step.TheVariants.{Ask, Push};
 
 use super::task::Task;
 use crate::fetches::{FetchKind, Fetches};
@@ -96,7 +98,7 @@ pub struct Plan<S: CertificateScheme, D> {
 }
 
 impl<S: CertificateScheme, D: Digest> Plan<S, D> {
-    /// A plan of a life that begins at these views.
+    /// A plan of a life that begins at these views: nothing is planned, built or kept early, and all is due.
     pub fn new(
         alloc: Global,
         options: Options,
@@ -104,7 +106,13 @@ impl<S: CertificateScheme, D: Digest> Plan<S, D> {
         views: Views,
         resolver: LawfulResolver,
         fetches: Fetches,
-    ) -> Plan<S, D> {
+    ) -> Plan<S, D>
+        ensures options { (result.options ≡ options) × (result.is_alone ≡ is_alone) }
+        ensures views { (result.views ≡ views) × (result.told ≡ views.last_finalized) }
+        ensures fetches { (result.resolver ≡ resolver) × (result.fetches ≡ fetches) }
+        ensures nothing { (result.steps.items ≡ []) × (result.builds.items ≡ []) × (result.early.items ≡ []) × (result.ignored ≡ 0) }
+        ensures due { (result.is_watch_due ≡ true) × (result.is_timeout_due ≡ true) × (result.is_prune_due ≡ true) × (result.timeout ≡ 0) }
+    {
         Plan {
             alloc,
             options,
@@ -155,36 +163,74 @@ impl<S: CertificateScheme, D: Digest> Plan<S, D> {
         }
     }
 
-    /// An input was of no use.
-    pub fn ignore(&mut self) {
+    /// An input was of no use. The number stops at 2^64 - 1.
+    pub fn ignore(&mut self)
+        ensures { self.new ≡ record self.old { ignored = min (self.old.ignored + 1) (2 ^ 64 - 1) } }
+    {
         self.ignored = self.ignored.saturating_add(1);
     }
 
-    /// A moment has come.
-    pub fn begin(&mut self) {
+    /// A moment has come: the timeout is asked for again, and which views may be dropped.
+    pub fn begin(&mut self)
+        ensures { self.new ≡ record self.old { is_timeout_due = true; is_prune_due = true } }
+    {
         self.is_timeout_due = true;
         self.is_prune_due = true;
     }
 
-    /// Whether nothing is planned.
-    pub fn is_done(&self) -> bool {
+    /// Whether nothing is to be done at the moment.
+    pub fn is_idle(&self, now: u64) -> bool
+        ensures { IsTrue result ↔ IsIdle now self.now }
+    {
         self.steps.is_empty()
+            && !self.is_watch_due
+            && !self.is_timeout_due
+            && !self.is_prune_due
+            && !self.fetches.is_due(now)
     }
 
-    /// The next step; none where nothing is to be done now.
-    pub fn next(&mut self, now: u64) -> Result<Option<Step<S, D>>, Fault> {
-        if self.steps.is_empty() {
-            self.plan_more(now)?;
-        }
+    /// The next step.
+    ///
+    /// - `front`: where steps are queued, it is the first of them.
+    /// - `none`: there is none only where nothing is to be done at the moment.
+    pub fn next(&mut self, now: u64) -> Result<Option<Step<S, D>>, Fault>
+        ensures front { (first : _) (rest : _) → self.old.steps.items ≡ first ∷ rest
+            → (result ≡ Ok (Some first)) × (self.new.steps.items ≡ rest) }
+        ensures none { IfOk result (λ step. IsNone step → IsIdle now self.new) }
+    {
+        self.fill(now)?;
         Ok(self.steps.pop_front())
     }
 
-    /// Plans what is due: first whether blocks are of use still, then timeouts, then what is dropped, and then what is asked of
-    /// peers.
-    fn plan_more(&mut self, now: u64) -> Result<(), Fault> {
-        if self.is_watch_due {
-            self.is_watch_due = false;
-            return self.watch_builds();
+    /// Plans what is due, where no step is queued.
+    fn fill(&mut self, now: u64) -> Result<(), Fault>
+        ensures queued { self.old.steps.items ≢ [] → IsOk result × (self.new ≡ self.old) }
+        ensures none { OnOk result (self.new.steps.items ≡ [] → IsIdle now self.new) }
+    {
+        if !self.steps.is_empty() {
+            return Ok(());
+        }
+        self.watch()?;
+        self.plan_more(now)
+    }
+
+    /// Plans to ask whether blocks are of use still, where something has changed since that was asked last.
+    fn watch(&mut self) -> Result<(), Fault>
+        ensures { OnOk result (self.new.is_watch_due ≡ false) }
+    {
+        if !self.is_watch_due {
+            return Ok(());
+        }
+        self.is_watch_due = false;
+        self.watch_builds()
+    }
+
+    /// Plans what is due where no step is queued: first timeouts, then what is dropped, and then what is asked of peers.
+    fn plan_more(&mut self, now: u64) -> Result<(), Fault>
+        ensures { OnOk result (self.old.is_watch_due ≡ false → self.new.steps.items ≡ [] → IsIdle now self.new) }
+    {
+        if !self.steps.is_empty() {
+            return Ok(());
         }
         if self.is_timeout_due {
             self.is_timeout_due = false;
@@ -201,26 +247,48 @@ impl<S: CertificateScheme, D: Digest> Plan<S, D> {
     }
 
     /// Plans a step.
-    fn plan(&mut self, step: Step<S, D>) -> Result<(), Fault> {
+    fn plan(&mut self, step: Step<S, D>) -> Result<(), Fault>
+        ensures { OnOk result (HasPlanned (step ∷ []) self.old self.new) }
+    {
         queue(&mut self.steps, step)?;
         Ok(())
     }
 
     /// Plans a call of the member.
-    pub fn ask(&mut self, task: Task<D>) -> Result<(), Fault> {
+    pub fn ask(&mut self, task: Task<D>) -> Result<(), Fault>
+        ensures { OnOk result (HasPlanned (Ask task ∷ []) self.old self.new) }
+    {
         self.plan(Step::Ask(task))
     }
 
     /// Plans work to be carried out.
-    pub fn push(&mut self, work: Work<S, D>) -> Result<(), Fault> {
+    pub fn push(&mut self, work: Work<S, D>) -> Result<(), Fault>
+        ensures { OnOk result (HasPlanned (Push work ∷ []) self.old self.new) }
+    {
         self.plan(Step::Push(work))
     }
 
-    /// Something of the view has changed: its votes and certificates are asked for.
-    pub fn touch(&mut self, view: View) -> Result<(), Fault> {
+    /// Something of the view has changed: its votes and certificates are asked for, and blocks that are to be built are watched.
+    pub fn touch(&mut self, view: View) -> Result<(), Fault>
+        ensures { OnOk result (HasPlanned (touching view) (record self.old { is_watch_due = true }) self.new) }
+    {
         self.is_watch_due = true;
+        self.ask_for_votes(view)?;
+        self.ask_for_certificates(view)
+    }
+
+    /// Plans to ask for the votes on the view.
+    fn ask_for_votes(&mut self, view: View) -> Result<(), Fault>
+        ensures { OnOk result (HasPlanned (for_votes view) self.old self.new) }
+    {
         self.ask(Task::Notarize(view))?;
-        self.ask(Task::Finalize(view))?;
+        self.ask(Task::Finalize(view))
+    }
+
+    /// Plans to ask for the certificates of the view that are to be handed out.
+    fn ask_for_certificates(&mut self, view: View) -> Result<(), Fault>
+        ensures { OnOk result (HasPlanned (for_certificates view) self.old self.new) }
+    {
         self.ask(Task::BroadcastNotarization(view))?;
         self.ask(Task::BroadcastNullification(view))?;
         self.ask(Task::BroadcastFinalization(view))
@@ -231,7 +299,9 @@ impl<S: CertificateScheme, D: Digest> Plan<S, D> {
 fn queue<S: CertificateScheme, D: Digest>(
     steps: &mut VecDeque<Step<S, D>>,
     step: Step<S, D>,
-) -> Result<(), AllocError> {
+) -> Result<(), AllocError>
+    ensures { OnOk result (steps.new.items ≡ steps.old.items ++ step ∷ []) }
+{
     steps.push_back(step)?;
     Ok(())
 }

@@ -11,17 +11,17 @@ ghost use Rattle.simplex_engine.specs.Quiet.{is_nothing};
 use super::Engine;
 use super::plan::{Step, Views};
 use super::task::Task;
-use crate::assembly::Assembly;
 use crate::batcher::Counted;
 use crate::fetches::FetchKind;
 use crate::input::Input;
 use crate::journaled::handing_in;
 use crate::output::Work;
-use crate::votes::Vote;
+use crate::votes::{Vote, round_of};
+use simplex_assembly::assembly::Assembly;
 use simplex_member::member::{Call, Reply};
 use simplex_types::types::{
-    Certificate, CertificateScheme, Context, Digest, Elector, Fault, Participant, Proposal, View,
-    Viewable,
+    Certificate, CertificateScheme, Context, Digest, Elector, Fault, Participant, Proposal, Round,
+    View, Viewable,
 };
 use simplex_voter::voter::Verify;
 
@@ -29,7 +29,8 @@ impl<S: Assembly<D>, L: Elector<S>, D: Digest> Engine<S, L, D> {
     ghost use Rattle.simplex_engine.specs.Going.{IsWhole, GoesOn};
     ghost use Rattle.simplex_engine.specs.Inputs.{subject_in};
     ghost use Rattle.simplex_engine.specs.Backing.{votes_in, TakesVotes, TakesNone, IsBacked, IsBackedInput};
-    ghost use Rattle.simplex_engine.specs.Quiet.{AnswersNothing, HasNothingNew};
+    ghost use Rattle.simplex_engine.specs.Quiet.{current_view, for_all, for_work, for_votes, for_certificates, AnswersNothing, AnswerNothing, HasNothingNew};
+    ghost use Rattle.simplex_engine.specs.Planning.{IsIdle};
 
     /// Takes what came in, while the engine has not failed.
     pub(super) fn take(&mut self, input: Input<S, D>, now: u64) -> Result<bool, Fault>
@@ -51,12 +52,14 @@ impl<S: Assembly<D>, L: Elector<S>, D: Digest> Engine<S, L, D> {
 
     /// Takes all steps that are due, until the member has nothing new, and queues what the record has grown by.
     ///
-    /// - `quiet`: it was asked for all its work last, and had nothing new.
+    /// - `quiet`: it was asked for all that may be due last, and had nothing new.
+    /// - `idle`: nothing is to be done at the moment.
     pub(super) fn work(&mut self, now: u64) -> Result<(), Fault>
         ensures goes_on { GoesOn D.eq L.elect S.certificate_bytes None self.old.core self.new.core }
         ensures votes { TakesNone self.old.batcher self.new.batcher }
         ensures whole { OnOk result (IsWhole S.certificate_bytes self.new.core) }
         ensures quiet { OnOk result (HasNothingNew D.eq L.elect self.new.core.member.facts) }
+        ensures idle { OnOk result (IsIdle now self.new.plan) }
     {
         self.prepare()?;
         self.finish(now)
@@ -80,6 +83,7 @@ impl<S: Assembly<D>, L: Elector<S>, D: Digest> Engine<S, L, D> {
         ensures votes { TakesNone self.old.batcher self.new.batcher }
         ensures whole { OnOk result (IsWhole S.certificate_bytes self.new.core) }
         ensures quiet { OnOk result (HasNothingNew D.eq L.elect self.new.core.member.facts) }
+        ensures idle { OnOk result (IsIdle now self.new.plan) }
     {
         self.run_all(now)?;
         self.core.store()?;
@@ -91,6 +95,7 @@ impl<S: Assembly<D>, L: Elector<S>, D: Digest> Engine<S, L, D> {
         ensures goes_on { GoesOn D.eq L.elect S.certificate_bytes None self.old.core self.new.core }
         ensures votes { TakesNone self.old.batcher self.new.batcher }
         ensures quiet { OnOk result (HasNothingNew D.eq L.elect self.new.core.member.facts) }
+        ensures idle { OnOk result (IsIdle now self.new.plan) }
     {
         for _ in 0..u64::MAX {
             if self.is_settled(now)? {
@@ -100,22 +105,58 @@ impl<S: Assembly<D>, L: Elector<S>, D: Digest> Engine<S, L, D> {
         Err(Fault::Failed)
     }
 
-    /// Takes steps until none is due, and asks for all work. Whether there is nothing new, and nothing follows.
+    /// Takes steps until none is due, and asks for all that may be due. Whether there is nothing new, and nothing follows.
     fn is_settled(&mut self, now: u64) -> Result<bool, Fault>
         ensures goes_on { GoesOn D.eq L.elect S.certificate_bytes None self.old.core self.new.core }
         ensures votes { TakesNone self.old.batcher self.new.batcher }
         ensures quiet { IfOk result (λ settled. IsTrue settled → HasNothingNew D.eq L.elect self.new.core.member.facts) }
+        ensures idle { IfOk result (λ settled. IsTrue settled → IsIdle now self.new.plan) }
     {
         self.run(now)?;
-        let is_quiet = self.is_quiet(now)?;
-        Ok(is_quiet && self.plan.is_done())
+        let view = self.current_view()?;
+        let is_quiet = self.is_quiet(view, now)?;
+        Ok(is_quiet && self.is_current(view) && self.plan.is_idle(now))
+    }
+
+    /// The current view. A member that has failed since found no memory.
+    fn current_view(&self) -> Result<View, Fault>
+        ensures { IfOk result (λ view. current_view self.now.core.member.facts ≡ Some view) }
+    {
+        match self.core.state() {
+            Some(state) => Ok(state.current_view()),
+            None => Err(Fault::OutOfMemory),
+        }
+    }
+
+    /// Whether the view is the current one.
+    fn is_current(&self, view: View) -> bool
+        ensures { IsTrue result → current_view self.now.core.member.facts ≡ Some view }
+    {
+        match self.core.state() {
+            Some(state) => state.current_view() == view,
+            None => false,
+        }
+    }
+
+    /// Asks for all that may be due while the view is the current one. Whether there is nothing new.
+    fn is_quiet(&mut self, view: View, now: u64) -> Result<bool, Fault>
+        ensures goes_on { GoesOn D.eq L.elect S.certificate_bytes None self.old.core self.new.core }
+        ensures votes { TakesNone self.old.batcher self.new.batcher }
+        ensures quiet { IfOk result (λ quiet. IsTrue quiet
+            → AnswerNothing D.eq L.elect self.old.core.member.facts (for_all view) self.new.core.member.facts) }
+    {
+        let has_no_work = self.has_no_work(now)?;
+        let has_no_vote = self.has_no_vote(view, now)?;
+        let has_no_certificate = self.has_no_certificate(view, now)?;
+        Ok(has_no_work && has_no_vote && has_no_certificate)
     }
 
     /// Asks for all work: proposals to verify, a block to build, proposals to certify. Whether there is nothing new.
-    fn is_quiet(&mut self, now: u64) -> Result<bool, Fault>
+    fn has_no_work(&mut self, now: u64) -> Result<bool, Fault>
         ensures goes_on { GoesOn D.eq L.elect S.certificate_bytes None self.old.core self.new.core }
         ensures votes { TakesNone self.old.batcher self.new.batcher }
-        ensures quiet { IfOk result (λ quiet. IsTrue quiet → HasNothingNew D.eq L.elect self.new.core.member.facts) }
+        ensures quiet { IfOk result (λ quiet. IsTrue quiet
+            → AnswerNothing D.eq L.elect self.old.core.member.facts for_work self.new.core.member.facts) }
     {
         let verifies_nothing = self.asks_nothing(Call::TryVerify, Task::Verify, now)?;
         let builds_nothing = self.asks_nothing(Call::TryPropose, Task::Propose, now)?;
@@ -123,7 +164,52 @@ impl<S: Assembly<D>, L: Elector<S>, D: Digest> Engine<S, L, D> {
         Ok(verifies_nothing && builds_nothing && certifies_nothing)
     }
 
-    /// Makes a call that asks for work, and follows its answer. Whether it has nothing new.
+    /// Asks for this member's votes on the view. Whether there is nothing new.
+    fn has_no_vote(&mut self, view: View, now: u64) -> Result<bool, Fault>
+        ensures goes_on { GoesOn D.eq L.elect S.certificate_bytes None self.old.core self.new.core }
+        ensures votes { TakesNone self.old.batcher self.new.batcher }
+        ensures quiet { IfOk result (λ quiet. IsTrue quiet
+            → AnswerNothing D.eq L.elect self.old.core.member.facts (for_votes view) self.new.core.member.facts) }
+    {
+        let notarizes_nothing = self.asks_nothing(
+            Call::ConstructNotarize(view),
+            Task::Notarize(view),
+            now,
+        )?;
+        let finalizes_nothing = self.asks_nothing(
+            Call::ConstructFinalize(view),
+            Task::Finalize(view),
+            now,
+        )?;
+        Ok(notarizes_nothing && finalizes_nothing)
+    }
+
+    /// Asks for the certificates of the view that are to be handed out. Whether there is nothing new.
+    fn has_no_certificate(&mut self, view: View, now: u64) -> Result<bool, Fault>
+        ensures goes_on { GoesOn D.eq L.elect S.certificate_bytes None self.old.core self.new.core }
+        ensures votes { TakesNone self.old.batcher self.new.batcher }
+        ensures quiet { IfOk result (λ quiet. IsTrue quiet
+            → AnswerNothing D.eq L.elect self.old.core.member.facts (for_certificates view) self.new.core.member.facts) }
+    {
+        let has_no_notarization = self.asks_nothing(
+            Call::BroadcastNotarization(view),
+            Task::BroadcastNotarization(view),
+            now,
+        )?;
+        let has_no_nullification = self.asks_nothing(
+            Call::BroadcastNullification(view),
+            Task::BroadcastNullification(view),
+            now,
+        )?;
+        let has_no_finalization = self.asks_nothing(
+            Call::BroadcastFinalization(view),
+            Task::BroadcastFinalization(view),
+            now,
+        )?;
+        Ok(has_no_notarization && has_no_nullification && has_no_finalization)
+    }
+
+    /// Makes a call that asks for what may be due, and follows its answer. Whether it has nothing new.
     fn asks_nothing(&mut self, call: Call<S, D>, task: Task<D>, now: u64) -> Result<bool, Fault>
         requires { certificates_in call ≡ [] }
         ensures goes_on { GoesOn D.eq L.elect S.certificate_bytes None self.old.core self.new.core }
@@ -287,10 +373,11 @@ impl<S: Assembly<D>, L: Elector<S>, D: Digest> Engine<S, L, D> {
         self.ask(Task::Proposed(context.round.view, payload), now)
     }
 
-    /// Whether the view takes votes.
-    fn admits_vote(&self, view: View) -> bool {
+    /// Whether votes of the round are taken. One of another epoch is not: an old vote, sent again, would stand in the place of this
+    /// epoch's, and show a contradiction that its signer never signed.
+    fn admits_vote(&self, round: Round) -> bool {
         match self.core.state() {
-            Some(state) => state.admits_vote(view),
+            Some(state) => state.epoch() == round.epoch && state.admits_vote(round.view),
             None => false,
         }
     }
@@ -302,7 +389,7 @@ impl<S: Assembly<D>, L: Elector<S>, D: Digest> Engine<S, L, D> {
         ensures backed { IsBacked D.eq L.elect S.certificate_bytes (length (S.participants self.old.batcher.scheme))
             (vote ∷ []) vote.subject self.old.batcher self.old.core self.new.core }
     {
-        let is_admitted = self.admits_vote(vote.subject.view());
+        let is_admitted = self.admits_vote(round_of(&vote.subject));
         match self.batcher.count(vote, is_admitted)? {
             Counted::Certified(certificate) => self.accept(certificate, now),
             Counted::Equivocated(first, second) => {
@@ -401,7 +488,7 @@ impl<S: Assembly<D>, L: Elector<S>, D: Digest> Engine<S, L, D> {
     }
 }
 
-/// Whether an answer has no work, or none that is new: a certificate that is lacking is asked for already, or is from now on.
+/// Whether an answer has nothing, or nothing that is new: a certificate that is lacking is asked for already, or is from now on.
 fn is_nothing<S: CertificateScheme, D: Digest>(reply: &Reply<S, D>) -> bool
     ensures { result ≡ is_nothing (told S.certificate_bytes reply.now) }
 {
@@ -412,6 +499,9 @@ fn is_nothing<S: CertificateScheme, D: Digest>(reply: &Reply<S, D>) -> bool
         },
         Reply::Request(request) => request.is_none(),
         Reply::Candidates(proposals, _) => proposals.is_empty(),
+        Reply::Notarize(vote) => vote.is_none(),
+        Reply::Finalize(vote) => vote.is_none(),
+        Reply::Certificate(certificate) => certificate.is_none(),
         _ => false,
     }
 }

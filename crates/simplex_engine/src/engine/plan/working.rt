@@ -1,5 +1,9 @@
 //! Work on proposals: what is asked for, what is built, and what came early.
 
+ghost use Rattle.std.specs.Prelude.{◌≡◌, ◌+◌, ◌-◌, ◌^◌, min, if◌then◌else◌, [], ◌∷◌, ◌++◌, length, OnOk};
+ghost use Rattle.simplex_engine.specs.Fetches.{is_open, fresh, place_of};
+ghost use Rattle.simplex_engine.specs.Planning.{may_keep};
+
 use super::super::task::Task;
 use super::{Building, Early, MOST_EARLY, Plan, Step, Views, queue};
 use crate::fetches::FetchKind;
@@ -12,13 +16,17 @@ use std::collections::VecDeque;
 
 impl<S: CertificateScheme, D: Digest> Plan<S, D> {
     /// Asks of each block that is to be built whether it has to be given up.
-    pub(super) fn watch_builds(&mut self) -> Result<(), Fault> {
+    pub(super) fn watch_builds(&mut self) -> Result<(), Fault>
+        ensures same { self.new ≡ record self.old { steps = self.new.steps } }
+    {
         watch_all(&self.builds, &mut self.steps)?;
         Ok(())
     }
 
     /// The member has come to these views.
-    pub fn see(&mut self, views: Views) -> Result<(), Fault> {
+    pub fn see(&mut self, views: Views) -> Result<(), Fault>
+        ensures { OnOk result (self.new.views ≡ views) }
+    {
         if self.views.last_finalized < views.last_finalized {
             self.fetches.pass(views.last_finalized);
         }
@@ -38,7 +46,11 @@ impl<S: CertificateScheme, D: Digest> Plan<S, D> {
         from: Participant,
         view: View,
         proposal: Proposal<D>,
-    ) -> Result<(), Fault> {
+    ) -> Result<(), Fault>
+        ensures same { self.new ≡ record self.old { early = self.new.early } }
+        ensures kept { OnOk result (self.new.early.items ≡ (if may_keep self.old.views.current view (length self.old.early.items)
+            then self.old.early.items ++ record { from = from; view = view; proposal = proposal } ∷ [] else self.old.early.items)) }
+    {
         let ahead = view.get().saturating_sub(self.views.current.get());
         if 0 < ahead && ahead <= MOST_EARLY as u64 && self.early.len() < MOST_EARLY {
             self.early.push(Early {
@@ -51,7 +63,9 @@ impl<S: CertificateScheme, D: Digest> Plan<S, D> {
     }
 
     /// Offers what came early, and is no longer.
-    fn offer_early(&mut self) -> Result<(), Fault> {
+    fn offer_early(&mut self) -> Result<(), Fault>
+        ensures { self.new ≡ record self.old { steps = self.new.steps; early = self.new.early } }
+    {
         let current = self.views.current;
         offer_until(current, &self.early, &mut self.steps)?;
         self.early.retain(|early| current < early.view);
@@ -65,7 +79,12 @@ impl<S: CertificateScheme, D: Digest> Plan<S, D> {
         view: View,
         of: Option<Participant>,
         now: u64,
-    ) -> Result<(), Fault> {
+    ) -> Result<(), Fault>
+        ensures same { self.new ≡ record self.old { fetches = self.new.fetches } }
+        ensures opened { let fetches = self.old.fetches in let moment = min (now + self.old.options.on_its_way) (2 ^ 64 - 1) in
+            OnOk result (self.new.fetches.wanted.items ≡ (if is_open kind view fetches.wanted.items then fetches.wanted.items
+            else fetches.wanted.items ++ fresh kind view (place_of fetches.peers of) moment ∷ [])) }
+    {
         let moment = now.saturating_add(self.options.on_its_way);
         self.fetches.open(kind, view, of, moment)?;
         Ok(())
@@ -85,7 +104,9 @@ impl<S: CertificateScheme, D: Digest> Plan<S, D> {
     }
 
     /// Asks for the blocks that waited for their view.
-    fn build_entered(&mut self) -> Result<(), Fault> {
+    fn build_entered(&mut self) -> Result<(), Fault>
+        ensures { self.new ≡ record self.old { steps = self.new.steps; builds = self.new.builds } }
+    {
         tell_entered(self.views.current, &mut self.builds, &mut self.steps)?;
         Ok(())
     }

@@ -1,5 +1,5 @@
 use Rattle.std.proofs.Common.{ap, sym, ◌∙◌, length}
-use Rattle.simplex_engine.specs.Quorums.{quorum_of}
+use Rattle.simplex_assembly.specs.Quorums.{quorum_of}
 use Rattle.simplex_engine.proofs.Polls.{rising_on}
 use Rattle.simplex_engine.proofs.batcher.poll.certificate_on.Goals as goal
 

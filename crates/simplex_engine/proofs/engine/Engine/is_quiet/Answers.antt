@@ -1,22 +1,39 @@
--- How a member that has nothing new goes on by the three calls that show it.
+-- That a member that has nothing new goes on by what shows it, and that all was asked for, one call behind the other.
+use Rattle.std.proofs.Common.{◌++◌}
+use Rattle.simplex_engine.specs.Quiet.{for_work, for_votes, for_certificates}
 use Rattle.simplex_engine.proofs.Going.{goes_further}
+use Rattle.simplex_engine.proofs.Quiet.{nothing_further}
 use Rattle.simplex_engine.proofs.engine.Engine.is_quiet.Goals as goal
 
-pub returns-in_err-builds_nothing-clause-goes_on : goal.returns-in_err-builds_nothing-clause-goes_on
-returns-in_err-builds_nothing-clause-goes_on g c = goes_further c.asks_nothing.ensures.goes_on c.asks_nothing-2.ensures.goes_on
+pub returns-in_err-has_no_vote-clause-goes_on : goal.returns-in_err-has_no_vote-clause-goes_on
+returns-in_err-has_no_vote-clause-goes_on g c = goes_further c.has_no_work.ensures.goes_on c.has_no_vote.ensures.goes_on
 
-pub returns-in_err-certifies_nothing-clause-goes_on :
-    goal.returns-in_err-certifies_nothing-clause-goes_on
-returns-in_err-certifies_nothing-clause-goes_on g c =
-    goes_further c.asks_nothing.ensures.goes_on
-    (goes_further c.asks_nothing-2.ensures.goes_on c.asks_nothing-3.ensures.goes_on)
+pub returns-in_err-has_no_certificate-clause-goes_on :
+    goal.returns-in_err-has_no_certificate-clause-goes_on
+returns-in_err-has_no_certificate-clause-goes_on g c =
+    goes_further c.has_no_work.ensures.goes_on
+    (goes_further c.has_no_vote.ensures.goes_on c.has_no_certificate.ensures.goes_on)
 
-pub returns-then-builds_nothing-clause-goes_on : goal.returns-then-builds_nothing-clause-goes_on
-returns-then-builds_nothing-clause-goes_on g c =
-    goes_further c.asks_nothing.ensures.goes_on
-    (goes_further c.asks_nothing-2.ensures.goes_on c.asks_nothing-3.ensures.goes_on)
+pub returns-then-has_no_vote-clause-goes_on : goal.returns-then-has_no_vote-clause-goes_on
+returns-then-has_no_vote-clause-goes_on g c =
+    goes_further c.has_no_work.ensures.goes_on
+    (goes_further c.has_no_vote.ensures.goes_on c.has_no_certificate.ensures.goes_on)
 
-pub returns-else-builds_nothing-clause-goes_on : goal.returns-else-builds_nothing-clause-goes_on
-returns-else-builds_nothing-clause-goes_on g c =
-    goes_further c.asks_nothing.ensures.goes_on
-    (goes_further c.asks_nothing-2.ensures.goes_on c.asks_nothing-3.ensures.goes_on)
+pub returns-else-has_no_vote-clause-goes_on : goal.returns-else-has_no_vote-clause-goes_on
+returns-else-has_no_vote-clause-goes_on g c =
+    goes_further c.has_no_work.ensures.goes_on
+    (goes_further c.has_no_vote.ensures.goes_on c.has_no_certificate.ensures.goes_on)
+
+pub returns-then-has_no_vote-clause-quiet : goal.returns-then-has_no_vote-clause-quiet
+returns-then-has_no_vote-clause-quiet g c =
+    let before = c.args.self.now.core.member.facts in
+    let worked = c.has_no_work.new.self.core.member.facts in
+    let voted = c.has_no_vote.new.self.core.member.facts in
+    let now = c.has_no_certificate.new.self.core.member.facts in
+    let certificates = for_certificates c.args.view in
+    let same = g.D.PartialEq.eq in
+    let elect = g.L.Elector.elect in
+    λ is. nothing_further same elect before worked now for_work (for_votes c.args.view ++ certificates)
+    (c.in_ok-has_no_work.ensures.quiet c.if-has_no_vote.true.0)
+    (nothing_further same elect worked voted now (for_votes c.args.view) certificates (c.in_ok-has_no_vote.ensures.quiet c.if-has_no_vote.true.1)
+    (c.in_ok-has_no_certificate.ensures.quiet is))

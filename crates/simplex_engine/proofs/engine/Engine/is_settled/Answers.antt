@@ -1,12 +1,12 @@
--- That the steps and the three calls go on one behind the other.
+-- That the steps and the calls go on one behind the other.
 use Rattle.simplex_engine.proofs.Going.{goes_further}
 use Rattle.simplex_engine.proofs.engine.Engine.is_settled.Goals as goal
 
 pub returns-in_err-is_quiet-clause-goes_on : goal.returns-in_err-is_quiet-clause-goes_on
 returns-in_err-is_quiet-clause-goes_on g c = goes_further c.run.ensures.goes_on c.is_quiet.ensures.goes_on
 
-pub returns-then-is_quiet-clause-goes_on : goal.returns-then-is_quiet-clause-goes_on
-returns-then-is_quiet-clause-goes_on g c = goes_further c.run.ensures.goes_on c.is_quiet.ensures.goes_on
+pub returns-then-is_current-clause-goes_on : goal.returns-then-is_current-clause-goes_on
+returns-then-is_current-clause-goes_on g c = goes_further c.run.ensures.goes_on c.is_quiet.ensures.goes_on
 
-pub returns-else-is_quiet-clause-goes_on : goal.returns-else-is_quiet-clause-goes_on
-returns-else-is_quiet-clause-goes_on g c = goes_further c.run.ensures.goes_on c.is_quiet.ensures.goes_on
+pub returns-else-is_current-clause-goes_on : goal.returns-else-is_current-clause-goes_on
+returns-else-is_current-clause-goes_on g c = goes_further c.run.ensures.goes_on c.is_quiet.ensures.goes_on

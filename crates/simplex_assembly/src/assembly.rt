@@ -2,7 +2,7 @@
 
 ghost use Rattle.std.specs.Prelude.{◌≡◌, ◌<◌, ◌-◌, ◌/◌, ℕ, List, true, length, IfOk};
 ghost use Rattle.simplex_types.specs.declared.types.messages.Subject.{Subject};
-ghost use Rattle.simplex_engine.specs.Quorums.{quorum_of, AreRising, IsSignedByQuorum};
+ghost use Rattle.simplex_assembly.specs.Quorums.{quorum_of, AreRising, IsSignedByQuorum};
 
 use simplex_types::types::{Digest, Participant, Scheme, Subject};
 use std::alloc::{AllocError, Global};
