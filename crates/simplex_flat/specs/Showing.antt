@@ -100,9 +100,13 @@ pub record IsViewOf (x : HostState) (view : ℕ) (f : FlatView) : Type 0 where
   pub finalized : f.last_finalized ≡ x.finalized
   pub active : f.min_active ≡ min_active x
 
--- what a member knows; nothing, where it has failed
+-- what a member in this state knows; nothing, where it has failed
+abbrev pub IsViewIn : Option HostState → ℕ → FlatView → Type 0
+IsViewIn state view f = MatchOption state (f.status ≡ 2) (λ x. IsViewOf x view f)
+
+-- what a member knows
 abbrev pub IsView : HostFacts → ℕ → FlatView → Type 0
-IsView m view f = MatchOption m.life (f.status ≡ 2) (λ x. IsViewOf x view f)
+IsView m view f = IsViewIn m.life view f
 
 -- a view's certificate of a kind, if it is there
 abbrev pub certificate_of : ℕ → HostState → ℕ → Option (CertificateFacts (BytesDigest 32))
@@ -140,14 +144,13 @@ IsFoundIn None kind view r shown = IsUnfound 2 r shown
 IsFoundIn (Some x) kind view r shown = IsFoundOr (certificate_of kind x view) r shown
 
 -- how a view's certificate is asked for: no certificate has the kind, or it is looked for
-abbrev pub HasAnswered : Held → ℕ → ℕ → FlatFound → List ℕ → Type 0
-HasAnswered old kind view r shown =
-    (¬ (IsKind kind) × IsUnfound 6 r shown) ⊎ (IsKind kind × IsFoundIn old.member.facts.life kind view r shown)
+abbrev pub HasAnsweredIn : Option HostState → ℕ → ℕ → FlatFound → List ℕ → Type 0
+HasAnsweredIn state kind view r shown = (¬ (IsKind kind) × IsUnfound 6 r shown) ⊎ (IsKind kind × IsFoundIn state kind view r shown)
 
 -- how a view's certificate is shown
 pub record IsFound (old : Held) (kind view : ℕ) (r : FlatFound) (new : Held) : Type 0 where
   pub same : IsSame old new
-  pub answered : HasAnswered old kind view r new.shown.items
+  pub answered : HasAnsweredIn old.member.facts.life kind view r new.shown.items
   pub bytes : r.bytes ≡ length new.shown.items
 
 -- there is no such item, or this one

@@ -94,7 +94,8 @@ fn call_of_kind(
     })
 }
 
-pub(crate) fn round_in(round: FlatRound) -> Round
+/// A round.
+pub fn round_in(round: FlatRound) -> Round
     ensures { result ≡ round_of round }
 {
     Round {
@@ -103,7 +104,8 @@ pub(crate) fn round_in(round: FlatRound) -> Round
     }
 }
 
-pub(crate) fn proposal_of(proposal: &FlatProposal) -> Proposal<HostDigest>
+/// A proposal.
+pub fn proposal_of(proposal: &FlatProposal) -> Proposal<HostDigest>
     ensures { IsProposal proposal.now result }
 {
     Proposal {
@@ -121,7 +123,8 @@ fn certificate_of(alloc: Global, bytes: &[u8]) -> Result<HostCertificate, AllocE
     })
 }
 
-pub(crate) fn notarization_of(
+/// A notarization of these bytes.
+pub fn notarization_of(
     alloc: Global,
     proposal: &FlatProposal,
     bytes: &[u8],
@@ -135,7 +138,8 @@ pub(crate) fn notarization_of(
     })
 }
 
-pub(crate) fn nullification_of(
+/// A nullification of these bytes.
+pub fn nullification_of(
     alloc: Global,
     round: FlatRound,
     bytes: &[u8],
@@ -149,7 +153,8 @@ pub(crate) fn nullification_of(
     })
 }
 
-pub(crate) fn finalization_of(
+/// A finalization of these bytes.
+pub fn finalization_of(
     alloc: Global,
     proposal: &FlatProposal,
     bytes: &[u8],

@@ -1,13 +1,15 @@
 //! How a member goes on: from a journal in another process, or restarted in this one.
 
 ghost use Rattle.std.specs.Prelude.{◌≡◌, ◌≤◌, nat_lt, length, IfOk, IfErr, MatchOption};
-ghost use Rattle.simplex_flat.specs.Opening.{IsStored};
+ghost use Rattle.simplex_host.specs.Electing.{members_of};
+ghost use Rattle.simplex_host.specs.Host.{keys_of};
+ghost use Rattle.simplex_flat.specs.Opening.{IsGoingOn, IsNotResumedBy, IsStored};
 
 use crate::flat::FlatSettings;
 use crate::held::{Held, NotStarted};
 use crate::journal::{HostArtifact, NotRead, read_entries};
 use crate::numbers::flag_of;
-use crate::settings::{SettingsError, start_of};
+use crate::settings::{HostStart, SettingsError, start_of};
 use crate::shown::{FlatRestart, FlatStored};
 use simplex_member::member::{Member, RecoverError, Restart, ResumeError, Stored};
 use simplex_types::types::ViewDelta;
@@ -29,7 +31,7 @@ pub enum NotResumed {
 }
 
 impl Held {
-    ghost use Rattle.simplex_flat.specs.Opening.{IsNotResumedBy, IsRestartedBy, IsResumedBy};
+    ghost use Rattle.simplex_flat.specs.Opening.{IsRestartedBy, IsResumedBy};
 
     /// A member that goes on from its journal: the bytes that its entries were as frames, and what was stored beside them last.
     /// Nothing is dropped or pruned.
@@ -45,21 +47,8 @@ impl Held {
         ensures resumed { IfOk result (IsResumedBy flat.now leaders.now certificate.now now stored.now journal.now) }
         ensures refused { IfErr result (IsNotResumedBy flat.now leaders.now certificate.now now stored.now journal.now) }
     {
-        let start = match start_of(alloc, flat, leaders, certificate, now) {
-            Ok(start) => start,
-            Err(error) => return Err(NotResumed::Settings(error)),
-        };
-        let Some(beside) = stored_of(stored) else {
-            return Err(NotResumed::NoFlag);
-        };
-        let entries = match read_entries(alloc, journal) {
-            Ok(entries) => entries,
-            Err(error) => return Err(NotResumed::Journal(error)),
-        };
-        if has_fewer(&entries, stored.entries) {
-            return Err(NotResumed::EntriesLost);
-        }
-        match Member::resume(alloc, start, beside, entries) {
+        let from = going_on(alloc, flat, leaders, certificate, now, stored, journal)?;
+        match Member::resume(alloc, from.start, from.stored, from.entries) {
             Ok(member) => Ok(Held::new(alloc, member)),
             Err(refusal) => match refusal.error {
                 ResumeError::EntriesLost => Err(NotResumed::EntriesLost),
@@ -103,6 +92,50 @@ impl Held {
             Err(error) => Err(NotStarted::Recover(error)),
         }
     }
+}
+
+/// With what a member goes on: its settings, what is stored beside its record, and the record.
+#[derive(Drop)]
+pub struct GoingOn {
+    pub start: HostStart,
+    pub stored: Stored,
+    pub entries: Vec<HostArtifact>,
+}
+
+/// With what a member goes on, by flat settings and the bytes of a journal, which has all entries that were counted.
+pub fn going_on(
+    alloc: Global,
+    flat: &FlatSettings,
+    leaders: &[u32],
+    certificate: &[u8],
+    now: u64,
+    stored: &FlatStored,
+    journal: &[u8],
+) -> Result<GoingOn, NotResumed>
+    ensures from { IfOk result (λ it. IsGoingOn flat.now leaders.now certificate.now now stored.now journal.now it.start it.stored it.entries.items) }
+    ensures whole { IfOk result (λ it. stored.now.entries ≤ length it.entries.items) }
+    ensures fits { IfOk result (λ it. members_of it.start.settings.elector ≡ length (keys_of it.start.settings.scheme)) }
+    ensures refused { IfErr result (IsNotResumedBy flat.now leaders.now certificate.now now stored.now journal.now) }
+{
+    let start = match start_of(alloc, flat, leaders, certificate, now) {
+        Ok(start) => start,
+        Err(error) => return Err(NotResumed::Settings(error)),
+    };
+    let Some(beside) = stored_of(stored) else {
+        return Err(NotResumed::NoFlag);
+    };
+    let entries = match read_entries(alloc, journal) {
+        Ok(entries) => entries,
+        Err(error) => return Err(NotResumed::Journal(error)),
+    };
+    if has_fewer(&entries, stored.entries) {
+        return Err(NotResumed::EntriesLost);
+    }
+    Ok(GoingOn {
+        start,
+        stored: beside,
+        entries,
+    })
 }
 
 /// What was stored beside a journal; none where its flag is none.

@@ -127,7 +127,8 @@ fn flagged(kind: u32, flag: bool) -> FlatReply
     }
 }
 
-pub(crate) fn flat_round(round: Round) -> FlatRound
+/// The numbers of a round.
+pub fn flat_round(round: Round) -> FlatRound
     ensures { round ≡ round_of result }
 {
     FlatRound {
@@ -136,7 +137,8 @@ pub(crate) fn flat_round(round: Round) -> FlatRound
     }
 }
 
-pub(crate) fn flat_proposal(proposal: &Proposal<HostDigest>) -> FlatProposal
+/// The numbers and bytes of a proposal.
+pub fn flat_proposal(proposal: &Proposal<HostDigest>) -> FlatProposal
     ensures { IsProposal result proposal.now }
 {
     FlatProposal {
@@ -146,7 +148,8 @@ pub(crate) fn flat_proposal(proposal: &Proposal<HostDigest>) -> FlatProposal
     }
 }
 
-fn flat_context(context: &Context<HostDigest, HostKey>) -> FlatContext
+/// The numbers and bytes of a context.
+pub fn flat_context(context: &Context<HostDigest, HostKey>) -> FlatContext
     ensures { IsContext result context.now }
 {
     let (parent, payload) = context.parent;

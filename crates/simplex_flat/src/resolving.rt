@@ -7,7 +7,7 @@ ghost use Rattle.simplex_codec.specs.Digests.{digest_bytes};
 ghost use Rattle.simplex_host.specs.Host.{certificate_bytes};
 ghost use Rattle.simplex_resolver.specs.Steps.{highest_named, highest_view, update, verdict};
 ghost use Rattle.simplex_flat.specs.Numbers.{fault_number, flag_number};
-ghost use Rattle.simplex_flat.specs.Resolving.{HasNoEffects, HasServed, IsEffect, IsHandedIn, highest_told, not_replayed_number, view_bytes};
+ghost use Rattle.simplex_flat.specs.Resolving.{HasNoEffects, HasServed, HasServedOf, IsEffect, IsHandedIn, highest_told, not_replayed_number, view_bytes};
 ghost use Rattle.simplex_flat.specs.Showing.{IsChunk};
 
 use crate::asking::{finalization_of, notarization_of, nullification_of};
@@ -218,30 +218,7 @@ impl HeldResolver {
     pub fn produce(&mut self, view: u64) -> FlatServed
         ensures { IsServedFor self.old view result self.new }
     {
-        self.served.clear();
-        match self.resolver.state().produce(View::new(view)) {
-            Ok(Some(bytes)) => self.serve(view, bytes.as_slice()),
-            Ok(None) => unserved(view, 0),
-            Err(fault) => unserved(view, number_of_fault(fault)),
-        }
-    }
-
-    fn serve(&mut self, view: u64, bytes: &[u8]) -> FlatServed
-        requires { self.old.served.items ≡ [] }
-        ensures kept { (self.new.resolver ≡ self.old.resolver) × (self.new.last ≡ self.old.last) }
-        ensures view { result.view ≡ view }
-        ensures served { HasServed (Some bytes.now) result self.new.served.items }
-    {
-        if self.served.put_slice(bytes).is_err() {
-            self.served.clear();
-            return unserved(view, 1);
-        }
-        FlatServed {
-            status: 0,
-            has: 1,
-            bytes: bytes.len() as u64,
-            view,
-        }
+        serve_in(&self.resolver, view, &mut self.served)
     }
 
     /// A part of what was served last.
@@ -249,6 +226,36 @@ impl HeldResolver {
         ensures { IsChunk self.now.served.items from result }
     {
         chunk_of(self.served.as_slice(), from)
+    }
+}
+
+/// Shows what a resolver serves a peer for a view, in place of what was shown.
+pub fn serve_in(resolver: &LawfulResolver, view: u64, served: &mut BytesMut) -> FlatServed
+    ensures view { result.view ≡ view }
+    ensures served { HasServedOf resolver.now.state view result served.new.items }
+{
+    served.clear();
+    match resolver.state().produce(View::new(view)) {
+        Ok(Some(bytes)) => serve(view, bytes.as_slice(), served),
+        Ok(None) => unserved(view, 0),
+        Err(fault) => unserved(view, number_of_fault(fault)),
+    }
+}
+
+fn serve(view: u64, bytes: &[u8], served: &mut BytesMut) -> FlatServed
+    requires { served.old.items ≡ [] }
+    ensures view { result.view ≡ view }
+    ensures served { HasServed (Some bytes.now) result served.new.items }
+{
+    if served.put_slice(bytes).is_err() {
+        served.clear();
+        return unserved(view, 1);
+    }
+    FlatServed {
+        status: 0,
+        has: 1,
+        bytes: bytes.len() as u64,
+        view,
     }
 }
 
@@ -295,7 +302,8 @@ pub(crate) fn no_effects(status: u32) -> FlatEffects
     }
 }
 
-pub(crate) fn unserved(view: u64, status: u32) -> FlatServed
+/// That a peer is served nothing.
+pub fn unserved(view: u64, status: u32) -> FlatServed
     ensures status { result.status ≡ status }
     ensures view { result.view ≡ view }
     ensures nothing { (result.has ≡ 0) × (result.bytes ≡ 0) }

@@ -1,9 +1,9 @@
 //! What a member shows beside its replies.
 
-ghost use Rattle.std.specs.Prelude.{◌≡◌, ◌≤◌, ◌++◌, true, IfOk, OnOk, OnErr, MatchOption, length, take, drop};
-ghost use Rattle.std.specs.Option.{IsSome};
+ghost use Rattle.std.specs.Prelude.{◌≡◌, ◌≤◌, ◌++◌, true, IfOk, IfSome, OnOk, OnErr, MatchOption, length, take, drop};
+ghost use Rattle.std.specs.Option.{IsSome, option_copied};
 ghost use Rattle.simplex_flat.specs.Numbers.{index_number};
-ghost use Rattle.simplex_flat.specs.Showing.{HasForwardable, IsChunk, IsKind, IsSubject, IsText, IsViewOf, ShowsCertificate, certificate_of};
+ghost use Rattle.simplex_flat.specs.Showing.{HasAnsweredIn, HasForwardable, IsChunk, IsViewIn, IsKind, IsSubject, IsText, IsViewOf, ShowsCertificate, certificate_of};
 ghost use Rattle.simplex_voter.specs.Refusals.{is_started};
 ghost use Rattle.simplex_voter.specs.Serving.{forwardable_of};
 
@@ -25,7 +25,7 @@ use simplex_voter::voter::State;
 use std::alloc::{AllocError, Global};
 
 /// The state of a member of the host.
-type HostState = State<HostScheme, HostElector, HostDigest>;
+pub type HostState = State<HostScheme, HostElector, HostDigest>;
 
 /// A proposal with nothing in it.
 const NO_PROPOSAL: FlatProposal = FlatProposal {
@@ -86,13 +86,7 @@ impl Held {
     pub fn view(&self, view: u64) -> FlatView
         ensures { IsView self.now.member.facts view result }
     {
-        match self.member.state() {
-            Some(state) => view_of(state, View::new(view)),
-            None => FlatView {
-                status: 2,
-                ..no_view()
-            },
-        }
+        view_in(self.member.state(), view)
     }
 
     /// Shows the bytes of a view's certificate, and answers what it is of: 1 asks for a notarization, 2 for a nullification, 3 for a
@@ -100,20 +94,7 @@ impl Held {
     pub fn certificate(&mut self, kind: u32, view: u64) -> FlatFound
         ensures { IsFound self.old kind view result self.new }
     {
-        self.shown.clear();
-        if kind == 0 || kind > 3 {
-            return unfound(6);
-        }
-        let Some(state) = self.member.state() else {
-            return unfound(2);
-        };
-        match show_certificate(state, kind, View::new(view), &mut self.shown) {
-            Ok(found) => found,
-            Err(_) => {
-                self.shown.clear();
-                unfound(1)
-            }
-        }
+        certificate_in(self.member.state(), kind, view, &mut self.shown)
     }
 
     /// The bytes that were shown last.
@@ -144,6 +125,46 @@ impl Held {
             2 => fetch_item(self.fetch_at(index)),
             3 => view_item(self.dropped_at(index)),
             _ => no_item(),
+        }
+    }
+}
+
+/// What a member in this state knows, and what it knows of a view; one that has failed has none.
+pub fn view_in(state: Option<&HostState>, view: u64) -> FlatView
+    requires { IfSome (option_copied state) (λ x. is_started x ≡ true) }
+    ensures { IsViewIn (option_copied state.entry) view result }
+{
+    match state {
+        Some(state) => view_of(state, View::new(view)),
+        None => FlatView {
+            status: 2,
+            ..no_view()
+        },
+    }
+}
+
+/// Shows the bytes of a view's certificate in a state, in place of what was shown, and answers what it is of.
+pub fn certificate_in(
+    state: Option<&HostState>,
+    kind: u32,
+    view: u64,
+    shown: &mut BytesMut,
+) -> FlatFound
+    ensures answered { HasAnsweredIn (option_copied state.entry) kind view result shown.new.items }
+    ensures bytes { result.bytes ≡ length shown.new.items }
+{
+    shown.clear();
+    if kind == 0 || kind > 3 {
+        return unfound(6);
+    }
+    let Some(state) = state else {
+        return unfound(2);
+    };
+    match show_certificate(state, kind, View::new(view), shown) {
+        Ok(found) => found,
+        Err(_) => {
+            shown.clear();
+            unfound(1)
         }
     }
 }
@@ -357,7 +378,7 @@ pub(crate) fn no_item() -> FlatItem
 }
 
 /// A part of bytes as a chunk.
-pub(crate) fn chunk_of(bytes: &[u8], from: u64) -> FlatChunk
+pub fn chunk_of(bytes: &[u8], from: u64) -> FlatChunk
     ensures { IsChunk bytes.now from result }
 {
     let part = part_of(bytes, from);

@@ -86,7 +86,7 @@ fn number_of_config(error: ConfigError) -> u32
 }
 
 /// The number of why a record's entries are not shown.
-pub(crate) fn number_of_not_written(error: NotWritten) -> u32
+pub fn number_of_not_written(error: NotWritten) -> u32
     ensures { result ≡ not_written_number error }
 {
     match error {

@@ -1,33 +1,35 @@
--- How the contract of `resume` follows: the frames are the entries of the record, and fewer entries than were closed are lost ones.
-use Rattle.std.proofs.Common.{inr, arith}
-use Rattle.std.proofs.lemmas.Grind.{common_steps}
+-- How the contract of `resume` follows: what it goes on from is read of the journal, and fewer entries than were closed are lost ones.
+use Rattle.std.proofs.Common.{inr}
 use Rattle.simplex_flat.proofs.Items.{fewer_than_closed}
 use Rattle.simplex_flat.proofs.held.Held.resume.Goals as goal
 
-pub returns-in-Ok-resume-clause-resumed : goal.returns-in-Ok-resume-clause-resumed
-returns-in-Ok-resume-clause-resumed c = record {
-  start = c.in-Ok.start;
-  stored = c.in-Some.beside;
-  entries = c.in-Ok-read_entries.entries.items;
-  from = record { started = c.in-Ok.ensures.made; stored_so = c.in-Some.ensures; read = c.in-Ok-read_entries.ensures.read };
-  whole = grind (arith, common_steps, c.has_fewer.ensures, c.if-has_fewer.false, c.deref.ensures.value);
-  resumed = rw c.new.ensures.member c.in-Ok-resume.ensures.resumed;
-  votes = rw c.new.ensures.member c.in-Ok-resume.ensures.votes;
-  fresh = c.new.ensures.fresh;
-}
+pub returns-in-Ok-clause-resumed : goal.returns-in-Ok-clause-resumed
+returns-in-Ok-clause-resumed c =
+    let from = c.in_ok-from.from in record {
+      start = from.start;
+      stored = from.stored;
+      entries = from.entries.items;
+      from = c.in_ok-from.ensures.from;
+      whole = c.in_ok-from.ensures.whole;
+      resumed = rw c.new.ensures.member c.in-Ok.ensures.resumed;
+      votes = rw c.new.ensures.member c.in-Ok.ensures.votes;
+      fresh = c.new.ensures.fresh;
+    }
 
 pub returns-in-EntriesLost-clause-refused : goal.returns-in-EntriesLost-clause-refused
-returns-in-EntriesLost-clause-refused c = record {
-  entries = c.in-Ok-read_entries.entries.items;
-  read = c.in-Ok-read_entries.ensures.read;
-  fewer = inr (fewer_than_closed _ c.in-Some.beside _ c.in-Some.ensures (rw c.in-EntriesLost.is at c.in-Err-resume.ensures.refused));
-}
+returns-in-EntriesLost-clause-refused c =
+    let from = c.in_ok-from.from in record {
+      entries = from.entries.items;
+      read = c.in_ok-from.ensures.from.read;
+      fewer = inr (fewer_than_closed _ from.stored _ c.in_ok-from.ensures.from.stored_so (rw c.in-EntriesLost.is at c.in-Err.ensures.refused));
+    }
 
 pub returns-clause-refused : goal.returns-clause-refused
-returns-clause-refused c = record {
-  start = c.in-Ok.start;
-  stored = c.in-Some.beside;
-  entries = c.in-Ok-read_entries.entries.items;
-  from = record { started = c.in-Ok.ensures.made; stored_so = c.in-Some.ensures; read = c.in-Ok-read_entries.ensures.read };
-  refused = rw c.in-Recover.is at c.in-Err-resume.ensures.refused;
-}
+returns-clause-refused c =
+    let from = c.in_ok-from.from in record {
+      start = from.start;
+      stored = from.stored;
+      entries = from.entries.items;
+      from = c.in_ok-from.ensures.from;
+      refused = rw c.in-Recover.is at c.in-Err.ensures.refused;
+    }
