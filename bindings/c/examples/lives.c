@@ -1,5 +1,5 @@
 /*
- * Begins and lets go so many members, with resolvers, and hands in what is refused: settings, numbers, null handles, journals that are cut,
+ * Begins and lets go so many members, with resolvers and engines, and hands in what is refused: settings, numbers, null handles, journals that are cut,
  * changed or of random bytes. It ends with status 0 where each answer is the right one; run it under valgrind to see that nothing is lost.
  *
  *     lives COUNT
@@ -16,7 +16,8 @@ static const struct simplex_settings SETTINGS = {.members = 4, .signer = 0, .ter
     .leader_timeout = 1000, .certification_timeout = 2000, .timeout_retry = 500, .skip_timeout = 3000};
 static uint8_t journal[1 << 20];
 static uint32_t seed = 1;
-static long begun, let_go;
+static long begun, let_go, engines;
+static const struct simplex_options OPTIONS = {.retry = 250, .on_its_way = 25, .long_record = 2048};
 
 static uint32_t drawn(uint32_t below) {
     seed = seed * 1664525u + 1013904223u;
@@ -145,6 +146,110 @@ static void nulls(void) {
     IS(simplex_resolver_produce(0, 1).status == SIMPLEX_NO_HANDLE);
     IS(simplex_resolver_bytes(0, 0).status == SIMPLEX_NO_HANDLE);
     simplex_resolver_free(0);
+    struct simplex_input input = {.kind = SIMPLEX_TELL_GIVEN_UP, .view = 1};
+    IS(simplex_engine_handle(0, &input, 0, 0, 0).status == SIMPLEX_NO_HANDLE);
+    IS(simplex_engine_poll(0, 0).status == SIMPLEX_NO_HANDLE);
+    IS(simplex_engine_bytes(0, SIMPLEX_OF_OUTPUT, 0).status == SIMPLEX_NO_HANDLE);
+    IS(simplex_engine_status(0).status == SIMPLEX_NO_HANDLE);
+    IS(simplex_engine_open(0, 0).status == SIMPLEX_NO_HANDLE);
+    IS(simplex_engine_view(0, 1).status == SIMPLEX_NO_HANDLE);
+    IS(simplex_engine_certificate(0, SIMPLEX_NOTARIZATION, 1).status == SIMPLEX_NO_HANDLE);
+    IS(simplex_engine_serve(0, 1).status == SIMPLEX_NO_HANDLE);
+    simplex_engine_free(0);
+}
+
+/* All bytes of an engine. */
+static size_t read_out(simplex_engine *at, uint32_t which, uint8_t *to) {
+    size_t len = 0;
+    for (;;) {
+        struct simplex_chunk chunk = simplex_engine_bytes(at, which, len);
+        if (!chunk.count) return len;
+        memcpy(to + len, chunk.bytes, chunk.count);
+        len += chunk.count;
+    }
+}
+
+/* Carries an output out on the journal, of which len bytes are there; how many there are then. */
+static size_t stores(simplex_engine *at, const struct simplex_output *it, size_t len, struct simplex_stored *stored) {
+    if (it->kind != SIMPLEX_STORE && it->kind != SIMPLEX_REPLACE) return len;
+    *stored = it->stored;
+    size_t from = it->kind == SIMPLEX_STORE ? len : 0;
+    IS(from + it->bytes <= sizeof journal && read_out(at, SIMPLEX_OF_OUTPUT, journal + from) == it->bytes);
+    return from + it->bytes;
+}
+
+/* Tells an engine, with so many bytes. */
+static struct simplex_taken told(simplex_engine *at, struct simplex_input input, size_t len) {
+    static const uint8_t bytes[2000] = {5};
+    return simplex_engine_handle(at, &input, bytes, len, 0);
+}
+
+/* Numbers that are none of an input: nothing is told. */
+static void tells_nothing(simplex_engine *at) {
+    struct simplex_engine_status before = simplex_engine_status(at);
+    IS(told(at, (struct simplex_input){.kind = 0}, 0).status == SIMPLEX_NO_CALL);
+    IS(told(at, (struct simplex_input){.kind = 8}, 0).status == SIMPLEX_NO_CALL);
+    IS(told(at, (struct simplex_input){.kind = SIMPLEX_TELL_GIVEN_UP, .reason = 10}, 0).status == SIMPLEX_NO_CALL);
+    IS(told(at, (struct simplex_input){.kind = SIMPLEX_TELL_VERIFIED, .success = 2}, 0).status == SIMPLEX_NO_CALL);
+    IS(told(at, (struct simplex_input){.kind = SIMPLEX_TELL_VOTE, .subject = {.kind = 4}}, 9).status == SIMPLEX_NO_CALL);
+    struct simplex_taken dropped = told(at, (struct simplex_input){.kind = SIMPLEX_TELL_VOTE, .subject = {.kind = 1, .member = 9}}, 9);
+    IS(!dropped.status && !dropped.is_of_use);
+    struct simplex_engine_status after = simplex_engine_status(at);
+    IS(after.ignored == before.ignored + 1 && after.wake == before.wake && after.fetches == before.fetches);
+}
+
+/* An engine goes on from the journal, as a member does; not from one that is cut, or of random bytes. */
+static void goes_on(const struct simplex_stored *stored, size_t len, simplex_engine **next) {
+    uint8_t random[300];
+    simplex_member *member = 0;
+    for (size_t i = 0; i < sizeof random; i++) random[i] = (uint8_t)drawn(256);
+    IS(simplex_engine_resume(&SETTINGS, LEADERS, 4, 0, 0, &OPTIONS, 0, stored, random, sizeof random, next) == SIMPLEX_DAMAGED);
+    size_t cut = 1 + drawn((uint32_t)len - 1);
+    uint32_t status = simplex_engine_resume(&SETTINGS, LEADERS, 4, 0, 0, &OPTIONS, 0, stored, journal, cut, next);
+    IS(status == (simplex_scan(journal, cut).ending ? SIMPLEX_DAMAGED : SIMPLEX_ENTRIES_LOST));
+    IS(simplex_engine_resume(&SETTINGS, LEADERS, 4, 0, 0, &OPTIONS, 0, stored, 0, 0, next) == SIMPLEX_ENTRIES_LOST && !*next);
+    IS(!simplex_engine_resume(&SETTINGS, LEADERS, 4, 0, 0, &OPTIONS, 0, stored, journal, len, next) && !resumed(stored, len, &member));
+    struct simplex_view a = simplex_member_view(member, 1), b = simplex_engine_view(*next, 1);
+    IS(!memcmp(&a, &b, sizeof a) && a.current == 1);
+    lets_go(&member);
+}
+
+/* An engine that leads its first view: a block is built, and its vote is ordered behind what stores it. Another goes on from its
+ * journal. */
+static void engine(void) {
+    simplex_engine *at = 0, *next = 0;
+    struct simplex_stored stored = {0};
+    size_t len = 0, order = 0;
+    IS(simplex_engine_start(&SETTINGS, LEADERS, 0, 0, 0, &OPTIONS, 0, &at) == SIMPLEX_NOTHING_LEADS && !at);
+    IS(!simplex_engine_start(&SETTINGS, LEADERS, 4, 0, 0, &OPTIONS, 0, &at));
+    tells_nothing(at);
+    for (uint32_t first = 1;; first = 0) {
+        struct simplex_output it = simplex_engine_poll(at, 0);
+        IS(!it.status && (!first || it.kind == SIMPLEX_REPLACE));
+        if (it.kind == SIMPLEX_NOTHING) break;
+        len = stores(at, &it, len, &stored);
+        if (it.kind == SIMPLEX_BUILD) {
+            struct simplex_input built = {.kind = SIMPLEX_TELL_BUILT, .subject = it.subject, .context = it.context};
+            IS(it.subject.member == 0 && told(at, built, 0).is_of_use);
+        }
+        if (it.kind == SIMPLEX_VOTE) {
+            uint8_t text[64];
+            struct simplex_text wanted = simplex_subject(SIMPLEX_NOTARIZE, &it.subject.proposal);
+            IS(stored.entries && it.subject.kind == SIMPLEX_NOTARIZATION && it.subject.member == 0 && read_out(at, 0, text) == 57);
+            IS(wanted.count == 57 && !memcmp(text, wanted.bytes, 57) && ++order == 1);
+        }
+    }
+    IS(order == 1);
+    IS(told(at, (struct simplex_input){.kind = SIMPLEX_TELL_CERTIFICATE, .subject = {.kind = 2, .proposal = {.round = {1, 2}}}}, 2000).is_of_use);
+    struct simplex_served served = simplex_engine_serve(at, 2);
+    IS(served.has && served.bytes == 17 + 2000 && simplex_engine_bytes(at, SIMPLEX_SHOWN_OF_ENGINE, 1024).count == served.bytes - 1024);
+    struct simplex_found found = simplex_engine_certificate(at, SIMPLEX_NULLIFICATION, 2);
+    IS(found.has == 2 && found.bytes == 2000 && simplex_engine_view(at, 2).has_nullification);
+    IS(simplex_engine_status(at).fetches == 1 && simplex_engine_open(at, 0).fetch && !simplex_engine_open(at, 1).fetch);
+    simplex_engine_free(at);
+    goes_on(&stored, len, &next);
+    simplex_engine_free(next);
+    engines += 2;
 }
 
 /* A journal that is cut, changed in one byte, of fewer entries, or of random bytes. */
@@ -247,6 +352,7 @@ static void one(int is_first) {
     restart.prune = 2;
     IS(simplex_member_restart(next, &restart, LEADERS, 4, 0, 0) == SIMPLEX_NO_FLAG);
     lets_go(&next);
+    engine();
 }
 
 int main(int argc, char **argv) {
@@ -256,6 +362,6 @@ int main(int argc, char **argv) {
     bad_settings();
     for (int is_first = 1; begun < count; is_first = 0) one(is_first);
     IS(let_go == begun);
-    printf("%ld members\n", let_go);
+    printf("%ld members %ld engines\n", let_go, engines);
     return 0;
 }

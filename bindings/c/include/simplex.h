@@ -1,8 +1,9 @@
 /*
- * A member of the Simplex consensus protocol: the decision core of an engine, proved in Rattle.
+ * The Simplex consensus protocol, proved in Rattle: an engine (simplex_engine), and for hosts that write their own the member that decides
+ * in it (simplex_member) and its peer resolver (simplex_resolver).
  *
- * Link libsimplex.a, which bindings/build makes (x86-64 Linux; it takes memory from malloc). docs/EMBEDDING.md has the loop of an engine
- * and the journal; bindings/rust is a Rust package over this header.
+ * Link libsimplex.a, which bindings/build makes (x86-64 Linux; it takes memory from malloc). docs/EMBEDDING.md has both loops and the
+ * journal; bindings/rust is a Rust package over this header.
  *
  * WHAT IS PROVED, AND WHAT IS YOUR WORD
  *
@@ -14,6 +15,10 @@
  *   just its own bytes, once it stands in the record       | and nothing else is
  *   a resume goes on from just the entries in the bytes    | what the record has grown by is stored before a vote is sent; the
  *   that it is given; damaged or missing ones are refused  | bytes and numbers that were stored last come back
+ *   an engine is told just the input of its numbers, and   | a vote is verified before it is handed in, and one's own comes back as
+ *   an output tells just what it gave out; a vote stands   | an input; outputs are carried out in order, and none is left out
+ *   behind an output that stores its entry; a certificate  |
+ *   that votes complete is of n - f members on just that   |
  *   numbers that are none of a call change nothing         | moments do not fall within a life
  *   (that C calls as declared here is nobody's proof)      | a handle is one that was handed out and not let go; one call at a time
  *
@@ -21,13 +26,14 @@
  * and functions with no handle, may run at once.
  *
  * MEMORY. Whatever is handed in is read or copied before the call returns. Whatever is handed out is copied out: no pointer into the
- * library's memory leaves it but the handle. A reply is kept behind the handle until the next simplex_member_call, so that its bytes and
- * items can be read whenever there is memory for them; no reply is lost for want of memory.
+ * library's memory leaves it but the handle. A reply is kept behind the handle until the next simplex_member_call, and an output until the
+ * next simplex_engine_poll, so that its bytes and items can be read whenever there is memory for them; none is lost for want of memory.
  *
  * POINTERS. None may be null, but for a slice of length 0, whose pointer is not read, and for a handle: of a null handle each function
  * answers the status SIMPLEX_NO_HANDLE and does nothing. A handle that was let go is undefined, as memory that was freed is: it is the
- * address of a member, so that a call goes straight there, and to tell a dead one from a new one at the same address takes a table of all
- * handles with a lock, which the library has not. Set a handle to null where you let it go; the Rust package takes it from you.
+ * address of what lies behind it, so that a call goes straight there, and to tell a dead one from a new one at the same address takes a
+ * table of all handles with a lock, which the library has not. Set a handle to null where you let it go; the Rust package takes it from
+ * you.
  */
 #ifndef SIMPLEX_H
 #define SIMPLEX_H
@@ -43,10 +49,14 @@ extern "C" {
 #endif
 
 /* What simplex_version answers for this header: test it once, before anything else. */
-#define SIMPLEX_VERSION 2u
+#define SIMPLEX_VERSION 3u
 
 /* No member. */
 #define SIMPLEX_NOBODY UINT32_MAX
+
+/* An engine behind its handle: a member with its resolver, a batcher of votes, the fetches that are open, and what is to be carried out.
+ * Made by simplex_engine_start or simplex_engine_resume, let go by simplex_engine_free. */
+typedef struct simplex_engine simplex_engine;
 
 /* A member behind its handle. Made by simplex_member_start or simplex_member_resume, let go by simplex_member_free. */
 typedef struct simplex_member simplex_member;
@@ -443,8 +453,163 @@ struct simplex_served {
 };
 SIMPLEX_SIZE(struct simplex_served, 24);
 
+/* What an engine is told. Behind each, the fields of simplex_input that it reads; B is the bytes beside it. */
+enum simplex_input_kind {
+    SIMPLEX_TELL_PROPOSAL = 1,    /* subject: proposal, member who sent it */
+    SIMPLEX_TELL_VOTE = 2,        /* subject: kind, proposal, member who signed; B its signature. One of another epoch is dropped.
+                                     The engine's own come back so too, once they were carried out */
+    SIMPLEX_TELL_CERTIFICATE = 3, /* subject: kind, proposal; B */
+    SIMPLEX_TELL_VERIFIED = 4,    /* view, success: the proposal that was to be verified is valid */
+    SIMPLEX_TELL_BUILT = 5,       /* context and subject.member, as it was asked to build; subject.proposal.payload: what was built */
+    SIMPLEX_TELL_CERTIFIED = 6,   /* view, success: the proposal that was to be certified may be built on */
+    SIMPLEX_TELL_GIVEN_UP = 7     /* view, reason: its leader nullified it, or is not heard of */
+};
+
+/* What an engine gives out, to be carried out in that order. Behind each, the fields of simplex_output that it has; B is the first bytes. */
+enum simplex_output_kind {
+    SIMPLEX_NOTHING = 0,        /* until another input, or the moment wake of simplex_engine_status */
+    SIMPLEX_STORE = 1,          /* append B to the journal, with stored beside it, and sync both before what is behind it is carried out */
+    SIMPLEX_REPLACE = 2,        /* the same in place of all that is stored, in one step. The first output of each life */
+    SIMPLEX_VOTE = 3,           /* subject: sign B with the key of its member, send the vote to all, and tell it to this engine too */
+    SIMPLEX_BROADCAST = 4,      /* subject: send the certificate B to all others */
+    SIMPLEX_VERIFY = 5,         /* context, subject.proposal; subject.member leads */
+    SIMPLEX_BUILD = 6,          /* context; subject.member leads */
+    SIMPLEX_STOP_BUILDING = 7,  /* view: what is built there is of no use any more */
+    SIMPLEX_CERTIFY = 8,        /* subject.proposal: a verdict is wanted on it */
+    SIMPLEX_ASK = 9,            /* fetch, view: ask member for it, or nobody where it is SIMPLEX_NOBODY */
+    SIMPLEX_FINAL = 10,         /* subject.proposal is final, and all below it: rising, each view once */
+    SIMPLEX_EQUIVOCATED = 11,   /* subject and B, other and the other bytes: two votes of one member that contradict each other */
+    SIMPLEX_PROPOSED_TWICE = 12, /* view, member: its leader signed two proposals, which certificates show */
+    SIMPLEX_FORGET = 13         /* view: what is kept of those below it may go */
+};
+
+/* What is fetched: the view's notarization, a nullification that covers it, or whatever certificate decides it. */
+enum simplex_fetch_kind { SIMPLEX_FETCH_NOTARIZATION = 1, SIMPLEX_FETCH_NULLIFICATION = 2, SIMPLEX_FETCH_DECISION = 3 };
+
+/* Which bytes of an engine are read: the first or the second of the last output, or those that were shown last. */
+enum simplex_engine_bytes { SIMPLEX_OF_OUTPUT = 0, SIMPLEX_OTHER_OF_OUTPUT = 1, SIMPLEX_SHOWN_OF_ENGINE = 2 };
+
+/* What a vote or a certificate is on. */
+struct simplex_subject {
+    uint32_t kind;   /* a simplex_certificate_kind: which certificate such votes make */
+    uint32_t member; /* who signed, sent or leads; SIMPLEX_NOBODY where there is none */
+    struct simplex_proposal proposal; /* of a nullification the round alone */
+};
+SIMPLEX_SIZE(struct simplex_subject, 64);
+
+/* How an engine is set up beside its member. Times are milliseconds. Usual ones are 250, 25 and 2048. */
+struct simplex_options {
+    uint64_t retry;       /* after how long a fetch is asked again, of the next member: 1 ms at least */
+    uint64_t on_its_way;  /* how long a certificate that is lacking may be on its way before it is asked for */
+    uint64_t long_record; /* the record is made short once it has more entries, and twice as many as when it was made short last */
+};
+SIMPLEX_SIZE(struct simplex_options, 24);
+
+/* What an engine is told. The fields that its kind does not read may be anything, but reason and success: leave these 0. */
+struct simplex_input {
+    uint32_t kind;    /* a simplex_input_kind */
+    uint32_t reason;  /* a simplex_timeout_reason */
+    uint32_t success; /* 1 or 0 */
+    uint32_t reserved;
+    uint64_t view;
+    struct simplex_subject subject;
+    struct simplex_context context;
+};
+SIMPLEX_SIZE(struct simplex_input, 144);
+
+struct simplex_taken {
+    uint32_t status; /* SIMPLEX_OK; SIMPLEX_NO_CALL where a number is none of an input, or a vote is told where certificates name leaders,
+                        and SIMPLEX_NOT_MADE where there is no memory for the bytes: nothing was told. SIMPLEX_OUT_OF_MEMORY to
+                        SIMPLEX_TIME_OVERFLOW: the engine has failed */
+    uint32_t is_of_use; /* 0: it was dropped, and changed nothing */
+};
+SIMPLEX_SIZE(struct simplex_taken, 8);
+
+struct simplex_output {
+    uint32_t status;      /* SIMPLEX_OK; SIMPLEX_OUT_OF_MEMORY to SIMPLEX_TIME_OVERFLOW, or SIMPLEX_ENTRY_TOO_LONG: the engine has failed */
+    uint32_t kind;        /* a simplex_output_kind */
+    uint32_t fetch;       /* a simplex_fetch_kind */
+    uint32_t member;
+    uint64_t view;
+    uint64_t bytes;       /* how many the first bytes are: read them with simplex_engine_bytes */
+    uint64_t other_bytes; /* how many the second are */
+    struct simplex_stored stored; /* what is stored beside the journal */
+    struct simplex_subject subject;
+    struct simplex_subject other;
+    struct simplex_context context;
+};
+SIMPLEX_SIZE(struct simplex_output, 264);
+
+struct simplex_engine_status {
+    uint32_t status;  /* SIMPLEX_OK or SIMPLEX_FAILED */
+    uint32_t reserved;
+    uint64_t wake;    /* poll at this moment where nothing comes before, in milliseconds */
+    uint64_t ignored; /* how many inputs were of no use */
+    uint64_t fetches; /* how many fetches are open */
+};
+SIMPLEX_SIZE(struct simplex_engine_status, 32);
+
+/* A fetch that is open: it is asked again, of the next member in turn, until it is closed. */
+struct simplex_open {
+    uint32_t status;  /* SIMPLEX_OK */
+    uint32_t fetch;   /* a simplex_fetch_kind; 0: there is no such fetch */
+    uint64_t view;
+    uint64_t count;   /* how often it was asked for */
+    uint64_t moment;  /* when it is to be asked for next, in milliseconds */
+};
+SIMPLEX_SIZE(struct simplex_open, 32);
+
 /* SIMPLEX_VERSION of the library. It rises when a struct, a number or a function changes its meaning. */
 uint32_t simplex_version(void);
+
+/*
+ * Begins an engine whose member never voted, by settings, a table of leaders (each term's leader in turn), the bytes of the floor's
+ * certificate (none for genesis) and options, at a moment. One that did vote goes on by simplex_engine_resume, or could vote twice in a view.
+ *
+ * SIMPLEX_OK, and the handle stands in *out; else why there is none, and *out is as it was.
+ */
+uint32_t simplex_engine_start(const struct simplex_settings *settings, const uint32_t *leaders, size_t leaders_len,
+                              const uint8_t *certificate, size_t certificate_len, const struct simplex_options *options, uint64_t now,
+                              simplex_engine **out);
+
+/* Makes an engine that goes on from its journal, as simplex_member_resume does, by whose statuses it is refused. Each takes the journal of
+ * the other. */
+uint32_t simplex_engine_resume(const struct simplex_settings *settings, const uint32_t *leaders, size_t leaders_len,
+                               const uint8_t *certificate, size_t certificate_len, const struct simplex_options *options, uint64_t now,
+                               const struct simplex_stored *stored, const uint8_t *journal, size_t journal_len, simplex_engine **out);
+
+/*
+ * Tells what came in, at a moment in milliseconds that does not fall. The bytes are a vote's signature, or a certificate: of one that the
+ * engine made of votes, each signer by rising index, its index in four bytes, its signature's length in eight, big-endian, and the signature.
+ *
+ * An engine that has failed answers SIMPLEX_FAILED from then on: let it go, and resume another from what was stored.
+ */
+struct simplex_taken simplex_engine_handle(simplex_engine *at, const struct simplex_input *input, const uint8_t *bytes, size_t bytes_len,
+                                           uint64_t now);
+
+/* What is to be carried out next; poll until it is SIMPLEX_NOTHING. Its bytes wait until the next poll. */
+struct simplex_output simplex_engine_poll(simplex_engine *at, uint64_t now);
+
+/* A part of bytes, a simplex_engine_bytes, from the byte from on: at most 1024, and none where there are no more. */
+struct simplex_chunk simplex_engine_bytes(simplex_engine *at, uint32_t which, uint64_t from);
+
+/* What an engine knows of itself. */
+struct simplex_engine_status simplex_engine_status(simplex_engine *at);
+
+/* A fetch that is open, by its place among them. */
+struct simplex_open simplex_engine_open(simplex_engine *at, uint64_t index);
+
+/* What its member knows, and what it knows of a view. */
+struct simplex_view simplex_engine_view(simplex_engine *at, uint64_t view);
+
+/* Shows a view's certificate, as simplex_member_certificate does. */
+struct simplex_found simplex_engine_certificate(simplex_engine *at, uint32_t kind, uint64_t view);
+
+/* Shows what a peer is served that asks for a view, as simplex_resolver_produce does. */
+struct simplex_served simplex_engine_serve(simplex_engine *at, uint64_t view);
+
+/* Lets an engine go; nothing where the handle is null. It must not be used again. */
+void simplex_engine_free(simplex_engine *at);
 
 /*
  * Begins a member that never voted, by settings, a table of leaders (each term's leader in turn) and the bytes of the floor's certificate

@@ -11,6 +11,8 @@ use Rattle.simplex_flat.specs.declared.held.Held.{Held}
 use Rattle.simplex_flat.specs.contracts.held.Held as held
 use Rattle.simplex_flat.specs.declared.resolving.HeldResolver.{HeldResolver}
 use Rattle.simplex_flat.specs.contracts.resolving.HeldResolver as resolver
+use Rattle.simplex_flat_engine.specs.declared.held.HeldEngine.{HeldEngine}
+use Rattle.simplex_flat_engine.specs.contracts.held.HeldEngine as engine
 
 -- a fact, as a formula
 abbrev pub is_so : Type 0 → Fml
@@ -65,6 +67,27 @@ resolver_handed_at at (Some now) = in_block at (resolver_owned_at heap at now)
 
 abbrev pub coded_resolver : Coded (Option HeldResolver)
 coded_resolver = coded_option resolver.the_row.coded
+
+-- the same of an engine
+abbrev pub engine_at : Ptr → HeldEngine → Fml
+engine_at null_ptr now = ftrue
+engine_at (block_ptr b o) now = fsep (is_so (Testable (block_ptr b o))) (lies_at engine.the_row full_share (block_ptr b o) now)
+
+abbrev pub engine_left_at : Ptr → Type 0 → (HeldEngine → Type 0) → Fml
+engine_left_at null_ptr answered P = is_so answered
+engine_left_at (block_ptr b o) answered P = fex HeldEngine (λ now. fsep (is_so (P now)) (engine_at (block_ptr b o) now))
+
+abbrev pub engine_owned_at : Global → Ptr → HeldEngine → Fml
+engine_owned_at alloc null_ptr now = ftrue
+engine_owned_at alloc (block_ptr b o) now =
+    fsep (is_so (Testable (block_ptr b o))) (box_owns (global.ghosts.dealloc_token alloc) engine.the_row (block_ptr b o) now)
+
+abbrev pub engine_handed_at : Ptr → Option HeldEngine → Fml
+engine_handed_at at None = ftrue
+engine_handed_at at (Some now) = in_block at (engine_owned_at heap at now)
+
+abbrev pub coded_engine : Coded (Option HeldEngine)
+coded_engine = coded_option engine.the_row.coded
 
 -- nothing was changed, and this was read
 abbrev pub IsRead : {A : Type 0} → A → A → Type 0 → Type 0

@@ -1,6 +1,7 @@
 -- What C is answered of a start, a resume or a restart.
 use Rattle.std.specs.Prelude.{◌≡◌, ◌⊎◌, ℕ, List, Option, Some, Result}
 use Rattle.std.specs.Option.{IsSomeAnd}
+use Rattle.simplex_c.specs.declared.handles.EngineHandle.{EngineHandle}
 use Rattle.simplex_c.specs.declared.handles.MemberHandle.{MemberHandle}
 use Rattle.simplex_c.specs.declared.handles.ResolverHandle.{ResolverHandle}
 use Rattle.simplex_flat.specs.declared.flat.FlatSettings.{FlatSettings}
@@ -15,6 +16,10 @@ use Rattle.simplex_flat.specs.Opening.{IsNotResumedBy, IsRestartedBy, IsResumedB
 use Rattle.simplex_flat.specs.Resolving.{IsBegunFrom, IsNotBegunFrom, not_replayed_number}
 use Rattle.simplex_flat.specs.Starting.{IsNotStarted, IsStarted}
 use Rattle.simplex_flat.specs.Statuses.{not_resumed_number, not_started_number, restart_number}
+use Rattle.simplex_flat_engine.specs.declared.begin.NotBegun.{NotBegun}
+use Rattle.simplex_flat_engine.specs.declared.held.HeldEngine.{HeldEngine}
+use Rattle.simplex_flat_engine.specs.declared.told.FlatOptions.{FlatOptions}
+use Rattle.simplex_flat_engine.specs.Beginning.{IsEngineBegun, IsEngineNotBegun, IsEngineNotResumed, IsEngineResumed, not_begun_number}
 
 -- the handle of this member was written, or there was no memory for it, and nothing was
 abbrev pub IsWritten : Held → ℕ → MemberHandle → MemberHandle → Type 0
@@ -22,6 +27,9 @@ IsWritten held status old new = ((status ≡ 0) × (new.held ≡ Some held)) ⊎
 
 abbrev pub IsResolverWritten : HeldResolver → ℕ → ResolverHandle → ResolverHandle → Type 0
 IsResolverWritten held status old new = ((status ≡ 0) × (new.held ≡ Some held)) ⊎ ((status ≡ 1) × (new ≡ old))
+
+abbrev pub IsEngineWritten : HeldEngine → ℕ → EngineHandle → EngineHandle → Type 0
+IsEngineWritten held status old new = ((status ≡ 0) × (new.held ≡ Some held)) ⊎ ((status ≡ 1) × (new ≡ old))
 
 -- the handle of the member that is started was written; or there was no memory for it, or the start is refused, and nothing was
 abbrev pub IsStartStatus : FlatSettings → List ℕ → List ℕ → ℕ → ℕ → MemberHandle → MemberHandle → Type 0
@@ -48,3 +56,18 @@ IsReplayStatus term_length journal status old new =
     ((status ≡ 0) × IsSomeAnd new.held (IsBegunFrom term_length journal))
     ⊎ ((status ≡ 1) × (new ≡ old))
     ⊎ ((e : NotReplayed) × IsNotBegunFrom term_length journal e × (status ≡ not_replayed_number e) × (new ≡ old))
+
+-- the handle of the engine that begins was written; or there was no memory for it, or the start is refused, and nothing was
+abbrev pub IsBegunStatus : FlatSettings → List ℕ → List ℕ → FlatOptions → ℕ → ℕ → EngineHandle → EngineHandle → Type 0
+IsBegunStatus f leaders bytes options now status old new =
+    ((status ≡ 0) × IsSomeAnd new.held (IsEngineBegun f leaders bytes options now))
+    ⊎ ((status ≡ 1) × (new ≡ old))
+    ⊎ ((e : NotBegun) × IsEngineNotBegun f leaders bytes now e × (status ≡ not_begun_number e) × (new ≡ old))
+
+-- the handle of the engine that goes on was written; or there was no memory for it, or the resume is refused, and nothing was
+abbrev pub IsGoingOnStatus : FlatSettings → List ℕ → List ℕ → FlatOptions → ℕ → FlatStored → List ℕ → ℕ → EngineHandle → EngineHandle
+    → Type 0
+IsGoingOnStatus f leaders bytes options now beside journal status old new =
+    ((status ≡ 0) × IsSomeAnd new.held (IsEngineResumed f leaders bytes options now beside journal))
+    ⊎ ((status ≡ 1) × (new ≡ old))
+    ⊎ ((e : NotBegun) × IsEngineNotResumed f leaders bytes now beside journal e × (status ≡ not_begun_number e) × (new ≡ old))

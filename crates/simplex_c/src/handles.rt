@@ -3,11 +3,13 @@
 ghost use Rattle.std.specs.Prelude.{◌≡◌, ◌⊎◌, Option, Some};
 ghost use Rattle.simplex_flat.specs.declared.held.Held.{Held};
 ghost use Rattle.simplex_flat.specs.declared.resolving.HeldResolver.{HeldResolver};
-ghost use Rattle.simplex_c.specs.Behind.{coded_held, coded_resolver};
+ghost use Rattle.simplex_flat_engine.specs.declared.held.HeldEngine.{HeldEngine};
+ghost use Rattle.simplex_c.specs.Behind.{coded_engine, coded_held, coded_resolver};
 
 use crate::loose::Loose;
 use simplex_flat::held::Held;
 use simplex_flat::resolving::HeldResolver;
+use simplex_flat_engine::held::HeldEngine;
 use std::alloc::Global;
 use std::marker::Model;
 
@@ -80,6 +82,44 @@ impl ResolverHandle {
         match Box::new(alloc, held) {
             Ok(held) => {
                 *self = ResolverHandle::of(Loose::of(held));
+                0
+            }
+            Err(_) => 1,
+        }
+    }
+}
+
+/// The place of an engine's handle.
+#[repr(C)]
+#[derive(Drop)]
+pub struct EngineHandle {
+    pub(crate) at: *mut u8,
+    pub ghost held: { Option HeldEngine } by { coded_engine },
+}
+
+impl Model for EngineHandle {
+    ghost use Rattle.simplex_c.specs.Behind.{engine_handed_at};
+
+    ghost also_owns = { λ h. engine_handed_at h.at h.held };
+}
+
+impl EngineHandle {
+    ghost use Rattle.simplex_c.specs.Opened.{IsEngineWritten};
+
+    fn of(engine: Loose<HeldEngine, Global>) -> EngineHandle
+        ensures { result.held ≡ Some engine.value }
+    {
+        let Loose { at, alloc: _alloc } = engine;
+        EngineHandle { at: at as *mut u8 }
+    }
+
+    /// Writes the handle of an engine: 0, or 1 where there is no memory for it.
+    pub(crate) fn write(&mut self, alloc: Global, held: HeldEngine) -> u32
+        ensures { IsEngineWritten held result self.old self.new }
+    {
+        match Box::new(alloc, held) {
+            Ok(held) => {
+                *self = EngineHandle::of(Loose::of(held));
                 0
             }
             Err(_) => 1,

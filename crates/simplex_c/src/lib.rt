@@ -1,6 +1,7 @@
-//! The functions of a member that C calls, each over a function of `simplex_flat`.
+//! The functions that C calls, each over a function of `simplex_flat` or `simplex_flat_engine`.
 #![tactic(auto)]
 
+pub mod engines;
 pub mod exports;
 pub mod handles;
 mod loose;

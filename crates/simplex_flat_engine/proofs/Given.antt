@@ -1,0 +1,19 @@
+-- What is given out stands behind all that was.
+use Rattle.std.proofs.Common.{◌≡◌, List, [], ◌∷◌, ◌++◌, false, inl, inr, sym, subst, ◌∙◌}
+use Rattle.std.specs.Prelude.{option_to_list}
+use Rattle.std.proofs.lemmas.Bool.{false≢true}
+use Rattle.simplex_host.specs.Host.{certificate_bytes}
+use Rattle.simplex_engine.specs.Going.{HasGivenOut, IsKept}
+use Rattle.simplex_flat.specs.declared.shown.FlatStored.{FlatStored}
+use Rattle.simplex_flat_engine.specs.declared.held.HeldEngine.{HeldEngine}
+use Rattle.simplex_flat_engine.specs.declared.told.FlatOutput.{FlatOutput}
+use Rattle.simplex_flat_engine.specs.Handling.{IsAllGiven, IsGivenOut}
+use Rattle.simplex_flat_engine.specs.Outputs.{HostOutput}
+
+-- an output that was written, or else nothing more is said
+pub all_given : (out : HostOutput) (before : FlatStored) (r : FlatOutput) (old new : HeldEngine) → old.is_lost ≡ false
+    → HasGivenOut certificate_bytes (out ∷ []) old.engine.core new.engine.core → IsGivenOut out before r new
+    → (given : List HostOutput) → IsAllGiven given old → IsAllGiven (given ++ option_to_list new.last) new
+all_given out before r old new going gives (inl it) given all alive =
+    subst (λ last. IsKept certificate_bytes (given ++ option_to_list last) new.engine.core) (sym it.0.last) (gives given (all going))
+all_given out before r old new going gives (inr it) given all alive = absurd (false≢true (sym alive ∙ it.0))

@@ -1,0 +1,37 @@
+-- How the contract of `resume` follows: the engine that goes on has given nothing out, and one that is refused is so for what was read.
+use Rattle.std.proofs.Common.{sym, subst}
+use Rattle.simplex_flat_engine.specs.Beginning.{IsEngineNotResumed}
+use Rattle.simplex_flat_engine.proofs.Refused.{engine_refused, member_refused}
+use Rattle.simplex_flat_engine.proofs.held.HeldEngine.resume.Goals as goal
+
+pub returns-in-Err-clause-refused : goal.returns-in-Err-clause-refused
+returns-in-Err-clause-refused c =
+    member_refused c.args.flat.now c.args.leaders.now c.args.certificate.now c.args.now c.args.stored.now c.args.journal.now c.in-Err.error
+    c.in-Err.ensures.refused
+
+pub returns-in-Ok-resume-clause-resumed : goal.returns-in-Ok-resume-clause-resumed
+returns-in-Ok-resume-clause-resumed c =
+    let from = c.in-Ok.from in record {
+      start = from.start;
+      stored = from.stored;
+      entries = from.entries.items;
+      from = c.in-Ok.ensures.from;
+      whole = c.in-Ok.ensures.whole;
+      resumed = rw c.new.ensures.engine c.in-Ok-resume.ensures.resumed;
+      goes_on = rw c.new.ensures.engine c.in-Ok-resume.ensures.goes_on;
+      nothing = record {
+        kept = λ _. rw c.new.ensures.engine c.in-Ok-resume.ensures.kept;
+        whole = rw c.new.ensures.engine c.in-Ok-resume.ensures.whole;
+        votes = rw c.new.ensures.engine c.in-Ok-resume.ensures.votes;
+        draws = c.new.ensures.draws;
+        fresh = c.new.ensures.fresh;
+      };
+    }
+
+pub returns-in-Err-resume-clause-refused : goal.returns-in-Err-resume-clause-refused
+returns-in-Err-resume-clause-refused c =
+    let from = c.in-Ok.from in
+    subst (IsEngineNotResumed c.args.flat.now c.args.leaders.now c.args.certificate.now c.args.now c.args.stored.now c.args.journal.now)
+    (sym c.not_begun.ensures)
+    (engine_refused c.args.flat.now c.args.leaders.now c.args.certificate.now c.args.now c.args.stored.now c.args.journal.now
+    c.in-Err-resume.error (from.start, from.stored, from.entries.items, c.in-Ok.ensures.from))

@@ -1,0 +1,94 @@
+-- How an engine behind a handle begins.
+use Rattle.std.specs.Prelude.{◌≡◌, ◌⊎◌, ◌≤◌, max, ℕ, List, [], length}
+use Rattle.simplex_host.specs.Electing.{terms_of}
+use Rattle.simplex_host.specs.Host.{certificate_bytes, signer_of}
+use Rattle.simplex_record.specs.Entries.{entries_of}
+use Rattle.simplex_member.specs.Journal.{IsResumed}
+use Rattle.simplex_member.specs.declared.member.journal.Stored.{Stored}
+use Rattle.simplex_member.specs.declared.member.resume.ResumeError.TheVariants as resume
+use Rattle.simplex_laws.specs.Living.{HasBegun, HasGoneOn}
+use Rattle.simplex_engine.specs.declared.engine.begin.StartError.{StartError}
+use Rattle.simplex_engine.specs.declared.engine.begin.StartError.TheVariants as start_error
+use Rattle.simplex_engine.specs.declared.engine.plan.Options.{Options}
+use Rattle.simplex_engine.specs.Batching.{AreGiven}
+use Rattle.simplex_engine.specs.Going.{IsWhole}
+use Rattle.simplex_flat.specs.declared.flat.FlatSettings.{FlatSettings}
+use Rattle.simplex_flat.specs.declared.opening.NotResumed.TheVariants as not_resumed
+use Rattle.simplex_flat.specs.declared.resolving.NotReplayed.TheVariants as not_replayed
+use Rattle.simplex_flat.specs.declared.shown.FlatStored.{FlatStored}
+use Rattle.simplex_flat.specs.Journals.{HostArtifact}
+use Rattle.simplex_flat.specs.Opening.{IsGoingOn, IsNotResumedBy, host_start}
+use Rattle.simplex_flat.specs.Resolving.{not_replayed_number}
+use Rattle.simplex_flat.specs.Serving.{host_leader, same_payload}
+use Rattle.simplex_flat.specs.Settings.{HostStart, IsNoStart, IsStart}
+use Rattle.simplex_flat.specs.Starting.{begun}
+use Rattle.simplex_flat.specs.Statuses.{not_resumed_number}
+use Rattle.simplex_flat_engine.specs.declared.begin.NotBegun.{NotBegun}
+use Rattle.simplex_flat_engine.specs.declared.begin.NotBegun.TheVariants as not_begun
+use Rattle.simplex_flat_engine.specs.declared.held.HeldEngine.{HeldEngine}
+use Rattle.simplex_flat_engine.specs.declared.told.FlatOptions.{FlatOptions}
+use Rattle.simplex_flat_engine.specs.Handling.{IsAllGiven, HasShownNothing}
+
+-- intervals, that of asking again one millisecond at least, and how long a record grows
+abbrev pub options_of : FlatOptions → Options
+options_of f = record { retry = max f.retry 1; on_its_way = f.on_its_way; long_record = f.long_record }
+
+-- nothing was given out; the whole record is to be stored in place of all that is, no vote is held, and leaders are drawn as set
+pub record HasGivenNothing (f : FlatSettings) (held : HeldEngine) : Type 0 where
+  pub kept : IsAllGiven [] held
+  pub whole : IsWhole certificate_bytes held.engine.core
+  pub votes : AreGiven [] held.engine.batcher
+  pub draws : held.draws ≡ f.draws
+  pub fresh : HasShownNothing held
+
+-- an engine begins by these settings, with this table, floor and moment: its member is the one that they begin
+pub record IsEngineBegun (f : FlatSettings) (leaders bytes : List ℕ) (options : FlatOptions) (now : ℕ) (held : HeldEngine) : Type 0 where
+  pub start : HostStart
+  pub by : IsStart f leaders bytes now start
+  pub facts : held.engine.core.member.facts ≡ begun start
+  pub begins : HasBegun same_payload host_leader signer_of terms_of start held.engine.core.member.facts
+  pub nothing : HasGivenNothing f held
+
+-- why none begins: by its settings; or by what they begin, or for want of memory
+abbrev pub IsEngineNotBegun : FlatSettings → List ℕ → List ℕ → ℕ → NotBegun → Type 0
+IsEngineNotBegun f leaders bytes now (not_begun.Member (not_resumed.Settings e)) = IsNoStart f leaders bytes e
+IsEngineNotBegun f leaders bytes now _ = (start : HostStart) × IsStart f leaders bytes now start
+
+-- an engine goes on from the bytes of a journal, which has all entries that were counted
+pub record IsEngineResumed (f : FlatSettings) (leaders bytes : List ℕ) (options : FlatOptions) (now : ℕ) (beside : FlatStored) (journal : List ℕ)
+    (held : HeldEngine) : Type 0 where
+  pub start : HostStart
+  pub stored : Stored
+  pub entries : List HostArtifact
+  pub from : IsGoingOn f leaders bytes now beside journal start stored entries
+  pub whole : beside.entries ≤ length entries
+  pub resumed : IsResumed same_payload host_leader stored (entries_of certificate_bytes entries) (host_start start) held.engine.core.member.facts
+  pub goes_on : HasGoneOn same_payload host_leader signer_of terms_of stored (entries_of certificate_bytes entries) start
+      held.engine.core.member.facts
+  pub nothing : HasGivenNothing f held
+
+-- a start, a record and what is stored beside it are read of them
+abbrev pub AreReadFrom : FlatSettings → List ℕ → List ℕ → ℕ → FlatStored → List ℕ → Type 0
+AreReadFrom f leaders bytes now beside journal =
+    (start : HostStart) × (stored : Stored) × (entries : List HostArtifact) × IsGoingOn f leaders bytes now beside journal start stored entries
+
+-- why none goes on: by its settings or journal; or by what these are, or for want of memory
+abbrev pub IsEngineNotResumed : FlatSettings → List ℕ → List ℕ → ℕ → FlatStored → List ℕ → NotBegun → Type 0
+IsEngineNotResumed f leaders bytes now beside journal (not_begun.Member (not_resumed.Settings e)) = IsNoStart f leaders bytes e
+IsEngineNotResumed f leaders bytes now beside journal (not_begun.Member not_resumed.NoFlag) = 2 ≤ beside.is_pruned
+IsEngineNotResumed f leaders bytes now beside journal (not_begun.Member (not_resumed.Journal e)) =
+    IsNotResumedBy f leaders bytes now beside journal (not_resumed.Journal e)
+IsEngineNotResumed f leaders bytes now beside journal (not_begun.Member not_resumed.EntriesLost) =
+    IsNotResumedBy f leaders bytes now beside journal not_resumed.EntriesLost ⊎ AreReadFrom f leaders bytes now beside journal
+IsEngineNotResumed f leaders bytes now beside journal _ = AreReadFrom f leaders bytes now beside journal
+
+-- the error of an engine, by the member's and the resolver's
+abbrev pub not_begun_of : StartError → NotBegun
+not_begun_of (start_error.Resume resume.EntriesLost) = not_begun.Member not_resumed.EntriesLost
+not_begun_of (start_error.Resume (resume.Recover e)) = not_begun.Member (not_resumed.Recover e)
+not_begun_of (start_error.Replay e) = not_begun.Resolver e
+
+-- its number
+abbrev pub not_begun_number : NotBegun → ℕ
+not_begun_number (not_begun.Member e) = not_resumed_number e
+not_begun_number (not_begun.Resolver e) = not_replayed_number (not_replayed.Replay e)

@@ -1,0 +1,151 @@
+-- How an engine behind a handle is told and asked.
+use Rattle.std.specs.Prelude.{◌≡◌, ◌⊎◌, ◌+◌, ◌-◌, ◌^◌, ◌++◌, min, ℕ, Bool, true, false, List, [], length, Option, Some, None, option_to_list, Result, Ok, Err, OnErr}
+use Rattle.simplex_types.specs.declared.types.fault.Fault.{Fault}
+use Rattle.simplex_host.specs.Host.{certificate_bytes, keys_of}
+use Rattle.simplex_engine.specs.declared.output.Output.TheVariants as output
+use Rattle.simplex_engine.specs.Backing.{IsBackedInput, TakesNone, TakesVotes, votes_in}
+use Rattle.simplex_engine.specs.Going.{DoesMoreOn, GoesOn, IsKept, IsWhole, has_failed}
+use Rattle.simplex_engine.specs.Inputs.{subject_in}
+use Rattle.simplex_engine.specs.Journals.{IsRecordOf, journal_of}
+use Rattle.simplex_engine.specs.Settled.{IsSettled}
+use Rattle.simplex_flat.specs.declared.journal.NotWritten.{NotWritten}
+use Rattle.simplex_flat.specs.declared.shown.FlatStored.{FlatStored}
+use Rattle.simplex_flat.specs.Journals.{framed}
+use Rattle.simplex_flat.specs.Numbers.{fault_number, flag_number}
+use Rattle.simplex_flat.specs.Opening.{IsStored}
+use Rattle.simplex_flat.specs.Serving.{host_leader, same_payload}
+use Rattle.simplex_flat.specs.Statuses.{not_written_number}
+use Rattle.simplex_flat_engine.specs.declared.held.HeldEngine.{HeldEngine}
+use Rattle.simplex_flat_engine.specs.declared.told.FlatInput.{FlatInput}
+use Rattle.simplex_flat_engine.specs.declared.told.FlatOutput.{FlatOutput}
+use Rattle.simplex_flat_engine.specs.declared.told.FlatTaken.{FlatTaken}
+use Rattle.simplex_flat_engine.specs.Inputs.{HandsInBytes, HasInputNumbers, HostInput, IsNoInput, IsToldAs}
+use Rattle.simplex_flat_engine.specs.Outputs.{HasOutputOf, HostOutput, other_signature, signature_in}
+
+-- nothing was given out or shown yet, and nothing is lost
+pub record HasShownNothing (held : HeldEngine) : Type 0 where
+  pub nothing : held.last ≡ None
+  pub lost : held.is_lost ≡ false
+  pub shown : held.shown.items ≡ []
+
+-- whether it was of use, or why the engine has failed
+abbrev pub IsAnswer : Result Bool Fault → FlatTaken → Type 0
+IsAnswer (Ok is_of_use) r = (r.status ≡ 0) × (r.is_of_use ≡ flag_number is_of_use)
+IsAnswer (Err fault) r = r.status ≡ fault_number fault
+
+-- the engine takes an input, by its contract, and nothing else changes
+pub record IsTaken (input : HostInput) (old : HeldEngine) (r : FlatTaken) (new : HeldEngine) : Type 0 where
+  pub going : old.is_lost ≡ false
+  pub answer : Result Bool Fault
+  pub tells : IsAnswer answer r
+  -- after an error the engine has failed
+  pub failed : OnErr answer (has_failed new.engine.core ≡ true)
+  pub goes_on : GoesOn same_payload host_leader certificate_bytes (subject_in certificate_bytes input) old.engine.core new.engine.core
+  pub votes : TakesVotes (votes_in input) old.engine.batcher new.engine.batcher
+  pub backed : IsBackedInput same_payload host_leader certificate_bytes (length (keys_of old.engine.batcher.scheme)) input old.engine.batcher
+      old.engine.core new.engine.core
+  pub rest : new ≡ record old { engine = new.engine }
+
+-- or what it gave out was lost before, and it takes nothing
+abbrev pub HasLost : HeldEngine → ℕ → HeldEngine → Type 0
+HasLost old status new = (old.is_lost ≡ true) × (status ≡ 2) × (new ≡ old)
+
+abbrev pub Takes : HostInput → HeldEngine → FlatTaken → HeldEngine → Type 0
+Takes input old r new = HasLost old r.status new ⊎ IsTaken input old r new
+
+-- nothing was told, and all is as it was: one of the numbers is none of an input, a vote would make a certificate from which leaders
+-- are drawn, or there was no memory for its bytes
+abbrev pub IsNotTold : HeldEngine → FlatInput → FlatTaken → HeldEngine → Type 0
+IsNotTold old f r new =
+    (new ≡ old) × (((r.status ≡ 6) × (IsNoInput f ⊎ ((old.draws ≡ 1) × (f.kind ≡ 2)))) ⊎ ((r.status ≡ 7) × HandsInBytes f))
+
+-- the input that the flat one stands for was told
+pub record IsTold (old : HeldEngine) (f : FlatInput) (bytes : List ℕ) (r : FlatTaken) (new : HeldEngine) : Type 0 where
+  pub input : HostInput
+  pub numbers : HasInputNumbers f
+  pub is_told : IsToldAs f bytes input
+  pub taken : Takes input old r new
+
+-- what came in was told, or nothing was
+abbrev pub IsHandled : HeldEngine → FlatInput → List ℕ → FlatTaken → HeldEngine → Type 0
+IsHandled old f bytes r new = IsNotTold old f r new ⊎ IsTold old f bytes r new
+
+-- the bytes of an output: its entries as these frames, what is to be signed, a certificate, or the first signature of two
+abbrev pub bytes_in : List ℕ → Option HostOutput → List ℕ
+bytes_in frames (Some (output.Store _)) = frames
+bytes_in frames (Some (output.Replace _ _)) = frames
+bytes_in frames (Some out) = signature_in out
+bytes_in frames None = []
+
+-- of what was given out last
+abbrev pub first_bytes : HeldEngine → List ℕ
+first_bytes held = bytes_in held.frames.items held.last
+
+-- the second signature of two
+abbrev pub second_bytes_in : Option HostOutput → List ℕ
+second_bytes_in (Some out) = other_signature out
+second_bytes_in None = []
+
+abbrev pub second_bytes : HeldEngine → List ℕ
+second_bytes held = second_bytes_in held.last
+
+-- entries that are to be stored are written as frames, and what is stored beside them counts them
+abbrev pub AreFramed : HostOutput → FlatStored → List ℕ → FlatStored → Type 0
+AreFramed (output.Store entries) before frames after =
+    (frames ≡ framed entries.items) × (after ≡ record before { entries = min (before.entries + length entries.items) (2 ^ 64 - 1) })
+AreFramed (output.Replace entries beside) before frames after =
+    (frames ≡ framed entries.items) × (after.entries ≡ length entries.items) × IsStored after beside
+AreFramed _ before frames after = after ≡ before
+
+-- a flat output tells an output, which is read behind the handle
+pub record IsReadAs (out : HostOutput) (r : FlatOutput) (new : HeldEngine) : Type 0 where
+  pub status : r.status ≡ 0
+  pub tells : HasOutputOf out r
+  pub last : new.last ≡ Some out
+  pub bytes : r.bytes ≡ length (first_bytes new)
+  pub others : r.other_bytes ≡ length (second_bytes new)
+  pub stored : r.stored ≡ new.stored
+
+-- nothing is told, for this status
+pub record IsNothing (status : ℕ) (r : FlatOutput) (new : HeldEngine) : Type 0 where
+  pub status_is : r.status ≡ status
+  pub nothing : r.kind ≡ 0
+  pub last : new.last ≡ None
+
+-- an output is given out, its entries written; or they could not be, for want of memory or since no frame holds one, and all is lost
+abbrev pub IsGivenOut : HostOutput → FlatStored → FlatOutput → HeldEngine → Type 0
+IsGivenOut out before r new =
+    (IsReadAs out r new × AreFramed out before new.frames.items new.stored × (new.is_lost ≡ false))
+    ⊎ ((new.is_lost ≡ true) × ((error : NotWritten) × IsNothing (not_written_number error) r new))
+
+-- all that was given out since the life began, until something is lost
+abbrev pub IsAllGiven : List HostOutput → HeldEngine → Type 0
+IsAllGiven given held = held.is_lost ≡ false → IsKept certificate_bytes given held.engine.core
+
+-- where nothing is queued and all of the record was given out, a journal that carries out what was given out holds the record
+abbrev pub HoldsRecord : List HostOutput → HeldEngine → Type 0
+HoldsRecord given held =
+    held.engine.core.failed ≡ false → held.engine.core.outbox.queue.items ≡ [] → IsWhole certificate_bytes held.engine.core
+    → IsRecordOf certificate_bytes held.engine.core.member (journal_of given)
+
+-- what a poll comes to: something is given out; nothing is left to be done now; or the engine has failed
+abbrev pub IsOutcome : HeldEngine → FlatOutput → HeldEngine → Type 0
+IsOutcome old r new =
+    ((out : HostOutput) × IsGivenOut out old.stored r new)
+    ⊎ (IsNothing 0 r new × IsSettled same_payload host_leader certificate_bytes new.engine.core)
+    ⊎ ((fault : Fault) × IsNothing (fault_number fault) r new × (has_failed new.engine.core ≡ true))
+
+-- an engine that has lost nothing is asked what is to be carried out next
+pub record IsAsked (old : HeldEngine) (r : FlatOutput) (new : HeldEngine) : Type 0 where
+  -- what is given out stands behind all that was
+  pub given : (given : List HostOutput) → IsAllGiven given old → IsAllGiven (given ++ option_to_list new.last) new
+  -- no certificate is accepted, and no vote is taken
+  pub does : DoesMoreOn same_payload host_leader None old.engine.core.member.facts new.engine.core.member.facts
+  pub votes : TakesNone old.engine.batcher new.engine.batcher
+  pub outcome : IsOutcome old r new
+
+-- an engine is polled; one that has lost something has failed
+abbrev pub IsPolled : HeldEngine → FlatOutput → HeldEngine → Type 0
+IsPolled old r new =
+    (((old.is_lost ≡ true) × IsNothing 2 r new × (new.engine ≡ old.engine)) ⊎ ((old.is_lost ≡ false) × IsAsked old r new))
+    × (new.draws ≡ old.draws) × (new.shown ≡ old.shown)

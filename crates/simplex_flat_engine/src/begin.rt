@@ -1,0 +1,110 @@
+//! How an engine behind a handle begins: a first life at a floor, or another from the bytes of a journal.
+
+ghost use Rattle.std.specs.Prelude.{◌≡◌, IfOk, IfErr};
+ghost use Rattle.simplex_flat_engine.specs.Beginning.{not_begun_number, not_begun_of, options_of};
+
+use crate::held::HeldEngine;
+use crate::told::FlatOptions;
+use simplex_engine::engine::{Engine, Options, StartError};
+use simplex_flat::flat::FlatSettings;
+use simplex_flat::opening::{NotResumed, going_on};
+use simplex_flat::resolving::{NotReplayed, number_of_not_replayed};
+use simplex_flat::settings::start_of;
+use simplex_flat::shown::FlatStored;
+use simplex_flat::statuses::number_of_not_resumed;
+use simplex_member::member::ResumeError;
+use simplex_resolver::replay::ReplayError;
+use std::alloc::Global;
+
+/// Why no engine begins.
+#[derive(Clone, Copy, PartialEq, Eq, Debug)]
+pub enum NotBegun {
+    /// For what no member of these settings goes on.
+    Member(NotResumed),
+    /// The resolver refuses the record.
+    Resolver(ReplayError),
+}
+
+impl HeldEngine {
+    ghost use Rattle.simplex_flat_engine.specs.Beginning.{IsEngineBegun, IsEngineNotBegun, IsEngineNotResumed, IsEngineResumed};
+
+    /// An engine whose member never voted, by flat settings with a table of leaders and the bytes of the floor's certificate.
+    pub fn start(
+        alloc: Global,
+        flat: &FlatSettings,
+        leaders: &[u32],
+        certificate: &[u8],
+        options: &FlatOptions,
+        now: u64,
+    ) -> Result<HeldEngine, NotBegun>
+        ensures begun { IfOk result (IsEngineBegun flat.now leaders.now certificate.now options.now now) }
+        ensures refused { IfErr result (IsEngineNotBegun flat.now leaders.now certificate.now now) }
+    {
+        let start = match start_of(alloc, flat, leaders, certificate, now) {
+            Ok(start) => start,
+            Err(error) => return Err(NotBegun::Member(NotResumed::Settings(error))),
+        };
+        match Engine::start(alloc, start, options_in(options)) {
+            Ok(engine) => Ok(HeldEngine::new(alloc, engine, flat.draws)),
+            Err(error) => Err(not_begun(error)),
+        }
+    }
+
+    /// An engine that goes on from its journal: the bytes that its entries were as frames, and what was stored beside them last.
+    pub fn resume(
+        alloc: Global,
+        flat: &FlatSettings,
+        leaders: &[u32],
+        certificate: &[u8],
+        options: &FlatOptions,
+        now: u64,
+        stored: &FlatStored,
+        journal: &[u8],
+    ) -> Result<HeldEngine, NotBegun>
+        ensures resumed { IfOk result (IsEngineResumed flat.now leaders.now certificate.now options.now now stored.now journal.now) }
+        ensures refused { IfErr result (IsEngineNotResumed flat.now leaders.now certificate.now now stored.now journal.now) }
+    {
+        let from = match going_on(alloc, flat, leaders, certificate, now, stored, journal) {
+            Ok(from) => from,
+            Err(error) => return Err(NotBegun::Member(error)),
+        };
+        let options = options_in(options);
+        match Engine::resume(alloc, from.start, from.stored, from.entries, options) {
+            Ok(engine) => Ok(HeldEngine::new(alloc, engine, flat.draws)),
+            Err(error) => Err(not_begun(error)),
+        }
+    }
+}
+
+/// Intervals, and how long a record grows. A fetch that were due again as soon as it is asked for would be asked without end.
+fn options_in(flat: &FlatOptions) -> Options
+    ensures { result ≡ options_of flat.now }
+{
+    Options {
+        retry: flat.retry.max(1),
+        on_its_way: flat.on_its_way,
+        long_record: flat.long_record as usize,
+    }
+}
+
+fn not_begun(error: StartError) -> NotBegun
+    ensures { result ≡ not_begun_of error }
+{
+    match error {
+        StartError::Resume(ResumeError::EntriesLost) => NotBegun::Member(NotResumed::EntriesLost),
+        StartError::Resume(ResumeError::Recover(error)) => {
+            NotBegun::Member(NotResumed::Recover(error))
+        }
+        StartError::Replay(error) => NotBegun::Resolver(error),
+    }
+}
+
+/// The number of what refuses a start or a resume.
+pub fn number_of_not_begun(error: NotBegun) -> u32
+    ensures { result ≡ not_begun_number error }
+{
+    match error {
+        NotBegun::Member(error) => number_of_not_resumed(error),
+        NotBegun::Resolver(error) => number_of_not_replayed(NotReplayed::Replay(error)),
+    }
+}
