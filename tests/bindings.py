@@ -4,13 +4,16 @@
 The scripts of the repository's tests that ask a voter, and random ones, are served by `viewstate`, by `bindings/c/examples/script.c` and
 by the example of the Rust package, once with restarts in place and once with each restart of nothing by a resume from the journal's bytes:
 the replies are the same, byte for byte. Other random scripts are served with a journal in whose place each `prune` puts what is left of the
-record, and from which the member goes on at each restart: the replies are those of a member that keeps its whole record.
-`bindings/c/examples/lives.c` begins and lets go many members, and hands in what has to be refused; under valgrind it neither errs nor loses
-a byte. The package's own tests and lints run too. And both callers are built with two kinds of calls swapped, which the comparison has to
-find.
+record, and from which the member goes on at each restart: the replies are those of a member that keeps its whole record. Random inputs and
+questions are served by an engine in Rattle (`tests/engine_lines`) and by one of the package, with lives from what was stored: the answers
+are the same, and each kind of output is among them. `bindings/c/examples/lives.c` begins and lets go many members and engines, and hands in
+what has to be refused; under valgrind it neither errs nor loses a byte. `wanting.c` beside it has each request for memory of an engine
+refused, one in each of many runs. The package's own tests and lints run too. And callers are built with two kinds of calls, of inputs and of
+outputs swapped, which the comparisons have to find.
 
-    tests/bindings.py [--program PATH] [--archive PATH] [--again]     without an archive one is built, unproved, in a minute or two, and then
-                                                                      another, which has to have the same bytes; so too by --again
+    tests/bindings.py [--program PATH] [--engine-lines PATH] [--archive PATH] [--again]
+
+Without an archive one is built, unproved, in a minute or two, and then another, which has to have the same bytes; so too by --again.
 
 It ends with status 1 where replies differ, or where less was tried than is asked for. Where `cargo` or `cc` is missing it says so in one
 line, and tries nothing of it."""
@@ -36,8 +39,14 @@ BINDINGS = ROOT / "bindings"
 NETWORKS = (("4", "0", "1", "0"), ("7", "2", "5", "2"), ("5", "4", "3", "1"), ("4", "-", "2", "2"), ("10", "3", "10", "4"))
 RANDOM_SCRIPTS, RANDOM_LINES = 4, 500
 MEMBERS = 10_000
-LEAST = {"scripts": 80, "random lines": 10_000, "comparisons": 400, "entries taken away": 1000, "resolver's lines": 6000, "members": MEMBERS}
+ENGINES, ENGINE_LINES = (("4", "0", "1", "0"), ("4", "1", "3", "2"), ("7", "2", "5", "4"), ("1", "0", "1", "0"), ("5", "9", "2", "0")), 1000
+GIVEN = ("store", "replace", "vote", "broadcast", "verify", "build", "stop", "certify", "fetch", "finalized", "equivocated", "twice", "forget")
+LEAST = {
+    "engine's lines": 10_000, **{f"'{kind}'": 10 for kind in GIVEN}, "resumes": 50, "engines": MEMBERS // 2, "requests refused": 500,
+    "scripts": 80, "random lines": 10_000, "comparisons": 400, "entries taken away": 1000, "resolver's lines": 6000, "members": MEMBERS,
+}
 SWAPPED = ("CONSTRUCT_NOTARIZE", "CONSTRUCT_FINALIZE")
+SWAPPED_OF_ENGINES = (("input.rs", "{ .. } => 4,", "{ .. } => 6,"), ("output.rs", " 8 => Output::", " 10 => Output::"))
 TIMED = ("nullification", "finalization", "proposed", "rejected", "verdict", "trigger", "timeout", "restart", "restart-pruned")
 REASONS = ("Retry", "Inactivity", "LeaderNullify", "MissingProposal", "FailedCertification")
 
@@ -92,6 +101,30 @@ def resolver_script(seed, length=RANDOM_LINES):
     return lines
 
 
+def engine_script(network, seed, length=ENGINE_LINES):
+    """Lines for an engine: inputs round a view that rises, most of them of use, polls, and questions."""
+    members, me, term, _ = (int(word) for word in network)
+    drawn, now, base, lines = random.Random(seed), 0, 1, []
+    for _ in range(length):
+        now += drawn.choice((0, 0, 1, 5, 40, 600)) if drawn.random() < 0.4 else 0
+        base += drawn.random() < 0.06
+        view = max(0, base + drawn.choice((-2, -1, -1, 0, 0, 0, 0, 1, 1, 2, 3)))
+        before = max(0, view - drawn.choice((1, 1, 1, 1, 1, 2)))
+        block = f"{view} {before} {view if drawn.random() < 0.9 else view + 100}"
+        leader, size = max(0, view - 1) // term % members, drawn.randrange(1, 4) if drawn.random() < 0.95 else 200
+        vote = f"vote {drawn.choice((1, 1, 2, 3))} {drawn.choice((me, leader, drawn.randrange(members + 1)))} {block} {size} {now}"
+        lines.append(drawn.choice((
+            *[f"poll {now}"] * 12, *[vote] * 6, f"certificate {drawn.choice((1, 1, 2, 3))} {block} {size} {now}",
+            f"proposal {leader if drawn.random() < 0.9 else me} {block} {now}", f"proposal {leader} {block} {now}",
+            f"verified {view} {int(drawn.random() < 0.9)} {now}", f"verified {view} 1 {now}",
+            f"built {view} {before} {before} {leader} {view} {now}", f"certified {view} {int(drawn.random() < 0.9)} {now}", f"certified {view} 1 {now}",
+            f"given-up {view} {drawn.randrange(10)} {now}" if drawn.random() < 0.3 else f"poll {now}",
+            drawn.choice(("status", f"open {drawn.randrange(3)}", f"view {view}", f"shown {drawn.choice((1, 2, 3))} {view}", f"served {view}")),
+            f"resume {now}" if drawn.random() < 0.3 else "status",
+        )))
+    return lines
+
+
 def serve(command, lines):
     """A caller that has served lines."""
     return subprocess.run(command, input="".join(f"{line}\n" for line in lines).encode(), capture_output=True, check=False)
@@ -126,15 +159,14 @@ def cargo(folder, target, archive, *words):
     subprocess.run(["cargo", *words], cwd=folder, env=surroundings, check=True, stdout=subprocess.DEVNULL, stderr=subprocess.PIPE)
 
 
-def rust_caller(folder, target, archive):
-    """The example of the package."""
-    cargo(folder, target, archive, "build", "--quiet", "--example", "first_script")
-    return target / "debug/examples/first_script"
+def rust_caller(folder, target, archive, example="first_script"):
+    """An example of the package."""
+    cargo(folder, target, archive, "build", "--quiet", "--example", example)
+    return target / "debug/examples" / example
 
 
-def swapped(text):
-    """A text in which two kinds of calls have each other's names."""
-    one, other = SWAPPED
+def swapped(text, one=SWAPPED[0], other=SWAPPED[1]):
+    """A text in which two kinds have each other's names or numbers."""
     return text.replace(one, "\0").replace(other, one).replace("\0", other)
 
 
@@ -149,6 +181,16 @@ def wrong_callers(room, archive):
     member.write_text("".join(swapped(line) if "const CONSTRUCT_" in line else line for line in member.read_text().splitlines(keepends=True)))
     yield "C", (compiled(BINDINGS / "c/examples/script.c", include, archive, room / "wrong_script"),)
     yield "Rust", (rust_caller(package, room / "wrong-target", archive),)
+
+
+def wrong_engines(room, archive):
+    """Callers of engines with two kinds of inputs, or of outputs, swapped."""
+    for name, one, other in SWAPPED_OF_ENGINES:
+        package = room / f"wrong-{name}"
+        shutil.copytree(BINDINGS / "rust", package, ignore=shutil.ignore_patterns("target"))
+        source = package / "src/engine" / name
+        source.write_text(swapped(source.read_text(), one, other))
+        yield name, rust_caller(package, room / f"wrong-{name}-target", archive, "engine_lines")
 
 
 def compare(path, callers, pool):
@@ -182,6 +224,15 @@ def compare_resolvers(path, caller):
     return Counter({"resolver's lines": sum(len(lines) for _, lines in tried)}), faults
 
 
+def compare_engines(path, caller, pool):
+    """What was compared of engines, which outputs were seen, and what differs."""
+    tried = [(network, engine_script(network, 100 * place + seed)) for place, network in enumerate(ENGINES) for seed in range(2)]
+    faults = pool.map(lambda it: [*differing(path, {"an engine in Rust": (caller,)}, *it)], tried)
+    answers = Counter(line.split()[0] for network, lines in tried for line in run((path, *network), lines)[1].decode().splitlines())
+    seen = Counter({f"'{kind}'": answers[kind] for kind in GIVEN})
+    return seen + Counter({"engine's lines": sum(len(lines) for _, lines in tried), "resumes": answers["resumed"]}), [it for found in faults for it in found]
+
+
 def try_lives(room, archive):
     """What the caller that begins and lets go many members does, under valgrind where that is there, and how long it takes."""
     begun = time.monotonic()
@@ -190,9 +241,18 @@ def try_lives(room, archive):
     ended = subprocess.run([*watch, lives, str(MEMBERS)], stdout=subprocess.PIPE, check=False)
     if ended.returncode:
         return Counter(), [f"lives ended with {ended.returncode}"]
-    members = int(ended.stdout.split()[0])
-    print(f"{members} members under {' '.join(watch[:1]) or 'no watch'}: {time.monotonic() - begun:.0f} s")
-    return Counter({"members": members}), []
+    members, _, engines, _ = ended.stdout.split()
+    print(f"{ended.stdout.decode().strip()} under {' '.join(watch[:1]) or 'no watch'}: {time.monotonic() - begun:.0f} s")
+    return Counter({"members": int(members), "engines": int(engines)}), []
+
+
+def try_wanting(room, archive):
+    """What an engine does of which one request for memory is refused, for each request in turn."""
+    wanting = compiled(BINDINGS / "c/examples/wanting.c", BINDINGS / "c/include", archive, room / "wanting")
+    ended = subprocess.run([wanting, "5"], stdout=subprocess.PIPE, check=False)
+    if ended.returncode:
+        return Counter(), [f"wanting ended with {ended.returncode}"]
+    return Counter({"requests refused": int(ended.stdout.split()[0])}), []
 
 
 def package_faults(target, archive):
@@ -220,20 +280,26 @@ def try_all(given, room, pool):
     callers = {"C": (in_c,), "Rust": (in_rust,), "C, resumed": (in_c, "resume"), "Rust, resumed": (in_rust, "resume")}
     seen, differences = compare(path, callers, pool)
     compacted, lost = compare_compactions(path, {"C, compacted": (in_c, "compact"), "Rust, compacted": (in_rust, "compact")}, pool)
-    cargo(BINDINGS / "rust", target, archive, "build", "--quiet", "--example", "resolver")
-    resolved, others = compare_resolvers(path, target / "debug/examples/resolver")
+    resolved, others = compare_resolvers(path, rust_caller(BINDINGS / "rust", target, archive, "resolver"))
+    engine = given.engine_lines and given.engine_lines.resolve() or Path(program.build_engine_lines(room))
+    told, untold = compare_engines(engine, rust_caller(BINDINGS / "rust", target, archive, "engine_lines"), pool)
     lived, more = try_lives(room, archive)
-    faults += [*differences, *lost, *others, *more, *package_faults(target, archive)]
+    refused, unfit = try_wanting(room, archive)
+    faults += [*differences, *lost, *others, *untold, *more, *unfit, *package_faults(target, archive)]
     for name, command in wrong_callers(room, archive):
         if not compare(path, {name: command}, pool)[1]:
             faults.append(f"{name} with two kinds swapped is not told from the right one")
-    return seen + compacted + resolved + lived, faults
+    for name, caller in wrong_engines(room, archive):
+        if not compare_engines(engine, caller, pool)[1]:
+            faults.append(f"an engine with two kinds swapped in {name} is not told from the right one")
+    return seen + compacted + resolved + told + lived + refused, faults
 
 
 def main():
     parser = argparse.ArgumentParser(description=__doc__, formatter_class=argparse.RawDescriptionHelpFormatter)
     program.add_option(parser)
     parser.add_argument("--archive", type=Path, help="the library, if it is built already")
+    parser.add_argument("--engine-lines", type=Path, help="the program that tells an engine lines, if it is built already")
     parser.add_argument("--again", action="store_true", help="the archive was built unproved: another build has to have the same bytes")
     parser.add_argument("--jobs", type=int, default=2, help="how many scripts go side by side")
     given = parser.parse_args()

@@ -12,7 +12,7 @@ fn main() {
     println!("cargo:rerun-if-changed={}", archive.display());
     let Ok(archive) = archive.canonicalize() else {
         eprintln!(
-            "{} is not there: run bindings/build --unproved (two minutes, to try) or bindings/build (the proved library), or name the \
+            "{} is not there: run bindings/build --unproved (three minutes, to try) or bindings/build (the proved library), or name the \
              archive in SIMPLEX_ARCHIVE",
             archive.display()
         );

@@ -53,6 +53,61 @@ impl fmt::Display for Refusal {
 
 impl Error for Refusal {}
 
+/// Why an engine has no answer. After an error of [`Engine::handle`](crate::Engine::handle) or [`Engine::poll`](crate::Engine::poll) it has
+/// failed, but for `NotAllowed` and `NotMade`: resume another from what was stored.
+#[derive(Clone, Copy, PartialEq, Eq, Hash, Debug)]
+#[non_exhaustive]
+pub enum EngineError {
+    /// Memory is wanting.
+    OutOfMemory,
+    /// It failed before, or its member has.
+    Failed,
+    /// A view is above 2^63 - 1.
+    ViewTooLarge,
+    /// A deadline is above 2^64 - 1 milliseconds.
+    TimeOverflow,
+    /// An entry of the record has 2^32 bytes or more: a certificate is too long.
+    EntryTooLong,
+    /// What is told is nothing that this engine can be told: a vote, where leaders are drawn from certificates
+    /// ([`Leaders::Drawn`](crate::Leaders::Drawn)), which no votes make. Nothing was told.
+    NotAllowed,
+    /// There was no memory for the signature or the certificate. Nothing was told.
+    NotMade,
+}
+
+impl EngineError {
+    /// The error of a status; none where the call was answered.
+    pub(crate) fn of(status: u32) -> Option<EngineError> {
+        Some(match status {
+            0 => return None,
+            1 => EngineError::OutOfMemory,
+            2 => EngineError::Failed,
+            3 => EngineError::ViewTooLarge,
+            4 => EngineError::TimeOverflow,
+            6 => EngineError::NotAllowed,
+            7 => EngineError::NotMade,
+            14 => EngineError::EntryTooLong,
+            _ => unreachable!("status {status} of an engine"),
+        })
+    }
+}
+
+impl fmt::Display for EngineError {
+    fn fmt(&self, f: &mut fmt::Formatter<'_>) -> fmt::Result {
+        f.write_str(match self {
+            EngineError::OutOfMemory => "memory is wanting",
+            EngineError::Failed => "the engine has failed",
+            EngineError::ViewTooLarge => "a view is above 2^63 - 1",
+            EngineError::TimeOverflow => "a deadline is above 2^64 - 1 milliseconds",
+            EngineError::EntryTooLong => "an entry has 2^32 bytes or more",
+            EngineError::NotAllowed => "this engine cannot be told so, and nothing was told",
+            EngineError::NotMade => "there was no memory for the input's bytes, and nothing was told",
+        })
+    }
+}
+
+impl Error for EngineError {}
+
 /// Why settings are none of a member.
 #[derive(Clone, Copy, PartialEq, Eq, Hash, Debug)]
 #[non_exhaustive]

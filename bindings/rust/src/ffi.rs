@@ -3,7 +3,7 @@
 use std::marker::PhantomData;
 
 /// What `simplex_version` answers for the structs below.
-pub(crate) const VERSION: u32 = 2;
+pub(crate) const VERSION: u32 = 3;
 
 /// No member.
 pub(crate) const NOBODY: u32 = u32::MAX;
@@ -13,9 +13,26 @@ pub(crate) const PROPOSALS: u32 = 1;
 pub(crate) const FETCHES: u32 = 2;
 pub(crate) const DROPPED: u32 = 3;
 
-/// Which bytes are read.
+/// Which bytes of a member are read.
 pub(crate) const OF_REPLY: u32 = 0;
 pub(crate) const SHOWN: u32 = 1;
+
+/// Which bytes of an engine are read.
+pub(crate) const OF_OUTPUT: u32 = 0;
+pub(crate) const OTHER_OF_OUTPUT: u32 = 1;
+pub(crate) const SHOWN_OF_ENGINE: u32 = 2;
+
+/// All bytes that wait behind a handle, of which `part` reads those from a byte on.
+pub(crate) fn all_bytes(part: impl Fn(u64) -> Chunk) -> Vec<u8> {
+    let mut bytes = Vec::new();
+    loop {
+        let chunk = part(bytes.len() as u64);
+        if chunk.count == 0 {
+            return bytes;
+        }
+        bytes.extend_from_slice(&chunk.bytes[..chunk.count as usize]);
+    }
+}
 
 #[repr(C)]
 #[derive(Clone, Copy, Default)]
@@ -47,7 +64,7 @@ pub(crate) struct Call {
 }
 
 #[repr(C)]
-#[derive(Clone, Copy)]
+#[derive(Clone, Copy, Default)]
 pub(crate) struct Context {
     pub(crate) round: Round,
     pub(crate) parent: u64,
@@ -254,6 +271,84 @@ pub(crate) struct Served {
     pub(crate) view: u64,
 }
 
+#[repr(C)]
+#[derive(Clone, Copy, Default)]
+pub(crate) struct Subject {
+    pub(crate) kind: u32,
+    pub(crate) member: u32,
+    pub(crate) proposal: Proposal,
+}
+
+#[repr(C)]
+#[derive(Clone, Copy)]
+pub(crate) struct Options {
+    pub(crate) retry: u64,
+    pub(crate) on_its_way: u64,
+    pub(crate) long_record: u64,
+}
+
+#[repr(C)]
+#[derive(Clone, Copy, Default)]
+pub(crate) struct Input {
+    pub(crate) kind: u32,
+    pub(crate) reason: u32,
+    pub(crate) success: u32,
+    pub(crate) reserved: u32,
+    pub(crate) view: u64,
+    pub(crate) subject: Subject,
+    pub(crate) context: Context,
+}
+
+#[repr(C)]
+#[derive(Clone, Copy)]
+pub(crate) struct Taken {
+    pub(crate) status: u32,
+    pub(crate) is_of_use: u32,
+}
+
+#[repr(C)]
+#[derive(Clone, Copy)]
+pub(crate) struct Output {
+    pub(crate) status: u32,
+    pub(crate) kind: u32,
+    pub(crate) fetch: u32,
+    pub(crate) member: u32,
+    pub(crate) view: u64,
+    pub(crate) bytes: u64,
+    pub(crate) other_bytes: u64,
+    pub(crate) stored: Stored,
+    pub(crate) subject: Subject,
+    pub(crate) other: Subject,
+    pub(crate) context: Context,
+}
+
+#[repr(C)]
+#[derive(Clone, Copy)]
+pub(crate) struct Status {
+    pub(crate) status: u32,
+    pub(crate) reserved: u32,
+    pub(crate) wake: u64,
+    pub(crate) ignored: u64,
+    pub(crate) fetches: u64,
+}
+
+#[repr(C)]
+#[derive(Clone, Copy)]
+pub(crate) struct Open {
+    pub(crate) status: u32,
+    pub(crate) fetch: u32,
+    pub(crate) view: u64,
+    pub(crate) count: u64,
+    pub(crate) moment: u64,
+}
+
+/// An engine behind its handle.
+#[repr(C)]
+pub(crate) struct OpaqueEngine {
+    _nothing: [u8; 0],
+    _not_shared: PhantomData<*mut u8>,
+}
+
 /// A resolver behind its handle.
 #[repr(C)]
 pub(crate) struct OpaqueResolver {
@@ -274,6 +369,8 @@ const _: () = assert!(size_of::<Found>() == 72 && size_of::<Item>() == 88 && siz
 const _: () = assert!(size_of::<Text>() == 72 && size_of::<Scan>() == 24 && size_of::<Stored>() == 40);
 const _: () = assert!(size_of::<Told>() == 64 && size_of::<Effects>() == 24 && size_of::<Effect>() == 40);
 const _: () = assert!(size_of::<Settled>() == 32 && size_of::<Served>() == 24 && size_of::<Outstanding>() == 24);
+const _: () = assert!(size_of::<Subject>() == 64 && size_of::<Options>() == 24 && size_of::<Input>() == 144);
+const _: () = assert!(size_of::<Taken>() == 8 && size_of::<Output>() == 264 && size_of::<Status>() == 32 && size_of::<Open>() == 32);
 
 unsafe extern "C" {
     pub(crate) safe fn simplex_version() -> u32;
@@ -324,4 +421,36 @@ unsafe extern "C" {
     pub(crate) fn simplex_resolver_produce(at: *mut OpaqueResolver, view: u64) -> Served;
     pub(crate) fn simplex_resolver_bytes(at: *mut OpaqueResolver, from: u64) -> Chunk;
     pub(crate) fn simplex_resolver_free(at: *mut OpaqueResolver);
+    pub(crate) fn simplex_engine_start(
+        settings: &Settings,
+        leaders: *const u32,
+        leaders_len: usize,
+        certificate: *const u8,
+        certificate_len: usize,
+        options: &Options,
+        now: u64,
+        out: &mut *mut OpaqueEngine,
+    ) -> u32;
+    pub(crate) fn simplex_engine_resume(
+        settings: &Settings,
+        leaders: *const u32,
+        leaders_len: usize,
+        certificate: *const u8,
+        certificate_len: usize,
+        options: &Options,
+        now: u64,
+        stored: &Stored,
+        journal: *const u8,
+        journal_len: usize,
+        out: &mut *mut OpaqueEngine,
+    ) -> u32;
+    pub(crate) fn simplex_engine_handle(at: *mut OpaqueEngine, input: &Input, bytes: *const u8, bytes_len: usize, now: u64) -> Taken;
+    pub(crate) fn simplex_engine_poll(at: *mut OpaqueEngine, now: u64) -> Output;
+    pub(crate) fn simplex_engine_bytes(at: *mut OpaqueEngine, which: u32, from: u64) -> Chunk;
+    pub(crate) fn simplex_engine_status(at: *mut OpaqueEngine) -> Status;
+    pub(crate) fn simplex_engine_open(at: *mut OpaqueEngine, index: u64) -> Open;
+    pub(crate) fn simplex_engine_view(at: *mut OpaqueEngine, view: u64) -> View;
+    pub(crate) fn simplex_engine_certificate(at: *mut OpaqueEngine, kind: u32, view: u64) -> Found;
+    pub(crate) fn simplex_engine_serve(at: *mut OpaqueEngine, view: u64) -> Served;
+    pub(crate) fn simplex_engine_free(at: *mut OpaqueEngine);
 }

@@ -1,10 +1,12 @@
-//! A member of the Simplex consensus protocol: the decision core of an engine, proved in Rattle.
+//! The Simplex consensus protocol: an engine, and the member that is its decision core, proved in Rattle.
 //!
-//! It takes certificates, proposals, answers of the application and moments, and gives votes, work and timeouts. It holds no network,
-//! clock or disk: the engine round it signs, verifies, stores and sends. `docs/EMBEDDING.md` of the repository has the loop of an engine.
+//! An [`Engine`] is told votes, certificates, proposals, answers of the application and moments, and hands out what is to be stored, signed,
+//! sent and done, in order. It holds no network, clock, disk or key: the host round it signs, verifies, stores and sends. Its loop stands
+//! there.
 //!
-//! Each call of a [`Member`] answers a [`Result`] with a [`Refusal`]. A vote is an order, as [`Notarize`]: the text that the engine signs
-//! with the member's key, once it has stored what the record has grown by.
+//! A [`Member`] is its core, for hosts that write their own engine; `docs/EMBEDDING.md` of the repository has both loops. Each call of a
+//! [`Member`] answers a [`Result`] with a [`Refusal`]. A vote is an order, as [`Notarize`]: the text that the engine signs with the
+//! member's key, once it has stored what the record has grown by.
 //!
 //! ```
 //! use simplex_view_state::{Config, Digest, Epoch, Member, Moment, Nullification, Participant, Round, TimeoutReason, View};
@@ -27,6 +29,7 @@
 
 #![deny(missing_docs)]
 
+mod engine;
 mod errors;
 mod ffi;
 mod journal;
@@ -37,12 +40,13 @@ mod reasons;
 mod resolver;
 mod settings;
 
-pub use errors::{EntriesError, OpenError, RecoverError, Refusal, SettingsError};
+pub use engine::{Engine, Fetch, FetchKind, Input, OpenFetch, Options, Order, Output};
+pub use errors::{EngineError, EntriesError, OpenError, RecoverError, Refusal, SettingsError};
 pub use journal::{Ending, Entries, EntryCount, Scan, Stored, scan};
 pub use member::{Answer, Cut, Member, Timeout, Views};
 pub use messages::{
     Added, Candidates, Certificate, CertificateFetch, CertificateKind, Context, Finalization, Finalize, Lacking, Notarization, Notarize,
-    Nullification, Nullify, Proposal, ProposalRequest, Subject, Verify,
+    Nullification, Nullify, Proposal, ProposalRequest, Subject, Verify, Vote,
 };
 pub use numbers::{Digest, Epoch, Moment, Participant, Round, Token, View, ViewDelta};
 pub use reasons::{HandoffAbandonedReason, TimeoutReason};

@@ -5,7 +5,7 @@ use crate::ffi;
 use crate::journal::{Entries, EntryCount, Stored};
 use crate::messages::{
     Added, Candidates, Certificate, CertificateFetch, CertificateKind, Context, Finalization, Finalize, Lacking, Notarization, Notarize,
-    Nullification, Nullify, Proposal, ProposalRequest, Verify,
+    Nullification, Nullify, Proposal, ProposalRequest, Subject, Verify,
 };
 use crate::numbers::{Digest, Epoch, Moment, Participant, Round, Token, View};
 use crate::reasons::{HandoffAbandonedReason, TimeoutReason};
@@ -65,6 +65,17 @@ pub struct Views {
     pub last_finalized: View,
     /// The lowest view that is kept.
     pub min_active: View,
+}
+
+impl Views {
+    pub(crate) fn of(shown: &ffi::View) -> Views {
+        Views {
+            epoch: Epoch::new(shown.epoch),
+            current: View::new(shown.current),
+            last_finalized: View::new(shown.last_finalized),
+            min_active: View::new(shown.min_active),
+        }
+    }
 }
 
 /// The next timeout of the current view.
@@ -221,15 +232,8 @@ impl Member {
 
     /// All of the bytes that wait.
     fn bytes(&self, which: u32) -> Vec<u8> {
-        let mut bytes = Vec::new();
-        loop {
-            // SAFETY: the handle is this member's.
-            let chunk = unsafe { ffi::simplex_member_bytes(self.at.as_ptr(), which, bytes.len() as u64) };
-            if chunk.count == 0 {
-                return bytes;
-            }
-            bytes.extend_from_slice(&chunk.bytes[..chunk.count as usize]);
-        }
+        // SAFETY: the handle is this member's.
+        ffi::all_bytes(|from| unsafe { ffi::simplex_member_bytes(self.at.as_ptr(), which, from) })
     }
 
     /// All items of a list of the last reply.
@@ -542,13 +546,7 @@ impl Member {
 
     /// The current view and its like; none where the member has failed.
     pub fn views(&self) -> Option<Views> {
-        let shown = self.view(View::GENESIS)?;
-        Some(Views {
-            epoch: Epoch::new(shown.epoch),
-            current: View::new(shown.current),
-            last_finalized: View::new(shown.last_finalized),
-            min_active: View::new(shown.min_active),
-        })
+        Some(Views::of(&self.view(View::GENESIS)?))
     }
 
     /// The leader of a view that is tracked, once it is known.
@@ -585,13 +583,8 @@ impl Member {
 
     /// A view's certificate of a kind, where the view is tracked and has it.
     pub fn certificate(&self, kind: CertificateKind, view: View) -> Answer<Option<Certificate>> {
-        let kind = match kind {
-            CertificateKind::Notarization => 1,
-            CertificateKind::Nullification => 2,
-            CertificateKind::Finalization => 3,
-        };
         // SAFETY: the handle is this member's.
-        let found = unsafe { ffi::simplex_member_certificate(self.at.as_ptr(), kind, view.get()) };
+        let found = unsafe { ffi::simplex_member_certificate(self.at.as_ptr(), kind.number(), view.get()) };
         match Refusal::of(found.status) {
             None => Ok(self.certificate_in(found.has, &found.proposal, ffi::SHOWN)),
             Some(refusal) => Err(refusal),
@@ -599,19 +592,7 @@ impl Member {
     }
 
     fn certificate_in(&self, has: u32, proposal: &ffi::Proposal, which: u32) -> Option<Certificate> {
-        if has == 0 {
-            return None;
-        }
-        let certificate = self.bytes(which);
-        let proposal = Proposal::of(proposal);
-        Some(match has {
-            1 => Certificate::Notarization(Notarization { proposal, certificate }),
-            2 => Certificate::Nullification(Nullification {
-                round: proposal.round,
-                certificate,
-            }),
-            _ => Certificate::Finalization(Finalization { proposal, certificate }),
-        })
+        (has != 0).then(|| Certificate::of(Subject::of(has, proposal), self.bytes(which)))
     }
 }
 
@@ -632,7 +613,7 @@ impl fmt::Debug for Member {
 }
 
 /// The settings as the library takes them, if it is the one that this package was written for.
-fn tested(config: &Config) -> Result<Flat, OpenError> {
+pub(crate) fn tested(config: &Config) -> Result<Flat, OpenError> {
     if ffi::simplex_version() != ffi::VERSION {
         return Err(OpenError::OtherVersion);
     }

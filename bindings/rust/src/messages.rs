@@ -83,23 +83,98 @@ impl Subject {
     /// assert_eq!((text.len(), text[0]), (57, 0));
     /// ```
     pub fn encode(&self) -> Vec<u8> {
-        let (kind, proposal) = match self {
-            Subject::Notarize(proposal) => (0, proposal.flat()),
-            Subject::Finalize(proposal) => (2, proposal.flat()),
+        let (kind, proposal) = self.flat();
+        let text = ffi::simplex_subject(kind - 1, &proposal);
+        assert_eq!(text.status, 0, "there is memory for a text of 57 bytes");
+        text.bytes[..text.count as usize].to_vec()
+    }
+
+    /// The subject whose text stands in front of bytes, and the bytes behind it; none where no text stands there.
+    ///
+    /// ```
+    /// use simplex_view_state::{Round, Subject};
+    ///
+    /// let subject = Subject::Nullify(Round::default());
+    /// let sent = [subject.encode(), vec![7; 64]].concat();
+    /// assert_eq!(Subject::decode(&sent), Some((subject, &[7; 64][..])));
+    /// assert_eq!(Subject::decode(&sent[..9]), None);
+    /// ```
+    pub fn decode(bytes: &[u8]) -> Option<(Subject, &[u8])> {
+        let (&kind, rest) = bytes.split_first()?;
+        let (epoch, rest) = number_in_front(rest)?;
+        let (view, rest) = number_in_front(rest)?;
+        let round = Round {
+            epoch: Epoch::new(epoch),
+            view: View::new(view),
+        };
+        if kind == 1 {
+            return Some((Subject::Nullify(round), rest));
+        }
+        let (parent, rest) = number_in_front(rest)?;
+        let (payload, rest) = rest.split_first_chunk::<32>()?;
+        let proposal = Proposal {
+            round,
+            parent: View::new(parent),
+            payload: Digest::new(*payload),
+        };
+        match kind {
+            0 => Some((Subject::Notarize(proposal), rest)),
+            2 => Some((Subject::Finalize(proposal), rest)),
+            _ => None,
+        }
+    }
+
+    /// The number of the certificate that votes on it make, and what it is on; of a round the round alone.
+    pub(crate) fn flat(&self) -> (u32, ffi::Proposal) {
+        match self {
+            Subject::Notarize(proposal) => (1, proposal.flat()),
+            Subject::Finalize(proposal) => (3, proposal.flat()),
             Subject::Nullify(round) => {
                 let round = round.flat();
                 (
-                    1,
+                    2,
                     ffi::Proposal {
                         round,
                         ..Default::default()
                     },
                 )
             }
-        };
-        let text = ffi::simplex_subject(kind, &proposal);
-        assert_eq!(text.status, 0, "there is memory for a text of 57 bytes");
-        text.bytes[..text.count as usize].to_vec()
+        }
+    }
+
+    /// The subject of numbers of the library, which knows no other kind.
+    pub(crate) fn of(kind: u32, proposal: &ffi::Proposal) -> Subject {
+        match kind {
+            1 => Subject::Notarize(Proposal::of(proposal)),
+            2 => Subject::Nullify(Round::of(&proposal.round)),
+            _ => Subject::Finalize(Proposal::of(proposal)),
+        }
+    }
+}
+
+fn number_in_front(bytes: &[u8]) -> Option<(u64, &[u8])> {
+    let (number, rest) = bytes.split_first_chunk::<8>()?;
+    Some((u64::from_be_bytes(*number), rest))
+}
+
+/// A member's vote, signed.
+#[derive(Clone, PartialEq, Eq, Hash, Debug)]
+pub struct Vote {
+    /// What it says.
+    pub subject: Subject,
+    /// Whose it is.
+    pub signer: Participant,
+    /// The signature on the subject's text: bytes that the library keeps and never reads.
+    pub signature: Vec<u8>,
+}
+
+impl Vote {
+    /// What a vote to notarize proposes: where its signer leads, it is told as an [`Input::Proposal`](crate::Input::Proposal) too.
+    pub const fn proposal(&self) -> Option<Proposal> {
+        match self.subject {
+            Subject::Notarize(proposal) => Some(proposal),
+            _ => None,
+        }
     }
 }
 
@@ -143,6 +218,62 @@ pub enum Certificate {
 }
 
 impl Certificate {
+    /// The certificate of votes on a subject, of its bytes.
+    pub fn of(subject: Subject, certificate: Vec<u8>) -> Certificate {
+        match subject {
+            Subject::Notarize(proposal) => Certificate::Notarization(Notarization { proposal, certificate }),
+            Subject::Nullify(round) => Certificate::Nullification(Nullification { round, certificate }),
+            Subject::Finalize(proposal) => Certificate::Finalization(Finalization { proposal, certificate }),
+        }
+    }
+
+    /// Its bytes.
+    pub fn bytes(&self) -> &[u8] {
+        match self {
+            Certificate::Notarization(it) => &it.certificate,
+            Certificate::Nullification(it) => &it.certificate,
+            Certificate::Finalization(it) => &it.certificate,
+        }
+    }
+
+    /// Which of the three it is.
+    pub const fn kind(&self) -> CertificateKind {
+        match self {
+            Certificate::Notarization(_) => CertificateKind::Notarization,
+            Certificate::Nullification(_) => CertificateKind::Nullification,
+            Certificate::Finalization(_) => CertificateKind::Finalization,
+        }
+    }
+
+    /// The signatures that it is made of, where its bytes are as an [`Engine`](crate::Engine) makes them: of each signer, by rising index,
+    /// the index in four bytes and the signature's length in eight, big-endian, and the signature. None where they are no such bytes.
+    ///
+    /// It is good where n - f members signed and each signature is on the text of its [`subject`](Certificate::subject).
+    ///
+    /// ```
+    /// use simplex_view_state::{Certificate, Participant, Round, Subject};
+    ///
+    /// let bytes = [&[0, 0, 0, 2], &[0; 7][..], &[1, 99]].concat();
+    /// let certificate = Certificate::of(Subject::Nullify(Round::default()), bytes);
+    /// assert_eq!(certificate.signatures(), Some(vec![(Participant::new(2), &[99][..])]));
+    /// ```
+    pub fn signatures(&self) -> Option<Vec<(Participant, &[u8])>> {
+        let mut signatures: Vec<(Participant, &[u8])> = Vec::new();
+        let mut rest = self.bytes();
+        while !rest.is_empty() {
+            let (index, behind) = rest.split_first_chunk::<4>()?;
+            let (length, behind) = number_in_front(behind)?;
+            let (signature, behind) = behind.split_at_checked(usize::try_from(length).ok()?)?;
+            let signer = Participant::new(u32::from_be_bytes(*index));
+            if signatures.last().is_some_and(|(before, _)| *before >= signer) {
+                return None;
+            }
+            signatures.push((signer, signature));
+            rest = behind;
+        }
+        Some(signatures)
+    }
+
     /// The round that it is of.
     pub const fn round(&self) -> Round {
         match self {
@@ -171,6 +302,17 @@ pub enum CertificateKind {
     Nullification,
     /// A finalization.
     Finalization,
+}
+
+impl CertificateKind {
+    /// Its number.
+    pub(crate) fn number(self) -> u32 {
+        match self {
+            CertificateKind::Notarization => 1,
+            CertificateKind::Nullification => 2,
+            CertificateKind::Finalization => 3,
+        }
+    }
 }
 
 /// An order to vote to notarize: the engine signs the text with the signer's key, and sends it, once the record is stored.
@@ -225,6 +367,14 @@ pub struct Context {
 }
 
 impl Context {
+    pub(crate) fn flat(&self) -> ffi::Context {
+        ffi::Context {
+            round: self.round.flat(),
+            parent: self.parent.get(),
+            payload: *self.parent_payload.bytes(),
+        }
+    }
+
     pub(crate) fn of(flat: &ffi::Context, leader: u32) -> Context {
         Context {
             round: Round::of(&flat.round),

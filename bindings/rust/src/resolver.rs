@@ -3,7 +3,7 @@
 use crate::errors::{OpenError, Refusal};
 use crate::ffi;
 use crate::member::Answer;
-use crate::messages::{Certificate, Lacking, Notarization, Proposal};
+use crate::messages::{Certificate, Lacking, Notarization};
 use crate::numbers::View;
 use std::fmt;
 use std::num::NonZeroU32;
@@ -122,24 +122,14 @@ impl Resolver {
 
     /// Tells of a certificate that the member newly added. `NotAllowed` for one of genesis. After `OutOfMemory` it has failed: start another.
     pub fn updated(&mut self, certificate: &Certificate) -> Answer<Vec<Effect>> {
-        let (kind, proposal, bytes) = match certificate {
-            Certificate::Notarization(it) => (1, it.proposal.flat(), &it.certificate),
-            Certificate::Nullification(it) => {
-                let proposal = Proposal {
-                    round: it.round,
-                    ..Proposal::default()
-                };
-                (2, proposal.flat(), &it.certificate)
-            }
-            Certificate::Finalization(it) => (3, it.proposal.flat(), &it.certificate),
-        };
+        let (kind, proposal) = certificate.subject().flat();
         self.tell(
             &ffi::Told {
                 kind,
                 success: 0,
                 proposal,
             },
-            bytes,
+            certificate.bytes(),
         )
     }
 
@@ -214,15 +204,8 @@ impl Resolver {
 
     /// All of the bytes that were served or shown last.
     fn bytes(&self) -> Vec<u8> {
-        let mut bytes = Vec::new();
-        loop {
-            // SAFETY: the handle is this resolver's.
-            let chunk = unsafe { ffi::simplex_resolver_bytes(self.at.as_ptr(), bytes.len() as u64) };
-            if chunk.count == 0 {
-                return bytes;
-            }
-            bytes.extend_from_slice(&chunk.bytes[..chunk.count as usize]);
-        }
+        // SAFETY: the handle is this resolver's.
+        ffi::all_bytes(|from| unsafe { ffi::simplex_resolver_bytes(self.at.as_ptr(), from) })
     }
 }
 

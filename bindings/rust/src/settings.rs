@@ -183,7 +183,7 @@ fn index_of(signer: Participant) -> Result<u32, SettingsError> {
     }
 }
 
-fn millis(time: Duration) -> Result<u64, SettingsError> {
+pub(crate) fn millis(time: Duration) -> Result<u64, SettingsError> {
     u64::try_from(time.as_millis()).map_err(|_| SettingsError::TimeTooLong)
 }
 

@@ -1,0 +1,177 @@
+//! What an engine is to carry out.
+
+use crate::ffi;
+use crate::journal::{Entries, Stored};
+use crate::messages::{Certificate, Context, Proposal, Subject, Vote};
+use crate::numbers::{Moment, Participant, View};
+
+/// What is to be carried out, in the order in which it is handed out.
+#[derive(Clone, PartialEq, Eq, Debug)]
+pub enum Output {
+    /// To be appended to the journal, with what is stored beside it, and synced before anything behind it is carried out.
+    Store(Entries),
+    /// To be stored in place of all that is stored, in one step, and synced before anything behind it is carried out. The first output of
+    /// every life is one.
+    Replace(Entries),
+    /// This member's vote: to be signed, sent to all, and told as an [`Input::Vote`](crate::Input::Vote).
+    Vote(Order),
+    /// A certificate, to be sent to all others.
+    Broadcast(Certificate),
+    /// A proposal that the application is to verify in its context.
+    Verify(Context, Proposal),
+    /// What the application is to build on.
+    Build(Context),
+    /// What is built in the view is of no use any more.
+    StopBuilding(View),
+    /// A notarized proposal, on which the application is to give a verdict.
+    Certify(Proposal),
+    /// What is to be asked of a peer.
+    Fetch(Fetch),
+    /// A proposal that is final, and all below it: rising, each view once.
+    Finalized(Proposal),
+    /// Two votes of one member that contradict each other.
+    Equivocated(Vote, Vote),
+    /// The leader of the view signed two proposals, which certificates show.
+    ProposedTwice(View, Participant),
+    /// The views below may be forgotten.
+    Forget(View),
+}
+
+/// An order to vote: the text that is to be signed with the signer's key.
+#[derive(Clone, PartialEq, Eq, Hash, Debug)]
+#[must_use = "a vote that is dropped is not ordered again, but for one to nullify"]
+pub struct Order {
+    /// What the vote says.
+    pub subject: Subject,
+    /// Who signs.
+    pub signer: Participant,
+    /// What is to be signed: `subject.encode()`.
+    pub text: Vec<u8>,
+}
+
+impl Order {
+    /// The vote, once it is signed.
+    pub fn signed(&self, signature: Vec<u8>) -> Vote {
+        Vote {
+            subject: self.subject,
+            signer: self.signer,
+            signature,
+        }
+    }
+}
+
+/// What is to be asked of a peer, which answers by [`Engine::certificate`](crate::Engine::certificate) or
+/// [`Engine::serve`](crate::Engine::serve).
+#[derive(Clone, Copy, PartialEq, Eq, Hash, Debug)]
+pub struct Fetch {
+    /// What is asked for.
+    pub kind: FetchKind,
+    /// Of which view.
+    pub view: View,
+    /// Who is asked; none where there is no other member.
+    pub of: Option<Participant>,
+}
+
+/// Which certificate is fetched.
+#[derive(Clone, Copy, PartialEq, Eq, Hash, Debug)]
+pub enum FetchKind {
+    /// The view's notarization.
+    Notarization,
+    /// A nullification that covers the view.
+    Nullification,
+    /// Whatever certificate decides the view.
+    Decision,
+}
+
+/// A fetch that is open: asked again and again, of the next member in turn, until it is closed.
+#[derive(Clone, Copy, PartialEq, Eq, Hash, Debug)]
+pub struct OpenFetch {
+    /// What is asked for.
+    pub kind: FetchKind,
+    /// Of which view.
+    pub view: View,
+    /// How often it was asked for.
+    pub count: u64,
+    /// When it is to be asked for next.
+    pub moment: Moment,
+}
+
+impl Output {
+    /// The output that the library hands out, of whose bytes `bytes` reads those of a place; none where nothing is to be carried out.
+    pub(crate) fn of(flat: &ffi::Output, bytes: impl Fn(u32) -> Vec<u8>) -> Option<Output> {
+        let subject = || Subject::of(flat.subject.kind, &flat.subject.proposal);
+        let proposal = || Proposal::of(&flat.subject.proposal);
+        let context = || Context::of(&flat.context, flat.subject.member);
+        let view = View::new(flat.view);
+        Some(match flat.kind {
+            0 => return None,
+            1 => Output::Store(entries(flat, bytes)),
+            2 => Output::Replace(entries(flat, bytes)),
+            3 => Output::Vote(Order {
+                subject: subject(),
+                signer: Participant::new(flat.subject.member),
+                text: bytes(ffi::OF_OUTPUT),
+            }),
+            4 => Output::Broadcast(Certificate::of(subject(), bytes(ffi::OF_OUTPUT))),
+            5 => Output::Verify(context(), proposal()),
+            6 => Output::Build(context()),
+            7 => Output::StopBuilding(view),
+            8 => Output::Certify(proposal()),
+            9 => Output::Fetch(fetch(flat)),
+            10 => Output::Finalized(proposal()),
+            11 => Output::Equivocated(
+                vote(&flat.subject, bytes(ffi::OF_OUTPUT)),
+                vote(&flat.other, bytes(ffi::OTHER_OF_OUTPUT)),
+            ),
+            12 => Output::ProposedTwice(view, Participant::new(flat.member)),
+            13 => Output::Forget(view),
+            kind => unreachable!("an output of kind {kind}"),
+        })
+    }
+}
+
+fn entries(flat: &ffi::Output, bytes: impl Fn(u32) -> Vec<u8>) -> Entries {
+    Entries {
+        bytes: bytes(ffi::OF_OUTPUT),
+        stored: Stored::of(&flat.stored),
+    }
+}
+
+fn fetch(flat: &ffi::Output) -> Fetch {
+    Fetch {
+        kind: FetchKind::of(flat.fetch),
+        view: View::new(flat.view),
+        of: (flat.member != ffi::NOBODY).then(|| Participant::new(flat.member)),
+    }
+}
+
+fn vote(flat: &ffi::Subject, signature: Vec<u8>) -> Vote {
+    Vote {
+        subject: Subject::of(flat.kind, &flat.proposal),
+        signer: Participant::new(flat.member),
+        signature,
+    }
+}
+
+impl FetchKind {
+    /// The kind of a number of the library, which knows no other.
+    fn of(number: u32) -> FetchKind {
+        match number {
+            1 => FetchKind::Notarization,
+            2 => FetchKind::Nullification,
+            _ => FetchKind::Decision,
+        }
+    }
+}
+
+impl OpenFetch {
+    /// The fetch that the library shows; none where there is no such one.
+    pub(crate) fn of(flat: &ffi::Open) -> Option<OpenFetch> {
+        (flat.fetch != 0).then(|| OpenFetch {
+            kind: FetchKind::of(flat.fetch),
+            view: View::new(flat.view),
+            count: flat.count,
+            moment: Moment::from_millis(flat.moment),
+        })
+    }
+}

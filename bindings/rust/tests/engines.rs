@@ -1,0 +1,388 @@
+//! Engines through the package: networks of them, their lives, what they show, and what they refuse.
+
+#[path = "../examples/engine/network.rs"]
+mod network;
+
+use network::{Message, Network, Node, Sent, is_good, signature};
+use simplex_view_state::{
+    Certificate, CertificateKind, Config, Context, Digest, Engine, EngineError, Epoch, FetchKind, Finalization, Input, Leaders, Member,
+    Moment, Notarization, Nullification, OpenError, Options, Output, Participant, Proposal, Round, SettingsError, Subject, TimeoutReason,
+    View, Vote,
+};
+use std::collections::BTreeMap;
+use std::error::Error;
+use std::thread;
+use std::time::Duration;
+
+type Tested = Result<(), Box<dyn Error>>;
+
+const START: Moment = Moment::from_millis(0);
+const MEMBERS: u32 = 4;
+
+fn config(index: u32) -> Config {
+    let members = MEMBERS.try_into().expect("not 0");
+    Config::new(members, Some(Participant::new(index)), Epoch::new(1), Digest::default())
+}
+
+fn engine(index: u32) -> Result<Engine, OpenError> {
+    Engine::start(&config(index), &Options::default(), START)
+}
+
+fn round(view: u64) -> Round {
+    Round {
+        epoch: Epoch::new(1),
+        view: View::new(view),
+    }
+}
+
+fn proposal(view: u64, payload: u8) -> Proposal {
+    Proposal {
+        round: round(view),
+        parent: View::new(view.saturating_sub(1)),
+        payload: Digest::new([payload; 32]),
+    }
+}
+
+fn vote(index: u32, subject: Subject) -> Vote {
+    let signer = Participant::new(index);
+    Vote {
+        subject,
+        signer,
+        signature: signature(signer, &subject.encode()),
+    }
+}
+
+fn nullification(view: u64) -> Certificate {
+    Certificate::Nullification(Nullification {
+        round: round(view),
+        certificate: vec![7; 3000],
+    })
+}
+
+fn notarization(view: u64) -> Certificate {
+    Certificate::Notarization(Notarization {
+        proposal: proposal(view, 1),
+        certificate: vec![8; 3000],
+    })
+}
+
+fn finalization(view: u64) -> Certificate {
+    Certificate::Finalization(Finalization {
+        proposal: proposal(view, 1),
+        certificate: vec![9; 3000],
+    })
+}
+
+/// All outputs until there is none.
+fn outputs(engine: &mut Engine, now: Moment) -> Result<Vec<Output>, EngineError> {
+    std::iter::from_fn(|| engine.poll(now).transpose()).collect()
+}
+
+/// No two members hold two proposals final in one view, and each was told of the views as they rise.
+fn agree(nodes: &[Node]) {
+    let mut chain = BTreeMap::new();
+    for node in nodes {
+        assert!(
+            node.chain.is_sorted_by_key(|it| it.view()),
+            "member {} was told of its views out of order",
+            node.me
+        );
+        for proposal in &node.chain {
+            assert_eq!(chain.entry(proposal.view()).or_insert(*proposal), proposal);
+        }
+    }
+}
+
+fn lowest_final(nodes: &[Node]) -> u64 {
+    let last = |node: &Node| node.chain.last().map_or(0, |it| it.view().get());
+    nodes.iter().map(last).min().unwrap_or(0)
+}
+
+/// Turns a network on until each member knows of so many views that they are final.
+fn go_on(network: &mut Network, views: u64) -> Tested {
+    for _ in 0..10_000 {
+        network.step()?;
+        if lowest_final(&network.nodes) >= views {
+            return Ok(());
+        }
+    }
+    Err("nothing goes on".into())
+}
+
+#[test]
+fn networks_that_lose_messages_and_members_agree_and_go_on() -> Tested {
+    for seed in 1..=6 {
+        let mut network = Network::start(MEMBERS.try_into()?, 5 * (seed - 1), seed)?;
+        let mut lives = 0;
+        for step in 0.. {
+            network.step()?;
+            let crashed = (step / 400) as usize;
+            if step % 400 == 0 && crashed < 12 {
+                network.nodes[crashed % 4].engine = None;
+            }
+            if step % 400 == 150 && crashed < 12 {
+                let now = network.now;
+                network.nodes[crashed % 4].begin(now)?;
+                lives += 1;
+            }
+            if crashed >= 12 && lowest_final(&network.nodes) >= 40 {
+                break;
+            }
+            assert!(step < 40_000, "nothing goes on with seed {seed}");
+        }
+        agree(&network.nodes);
+        assert_eq!(lives, 12);
+    }
+    Ok(())
+}
+
+#[test]
+fn certificates_are_made_of_good_signatures_of_a_quorum() -> Tested {
+    let mut network = Network::start(MEMBERS.try_into()?, 0, 1)?;
+    go_on(&mut network, 5)?;
+    let engine = network.nodes[2].engine.as_ref().ok_or("it lives")?;
+    for view in 1..=5 {
+        let found = engine
+            .certificate(CertificateKind::Finalization, View::new(view))?
+            .ok_or("it is final")?;
+        assert!(is_good(&found, MEMBERS.try_into()?), "{found:?}");
+        assert_eq!(found.signatures().map(|it| it.len()), Some(3));
+        assert_eq!(engine.certificate(CertificateKind::Nullification, View::new(view))?, None);
+    }
+    Ok(())
+}
+
+#[test]
+fn bytes_that_name_a_signer_twice_or_are_cut_are_no_signatures() {
+    let signed = |signer: u8| [&[0, 0, 0, signer][..], &[0, 0, 0, 0, 0, 0, 0, 2], &[7, 7]].concat();
+    let signers = |bytes: Vec<u8>| {
+        let certificate = Certificate::of(Subject::Nullify(round(1)), bytes);
+        certificate.signatures().map(|it| it.len())
+    };
+    assert_eq!(signers([signed(1), signed(3)].concat()), Some(2));
+    assert_eq!(signers([signed(1), signed(1)].concat()), None);
+    assert_eq!(signers([signed(3), signed(1)].concat()), None);
+    assert_eq!(signers(signed(1)[..13].to_vec()), None);
+    assert_eq!(signers(vec![0, 0, 0, 1, 255, 255, 255, 255, 255, 255, 255, 255]), None);
+}
+
+#[test]
+fn each_life_begins_by_storing_the_whole_record() -> Tested {
+    let mut first = engine(1)?;
+    let Some(Output::Replace(begun)) = first.poll(START)? else {
+        return Err("nothing is stored first".into());
+    };
+    assert!(begun.bytes.is_empty() && begun.stored.entries.get() == 0);
+    first.handle(Input::Certificate(notarization(1)), START)?;
+    let (mut journal, mut stored) = (begun.bytes, begun.stored);
+    for output in outputs(&mut first, START)? {
+        match output {
+            Output::Store(entries) => {
+                journal.extend(entries.bytes);
+                stored = entries.stored;
+            }
+            Output::Replace(_) => return Err("the record is short".into()),
+            _ => {}
+        }
+    }
+    assert_eq!(stored.entries.get(), 1);
+    let mut second = Engine::resume(&config(1), &Options::default(), START, &stored, &journal)?;
+    let Some(Output::Replace(again)) = second.poll(START)? else {
+        return Err("nothing is stored first".into());
+    };
+    assert_eq!((again.bytes, again.stored), (journal.clone(), stored));
+    assert_eq!(Member::resume(&config(1), START, &stored, &journal)?.views(), second.views());
+    let cut = Engine::resume(&config(1), &Options::default(), START, &stored, &journal[..journal.len() - 1]);
+    assert_eq!(cut.err(), Some(OpenError::Damaged));
+    let lost = Engine::resume(&config(1), &Options::default(), START, &stored, &[]);
+    assert_eq!(lost.err(), Some(OpenError::EntriesLost));
+    Ok(())
+}
+
+#[test]
+fn a_member_that_contradicts_itself_is_shown_with_both_votes() -> Tested {
+    let mut network = Network::start(MEMBERS.try_into()?, 0, 1)?;
+    let votes = [1, 2].map(|payload| vote(3, Subject::Notarize(proposal(1, payload))));
+    for it in &votes {
+        network.sent.push_back(Sent {
+            from: Participant::new(3),
+            to: Participant::new(1),
+            message: Message::Vote(it.clone()),
+        });
+    }
+    go_on(&mut network, 3)?;
+    let [one, other] = votes;
+    assert!(
+        network.nodes[1].equivocations.contains(&(one, other)),
+        "{:?}",
+        network.nodes[1].equivocations
+    );
+    agree(&network.nodes);
+    Ok(())
+}
+
+#[test]
+fn a_leader_that_proposes_twice_is_shown() -> Tested {
+    let mut engine = engine(1)?;
+    engine.handle(Input::Certificate(notarization(1)), START)?;
+    let mut other = proposal(1, 2);
+    other.parent = View::GENESIS;
+    engine.handle(
+        Input::Certificate(Certificate::Finalization(Finalization {
+            proposal: other,
+            certificate: vec![1],
+        })),
+        START,
+    )?;
+    let given = outputs(&mut engine, START)?;
+    assert!(
+        given.contains(&Output::ProposedTwice(View::new(1), Participant::new(0))),
+        "{given:?}"
+    );
+    Ok(())
+}
+
+/// Inputs that an engine of member 1 in view 2 has no use for.
+fn useless() -> Vec<Input> {
+    let mut of_another_epoch = proposal(2, 1);
+    of_another_epoch.round.epoch = Epoch::new(2);
+    let context = Context {
+        round: round(9),
+        leader: Participant::new(1),
+        parent: View::new(8),
+        parent_payload: Digest::default(),
+    };
+    let payload = Digest::default();
+    let proposed = |from, proposal| Input::Proposal {
+        from: Participant::new(from),
+        proposal,
+    };
+    let (view, last, is_valid) = (View::new(2), View::new(u64::MAX), true);
+    vec![
+        proposed(3, proposal(2, 1)),
+        proposed(u32::MAX, proposal(u64::MAX, 1)),
+        proposed(2, of_another_epoch),
+        Input::Vote(vote(2, Subject::Notarize(of_another_epoch))),
+        Input::Vote(vote(9, Subject::Notarize(proposal(2, 1)))),
+        Input::Vote(vote(u32::MAX, Subject::Nullify(round(2)))),
+        Input::Vote(vote(2, Subject::Finalize(proposal(u64::MAX, 1)))),
+        Input::Certificate(notarization(1)),
+        Input::Certificate(finalization(u64::MAX)),
+        Input::Certificate(nullification(u64::MAX)),
+        Input::Certificate(Certificate::of(Subject::Notarize(of_another_epoch), Vec::new())),
+        Input::Verified { view, is_valid },
+        Input::Verified { view: last, is_valid },
+        Input::Built { context, payload },
+        Input::Certified { view, is_success: true },
+    ]
+}
+
+#[test]
+fn what_is_of_no_use_changes_nothing() -> Tested {
+    let mut engine = engine(1)?;
+    engine.handle(Input::Certificate(notarization(1)), START)?;
+    outputs(&mut engine, START)?;
+    let before = engine.views();
+    for (place, input) in (1..).zip(useless()) {
+        assert!(!engine.handle(input.clone(), START)?, "{input:?} is of use");
+        assert_eq!(engine.ignored(), place);
+    }
+    for view in [View::new(7), View::new(u64::MAX)] {
+        let reason = TimeoutReason::Inactivity;
+        engine.handle(Input::GivenUp { view, reason }, START)?;
+        engine.handle(Input::Certified { view, is_success: true }, START)?;
+    }
+    assert!(!engine.is_failed());
+    assert_eq!((outputs(&mut engine, START)?, engine.views()), (Vec::new(), before));
+    Ok(())
+}
+
+#[test]
+fn bytes_of_any_length_come_back_whole() -> Tested {
+    let mut engine = engine(1)?;
+    for certificate in [notarization(1), nullification(2), finalization(3)] {
+        assert!(engine.handle(Input::Certificate(certificate.clone()), START)?);
+        let given = outputs(&mut engine, START)?;
+        assert!(given.contains(&Output::Broadcast(certificate.clone())), "{given:?}");
+        assert_eq!(engine.certificate(certificate.kind(), certificate.round().view)?, Some(certificate));
+    }
+    assert_eq!(engine.serve(View::new(2))?, Some(finalization(3)));
+    assert_eq!(engine.serve(View::new(4))?, None);
+    Ok(())
+}
+
+#[test]
+fn a_fetch_is_asked_of_one_member_after_another_until_it_is_closed() -> Tested {
+    let mut engine = engine(1)?;
+    engine.handle(Input::Certificate(nullification(2)), START)?;
+    let asked = |given: Vec<Output>| {
+        let fetches = given.into_iter().filter_map(|output| match output {
+            Output::Fetch(fetch) if fetch.view == View::new(1) => Some(fetch),
+            _ => None,
+        });
+        fetches.collect::<Vec<_>>()
+    };
+    assert_eq!(asked(outputs(&mut engine, START)?), []);
+    let mut peers = Vec::new();
+    for millis in [25, 275, 525] {
+        let now = Moment::from_millis(millis);
+        assert!(engine.wake() <= now);
+        let [fetch] = asked(outputs(&mut engine, now)?)[..] else {
+            return Err(format!("one fetch is asked at {now}").into());
+        };
+        assert_eq!(fetch.kind, FetchKind::Nullification);
+        peers.push(fetch.of.ok_or("there are others")?);
+        assert!(
+            engine
+                .fetches()
+                .iter()
+                .any(|open| open.view == fetch.view && open.count as usize == peers.len())
+        );
+    }
+    peers.sort();
+    assert_eq!(peers, [0, 2, 3].map(Participant::new));
+    engine.handle(Input::Certificate(nullification(1)), Moment::from_millis(600))?;
+    assert_eq!(engine.fetches(), []);
+    Ok(())
+}
+
+#[test]
+fn votes_make_no_certificate_that_names_a_leader() -> Tested {
+    let drawn = Config {
+        leaders: Leaders::Drawn(vec![Participant::new(0)]),
+        ..config(1)
+    };
+    let mut engine = Engine::start(&drawn, &Options::default(), START)?;
+    let told = engine.handle(Input::Vote(vote(2, Subject::Nullify(round(1)))), START);
+    assert_eq!(told, Err(EngineError::NotAllowed));
+    assert!(engine.handle(
+        Input::Certificate(Certificate::of(Subject::Nullify(round(1)), vec![0, 0, 0, 3])),
+        START
+    )?);
+    outputs(&mut engine, START)?;
+    assert_eq!(engine.leader(View::new(2)), Some(Participant::new(3)));
+    Ok(())
+}
+
+#[test]
+fn settings_that_break_a_rule_are_refused() {
+    let retry = Duration::MAX;
+    let refused = Engine::start(
+        &config(0),
+        &Options {
+            retry,
+            ..Options::default()
+        },
+        START,
+    );
+    assert_eq!(refused.err(), Some(OpenError::Settings(SettingsError::TimeTooLong)));
+    assert_eq!(engine(4).err(), Some(OpenError::Settings(SettingsError::NoSuchMember)));
+}
+
+#[test]
+fn an_engine_goes_from_thread_to_thread() -> Tested {
+    let engine = engine(1)?;
+    let views = thread::spawn(move || engine.views()).join().expect("it does not panic");
+    assert_eq!(views.ok_or("it lives")?.current, View::new(1));
+    Ok(())
+}
