@@ -2,8 +2,8 @@
 """That the engine in `engine/` goes on through what is done to it.
 
 Its layout, its lints and its tests: networks of processes that are killed, parted, slowed, lied to and run out of disk, after which all
-finalized chains agree, no honest node signed two votes that contradict each other, and views go on being finalized. Then a network as a
-newcomer begins it, with a faulty node and some that are killed.
+finalized chains agree, no honest node signed two votes that contradict each other, and views go on being finalized; and one node among
+members that a test plays. Then a network as a newcomer begins it, with a faulty node and some that are killed.
 
     tests/engine.py [--archive PATH] [--long]     without an archive one is built, unproved, in a minute or two
     tests/engine.py --wrong                       each wrong body of a table, in a copy: a test has to fail
@@ -24,7 +24,7 @@ from program import ROOT
 
 ENGINE = ROOT / "engine"
 SKIPPED = 77
-LEAST_TESTS = 39
+LEAST_TESTS = 49
 # The words of the README's command.
 NETWORK = re.compile(r"^target/release/simplex-local (--.*)$", re.M)
 
@@ -33,15 +33,19 @@ WRONG_BODIES = (
     ("what is recorded is not stored", "replica.rs", "Output::Store(entries) => self.parts.journal.append(&entries)?,", "Output::Store(_) => {}"),
     ("votes are not verified", "peers.rs", "&& self.count(self.keys.is_signed_vote(vote))\n            }\n            Message::Certificate",
      "&& self.count(true)\n            }\n            Message::Certificate"),
-    ("what is lacking is not asked for", "fetches.rs", "let is_due = |asking: &Asking| asking.next <= now;", "let is_due = |_: &Asking| now.as_millis() == u64::MAX;"),
-    ("peers are served no block", "replica.rs", "const BLOCKS_SERVED: usize = 64;", "const BLOCKS_SERVED: usize = 0;"),
-    ("a certificate is made of too few votes", "batcher.rs", "same().count() < quorum", "same().count() + 1 < quorum"),
+    ("certificates that are lacking are not asked for", "replica.rs", "Output::Fetch(it) => self.fetch(&it),", "Output::Fetch(_) => {}"),
+    ("blocks that are lacking are not asked for", "waiting.rs", "let is_due = |asking: &Asking| asking.next <= now;",
+     "let is_due = |_: &Asking| now.as_millis() == u64::MAX;"),
+    ("peers are served no block", "replica/asking.rs", "const BLOCKS_SERVED: usize = 64;", "const BLOCKS_SERVED: usize = 0;"),
+    ("a certificate of too few votes is taken", "crypto.rs", "signed.len() == self.quorum()", "signed.len() + 1 >= self.quorum()"),
     ("a damaged journal is taken for a cut one", "journal.rs", "Some(_) => Err(JournalError::Damaged(at)),", "Some(_) => Ok(None),"),
     ("a node that can't store goes on", "replica.rs", "Output::Store(entries) => self.parts.journal.append(&entries)?,",
      "Output::Store(entries) => drop(self.parts.journal.append(&entries)),"),
     ("a record is made short and the journal kept", "replica.rs", "self.parts.journal.compact(&entries)?;", "drop(entries);"),
     ("two processes have one key", "start.rs", 'Err(TryLockError::WouldBlock) => Err(format!("another process has {}", folder.display()).into()),',
      "Err(TryLockError::WouldBlock) => Ok(file),"),
+    ("a leader that proposes early and often takes all room", "replica.rs", "if is_near && (is_first || self.parts.engine.admits_vote(view)) {", "if is_near {"),
+    ("all blocks of a leader are kept", "replica.rs", "if is_near && is_first || self.waiting", "if is_near || self.waiting"),
     ("a peer that floods holds up the others", "inbox.rs", "self.turn = (index + 1) % count;", "self.turn = 0;"),
     ("a clock falls back with the machine's", "clock.rs", "self.ahead += by;", "self.ahead = Duration::ZERO; self.begun = Instant::now();"),
 )

@@ -146,6 +146,11 @@ impl Blocks {
         self.by_payload.get(payload)
     }
 
+    /// Whether a block of the view is here.
+    pub fn has_of(&self, view: View) -> bool {
+        self.by_view.contains_key(&view)
+    }
+
     /// Waits until the disk has all blocks: before a vote for one leaves, since a block that was notarized and is lost everywhere stops the
     /// chain.
     pub fn sync(&mut self) -> io::Result<()> {

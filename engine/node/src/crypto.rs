@@ -1,10 +1,9 @@
 //! Keys, signatures and certificates: ed25519 and SHA-256 of OpenSSL.
 
 use crate::settings::{Outcome, Settings};
-use crate::vote::Vote;
 use openssl::pkey::{Id, PKey, Private, Public};
 use openssl::sign::{Signer, Verifier};
-use simplex_view_state::{Digest, Participant, Subject};
+use simplex_view_state::{Certificate, Digest, Participant, Vote};
 use std::fs;
 use std::io::Write;
 use std::os::unix::fs::OpenOptionsExt;
@@ -14,8 +13,6 @@ use std::path::Path;
 pub const SIGNATURE: usize = 64;
 /// A signature.
 pub type Signature = [u8; SIGNATURE];
-/// What a certificate has of each signer: its index and its signature.
-const SIGNED: usize = 4 + SIGNATURE;
 
 /// The SHA-256 digest of bytes.
 pub fn digest(bytes: &[u8]) -> Digest {
@@ -46,11 +43,6 @@ impl Keys {
         })
     }
 
-    /// How many members there are.
-    pub fn members(&self) -> usize {
-        self.public.len()
-    }
-
     /// How many votes make a certificate: all members but a third of them, rounded down.
     pub fn quorum(&self) -> usize {
         self.public.len() - (self.public.len() - 1) / 3
@@ -63,11 +55,12 @@ impl Keys {
     }
 
     /// Whether a member signed a text.
-    pub fn is_signed(&self, by: Participant, text: &[u8], signature: &Signature) -> bool {
+    pub fn is_signed(&self, by: Participant, text: &[u8], signature: &[u8]) -> bool {
         let Some(key) = self.public.get(by.get() as usize) else {
             return false;
         };
-        Verifier::new_without_digest(key).is_ok_and(|mut it| it.verify_oneshot(signature, text).unwrap_or(false))
+        signature.len() == SIGNATURE
+            && Verifier::new_without_digest(key).is_ok_and(|mut it| it.verify_oneshot(signature, text).unwrap_or(false))
     }
 
     /// Whether a vote is its signer's.
@@ -75,36 +68,14 @@ impl Keys {
         self.is_signed(vote.signer, &vote.subject.encode(), &vote.signature)
     }
 
-    /// Whether bytes are a certificate: signatures on the subject of as many different members as it takes, by rising index.
-    pub fn is_certificate(&self, subject: &Subject, bytes: &[u8]) -> bool {
-        let (signed, rest) = bytes.as_chunks::<SIGNED>();
-        let text = subject.encode();
-        let signers = signed.iter().map(signer_of);
-        rest.is_empty()
-            && signed.len() >= self.quorum()
-            && signers.clone().zip(signers.skip(1)).all(|(one, next)| one < next)
-            && signed.iter().all(|it| self.is_signed(signer_of(it), &text, &signature_of(it)))
+    /// Whether a certificate is one that an engine makes of good votes: its bytes are signatures on its subject, of just as many different
+    /// members as it takes, by rising index.
+    pub fn is_certificate(&self, it: &Certificate) -> bool {
+        let text = it.subject().encode();
+        it.signatures().is_some_and(|signed| {
+            signed.len() == self.quorum() && signed.iter().all(|(signer, signature)| self.is_signed(*signer, &text, signature))
+        })
     }
-}
-
-fn signer_of(signed: &[u8; SIGNED]) -> Participant {
-    Participant::new(u32::from_be_bytes([signed[0], signed[1], signed[2], signed[3]]))
-}
-
-fn signature_of(signed: &[u8; SIGNED]) -> Signature {
-    let mut signature = [0; SIGNATURE];
-    signature.copy_from_slice(&signed[4..]);
-    signature
-}
-
-/// The certificate of these members' signatures, which come by rising index.
-pub fn certificate_of<'a>(signed: impl Iterator<Item = (Participant, &'a Signature)>) -> Vec<u8> {
-    let mut bytes = Vec::new();
-    for (signer, signature) in signed {
-        bytes.extend_from_slice(&signer.get().to_be_bytes());
-        bytes.extend_from_slice(signature);
-    }
-    bytes
 }
 
 fn public_key(hex: &str) -> Outcome<PKey<Public>> {
@@ -130,4 +101,115 @@ pub fn make_key(path: &Path) -> Outcome<String> {
     file.write_all(&secret.private_key_to_pem_pkcs8()?)?;
     file.sync_all()?;
     Ok(secret.raw_public_key()?.iter().map(|byte| format!("{byte:02x}")).collect())
+}
+
+#[cfg(test)]
+mod tests {
+    use super::*;
+    use simplex_view_state::{Config, Engine, Epoch, Input, Moment, Options, Output, Round, Subject, View};
+
+    /// The keys of each of so many members.
+    fn members(count: u32) -> Vec<Keys> {
+        let secret: Vec<_> = (0..count).map(|_| PKey::generate_ed25519().expect("a key")).collect();
+        let public_of = |it: &PKey<Private>| PKey::public_key_from_raw_bytes(&it.raw_public_key().expect("32 bytes"), Id::ED25519);
+        let keys_of = |(index, secret): (u32, &PKey<Private>)| Keys {
+            me: Participant::new(index),
+            secret: secret.clone(),
+            public: Vec::new(),
+        };
+        let mut all: Vec<Keys> = (0..).zip(&secret).map(keys_of).collect();
+        all.iter_mut()
+            .for_each(|it| it.public = secret.iter().map(|secret| public_of(secret).expect("a public key")).collect());
+        all
+    }
+
+    fn nullify(view: u64) -> Subject {
+        let (epoch, view) = (Epoch::new(1), View::new(view));
+        Subject::Nullify(Round { epoch, view })
+    }
+
+    fn vote(keys: &Keys, subject: Subject) -> Vote {
+        Vote {
+            subject,
+            signer: keys.me,
+            signature: keys.sign(&subject.encode()).expect("a signature").to_vec(),
+        }
+    }
+
+    /// A certificate on a subject, of the votes in this order, and with these bytes behind it.
+    fn made_of(subject: Subject, votes: &[Vote], behind: &[u8]) -> Certificate {
+        let mut bytes = Vec::new();
+        for vote in votes {
+            bytes.extend_from_slice(&vote.signer.get().to_be_bytes());
+            bytes.extend_from_slice(&(vote.signature.len() as u64).to_be_bytes());
+            bytes.extend_from_slice(&vote.signature);
+        }
+        bytes.extend_from_slice(behind);
+        Certificate::of(subject, bytes)
+    }
+
+    #[test]
+    fn what_the_library_makes_of_votes_is_a_certificate() {
+        let members = members(4);
+        let count = 4.try_into().expect("not 0");
+        let config = Config::new(count, Some(members[0].me), Epoch::new(1), Digest::default());
+        let now = Moment::from_millis(0);
+        let mut engine = Engine::start(&config, &Options::default(), now).expect("good settings");
+        let mut made = Vec::new();
+        for keys in &members[1..] {
+            assert!(made.is_empty(), "{} votes are too few", keys.me.get() - 1);
+            assert!(engine.handle(Input::Vote(vote(keys, nullify(1))), now).expect("memory"));
+            while let Some(output) = engine.poll(now).expect("memory") {
+                made.extend(matches!(output, Output::Broadcast(_)).then_some(output));
+            }
+        }
+        let [Output::Broadcast(certificate)] = &made[..] else {
+            panic!("three votes of four make one: {made:?}");
+        };
+        assert!(members[3].is_certificate(certificate));
+        assert_eq!(certificate.subject(), nullify(1));
+    }
+
+    #[test]
+    fn what_is_no_certificate_is_refused() {
+        let members = members(4);
+        let keys = &members[0];
+        let votes: Vec<Vote> = members.iter().map(|it| vote(it, nullify(1))).collect();
+        let of = |indices: &[usize]| indices.iter().map(|index| votes[*index].clone()).collect::<Vec<_>>();
+        let is_good = |indices: &[usize]| keys.is_certificate(&made_of(nullify(1), &of(indices), &[]));
+        assert!(is_good(&[0, 1, 2]) && is_good(&[0, 2, 3]));
+        for other in [&[][..], &[0, 1], &[0, 1, 1], &[1, 0, 2], &[0, 1, 2, 3], &[0, 1, 2, 2]] {
+            assert!(!is_good(other), "signed by {other:?}");
+        }
+        assert!(
+            !keys.is_certificate(&made_of(nullify(2), &of(&[0, 1, 2]), &[])),
+            "on something else"
+        );
+        assert!(!keys.is_certificate(&made_of(nullify(1), &of(&[0, 1, 2]), &[0])), "a byte more");
+        let mut in_another_name = of(&[0, 1, 2]);
+        in_another_name[2].signer = members[3].me;
+        assert!(!keys.is_certificate(&made_of(nullify(1), &in_another_name, &[])));
+        in_another_name[2].signer = Participant::new(4);
+        assert!(!keys.is_certificate(&made_of(nullify(1), &in_another_name, &[])), "of no member");
+    }
+
+    #[test]
+    fn a_bit_that_is_changed_makes_no_other_certificate() {
+        let members = members(4);
+        let votes: Vec<Vote> = members[1..].iter().map(|it| vote(it, nullify(1))).collect();
+        let good = made_of(nullify(1), &votes, &[]);
+        for at in 0..good.bytes().len() {
+            let mut bytes = good.bytes().to_vec();
+            bytes[at] ^= 1 << (at % 8);
+            assert!(!members[0].is_certificate(&Certificate::of(nullify(1), bytes)), "byte {at}");
+        }
+    }
+
+    #[test]
+    fn a_certificate_as_it_was_before_lengths_stood_in_it_is_refused() {
+        let members = members(4);
+        let votes = members[..3].iter().map(|it| vote(it, nullify(1)));
+        let before = votes.flat_map(|it| [it.signer.get().to_be_bytes().to_vec(), it.signature].concat());
+        assert!(!members[0].is_certificate(&Certificate::of(nullify(1), before.collect())));
+    }
 }

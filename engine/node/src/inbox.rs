@@ -123,7 +123,7 @@ impl Inbox {
 #[cfg(test)]
 mod tests {
     use super::*;
-    use simplex_view_state::View;
+    use simplex_view_state::{FetchKind, View};
     use std::sync::Arc;
     use std::thread;
 
@@ -131,7 +131,7 @@ mod tests {
     const SOON: Duration = Duration::from_secs(5);
 
     fn ask(view: u64) -> Message {
-        Message::AskCertificate(None, View::new(view))
+        Message::AskCertificate(FetchKind::Decision, View::new(view))
     }
 
     fn sender(event: Option<Event>) -> Option<u32> {

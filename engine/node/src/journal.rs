@@ -12,7 +12,8 @@ use std::io::{self, Write};
 use std::path::{Path, PathBuf};
 
 const NAME: &[u8; 8] = b"simplexj";
-const VERSION: u8 = 1;
+/// From 2 on the certificates in the record are as the library makes them of votes: those of version 1 no peer would take.
+const VERSION: u8 = 2;
 const HEAD: usize = 9;
 /// What a piece has beside its body: two lengths and a digest.
 const BESIDE: usize = 8 + 32;
@@ -140,6 +141,7 @@ pub struct Journal {
     folder: PathBuf,
     file: File,
     bytes: u64,
+    entries: u64,
     is_dirty: bool,
     syncs: bool,
 }
@@ -160,6 +162,7 @@ impl Journal {
             file: OpenOptions::new().append(true).open(path(folder))?,
             folder: folder.to_owned(),
             bytes: bytes.len() as u64,
+            entries: entries.stored.entries.get(),
             is_dirty: false,
             syncs,
         })
@@ -173,8 +176,14 @@ impl Journal {
         let piece = piece(entries)?;
         self.file.write_all(&piece)?;
         self.bytes += piece.len() as u64;
+        self.entries = entries.stored.entries.get();
         self.is_dirty = true;
         Ok(())
+    }
+
+    /// Whether something was appended that the disk may not have.
+    pub fn is_dirty(&self) -> bool {
+        self.is_dirty
     }
 
     /// Waits until the disk has it all. Whether it had to.
@@ -195,6 +204,11 @@ impl Journal {
     /// How long the file is, in bytes.
     pub fn bytes(&self) -> u64 {
         self.bytes
+    }
+
+    /// How many entries the record has in it.
+    pub fn entries(&self) -> u64 {
+        self.entries
     }
 }
 
@@ -256,8 +270,9 @@ mod tests {
     fn other_files_are_refused_by_name() {
         let folder = scratch("other");
         let mut bytes = voted(&folder);
-        bytes[8] = 2;
-        assert!(matches!(parse(&bytes), Err(JournalError::OtherVersion(2))));
+        bytes[8] = 1;
+        let refused = parse(&bytes).expect_err("of the version before");
+        assert!(refused.to_string().contains("the journal has version 1"), "{refused}");
         bytes[0] = b'S';
         assert!(matches!(parse(&bytes), Err(JournalError::NoJournal)));
         assert!(matches!(parse(b""), Err(JournalError::NoJournal)));

@@ -1,21 +1,18 @@
 //! An engine over the proved core of the Simplex protocol: members as processes, TCP between them, ed25519, a journal on a disk.
 //!
-//! The library decides what a member votes for, builds, verifies, certifies and fetches. What is here brings it all else, a part a
-//! module: [`driver`] makes the library's calls behind each event, [`batcher`] counts votes, [`crypto`] signs and verifies, [`journal`]
-//! stores, [`peers`] sends and receives, [`application`] builds and judges blocks, and [`replica`] is the one thread that owns them.
+//! The library's engine decides: it is told what came in, and hands out what is to be stored, voted, sent, asked for and done, in order.
+//! What is here brings it all else, a part a module: [`crypto`] signs and verifies, [`journal`] stores, [`peers`] sends and receives,
+//! [`blocks`] keeps blocks, [`application`] builds and judges them, and [`replica`] is the one thread that owns the engine.
 
 #![deny(missing_docs)]
 
 pub mod application;
 pub mod audit;
-pub mod batcher;
 pub mod blocks;
 pub mod clock;
 pub mod crypto;
-pub mod driver;
-pub mod early;
 pub mod faults;
-pub mod fetches;
+pub mod floor;
 pub mod inbox;
 pub mod journal;
 pub mod ledger;
@@ -29,3 +26,4 @@ pub mod settings;
 pub mod start;
 pub mod trace;
 pub mod vote;
+pub mod waiting;

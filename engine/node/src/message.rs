@@ -1,9 +1,11 @@
 //! What members send each other, and its bytes.
 
-use crate::batcher::{certified, order_of};
-use crate::crypto::Signature;
-use crate::vote::{Vote, split_subject};
-use simplex_view_state::{Certificate, CertificateKind, Digest, Participant, View};
+use crate::crypto::{SIGNATURE, Signature};
+use simplex_view_state::{Certificate, Digest, FetchKind, Participant, Subject, View, Vote};
+
+/// The version of all that stands below. It is a part of what is signed in a greeting, so members of two versions refuse each other.
+/// From 2 on certificates are as the library makes them of votes.
+pub const VERSION: u8 = 2;
 
 /// The longest message that is read: 1 MiB.
 pub const LONGEST: usize = 1 << 20;
@@ -19,8 +21,8 @@ pub enum Message {
     Vote(Vote),
     /// A certificate.
     Certificate(Certificate),
-    /// The view's certificate of a kind is asked for, or any that leads past the view.
-    AskCertificate(Option<CertificateKind>, View),
+    /// A certificate is asked for: of a view, or one that leads past it.
+    AskCertificate(FetchKind, View),
     /// A block is asked for, by its payload's digest.
     AskBlock(Digest),
     /// A block.
@@ -56,10 +58,10 @@ impl Message {
             Message::Certificate(it) => {
                 out.push(3);
                 out.extend_from_slice(&it.subject().encode());
-                out.extend_from_slice(bytes_of(it));
+                out.extend_from_slice(it.bytes());
             }
             Message::AskCertificate(kind, view) => {
-                out.extend_from_slice(&[4, kind.map_or(3, order_of)]);
+                out.extend_from_slice(&[4, number_of(*kind)]);
                 out.extend_from_slice(&view.get().to_be_bytes());
             }
             Message::AskBlock(payload) => {
@@ -88,7 +90,7 @@ impl Message {
             2 => split_vote(rest)
                 .filter(|(_, rest)| rest.is_empty())
                 .map(|(vote, _)| Message::Vote(vote)),
-            3 => split_subject(rest).map(|(subject, bytes)| Message::Certificate(certified(subject, bytes.to_vec()))),
+            3 => Subject::decode(rest).map(|(subject, bytes)| Message::Certificate(Certificate::of(subject, bytes.to_vec()))),
             4 => read_ask(rest),
             5 => Some(Message::AskBlock(Digest::new(rest.try_into().ok()?))),
             6 => Some(Message::Block(rest.to_vec())),
@@ -97,18 +99,26 @@ impl Message {
     }
 }
 
+fn number_of(kind: FetchKind) -> u8 {
+    match kind {
+        FetchKind::Notarization => 0,
+        FetchKind::Nullification => 1,
+        FetchKind::Decision => 2,
+    }
+}
+
 fn read_ask(bytes: &[u8]) -> Option<Message> {
     let (&kind, view) = bytes.split_first()?;
     let kind = match kind {
-        0 => Some(CertificateKind::Notarization),
-        1 => Some(CertificateKind::Nullification),
-        2 => Some(CertificateKind::Finalization),
-        3 => None,
+        0 => FetchKind::Notarization,
+        1 => FetchKind::Nullification,
+        2 => FetchKind::Decision,
         _ => return None,
     };
     Some(Message::AskCertificate(kind, View::new(u64::from_be_bytes(view.try_into().ok()?))))
 }
 
+/// A signature has the length of all signatures here: the library lets it be any.
 fn write_vote(out: &mut Vec<u8>, vote: &Vote) {
     out.extend_from_slice(&vote.signer.get().to_be_bytes());
     out.extend_from_slice(&vote.signature);
@@ -117,29 +127,20 @@ fn write_vote(out: &mut Vec<u8>, vote: &Vote) {
 
 fn split_vote(bytes: &[u8]) -> Option<(Vote, &[u8])> {
     let (signer, rest) = bytes.split_first_chunk::<4>()?;
-    let (signature, rest) = rest.split_first_chunk::<64>()?;
-    let (subject, rest) = split_subject(rest)?;
+    let (signature, rest) = rest.split_first_chunk::<SIGNATURE>()?;
+    let (subject, rest) = Subject::decode(rest)?;
     let vote = Vote {
         subject,
         signer: Participant::new(u32::from_be_bytes(*signer)),
-        signature: *signature,
+        signature: signature.to_vec(),
     };
     Some((vote, rest))
-}
-
-/// The bytes of a certificate.
-pub fn bytes_of(certificate: &Certificate) -> &[u8] {
-    match certificate {
-        Certificate::Notarization(it) => &it.certificate,
-        Certificate::Nullification(it) => &it.certificate,
-        Certificate::Finalization(it) => &it.certificate,
-    }
 }
 
 #[cfg(test)]
 mod tests {
     use super::*;
-    use simplex_view_state::{Epoch, Proposal, Round, Subject};
+    use simplex_view_state::{Epoch, Proposal, Round};
 
     fn messages() -> Vec<Message> {
         let round = Round {
@@ -154,7 +155,7 @@ mod tests {
         let vote = |subject| Vote {
             subject,
             signer: Participant::new(2),
-            signature: [5; 64],
+            signature: vec![5; SIGNATURE],
         };
         let subjects = [Subject::Notarize(proposal), Subject::Nullify(round), Subject::Finalize(proposal)];
         let mut all = vec![
@@ -164,13 +165,8 @@ mod tests {
         ];
         all.push(Message::Proposal(vote(subjects[0]), vec![7; 100]));
         all.extend(subjects.map(|it| Message::Vote(vote(it))));
-        all.extend(subjects.map(|it| Message::Certificate(certified(it, vec![4; 204]))));
-        let kinds = [
-            None,
-            Some(CertificateKind::Notarization),
-            Some(CertificateKind::Nullification),
-            Some(CertificateKind::Finalization),
-        ];
+        all.extend(subjects.map(|it| Message::Certificate(Certificate::of(it, vec![4; 228]))));
+        let kinds = [FetchKind::Notarization, FetchKind::Nullification, FetchKind::Decision];
         all.extend(kinds.map(|it| Message::AskCertificate(it, View::new(77))));
         all
     }

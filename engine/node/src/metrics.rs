@@ -60,13 +60,13 @@ counters! {
     served: "counter",
     /// Fetches that are open.
     open_fetches: "gauge",
-    /// Inputs that the core did not allow.
+    /// Inputs that were of no use to the engine.
     not_allowed: "counter",
     /// Times that the disk was waited for.
     syncs: "counter",
     /// Microseconds that the disk was waited for.
     sync_us: "counter",
-    /// Microseconds that were spent in the core.
+    /// Microseconds that were spent in the library.
     core_us: "counter",
     /// Microseconds that were spent signing.
     sign_us: "counter",

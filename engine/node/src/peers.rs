@@ -7,12 +7,12 @@
 
 use crate::crypto::{Keys, Signature};
 use crate::inbox::Inbox;
-use crate::message::{LONGEST, Message};
+use crate::message::{LONGEST, Message, VERSION};
 use crate::metrics::Counters;
-use crate::settings::{Outcome, Settings};
+use crate::settings::{Outcome, Settings, Turns};
 use crate::vote::{is_sound, kind_of};
 use simplex_view_state::{CertificateKind, Epoch, Participant, Subject, View};
-use std::collections::{BTreeSet, VecDeque};
+use std::collections::{BTreeSet, HashSet, VecDeque};
 use std::io::{self, BufReader, Read, Write};
 use std::net::{SocketAddr, TcpListener, TcpStream};
 use std::sync::atomic::{AtomicU64, AtomicUsize, Ordering::Relaxed};
@@ -42,7 +42,7 @@ const CONNECTIONS_A_MEMBER: usize = 4;
 pub struct Horizon {
     current: AtomicU64,
     min_active: AtomicU64,
-    known: Mutex<BTreeSet<(View, u8)>>,
+    known: Mutex<HashSet<(View, CertificateKind)>>,
 }
 
 impl Horizon {
@@ -50,22 +50,20 @@ impl Horizon {
     pub fn moved(&self, current: View, min_active: View) {
         self.current.store(current.get(), Relaxed);
         if self.min_active.swap(min_active.get(), Relaxed) != min_active.get() {
-            let mut known = self.lock();
-            *known = known.split_off(&(min_active, 0));
+            self.lock().retain(|(view, _)| *view >= min_active);
         }
     }
 
     /// The member has a certificate: what its votes say need not be verified again.
     pub fn know(&self, kind: CertificateKind, view: View) {
-        self.lock().insert((view, crate::batcher::order_of(kind)));
+        self.lock().insert((view, kind));
     }
 
     fn knows(&self, subject: &Subject) -> bool {
-        self.lock()
-            .contains(&(subject.round().view, crate::batcher::order_of(kind_of(subject))))
+        self.lock().contains(&(subject.round().view, kind_of(subject)))
     }
 
-    fn lock(&self) -> std::sync::MutexGuard<'_, BTreeSet<(View, u8)>> {
+    fn lock(&self) -> std::sync::MutexGuard<'_, HashSet<(View, CertificateKind)>> {
         self.known.lock().unwrap_or_else(|it| it.into_inner())
     }
 
@@ -86,7 +84,7 @@ struct Reader {
     counters: Arc<Counters>,
     inbox: Arc<Inbox>,
     epoch: Epoch,
-    term_length: u64,
+    turns: Turns,
 }
 
 /// A frame, and when it may leave: a link that is slow in a trial holds it back until then.
@@ -117,7 +115,7 @@ impl Peers {
             counters: counters.clone(),
             inbox: inbox.clone(),
             epoch: Epoch::new(settings.protocol.epoch),
-            term_length: u64::from(settings.protocol.term_length.get()),
+            turns: settings.turns(),
         });
         let most = CONNECTIONS_A_MEMBER * settings.members.len();
         thread::Builder::new()
@@ -187,9 +185,9 @@ fn begin_writer(index: u32, address: SocketAddr, keys: &Arc<Keys>, counters: &Ar
     Ok(queue)
 }
 
-/// What who begins a connection signs: the bytes that it was sent, who it is, and whom it means.
+/// What who begins a connection signs: how it talks, the bytes that it was sent, who it is, and whom it means.
 fn greeting(asked: &[u8; 32], from: Participant, to: Participant) -> Vec<u8> {
-    let mut text = b"simplex-node greeting".to_vec();
+    let mut text = format!("simplex-node greeting {VERSION}").into_bytes();
     text.extend_from_slice(asked);
     text.extend_from_slice(&from.get().to_be_bytes());
     text.extend_from_slice(&to.get().to_be_bytes());
@@ -220,7 +218,8 @@ fn write_to(to: Participant, address: SocketAddr, keys: &Keys, counters: &Counte
     }
 }
 
-fn greet(to: Participant, address: SocketAddr, keys: &Keys) -> Outcome<TcpStream> {
+/// Begins a connection to a member, and says whose it is.
+pub fn greet(to: Participant, address: SocketAddr, keys: &Keys) -> Outcome<TcpStream> {
     let mut stream = TcpStream::connect_timeout(&address, GREETING)?;
     stream.set_nodelay(true)?;
     stream.set_read_timeout(Some(GREETING))?;
@@ -295,7 +294,8 @@ fn read_from(mut stream: TcpStream, reader: &Reader) -> io::Result<()> {
     }
 }
 
-fn read_message(stream: &mut impl Read) -> io::Result<Message> {
+/// Reads a message from its frame.
+pub fn read_message(stream: &mut impl Read) -> io::Result<Message> {
     let mut length = [0; 4];
     stream.read_exact(&mut length)?;
     let length = u32::from_be_bytes(length) as usize;
@@ -317,7 +317,7 @@ impl Reader {
                 matches!(vote.subject, Subject::Notarize(_))
                     && is_sound(&vote.subject, self.epoch)
                     && self.horizon.admits(view)
-                    && vote.signer == self.leader(view)
+                    && vote.signer == self.turns.leader(view)
                     && self.count(self.keys.is_signed_vote(vote))
             }
             Message::Vote(vote) => {
@@ -331,15 +331,10 @@ impl Reader {
                 is_sound(&subject, self.epoch)
                     && self.horizon.is_kept(subject.round().view)
                     && !self.horizon.knows(&subject)
-                    && self.count(self.keys.is_certificate(&subject, crate::message::bytes_of(it)))
+                    && self.count(self.keys.is_certificate(it))
             }
             Message::AskCertificate(..) | Message::AskBlock(_) | Message::Block(_) => true,
         }
-    }
-
-    fn leader(&self, view: View) -> Participant {
-        let term = view.get().saturating_sub(1) / self.term_length;
-        Participant::new((term % self.keys.members() as u64) as u32)
     }
 
     fn count(&self, is_good: bool) -> bool {

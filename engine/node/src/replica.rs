@@ -1,33 +1,36 @@
-//! The one thread that owns a member: it takes events as they come, and carries out what follows from them.
+//! The one thread that owns the engine: it tells it events as they come, and carries out what it hands out.
 //!
-//! A turn takes all events that wait, lets the driver answer until nothing follows, waits for the disk once, and then sends all votes of
-//! the turn. A disk or a member that fails ends the process; what was not stored was not sent.
+//! A turn tells all events that wait, and polls until nothing follows: what is recorded goes to the journal, what others see and stands
+//! behind that waits, and what the application is asked it answers at once. Then the disk is waited for, once for all of that, and what
+//! waits leaves, in order. A disk or an engine that fails ends the process; what was not stored was not sent.
+
+mod asking;
+mod casting;
+mod faulty;
+mod judging;
 
 use crate::application::Application;
-use crate::batcher::{Batcher, Counted};
 use crate::blocks::{Block, Blocks};
 use crate::clock::Clock;
 use crate::crypto::Keys;
-use crate::driver::{Driver, Input, Order, Output};
-use crate::early::Early;
 use crate::faults::Fault;
-use crate::fetches::{Fetches, Wanted};
 use crate::inbox::{Event, Inbox};
 use crate::journal::Journal;
 use crate::message::Message;
 use crate::metrics::{Counters, resident_kb};
 use crate::peers::{Horizon, Peers};
-use crate::settings::{Outcome, Settings};
+use crate::settings::{Outcome, Settings, Turns};
 use crate::trace::Trace;
-use crate::vote::{Vote, kind_of, split_subject};
-use simplex_view_state::{Certificate, CertificateKind, Context, Digest, Participant, Proposal, Subject, TimeoutReason, View};
-use std::collections::{BTreeMap, BTreeSet};
+use crate::waiting::Waiting;
+use simplex_view_state::{
+    Certificate, CertificateKind, Engine, EngineError, Input, Output, Participant, Proposal, Subject, TimeoutReason, View, Views, Vote,
+};
+use std::collections::BTreeSet;
 use std::fs::File;
 use std::sync::Arc;
 use std::sync::atomic::Ordering::Relaxed;
-use std::thread;
 use std::time::{Duration, Instant};
-use tracing::{info, warn};
+use tracing::info;
 
 /// How many events a turn takes.
 const MOST_EVENTS: usize = 256;
@@ -35,10 +38,8 @@ const MOST_EVENTS: usize = 256;
 const LONGEST_WAIT: Duration = Duration::from_millis(50);
 /// How often a turn goes on with what follows, before events are taken again.
 const MOST_ROUNDS: usize = 32;
-/// How many blocks a peer is served at once: one, and those that it builds on.
-const BLOCKS_SERVED: usize = 64;
-/// After how long a block is asked for again, in milliseconds.
-const BLOCK_RETRY_MS: u64 = 100;
+/// How many views ahead of the current one a proposal may come: so early the engine keeps it.
+const EARLY_VIEWS: u64 = 8;
 /// How far a clock jumps in a trial.
 const AN_HOUR: Duration = Duration::from_secs(3600);
 
@@ -56,35 +57,38 @@ pub struct Parts<A> {
     pub peers: Peers,
     /// What waits for this thread.
     pub inbox: Arc<Inbox>,
-    /// The member.
-    pub driver: Driver,
+    /// The engine, whose first output was carried out.
+    pub engine: Engine,
     /// Its journal.
     pub journal: Journal,
     /// The blocks.
     pub blocks: Blocks,
     /// The application.
     pub application: A,
-    /// The clock of this life, which the member began by.
+    /// The clock of this life.
     pub clock: Clock,
     /// That no other process has the folder.
     pub lock: File,
 }
 
-/// A member with all that it needs.
+/// An engine with all that it needs.
 pub struct Replica<A> {
     parts: Parts<A>,
-    batcher: Batcher,
-    early: Early,
+    turns: Turns,
     trace: Option<Trace>,
-    to_verify: BTreeMap<View, (Context, Proposal)>,
-    to_certify: BTreeMap<View, Proposal>,
-    block_fetches: Fetches,
+    /// What waits for blocks.
+    waiting: Waiting,
+    /// What others see and stands behind a record that the disk may not have yet, in order.
+    leaving: Vec<Output>,
+    /// When each member was heard of last.
     heard: Vec<Instant>,
+    /// The last view whose leader was given up since it was not heard of.
     given_up: View,
+    /// The last view that this member was seen to vote to nullify.
+    nullified: View,
+    /// Whose contradictions were told of: once a view, or a faulty member could fill the log.
+    shown: BTreeSet<(View, Participant)>,
     finalized: Option<Proposal>,
-    /// The block that the finalized chain waits for.
-    lacking: Option<Digest>,
-    votes: Vec<Order>,
     old_votes: Vec<Vote>,
     told_at: u64,
 }
@@ -93,19 +97,21 @@ impl<A: Application> Replica<A> {
     /// A replica of these parts.
     pub fn new(parts: Parts<A>) -> Outcome<Replica<A>> {
         let members = parts.settings.count().get();
-        let finalized = parts.driver.finalized();
+        let last = parts.engine.views().ok_or(EngineError::Failed)?.last_finalized;
+        let finalized = match parts.engine.certificate(CertificateKind::Finalization, last)? {
+            Some(Certificate::Finalization(it)) => Some(it.proposal),
+            _ => None,
+        };
         Ok(Replica {
-            batcher: Batcher::default(),
-            early: Early::default(),
+            turns: parts.settings.turns(),
             trace: parts.settings.trace.as_deref().map(Trace::open).transpose()?,
-            to_verify: BTreeMap::new(),
-            to_certify: BTreeMap::new(),
-            block_fetches: Fetches::new(parts.settings.me(), members, BLOCK_RETRY_MS),
+            waiting: Waiting::new(parts.settings.me(), members),
+            leaving: Vec::new(),
             heard: vec![Instant::now(); members as usize],
             given_up: View::GENESIS,
+            nullified: View::GENESIS,
+            shown: BTreeSet::new(),
             finalized,
-            lacking: None,
-            votes: Vec::new(),
             old_votes: Vec::new(),
             told_at: u64::MAX,
             parts,
@@ -117,9 +123,8 @@ impl<A: Application> Replica<A> {
         self.deliver()?;
         let mut is_settled = self.settle()?;
         loop {
-            let wake = self.parts.driver.wake();
             let wait = if is_settled {
-                self.parts.clock.until(wake).min(LONGEST_WAIT)
+                self.parts.clock.until(self.parts.engine.wake()).min(LONGEST_WAIT)
             } else {
                 Duration::ZERO
             };
@@ -137,15 +142,13 @@ impl<A: Application> Replica<A> {
             self.watch_leader()?;
             is_settled = self.settle()?;
             self.fetch_blocks();
-            self.tell();
+            self.tell()?;
         }
     }
 
     fn stop(mut self) -> Outcome {
         self.parts.inbox.close();
-        self.cast_votes()?;
-        self.parts.blocks.sync()?;
-        self.parts.journal.sync()?;
+        self.sync()?;
         if let Some(trace) = &mut self.trace {
             trace.flush()?;
         }
@@ -153,12 +156,25 @@ impl<A: Application> Replica<A> {
         Ok(())
     }
 
+    fn views(&self) -> Outcome<Views> {
+        Ok(self.parts.engine.views().ok_or(EngineError::Failed)?)
+    }
+
+    /// Tells the engine. Whether it was of use.
     fn handle(&mut self, input: Input) -> Outcome<bool> {
         let now = self.parts.clock.now();
         let begun = Instant::now();
-        let is_of_use = self.parts.driver.handle(input, now)?;
+        let is_of_use = self.parts.engine.handle(input, now)?;
         self.parts.counters.core_us.fetch_add(begun.elapsed().as_micros() as u64, Relaxed);
         Ok(is_of_use)
+    }
+
+    fn poll(&mut self) -> Outcome<Option<Output>> {
+        let now = self.parts.clock.now();
+        let begun = Instant::now();
+        let output = self.parts.engine.poll(now)?;
+        self.parts.counters.core_us.fetch_add(begun.elapsed().as_micros() as u64, Relaxed);
+        Ok(output)
     }
 
     fn take(&mut self, event: Event) -> Outcome {
@@ -173,8 +189,8 @@ impl<A: Application> Replica<A> {
         self.heard[from.get() as usize] = Instant::now();
         match message {
             Message::Hello(..) => Ok(()),
-            Message::Proposal(vote, block) => self.take_proposal(&vote, block),
-            Message::Vote(vote) => self.take_vote(&vote),
+            Message::Proposal(vote, block) => self.take_proposal(vote, block),
+            Message::Vote(vote) => self.take_vote(vote),
             Message::Certificate(it) => self.take_certificate(it),
             Message::AskCertificate(kind, view) => {
                 self.serve(from, kind, view);
@@ -189,137 +205,62 @@ impl<A: Application> Replica<A> {
     }
 
     /// A proposal that its view's leader signed, with its block. The readers tested the signature.
-    fn take_proposal(&mut self, vote: &Vote, block: Vec<u8>) -> Outcome {
+    fn take_proposal(&mut self, vote: Vote, block: Vec<u8>) -> Outcome {
         let Subject::Notarize(proposal) = vote.subject else { return Ok(()) };
-        if !self.parts.driver.admits_vote(proposal.view()) {
-            self.keep_early(Message::Proposal(vote.clone(), block));
-            return Ok(());
-        }
-        let is_new = self.handle(Input::Proposal(proposal))?;
-        let is_wanted = is_new || self.block_fetches.has(&Wanted::Block(proposal.payload));
-        // A leader may sign as many proposals as it likes: the blocks of those that are of no use are not kept.
-        if let Some(block) = Block::read(block).filter(|it| is_wanted && it.payload() == proposal.payload) {
-            self.keep_block(block)?;
+        if let Some(block) = Block::read(block).filter(|it| it.payload() == proposal.payload && it.is_of(&proposal)) {
+            self.take_proposed(vote.signer, proposal, block)?;
         }
         self.take_vote(vote)
     }
 
-    fn take_vote(&mut self, vote: &Vote) -> Outcome {
-        let view = vote.subject.round().view;
-        if !self.parts.driver.admits_vote(view) {
-            self.keep_early(Message::Vote(vote.clone()));
-            return Ok(());
+    /// A leader may sign as many proposals as it likes. So of each view that is not far ahead the first block is kept, and others where they
+    /// are asked for; and of those that come early the first is told, since the engine keeps a few of all leaders together.
+    fn take_proposed(&mut self, from: Participant, proposal: Proposal, block: Block) -> Outcome {
+        let view = proposal.view();
+        let is_first = !self.parts.blocks.has_of(view);
+        let is_near = view.get() <= self.views()?.current.get() + EARLY_VIEWS;
+        if is_near && (is_first || self.parts.engine.admits_vote(view)) {
+            self.handle(Input::Proposal { from, proposal })?;
         }
-        if let Some(trace) = &mut self.trace {
-            trace.write(vote)?;
-        }
-        let is_of_leader = vote.signer == self.parts.driver.leader(view) && vote.signer != self.parts.keys.me;
-        if matches!(vote.subject, Subject::Nullify(_)) && is_of_leader {
-            let reason = TimeoutReason::LeaderNullify;
-            self.handle(Input::GivenUp { view, reason })?;
-        }
-        match self.batcher.count(vote, self.parts.keys.quorum()) {
-            Counted::Taken(Some(certificate)) => self.take_certificate(certificate)?,
-            Counted::Taken(None) | Counted::Known => {}
-            Counted::Contradicts(other) => {
-                self.parts.counters.contradictions.fetch_add(1, Relaxed);
-                warn!(signer = vote.signer.get(), view = view.get(), ?other, it = ?vote.subject, "two votes of one member");
-            }
-        }
-        match self.parts.settings.trial.fault {
-            Some(Fault::Replays) => self.replay(vote),
-            Some(Fault::Forges) if vote.signer == self.parts.keys.me => self.forge(vote),
-            _ => {}
+        if is_near && is_first || self.waiting.wants(&proposal.payload) {
+            self.keep_block(block)?;
         }
         Ok(())
     }
 
-    fn keep_early(&mut self, message: Message) {
-        self.early.keep(message, self.parts.driver.views().current);
-    }
-
-    /// Takes what came early, and is admitted now.
-    fn take_early(&mut self) -> Outcome {
-        let driver = &self.parts.driver;
-        for message in self.early.take(driver.views().current, |view| driver.admits_vote(view)) {
-            match message {
-                Message::Proposal(vote, block) => self.take_proposal(&vote, block)?,
-                Message::Vote(vote) => self.take_vote(&vote)?,
-                _ => {}
-            }
+    /// A vote whose signature is good: another member's, or this one's own once it has left.
+    fn take_vote(&mut self, vote: Vote) -> Outcome {
+        let view = vote.subject.round().view;
+        if let Some(trace) = &mut self.trace {
+            trace.write(&vote)?;
         }
+        let is_of_leader = vote.signer == self.turns.leader(view) && vote.signer != self.parts.keys.me;
+        if matches!(vote.subject, Subject::Nullify(_)) && is_of_leader && self.parts.engine.admits_vote(view) {
+            let reason = TimeoutReason::LeaderNullify;
+            self.handle(Input::GivenUp { view, reason })?;
+        }
+        match self.parts.settings.trial.fault {
+            Some(Fault::Replays) => self.replay(&vote),
+            Some(Fault::Forges) if vote.signer == self.parts.keys.me => self.forge(&vote),
+            _ => {}
+        }
+        self.handle(Input::Vote(vote))?;
         Ok(())
     }
 
     /// A certificate that is good.
     fn take_certificate(&mut self, it: Certificate) -> Outcome {
-        let (kind, view) = (kind_of(&it.subject()), it.round().view);
+        let (kind, view) = (it.kind(), it.round().view);
         if self.handle(Input::Certificate(it))? {
             self.parts.horizon.know(kind, view);
         }
         Ok(())
     }
 
-    /// A block that a peer sends. Blocks that nobody asked for are not kept.
-    fn take_block(&mut self, bytes: Vec<u8>) -> Outcome {
-        let Some(block) = Block::read(bytes) else { return Ok(()) };
-        if self.block_fetches.has(&Wanted::Block(block.payload())) {
-            self.keep_block(block)?;
-        }
-        Ok(())
-    }
-
-    /// Keeps a block: what waited for it goes on.
-    fn keep_block(&mut self, block: Block) -> Outcome {
-        let payload = block.payload();
-        self.parts.blocks.keep(block)?;
-        self.block_fetches.close(&Wanted::Block(payload));
-        let ready: Vec<View> = self
-            .to_verify
-            .iter()
-            .filter(|(_, it)| it.1.payload == payload)
-            .map(|it| *it.0)
-            .collect();
-        for (context, proposal) in ready.iter().filter_map(|view| self.to_verify.remove(view)).collect::<Vec<_>>() {
-            self.verify(context, proposal)?;
-        }
-        let ready: Vec<View> = self
-            .to_certify
-            .iter()
-            .filter(|(_, it)| it.payload == payload)
-            .map(|it| *it.0)
-            .collect();
-        for proposal in ready.iter().filter_map(|view| self.to_certify.remove(view)).collect::<Vec<_>>() {
-            self.certify(proposal)?;
-        }
-        self.deliver()
-    }
-
-    fn serve(&mut self, from: Participant, kind: Option<CertificateKind>, view: View) {
-        let (exact, produced) = self.parts.driver.serve(kind, view);
-        let produced = produced.and_then(|bytes| {
-            let (subject, rest) = split_subject(&bytes)?;
-            Some(crate::batcher::certified(subject, rest.to_vec()))
-        });
-        for it in exact.into_iter().chain(produced) {
-            self.parts.counters.served.fetch_add(1, Relaxed);
-            self.parts.peers.send(from, &Message::Certificate(it));
-        }
-    }
-
-    fn serve_blocks(&mut self, from: Participant, mut payload: Digest) {
-        for _ in 0..BLOCKS_SERVED {
-            let Some(block) = self.parts.blocks.get(&payload) else { break };
-            self.parts.counters.served.fetch_add(1, Relaxed);
-            self.parts.peers.send(from, &Message::Block(block.bytes().to_vec()));
-            payload = block.parent.1;
-        }
-    }
-
     /// Gives a leader up that is not heard of.
     fn watch_leader(&mut self) -> Outcome {
-        let view = self.parts.driver.views().current;
-        let leader = self.parts.driver.leader(view);
+        let view = self.views()?.current;
+        let leader = self.turns.leader(view);
         let is_absent = self.heard[leader.get() as usize].elapsed() > self.parts.settings.inactivity();
         if view > self.given_up && leader != self.parts.keys.me && is_absent {
             self.given_up = view;
@@ -329,261 +270,109 @@ impl<A: Application> Replica<A> {
         Ok(())
     }
 
-    /// Carries out what follows the events, until nothing does; whether it came to that. Votes wait until then, so that one wait for the
-    /// disk serves them all. A member alone goes from view to view without an event, so it has to stop in between.
+    /// Carries out what follows the events, until nothing does; whether it came to that. A member alone goes from view to view without an
+    /// event, so it has to stop in between.
     fn settle(&mut self) -> Outcome<bool> {
         let mut is_settled = false;
         for _ in 0..MOST_ROUNDS {
-            let now = self.parts.clock.now();
-            let begun = Instant::now();
-            let outputs = self.parts.driver.poll(now)?;
-            self.parts.counters.core_us.fetch_add(begun.elapsed().as_micros() as u64, Relaxed);
-            is_settled = outputs.is_empty() && self.votes.is_empty();
+            self.poll_all()?;
+            is_settled = self.leaving.is_empty();
             if is_settled {
                 break;
             }
-            if outputs.is_empty() {
-                self.cast_votes()?;
-            }
-            for output in outputs {
-                self.carry_out(output)?;
-            }
-            self.take_early()?;
+            self.leave()?;
         }
-        let views = self.parts.driver.views();
+        let views = self.views()?;
         self.parts.horizon.moved(views.current, views.min_active);
+        if let Some(trace) = &mut self.trace {
+            trace.flush()?;
+        }
         Ok(is_settled)
     }
 
-    fn carry_out(&mut self, output: Output) -> Outcome {
-        match output {
-            Output::Store(entries) => self.parts.journal.append(&entries)?,
-            Output::Compact(entries) => {
-                self.parts.journal.compact(&entries)?;
-                self.parts.counters.compactions.fetch_add(1, Relaxed);
-            }
-            Output::Vote(order) => self.votes.push(order),
-            Output::Broadcast(it) => self.parts.peers.send_to_all(&Message::Certificate(it)),
-            Output::Verify(context, proposal) => self.verify(context, proposal)?,
-            Output::Build(context) => self.build(context)?,
-            Output::StopBuilding(_) => {}
-            Output::Certify(proposal) => self.certify(proposal)?,
-            Output::Fetch(wanted, peer) => self.fetch(wanted, peer),
-            Output::Finalized(proposal) => {
-                self.finalized = Some(proposal).max_by_view(self.finalized);
-                self.deliver()?;
-            }
-            Output::Equivocated(view, leader) => {
-                self.parts.counters.equivocations.fetch_add(1, Relaxed);
-                warn!(view = view.get(), leader = leader.get(), "a leader proposed twice");
-            }
-            Output::Forget(lowest) => {
-                self.batcher.forget(lowest);
-                self.to_verify = self.to_verify.split_off(&lowest);
-                self.to_certify = self.to_certify.split_off(&lowest);
-                self.drop_block_fetches();
+    /// Polls until nothing follows. What others see, or is final, and stands behind a record waits until the disk has that; all else is
+    /// carried out at once, so that one wait serves what comes of it too.
+    fn poll_all(&mut self) -> Outcome {
+        while let Some(output) = self.poll()? {
+            let is_behind = self.parts.journal.is_dirty() || !self.leaving.is_empty();
+            if is_behind && is_seen(&output) {
+                self.leaving.push(output);
+            } else {
+                self.carry_out(output)?;
             }
         }
         Ok(())
     }
 
-    /// Waits for the disk, and then signs, sends and counts all votes that wait. Blocks come first: one that is notarized and lost
-    /// everywhere would stop the chain.
-    fn cast_votes(&mut self) -> Outcome {
+    /// Waits until the disk has all blocks and all that was recorded. Blocks come first: one that is notarized and lost everywhere would
+    /// stop the chain.
+    fn sync(&mut self) -> Outcome {
         let begun = Instant::now();
         self.parts.blocks.sync()?;
         if self.parts.journal.sync()? {
             self.parts.counters.syncs.fetch_add(1, Relaxed);
             self.parts.counters.sync_us.fetch_add(begun.elapsed().as_micros() as u64, Relaxed);
         }
-        for order in std::mem::take(&mut self.votes) {
-            self.cast(order)?;
-        }
-        if let Some(trace) = &mut self.trace {
-            trace.flush()?;
+        Ok(())
+    }
+
+    /// Waits for the disk, and lets go what stands behind it, in order.
+    fn leave(&mut self) -> Outcome {
+        self.sync()?;
+        for output in std::mem::take(&mut self.leaving) {
+            self.carry_out(output)?;
         }
         Ok(())
     }
 
-    fn cast(&mut self, order: Order) -> Outcome {
-        let begun = Instant::now();
-        let vote = Vote {
-            subject: order.subject,
-            signer: self.parts.keys.me,
-            signature: self.parts.keys.sign(&order.text)?,
-        };
-        self.parts.counters.sign_us.fetch_add(begun.elapsed().as_micros() as u64, Relaxed);
-        let (counter, block) = match &order.subject {
-            Subject::Notarize(it) => (&self.parts.counters.notarizes, self.own_block(it)),
-            Subject::Nullify(_) => (&self.parts.counters.nullifies, None),
-            Subject::Finalize(_) => (&self.parts.counters.finalizes, None),
-        };
-        counter.fetch_add(1, Relaxed);
-        if matches!(order.subject, Subject::Nullify(_)) && !order.is_repeat {
-            info!(view = vote.subject.round().view.get(), "the view is given up");
-        }
-        match block {
-            Some(block) => self.send_proposal(&vote, block)?,
-            None => self.parts.peers.send_to_all(&Message::Vote(vote.clone())),
-        }
-        self.take_vote(&vote)
-    }
-
-    /// The block of a proposal of this node's own.
-    fn own_block(&self, proposal: &Proposal) -> Option<Vec<u8>> {
-        let is_own = self.parts.driver.leader(proposal.view()) == self.parts.keys.me;
-        self.parts
-            .blocks
-            .get(&proposal.payload)
-            .filter(|_| is_own)
-            .map(|it| it.bytes().to_vec())
-    }
-
-    fn send_proposal(&mut self, vote: &Vote, block: Vec<u8>) -> Outcome {
-        self.parts.counters.proposals.fetch_add(1, Relaxed);
-        match self.parts.settings.trial.fault {
-            Some(Fault::Silent) => {}
-            Some(Fault::Equivocates) => self.send_two_proposals(vote, block)?,
-            Some(Fault::Garbage) => {
-                self.send_garbage()?;
-                self.parts.peers.send_to_all(&Message::Proposal(vote.clone(), block));
+    fn carry_out(&mut self, output: Output) -> Outcome {
+        match output {
+            Output::Store(entries) => self.parts.journal.append(&entries)?,
+            Output::Replace(entries) => {
+                self.parts.journal.compact(&entries)?;
+                self.parts.counters.compactions.fetch_add(1, Relaxed);
             }
-            _ => self.parts.peers.send_to_all(&Message::Proposal(vote.clone(), block)),
-        }
-        Ok(())
-    }
-
-    fn verify(&mut self, context: Context, proposal: Proposal) -> Outcome {
-        let view = context.round.view;
-        let Some(block) = self.parts.blocks.get(&proposal.payload) else {
-            self.ask_for_block(proposal.payload, context.leader);
-            self.to_verify.insert(view, (context, proposal));
-            return Ok(());
-        };
-        let is_in_place = block.is_of(&proposal) && block.parent == (context.parent, context.parent_payload);
-        let is_valid = is_in_place && self.parts.application.verify(block);
-        self.handle(Input::Verified { view, is_valid })?;
-        Ok(())
-    }
-
-    fn certify(&mut self, proposal: Proposal) -> Outcome {
-        let view = proposal.view();
-        let Some(block) = self.parts.blocks.get(&proposal.payload) else {
-            self.ask_for_block(proposal.payload, self.parts.driver.leader(view));
-            self.to_certify.insert(view, proposal);
-            return Ok(());
-        };
-        let is_success = block.is_of(&proposal) && self.parts.application.certify(block);
-        self.handle(Input::Certified { view, is_success })?;
-        Ok(())
-    }
-
-    fn build(&mut self, context: Context) -> Outcome {
-        let pace = self.parts.settings.protocol.pace_ms;
-        if pace == 0 {
-            return self.build_now(&context);
-        }
-        let inbox = self.parts.inbox.clone();
-        thread::Builder::new().name("pace".into()).spawn(move || {
-            thread::sleep(Duration::from_millis(pace));
-            inbox.tell(Event::Paced(context));
-        })?;
-        Ok(())
-    }
-
-    fn build_now(&mut self, context: &Context) -> Outcome {
-        let block = Block::new(context, &self.parts.application.build(context));
-        let proposal = Proposal {
-            round: context.round,
-            parent: context.parent,
-            payload: block.payload(),
-        };
-        self.parts.blocks.keep(block)?;
-        self.handle(Input::Built(*context, proposal))?;
-        Ok(())
-    }
-
-    fn fetch(&mut self, wanted: Wanted, peer: Participant) {
-        self.parts.counters.fetches.fetch_add(1, Relaxed);
-        let message = match wanted {
-            Wanted::Notarization(view) => Message::AskCertificate(Some(CertificateKind::Notarization), view),
-            Wanted::Nullification(view) => Message::AskCertificate(None, view),
-            Wanted::Block(payload) => Message::AskBlock(payload),
-        };
-        self.parts.peers.send(peer, &message);
-    }
-
-    fn ask_for_block(&mut self, payload: Digest, peer: Participant) {
-        let now = self.parts.clock.now();
-        self.block_fetches.open(Wanted::Block(payload), peer, now);
-    }
-
-    /// Asks no longer for blocks that nothing waits for: perhaps nobody has them.
-    fn drop_block_fetches(&mut self) {
-        let to_verify = self.to_verify.values().map(|it| it.1.payload);
-        let waiting: BTreeSet<Wanted> = to_verify
-            .chain(self.to_certify.values().map(|it| it.payload))
-            .chain(self.lacking)
-            .map(Wanted::Block)
-            .collect();
-        self.block_fetches.retain(|it| waiting.contains(it));
-    }
-
-    fn fetch_blocks(&mut self) {
-        for (wanted, peer) in self.block_fetches.due(self.parts.clock.now()) {
-            self.fetch(wanted, peer);
-        }
-    }
-
-    /// Hands the finalized chain to the application, block behind block, as far as the blocks are here.
-    fn deliver(&mut self) -> Outcome {
-        let Some(target) = self.finalized else { return Ok(()) };
-        let (last, payload_of_last) = self.parts.application.last();
-        if target.view() <= last {
-            return Ok(());
-        }
-        let mut chain = Vec::new();
-        let mut payload = target.payload;
-        while payload != payload_of_last {
-            let Some(block) = self.parts.blocks.get(&payload) else {
-                let peer = self.parts.driver.leader(target.view());
-                self.lacking = Some(payload);
-                self.ask_for_block(payload, peer);
-                return Ok(());
-            };
-            if block.view <= last {
-                return Err(format!(
-                    "view {} is finalized on a chain that lacks view {last}: the chain forks",
-                    target.view()
-                )
-                .into());
+            Output::Vote(order) => self.cast(&order)?,
+            Output::Broadcast(it) => {
+                self.parts.horizon.know(it.kind(), it.round().view);
+                self.parts.peers.send_to_all(&Message::Certificate(it));
             }
-            payload = block.parent.1;
-            chain.push(block);
+            Output::Fetch(it) => self.fetch(&it),
+            Output::Finalized(proposal) => {
+                self.finalized = Some(proposal);
+                self.deliver()?;
+            }
+            Output::Verify(context, proposal) => self.verify(context, proposal)?,
+            Output::Build(context) => self.build(context)?,
+            Output::Certify(proposal) => self.certify(proposal)?,
+            // What is built here is built at once.
+            Output::StopBuilding(_) => {}
+            Output::Equivocated(first, second) => self.show(&first, &second),
+            Output::ProposedTwice(view, leader) => self.show_leader(view, leader),
+            Output::Forget(lowest) => {
+                self.waiting.forget(lowest);
+                self.shown = self.shown.split_off(&(lowest, Participant::new(0)));
+            }
         }
-        for block in chain.iter().rev() {
-            self.parts.application.finalized(block)?;
-        }
-        self.lacking = None;
-        self.parts.blocks.forget(target.view())?;
         Ok(())
     }
 
-    fn tell(&mut self) {
-        let (views, counters) = (self.parts.driver.views(), &self.parts.counters);
-        let (entries, fetches) = self.parts.driver.counts();
+    fn tell(&mut self) -> Outcome {
+        let (views, counters) = (self.views()?, &self.parts.counters);
         counters.life_us.store(self.parts.clock.life().as_micros() as u64, Relaxed);
         if counters.life_us.load(Relaxed) / 1_000_000 != self.told_at {
             self.told_at = counters.life_us.load(Relaxed) / 1_000_000;
             counters.resident_kb.store(resident_kb(), Relaxed);
+            // Each open fetch is a call, and of a node that is far behind there may be many.
+            let fetches = self.parts.engine.fetches().len() + self.waiting.len();
+            counters.open_fetches.store(fetches as u64, Relaxed);
         }
         counters.current_view.store(views.current.get(), Relaxed);
         counters.last_finalized.store(views.last_finalized.get(), Relaxed);
         counters.height.store(self.parts.application.height(), Relaxed);
         counters.journal_bytes.store(self.parts.journal.bytes(), Relaxed);
-        counters.record_entries.store(entries, Relaxed);
-        counters.open_fetches.store((fetches + self.block_fetches.len()) as u64, Relaxed);
-        counters.not_allowed.store(self.parts.driver.ignored().not_allowed, Relaxed);
+        counters.record_entries.store(self.parts.journal.entries(), Relaxed);
+        counters.not_allowed.store(self.parts.engine.ignored(), Relaxed);
         if self.parts.settings.trial.fault == Some(Fault::Jumps) && self.parts.clock.jump(AN_HOUR, views.current.get()) {
             info!(view = views.current.get(), "the clock jumps");
         }
@@ -591,82 +380,14 @@ impl<A: Application> Replica<A> {
             let members = self.parts.settings.trial.cut_off();
             self.parts.peers.cut_off(members);
         }
-    }
-}
-
-/// What a faulty node sends.
-impl<A: Application> Replica<A> {
-    /// A second block for the same view, signed behind the library's back: every other member gets it in place of the first.
-    fn send_two_proposals(&mut self, vote: &Vote, block: Vec<u8>) -> Outcome {
-        let Subject::Notarize(first) = vote.subject else { return Ok(()) };
-        let Some(built) = Block::read(block.clone()) else { return Ok(()) };
-        let context = Context {
-            round: first.round,
-            leader: vote.signer,
-            parent: built.parent.0,
-            parent_payload: built.parent.1,
-        };
-        let other = Block::new(&context, &self.parts.application.build(&context));
-        let subject = Subject::Notarize(Proposal {
-            payload: other.payload(),
-            ..first
-        });
-        let second = Vote {
-            subject,
-            signer: vote.signer,
-            signature: self.parts.keys.sign(&subject.encode())?,
-        };
-        for index in 0..self.heard.len() as u32 {
-            let message = match index % 2 {
-                0 => Message::Proposal(vote.clone(), block.clone()),
-                _ => Message::Proposal(second.clone(), other.bytes().to_vec()),
-            };
-            self.parts.peers.send(Participant::new(index), &message);
-        }
         Ok(())
     }
-
-    /// Bytes in a frame that are no message, and a frame that claims to be of 4 GiB.
-    fn send_garbage(&mut self) -> Outcome {
-        let mut bytes = [0; 100];
-        openssl::rand::rand_bytes(&mut bytes)?;
-        let mut frame = 100_u32.to_be_bytes().to_vec();
-        frame.extend_from_slice(&bytes);
-        self.parts.peers.send_frame_to_all(frame);
-        self.parts.peers.send_frame_to_all(u32::MAX.to_be_bytes().to_vec());
-        Ok(())
-    }
-
-    /// Votes to nullify the view in the names of all others, with a signature of this node's own.
-    fn forge(&mut self, vote: &Vote) {
-        for signer in (0..self.heard.len() as u32).map(Participant::new).filter(|it| *it != vote.signer) {
-            let subject = Subject::Nullify(vote.subject.round());
-            let forged = Vote {
-                subject,
-                signer,
-                signature: vote.signature,
-            };
-            self.parts.peers.send_to_all(&Message::Vote(forged));
-        }
-    }
-
-    /// Sends an old vote of somebody again.
-    fn replay(&mut self, vote: &Vote) {
-        self.old_votes.push(vote.clone());
-        if self.old_votes.len() > 1000 {
-            let old = self.old_votes.swap_remove(vote.subject.round().view.get() as usize % 1000);
-            self.parts.peers.send_to_all(&Message::Vote(old));
-        }
-    }
 }
 
-trait ByView {
-    fn max_by_view(self, other: Option<Proposal>) -> Option<Proposal>;
-}
-
-impl ByView for Option<Proposal> {
-    /// The proposal of the higher view.
-    fn max_by_view(self, other: Option<Proposal>) -> Option<Proposal> {
-        self.into_iter().chain(other).max_by_key(Proposal::view)
-    }
+/// Whether other members see what comes of it, or the application holds it final.
+fn is_seen(output: &Output) -> bool {
+    matches!(
+        output,
+        Output::Vote(_) | Output::Broadcast(_) | Output::Fetch(_) | Output::Finalized(_)
+    )
 }

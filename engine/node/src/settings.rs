@@ -2,7 +2,7 @@
 
 use crate::faults::Trial;
 use serde::{Deserialize, Serialize};
-use simplex_view_state::{Config, Digest, Epoch, Floor, Leaders, Participant, Skip, Terms, ViewDelta};
+use simplex_view_state::{Config, Digest, Epoch, Floor, Leaders, Participant, Skip, Terms, View, ViewDelta};
 use std::fs;
 use std::net::SocketAddr;
 use std::num::NonZeroU32;
@@ -163,9 +163,33 @@ impl Settings {
         }
     }
 
+    /// Who leads which views.
+    pub fn turns(&self) -> Turns {
+        Turns {
+            members: self.count(),
+            term_length: self.protocol.term_length,
+        }
+    }
+
     /// After how long without a message a leader counts as absent.
     pub fn inactivity(&self) -> Duration {
         Duration::from_millis(self.protocol.inactivity_ms)
+    }
+}
+
+/// The members in turn, a term each. The engine knows it of the views that it keeps; this is for all views, and for threads that don't own
+/// the engine.
+#[derive(Clone, Copy, Debug)]
+pub struct Turns {
+    members: NonZeroU32,
+    term_length: NonZeroU32,
+}
+
+impl Turns {
+    /// Who leads a view.
+    pub fn leader(&self, view: View) -> Participant {
+        let term = view.get().saturating_sub(1) / u64::from(self.term_length.get());
+        Participant::new((term % u64::from(self.members.get())) as u32)
     }
 }
 

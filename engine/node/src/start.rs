@@ -3,18 +3,16 @@
 use crate::blocks::Blocks;
 use crate::clock::Clock;
 use crate::crypto::Keys;
-use crate::driver::Driver;
+use crate::floor;
 use crate::inbox::Inbox;
-use crate::journal::{self, Journal};
+use crate::journal::{self, Journal, Kept};
 use crate::ledger::Ledger;
-use crate::message::bytes_of;
 use crate::metrics::{self, Counters};
 use crate::peers::{Horizon, Peers};
 use crate::replica::{Parts, Replica};
 use crate::settings::{Outcome, Settings, genesis};
-use crate::vote::split_subject;
 use simplex_view_state::{
-    Certificate, CertificateKind, Cut, Digest, EntryCount, Finalization, Floor, Member, Moment, Resolver, Subject, View,
+    Config, Cut, Digest, Engine, EngineError, Entries, EntryCount, Floor, Member, Moment, Options, Output, View, Views,
 };
 use std::fs::{self, File, TryLockError};
 use std::path::Path;
@@ -32,40 +30,22 @@ pub fn open(settings: Settings) -> Outcome<(Replica<Ledger>, Arc<Inbox>)> {
     fs::create_dir_all(&settings.data)?;
     let lock = lock(&settings.data)?;
     let keys = Arc::new(Keys::read(&settings)?);
-    let floor = floor(&settings, &keys)?;
+    let floor = floor::read(&settings, &keys)?;
     let kept = journal::read(&settings.data)?;
-    let config = settings.config(floor.clone());
-    let begun = Moment::from_millis(0);
-    let mut member = match &kept {
-        None => Member::start(&config, begun)?,
-        Some(kept) => Member::resume(&config, begun, &kept.stored, &kept.frames)?,
-    };
-    if kept.is_some() {
-        member.restart(&config, begun, PRUNED)?;
-    }
+    let mut engine = engine(&settings.config(floor.clone()), kept.as_ref())?;
     let clock = Clock::start();
-    let entries = member.entries_since(EntryCount::ZERO)?;
-    let resolver = Resolver::start(settings.protocol.term_length, &entries.bytes)?;
-    let journal = Journal::create(&settings.data, &entries, settings.sync)?;
-    let driver = Driver::new(member, resolver, config, clock.now())?;
+    let journal = begin_journal(&mut engine, &settings, clock.now())?;
     let counters = Arc::new(Counters::default());
     if let Some(address) = settings.metrics {
         metrics::serve(address, counters.clone()).map_err(|error| format!("metrics at {address}: {error}"))?;
     }
     let horizon = Arc::new(Horizon::default());
-    let views = driver.views();
+    let views = engine.views().ok_or(EngineError::Failed)?;
     horizon.moved(views.current, views.min_active);
     let inbox = Arc::new(Inbox::new(settings.members.len()));
     let peers = Peers::start(&settings, &keys, &horizon, &counters, &inbox)?;
     let application = Ledger::open(&settings.data, first_block(&settings, &floor), u64::from(settings.index) << 32)?;
-    let (cut, entries) = kept.map_or((0, 0), |it| (it.cut, it.stored.entries.get()));
-    info!(
-        cut,
-        entries,
-        current = views.current.get(),
-        finalized = views.last_finalized.get(),
-        "begun"
-    );
+    tell(kept.as_ref(), &views);
     let replica = Replica::new(Parts {
         blocks: Blocks::open(&settings.data, settings.sync)?,
         settings,
@@ -74,13 +54,45 @@ pub fn open(settings: Settings) -> Outcome<(Replica<Ledger>, Arc<Inbox>)> {
         counters,
         peers,
         inbox: inbox.clone(),
-        driver,
+        engine,
         journal,
         application,
         clock,
         lock,
     })?;
     Ok((replica, inbox))
+}
+
+fn tell(kept: Option<&Kept>, views: &Views) {
+    let (cut, entries) = kept.map_or((0, 0), |it| (it.cut, it.stored.entries.get()));
+    let (current, finalized) = (views.current.get(), views.last_finalized.get());
+    info!(cut, entries, current, finalized, "begun");
+}
+
+/// The engine of a member that begins, or goes on from what its journal held.
+fn engine(config: &Config, kept: Option<&Kept>) -> Outcome<Engine> {
+    let (options, begun) = (Options::default(), Moment::from_millis(0));
+    let Some(kept) = kept else {
+        return Ok(Engine::start(config, &options, begun)?);
+    };
+    let pruned = pruned(config, kept, begun)?;
+    Ok(Engine::resume(config, &options, begun, &pruned.stored, &pruned.bytes)?)
+}
+
+/// What a journal held, made short. An engine makes its record short once it has doubled in its life; in lives that are cut off before
+/// that it would double again and again.
+fn pruned(config: &Config, kept: &Kept, now: Moment) -> Outcome<Entries> {
+    let mut member = Member::resume(config, now, &kept.stored, &kept.frames)?;
+    member.restart(config, now, PRUNED)?;
+    Ok(member.entries_since(EntryCount::ZERO)?)
+}
+
+/// The journal of a life, from the engine's first output on: the whole record, in place of all that was stored.
+fn begin_journal(engine: &mut Engine, settings: &Settings, now: Moment) -> Outcome<Journal> {
+    match engine.poll(now)? {
+        Some(Output::Replace(entries)) => Ok(Journal::create(&settings.data, &entries, settings.sync)?),
+        other => Err(format!("the engine begins with {other:?} in place of its record").into()),
+    }
 }
 
 /// Takes a folder for this process alone: two that vote with one key could contradict each other.
@@ -93,43 +105,9 @@ fn lock(folder: &Path) -> Outcome<File> {
     }
 }
 
-/// Where the node begins: genesis, or the finalized proposal whose certificate the settings name.
-fn floor(settings: &Settings, keys: &Keys) -> Outcome<Floor> {
-    let Some(path) = &settings.floor else {
-        return Ok(Floor::Genesis(genesis(settings.protocol.epoch)));
-    };
-    let bytes = fs::read(path).map_err(|error| format!("{}: {error}", path.display()))?;
-    match split_subject(&bytes) {
-        Some((subject @ Subject::Finalize(proposal), certificate)) if keys.is_certificate(&subject, certificate) => {
-            Ok(Floor::Finalized(Finalization {
-                proposal,
-                certificate: certificate.to_vec(),
-            }))
-        }
-        _ => Err(format!("{} is no certificate of a finalized proposal", path.display()).into()),
-    }
-}
-
 fn first_block(settings: &Settings, floor: &Floor) -> (View, Digest) {
     match floor {
         Floor::Genesis(_) => (View::GENESIS, genesis(settings.protocol.epoch)),
         Floor::Finalized(it) => (it.proposal.view(), it.proposal.payload),
-    }
-}
-
-/// The last finalized proposal that a folder's journal has, as the bytes of a floor.
-pub fn floor_of(settings: &Settings) -> Outcome<Vec<u8>> {
-    let kept = journal::read(&settings.data)?.ok_or("there is no journal")?;
-    let keys = Keys::read(settings)?;
-    let config = settings.config(floor(settings, &keys)?);
-    let member = Member::resume(&config, Moment::from_millis(0), &kept.stored, &kept.frames)?;
-    let last = member.views().ok_or("the member has failed")?.last_finalized;
-    match member.certificate(CertificateKind::Finalization, last)? {
-        Some(it @ Certificate::Finalization(_)) => {
-            let mut bytes = it.subject().encode();
-            bytes.extend_from_slice(bytes_of(&it));
-            Ok(bytes)
-        }
-        _ => Err("nothing is finalized yet".into()),
     }
 }

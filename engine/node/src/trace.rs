@@ -1,8 +1,7 @@
 //! All votes that a node sent or was sent, as lines of a file, for audits.
 
 use crate::blocks::now_us;
-use crate::vote::Vote;
-use simplex_view_state::{Participant, Subject};
+use simplex_view_state::{Participant, Subject, Vote};
 use std::fs::{self, File, OpenOptions};
 use std::io::{self, BufWriter, Write};
 use std::path::Path;
@@ -96,7 +95,7 @@ mod tests {
         let vote = Vote {
             subject: Subject::Nullify(round),
             signer: Participant::new(2),
-            signature: [0; 64],
+            signature: vec![0; 64],
         };
         fs::write(&path, "7 1 x 5 -\n8 1 n 6 5 a4").expect("a disk");
         let mut trace = Trace::open(&path).expect("a disk");

@@ -5,7 +5,7 @@ use signal_hook::consts::{SIGINT, SIGTERM};
 use signal_hook::iterator::Signals;
 use simplex_node::inbox::Event;
 use simplex_node::settings::{Outcome, Settings};
-use simplex_node::{crypto, start};
+use simplex_node::{crypto, floor, start};
 use std::fs;
 use std::path::PathBuf;
 use std::process::ExitCode;
@@ -65,7 +65,7 @@ fn main() -> ExitCode {
 }
 
 fn write_floor(config: &std::path::Path, out: &std::path::Path) -> Outcome {
-    let bytes = start::floor_of(&Settings::read(config)?)?;
+    let bytes = floor::of(&Settings::read(config)?)?;
     fs::write(out, bytes).map_err(|error| format!("{}: {error}", out.display()).into())
 }
 

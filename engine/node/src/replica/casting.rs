@@ -1,0 +1,90 @@
+//! Votes of this member, and the evidence of others' that contradict each other.
+
+use super::Replica;
+use crate::application::Application;
+use crate::faults::Fault;
+use crate::message::Message;
+use crate::settings::Outcome;
+use simplex_view_state::{Order, Participant, Proposal, Subject, View, Vote};
+use std::sync::atomic::Ordering::Relaxed;
+use std::time::Instant;
+use tracing::{info, warn};
+
+impl<A: Application> Replica<A> {
+    /// Signs a vote that is stored, sends it to all, and tells the engine.
+    pub(super) fn cast(&mut self, order: &Order) -> Outcome {
+        let begun = Instant::now();
+        let vote = order.signed(self.parts.keys.sign(&order.text)?.to_vec());
+        self.parts.counters.sign_us.fetch_add(begun.elapsed().as_micros() as u64, Relaxed);
+        let (counter, block) = match &order.subject {
+            Subject::Notarize(it) => (&self.parts.counters.notarizes, self.own_block(it)),
+            Subject::Nullify(_) => (&self.parts.counters.nullifies, None),
+            Subject::Finalize(_) => (&self.parts.counters.finalizes, None),
+        };
+        counter.fetch_add(1, Relaxed);
+        self.note(&order.subject);
+        match block {
+            Some(block) => self.send_proposal(&vote, block)?,
+            None => self.parts.peers.send_to_all(&Message::Vote(vote.clone())),
+        }
+        self.take_vote(vote)
+    }
+
+    /// Tells once of each view that is given up: a vote to nullify is sent again and again.
+    fn note(&mut self, subject: &Subject) {
+        let view = subject.round().view;
+        if matches!(subject, Subject::Nullify(_)) && view > self.nullified {
+            self.nullified = view;
+            info!(view = view.get(), "the view is given up");
+        }
+    }
+
+    /// The block of a proposal of this node's own.
+    fn own_block(&self, proposal: &Proposal) -> Option<Vec<u8>> {
+        let is_own = self.turns.leader(proposal.view()) == self.parts.keys.me;
+        let block = self.parts.blocks.get(&proposal.payload).filter(|_| is_own);
+        block.map(|it| it.bytes().to_vec())
+    }
+
+    fn send_proposal(&mut self, vote: &Vote, block: Vec<u8>) -> Outcome {
+        self.parts.counters.proposals.fetch_add(1, Relaxed);
+        match self.parts.settings.trial.fault {
+            Some(Fault::Silent) => {}
+            Some(Fault::Equivocates) => self.send_two_proposals(vote, block)?,
+            Some(Fault::Garbage) => {
+                self.send_garbage()?;
+                self.parts.peers.send_to_all(&Message::Proposal(vote.clone(), block));
+            }
+            _ => self.parts.peers.send_to_all(&Message::Proposal(vote.clone(), block)),
+        }
+        Ok(())
+    }
+
+    /// Two votes of one member that contradict each other, each with its signature: whoever reads them can test that.
+    pub(super) fn show(&mut self, first: &Vote, second: &Vote) {
+        self.parts.counters.contradictions.fetch_add(1, Relaxed);
+        let (signer, view) = (first.signer, first.subject.round().view);
+        if self.shown.insert((view, signer)) {
+            let (first_signature, second_signature) = (hex(&first.signature), hex(&second.signature));
+            let (signer, view, first, second) = (signer.get(), view.get(), first.subject, second.subject);
+            warn!(
+                signer,
+                view,
+                ?first,
+                first_signature,
+                ?second,
+                second_signature,
+                "two votes of one member"
+            );
+        }
+    }
+
+    pub(super) fn show_leader(&mut self, view: View, leader: Participant) {
+        self.parts.counters.equivocations.fetch_add(1, Relaxed);
+        warn!(view = view.get(), leader = leader.get(), "a leader proposed twice");
+    }
+}
+
+fn hex(bytes: &[u8]) -> String {
+    bytes.iter().map(|byte| format!("{byte:02x}")).collect()
+}
