@@ -13,7 +13,7 @@ import re
 import sys
 from pathlib import Path
 
-from program import ROOT
+from lib.program import ROOT
 
 PAGE = ROOT / "docs" / "GUARANTEES.md"
 

@@ -30,10 +30,9 @@ from collections import Counter
 from concurrent.futures import ThreadPoolExecutor
 from pathlib import Path
 
-import program
-import scripts
-from floors import lacking
-from program import ROOT
+from lib import program, scripts
+from lib.floors import lacking
+from lib.program import ROOT
 
 BINDINGS = ROOT / "bindings"
 NETWORKS = (("4", "0", "1", "0"), ("7", "2", "5", "2"), ("5", "4", "3", "1"), ("4", "-", "2", "2"), ("10", "3", "10", "4"))

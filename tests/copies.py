@@ -15,17 +15,16 @@ import re
 import sys
 
 import edits
-import schedules
-import scripts
 import wrong_bodies
 import wrong_definitions
-from draw import drawn
-from floors import lacking
-from member import Served
-from network import Network
-from program import ROOT
+from lib import schedules, scripts
+from lib.draw import drawn
+from lib.floors import lacking
+from lib.member import Served
+from lib.network import Network
+from lib.program import ROOT
+from lib.scripts import ANY
 from refusals import USAGE
-from scripts import ANY
 
 SAMPLE = "crates/simplex_member_tests/src/member/sample.rt"
 PACKAGE = "bindings/rust/src/lib.rs"

@@ -13,8 +13,8 @@ import re
 import sys
 from pathlib import Path
 
-from floors import lacking
-from program import ROOT
+from lib.floors import lacking
+from lib.program import ROOT
 
 IN_GATE = "crates/{crate}/must-fail"
 BESIDE = "tests/more_edits/{crate}"

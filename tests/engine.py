@@ -20,7 +20,7 @@ import sys
 import tempfile
 from pathlib import Path
 
-from program import ROOT
+from lib.program import ROOT
 
 ENGINE = ROOT / "engine"
 SKIPPED = 77

@@ -26,8 +26,8 @@ from itertools import product
 from pathlib import Path
 from typing import NamedTuple
 
-import program
-from preload import compiled
+from lib import program
+from lib.preload import compiled
 from refusals import REFUSED
 
 SECONDS = 600

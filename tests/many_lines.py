@@ -25,7 +25,7 @@ from itertools import islice
 from threading import Thread
 from typing import NamedTuple
 
-import program
+from lib import program
 
 VOTER = ("voter", "4", "0", "5", "4")
 RESOLVER = ("resolver", "5")

@@ -28,15 +28,9 @@ from collections import Counter
 from concurrent.futures import ProcessPoolExecutor
 from functools import partial
 
-import program
-import refused_fetches
-import refused_members
-import refused_states
-import rows
-import schedules
-import scripts
-from floors import lacking
-from preload import compiled, limited
+from lib import program, refused_fetches, refused_members, refused_states, rows, schedules, scripts
+from lib.floors import lacking
+from lib.preload import compiled, limited
 
 FAULTS_SHOWN = 10
 LEAST = {

@@ -19,7 +19,7 @@ import tempfile
 from pathlib import Path
 
 import edits
-from program import ROOT
+from lib.program import ROOT
 
 
 def options():

@@ -27,20 +27,15 @@ from concurrent.futures import ProcessPoolExecutor
 from dataclasses import replace
 from functools import partial
 
-import corners
-import fair_runs
-import hostile_runs
-import program
-import progress_runs
-import schedules
-from checks import Broken
-from draw import drawn
-from fair_runs import Stalled
-from floors import lacking
-from going_on import Stuck
-from member import ProgramEnded, Served
-from network import Network, NotBacked
-from preload import compiled
+from lib import corners, fair_runs, hostile_runs, program, progress_runs, schedules
+from lib.checks import Broken
+from lib.draw import drawn
+from lib.fair_runs import Stalled
+from lib.floors import lacking
+from lib.going_on import Stuck
+from lib.member import ProgramEnded, Served
+from lib.network import Network, NotBacked
+from lib.preload import compiled
 
 FAILURES = (Broken, Stalled, Stuck, ProgramEnded, NotBacked, schedules.NotShown)
 LINES_SHOWN = 12

@@ -15,8 +15,8 @@ import shutil
 import sys
 from pathlib import Path
 
-from floors import lacking
-from program import ROOT
+from lib.floors import lacking
+from lib.program import ROOT
 
 KIT = Path(shutil.which("rt") or "/").resolve().parent.parent / "rattle"
 FENCED = re.compile(r"^```\w*\n(.*?)^```", re.DOTALL | re.MULTILINE)

@@ -26,12 +26,10 @@ from concurrent.futures import ProcessPoolExecutor
 from functools import partial
 from pathlib import Path
 
-import inputs
-import program
-import scripts
-from floors import lacking
-from preload import compiled, limited
-from scripts import ANY, run
+from lib import inputs, program, scripts
+from lib.floors import lacking
+from lib.preload import compiled, limited
+from lib.scripts import ANY, run
 
 USAGE = "usage: viewstate voter N ME T OPTIMISTIC | viewstate resolver T\n"
 MEMORY, READ, WRITE = (4, "out of memory\n"), (5, "read failed\n"), (5, "write failed\n")

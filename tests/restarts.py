@@ -19,12 +19,10 @@ from collections import Counter
 from concurrent.futures import ProcessPoolExecutor
 from functools import partial
 
-import program
-import rows
-import scripts
-from checks import Broken, MemberLaws
-from floors import lacking
-from protocol import Terms, is_restart, moment_of
+from lib import program, rows, scripts
+from lib.checks import Broken, MemberLaws
+from lib.floors import lacking
+from lib.protocol import Terms, is_restart, moment_of
 
 RESTARTS = ("restart 0", "restart 1", "restart-pruned 0")
 RESUMES = ("crash", "lose-compaction", "compact, crash")

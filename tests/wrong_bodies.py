@@ -22,18 +22,15 @@ from pathlib import Path
 from typing import NamedTuple
 
 import edits
-import hostile_runs
 import memory
-import program
-import progress_runs
-import schedules
-from checks import Broken
-from draw import drawn
-from going_on import Stuck
-from member import ProgramEnded, Served
-from network import Network, NotBacked
-from preload import compiled, limited
-from program import ROOT
+from lib import hostile_runs, program, progress_runs, schedules
+from lib.checks import Broken
+from lib.draw import drawn
+from lib.going_on import Stuck
+from lib.member import ProgramEnded, Served
+from lib.network import Network, NotBacked
+from lib.preload import compiled, limited
+from lib.program import ROOT
 
 WRONG_BODIES = (
     "simplex_voter/finalize_votes_without_the_gate",

@@ -23,7 +23,7 @@ import tempfile
 from pathlib import Path
 from typing import NamedTuple
 
-from program import ROOT
+from lib.program import ROOT
 
 KIT = Path(shutil.which("rt") or "/").resolve().parent.parent
 FUNCTION = "examples_compute"

@@ -5,7 +5,7 @@ import subprocess
 from dataclasses import dataclass
 from typing import NamedTuple
 
-from program import ROOT
+from lib.program import ROOT
 
 TABLES = ROOT / "crates/simplex_program_tests/src/program"
 TEXT = r'"((?:[^"\\]|\\.)*)"'

@@ -9,10 +9,10 @@ correct leader's view has its own proposals alone. A run is made by its seed alo
 from collections import Counter
 from random import Random
 
-from going_on import WAYS, Application
-from hostile_runs import HostileRun
-from protocol import NOTARIZATION, Terms, max_faults
-from recorded import RecordedNetwork
+from lib.going_on import WAYS, Application
+from lib.hostile_runs import HostileRun
+from lib.protocol import NOTARIZATION, Terms, max_faults
+from lib.recorded import RecordedNetwork
 
 SIZES = (1, 2, 3, 4, 4, 4, 4, 4, 5, 6, 7, 7, 8, 10)
 LENGTHS = (5, 20, 60, 150, 300, 600)

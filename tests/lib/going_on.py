@@ -5,9 +5,9 @@ record, or where the votes of correct members alone make it."""
 
 from collections import Counter
 
-from protocol import FINALIZATION, NOTARIZATION, NULLIFICATION, Certificate, Proposal, max_faults, quorum, vote_in
-from recorded import CERTIFICATE, VERDICT
-from resolver import Resolver
+from lib.protocol import FINALIZATION, NOTARIZATION, NULLIFICATION, Certificate, Proposal, max_faults, quorum, vote_in
+from lib.recorded import CERTIFICATE, VERDICT
+from lib.resolver import Resolver
 
 FARTHEST_START = 200
 

@@ -8,14 +8,14 @@ verdicts, restarts, lines that nobody should have written."""
 from dataclasses import dataclass, field, replace
 from random import Random
 
-import schedules
-from adversary import Leaders
-from going_on import WAYS, Stuck
-from hostile_runs import Temper
-from progress_runs import Past
-from protocol import Terms
-from recorded import RecordedNetwork
-from schedules import NotShown, joined, steps_in, verified
+from lib import schedules
+from lib.adversary import Leaders
+from lib.going_on import WAYS, Stuck
+from lib.hostile_runs import Temper
+from lib.progress_runs import Past
+from lib.protocol import Terms
+from lib.recorded import RecordedNetwork
+from lib.schedules import NotShown, joined, steps_in, verified
 
 
 STEPS_AT_RANDOM = 400

@@ -2,7 +2,7 @@
 
 from collections import Counter
 
-from scripts import ANY, NotAsAsked, wants
+from lib.scripts import ANY, NotAsAsked, wants
 
 OUT_OF_MEMORY = "fault 1 OutOfMemory"
 FAILED = "fault 2 Failed"

@@ -2,8 +2,8 @@
 
 from collections import Counter
 
-from refused_states import FAILED, OUT_OF_MEMORY, word_of
-from scripts import ANY, NotAsAsked, wants
+from lib.refused_states import FAILED, OUT_OF_MEMORY, word_of
+from lib.scripts import ANY, NotAsAsked, wants
 
 STOPPED = "stopped"
 TELLS = ("notarization", "nullification", "finalization", "certified", "replayed", "produce")

@@ -5,9 +5,9 @@ the laws of `checks.py`. A certificate is handed in only where the votes back it
 
 from collections import Counter
 
-from checks import Broken, MemberLaws, NetworkLaws
-from member import Member, ProgramEnded
-from protocol import certificate_in, is_restart, vote_in
+from lib.checks import Broken, MemberLaws, NetworkLaws
+from lib.member import Member, ProgramEnded
+from lib.protocol import certificate_in, is_restart, vote_in
 
 
 OUT_OF_MEMORY = ("fault 1 OutOfMemory", "refused 13 OutOfMemory")

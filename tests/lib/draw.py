@@ -2,7 +2,7 @@
 
 from collections import defaultdict
 
-from protocol import FINALIZATION, NOTARIZATION, NULLIFICATION, is_restart, vote_in
+from lib.protocol import FINALIZATION, NOTARIZATION, NULLIFICATION, is_restart, vote_in
 
 SIGNS = {NOTARIZATION: "n", NULLIFICATION: "x", FINALIZATION: "f"}
 LEGEND = """\

@@ -2,10 +2,10 @@
 
 from collections import Counter
 
-from checks import Broken, MemberLaws
-from protocol import Terms, moment_of
-from refused_states import FAILED, OUT_OF_MEMORY, SHOWS, word_of
-from scripts import ANY, NotAsAsked, wants
+from lib.checks import Broken, MemberLaws
+from lib.protocol import Terms, moment_of
+from lib.refused_states import FAILED, OUT_OF_MEMORY, SHOWS, word_of
+from lib.scripts import ANY, NotAsAsked, wants
 
 NOT_RESTARTED = "refused 13 OutOfMemory"
 NO_CALLS = ("record", "settings")

@@ -2,9 +2,9 @@
 
 Where the members can write their records, what is kept is compared with them."""
 
-from checks import Broken
-from network import OUT_OF_MEMORY, Network
-from protocol import FINALIZATION, NOTARIZATION, NULLIFICATION, Certificate, certificate_in, is_restart, vote_in
+from lib.checks import Broken
+from lib.network import OUT_OF_MEMORY, Network
+from lib.protocol import FINALIZATION, NOTARIZATION, NULLIFICATION, Certificate, certificate_in, is_restart, vote_in
 
 RETENTION = 10
 VOTE, CERTIFICATE, VERDICT = "vote", "certificate", "verdict"

@@ -6,10 +6,10 @@ has to hold for every list of calls."""
 from dataclasses import dataclass
 from random import Random
 
-from adversary import Leaders
-from member import ProgramEnded
-from network import Network
-from protocol import FINALIZATION, NOTARIZATION, NULLIFICATION, Proposal, Terms, max_faults, most_faults
+from lib.adversary import Leaders
+from lib.member import ProgramEnded
+from lib.network import Network
+from lib.protocol import FINALIZATION, NOTARIZATION, NULLIFICATION, Proposal, Terms, max_faults, most_faults
 
 KINDS = (NOTARIZATION, NULLIFICATION, FINALIZATION)
 REASONS = ("Retry", "Inactivity", "LeaderNullify", "LeaderTimeout", "CertificationTimeout", "StallTimeout", "InvalidProposal")

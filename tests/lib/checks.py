@@ -4,7 +4,7 @@ Each check looks at lines and replies alone, and raises `Broken` with what it sa
 
 from collections import defaultdict
 
-from protocol import FINALIZATION, NOTARIZATION, NULLIFICATION, certificate_in, is_restart, quorum, vote_in
+from lib.protocol import FINALIZATION, NOTARIZATION, NULLIFICATION, certificate_in, is_restart, quorum, vote_in
 
 # Why a restart may be refused: what the record holds came from outside, a deadline passes 64 bits, or memory is wanting.
 EXCUSES = ("OtherEpoch", "ZeroView", "ViewTooLarge", "ForeignSigner", "ParentNotBelow", "TimeOverflow", "RetentionGrown", "OutOfMemory")

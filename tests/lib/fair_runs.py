@@ -7,9 +7,9 @@ import heapq
 from dataclasses import dataclass
 from random import Random
 
-from adversary import Leaders
-from network import Network
-from protocol import NOTARIZATION, Proposal, Terms, certificate_in, max_faults, quorum
+from lib.adversary import Leaders
+from lib.network import Network
+from lib.protocol import NOTARIZATION, Proposal, Terms, certificate_in, max_faults, quorum
 
 SILENT, HELPING, PARTIAL = "silent", "helping", "partial"
 LATEST_DELIVERY = 120

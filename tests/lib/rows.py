@@ -3,7 +3,7 @@
 `enduring` alone serves them, since `viewstate` has no line for settings. What stands behind each reply is one line's; a line
 `settings STALL BUDGET RETENTION FLOOR` sets up the lives that begin from then on, with 0 for no stall timeout and for genesis."""
 
-from scripts import REPLIED, Script
+from lib.scripts import REPLIED, Script
 
 BUDGETS = """
     settings 0 1 10 0 => ok

@@ -5,7 +5,7 @@ is faulty: it leads the first term, tells each member another proposal if that s
 
 from dataclasses import dataclass, field
 
-from protocol import FINALIZATION, NOTARIZATION, NULLIFICATION, Certificate, Terms, vote_in
+from lib.protocol import FINALIZATION, NOTARIZATION, NULLIFICATION, Certificate, Terms, vote_in
 
 
 class NotShown(Exception):

@@ -3,7 +3,7 @@
 They need no process: the network counts them for each vote, and hands their certificates in when it likes, late, twice, out
 of order, or never."""
 
-from protocol import Proposal
+from lib.protocol import Proposal
 
 PROPOSALS_A_VIEW = 3
 OWN_PAYLOADS = 50
