@@ -5,8 +5,8 @@ A run ends by itself with status 0 once all its views are finalized and every me
 where two members hold two proposals final in one view, or where nothing goes on. Links lose up to half of all messages, the
 answers to fetches among them; faulty leaders stay silent or send two proposals; a member crashes and goes on from its disk.
 Asked for besides: no record grows past what the engines' settings let stand, fetches are asked where messages are lost, and
-in the end no more stand open than for a few views that go on. Of one network requests for memory are refused, one in each of many runs: each ends with the error, and has
-printed a beginning of what it prints with none refused.
+in the end no more stand open than for a few views that go on. Of one network requests for memory are refused, one in each of
+many runs: each ends with the error, and has printed a beginning of what it prints with none refused.
 
     tests/engines.py                              two seeds of each setting
     tests/engines.py --seeds 50
