@@ -3,11 +3,11 @@
 #[path = "../examples/engine/network.rs"]
 mod network;
 
-use network::{Message, Network, Node, Sent, is_good, signature};
+use network::{Disk, Message, Network, Node, Sent, is_good, signature};
 use simplex_view_state::{
-    Certificate, CertificateKind, Config, Context, Digest, Engine, EngineError, Epoch, FetchKind, Finalization, Input, Leaders, Member,
-    Moment, Notarization, Nullification, OpenError, Options, Output, Participant, Proposal, Round, SettingsError, Subject, TimeoutReason,
-    View, Vote,
+    Certificate, CertificateKind, Config, Context, Digest, Engine, EngineError, EntryCount, Epoch, FetchKind, Finalization, Input, Leaders,
+    Member, Moment, Notarization, Nullification, OpenError, Options, Output, Participant, Proposal, Round, SettingsError, Subject,
+    TimeoutReason, View, Vote,
 };
 use std::collections::BTreeMap;
 use std::error::Error;
@@ -196,6 +196,34 @@ fn each_life_begins_by_storing_the_whole_record() -> Tested {
     assert_eq!(cut.err(), Some(OpenError::Damaged));
     let lost = Engine::resume(&config(1), &Options::default(), START, &stored, &[]);
     assert_eq!(lost.err(), Some(OpenError::EntriesLost));
+    Ok(())
+}
+
+#[test]
+fn a_long_record_is_made_short_when_a_life_begins() -> Tested {
+    let mut network = Network::start(MEMBERS.try_into()?, 0, 1)?;
+    go_on(&mut network, 60)?;
+    let Disk { journal, stored } = &network.nodes[1].disk;
+    let stored = stored.ok_or("it has stored")?;
+    let all = stored.entries.get();
+    let lengths = |long_record| -> Result<Vec<u64>, Box<dyn Error>> {
+        let options = Options {
+            long_record: EntryCount::new(long_record),
+            ..Options::default()
+        };
+        let mut engine = Engine::resume(&config(1), &options, START, &stored, journal)?;
+        let replaced = outputs(&mut engine, START)?.into_iter().filter_map(|output| match output {
+            Output::Replace(entries) => Some(entries.stored.entries.get()),
+            _ => None,
+        });
+        Ok(replaced.collect())
+    };
+    assert_eq!(lengths(all)?, [all]);
+    let [begun, pruned] = lengths(all - 1)?[..] else {
+        return Err("it is stored, and made short".into());
+    };
+    assert_eq!(begun, all);
+    assert!(pruned < all / 2, "{pruned} of {all}");
     Ok(())
 }
 

@@ -39,7 +39,7 @@ pub struct Engine<S: CertificateScheme, L: Elector<S>, D: Digest> {
     batcher: Batcher<S, D>,
     plan: Plan<S, D>,
     options: Options,
-    /// How many entries the record had when it was made short last.
+    /// How many entries the record had when it was made short last in this life.
     compacted: usize,
 }
 

@@ -1,5 +1,5 @@
 -- How an engine behind a handle begins.
-use Rattle.std.specs.Prelude.{◌≡◌, ◌⊎◌, ◌≤◌, max, ℕ, List, [], length}
+use Rattle.std.specs.Prelude.{◌≡◌, ◌⊎◌, ◌≤◌, ℕ, List, [], length}
 use Rattle.simplex_host.specs.Electing.{terms_of}
 use Rattle.simplex_host.specs.Host.{certificate_bytes, signer_of}
 use Rattle.simplex_record.specs.Entries.{entries_of}
@@ -29,9 +29,9 @@ use Rattle.simplex_flat_engine.specs.declared.held.HeldEngine.{HeldEngine}
 use Rattle.simplex_flat_engine.specs.declared.told.FlatOptions.{FlatOptions}
 use Rattle.simplex_flat_engine.specs.Handling.{IsAllGiven, HasShownNothing}
 
--- intervals, that of asking again one millisecond at least, and how long a record grows
+-- intervals, and how long a record grows
 abbrev pub options_of : FlatOptions → Options
-options_of f = record { retry = max f.retry 1; on_its_way = f.on_its_way; long_record = f.long_record }
+options_of f = record { retry = f.retry; on_its_way = f.on_its_way; long_record = f.long_record }
 
 -- nothing was given out; the whole record is to be stored in place of all that is, no vote is held, and leaders are drawn as set
 pub record HasGivenNothing (f : FlatSettings) (held : HeldEngine) : Type 0 where

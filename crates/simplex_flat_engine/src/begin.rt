@@ -76,12 +76,12 @@ impl HeldEngine {
     }
 }
 
-/// Intervals, and how long a record grows. A fetch that were due again as soon as it is asked for would be asked without end.
+/// Intervals, and how long a record grows.
 fn options_in(flat: &FlatOptions) -> Options
     ensures { result ≡ options_of flat.now }
 {
     Options {
-        retry: flat.retry.max(1),
+        retry: flat.retry,
         on_its_way: flat.on_its_way,
         long_record: flat.long_record as usize,
     }

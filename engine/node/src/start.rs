@@ -11,19 +11,11 @@ use crate::metrics::{self, Counters};
 use crate::peers::{Horizon, Peers};
 use crate::replica::{Parts, Replica};
 use crate::settings::{Outcome, Settings, genesis};
-use simplex_view_state::{
-    Config, Cut, Digest, Engine, EngineError, Entries, EntryCount, Floor, Member, Moment, Options, Output, View, Views,
-};
+use simplex_view_state::{Config, Digest, Engine, EngineError, Floor, Moment, Options, Output, View, Views};
 use std::fs::{self, File, TryLockError};
 use std::path::Path;
 use std::sync::Arc;
 use tracing::info;
-
-/// A life begins with what lies far below its last finalized view taken away.
-const PRUNED: Cut = Cut {
-    last: EntryCount::ZERO,
-    prune: true,
-};
 
 /// A node that is ready to run, and where it is told of events.
 pub fn open(settings: Settings) -> Outcome<(Replica<Ledger>, Arc<Inbox>)> {
@@ -72,19 +64,10 @@ fn tell(kept: Option<&Kept>, views: &Views) {
 /// The engine of a member that begins, or goes on from what its journal held.
 fn engine(config: &Config, kept: Option<&Kept>) -> Outcome<Engine> {
     let (options, begun) = (Options::default(), Moment::from_millis(0));
-    let Some(kept) = kept else {
-        return Ok(Engine::start(config, &options, begun)?);
-    };
-    let pruned = pruned(config, kept, begun)?;
-    Ok(Engine::resume(config, &options, begun, &pruned.stored, &pruned.bytes)?)
-}
-
-/// What a journal held, made short. An engine makes its record short once it has doubled in its life; in lives that are cut off before
-/// that it would double again and again.
-fn pruned(config: &Config, kept: &Kept, now: Moment) -> Outcome<Entries> {
-    let mut member = Member::resume(config, now, &kept.stored, &kept.frames)?;
-    member.restart(config, now, PRUNED)?;
-    Ok(member.entries_since(EntryCount::ZERO)?)
+    match kept {
+        Some(kept) => Ok(Engine::resume(config, &options, begun, &kept.stored, &kept.frames)?),
+        None => Ok(Engine::start(config, &options, begun)?),
+    }
 }
 
 /// The journal of a life, from the engine's first output on: the whole record, in place of all that was stored.

@@ -159,6 +159,9 @@ fn company_of<S: Assembly<D>, L: Elector<S>, D: Digest>(
 }
 
 /// An engine round a member that has begun: its resolver is told of the record, and what is wanted is asked for at once.
+///
+/// A record that is long already is made short at the first `poll`: else lives that are cut off before they double it would let it
+/// grow.
 fn begin<S: Assembly<D>, L: Elector<S>, D: Digest>(
     alloc: Global,
     member: LawfulMember<S, L, D>,
@@ -170,11 +173,11 @@ fn begin<S: Assembly<D>, L: Elector<S>, D: Digest>(
     ensures votes { AreGiven [] company.batcher → IfOk result (λ engine. AreGiven [] engine.batcher) }
     ensures member { IfOk result (λ engine. engine.core.member ≡ member) }
 {
+    let options = options.with_a_retry();
     let resolver = resolver_of(alloc, company.term_length, member.record())?;
     let mut fetches = Fetches::new(alloc, company.peers, options.retry);
     open_all(&mut fetches, resolver.fetches())?;
     let views = views_of(&member);
-    let compacted = member.record().len();
     let core = Journaled::begin(alloc, member)?;
     Ok(Engine {
         alloc,
@@ -182,7 +185,7 @@ fn begin<S: Assembly<D>, L: Elector<S>, D: Digest>(
         batcher: company.batcher,
         plan: Plan::new(alloc, options, company.is_alone, views, resolver, fetches),
         options,
-        compacted,
+        compacted: 0,
     })
 }
 

@@ -4,7 +4,7 @@ mod accepting;
 mod following;
 mod working;
 
-ghost use Rattle.std.specs.Prelude.{◌≡◌, ◌≢◌, ◌+◌, ◌-◌, ◌^◌, min, true, false, [], ◌∷◌, ◌++◌, Some, Ok, IfOk, OnOk, IsOk, IsNone, IsTrue, ◌↔◌};
+ghost use Rattle.std.specs.Prelude.{◌≡◌, ◌≢◌, ◌+◌, ◌-◌, ◌^◌, min, max, true, false, [], ◌∷◌, ◌++◌, Some, Ok, IfOk, OnOk, IsOk, IsNone, IsTrue, ◌↔◌};
 ghost use Rattle.simplex_engine.specs.Settled.{IsWake};
 ghost use Rattle.simplex_engine.specs.Planning.{IsIdle, HasPlanned, for_votes, for_certificates, touching};
 ghost use Rattle.simplex_engine.specs.declared.engine.plan.Step.TheVariants.{Ask, Push};
@@ -22,12 +22,26 @@ use std::collections::VecDeque;
 /// Intervals, in milliseconds, and how long a record grows.
 #[derive(Clone, Copy)]
 pub struct Options {
-    /// After how long a fetch is asked again, of the next peer.
+    /// After how long a fetch is asked again, of the next peer: a millisecond at least, since one that is due at once again would be
+    /// asked for without end.
     pub retry: u64,
     /// How long a certificate that is lacking may be on its way before it is asked for.
     pub on_its_way: u64,
-    /// The record is made short once it has more entries than this, and twice as many as when it was made short last.
+    /// The record is made short once it has more entries than this, and twice as many as when it was made short last in this life.
     pub long_record: usize,
+}
+
+impl Options {
+    /// These, with a fetch asked again after a millisecond at least.
+    pub fn with_a_retry(self) -> Options
+        ensures { result ≡ record self { retry = max self.retry 1 } }
+    {
+        Options {
+            retry: self.retry.max(1),
+            on_its_way: self.on_its_way,
+            long_record: self.long_record,
+        }
+    }
 }
 
 /// One step of the engine.

@@ -61,18 +61,18 @@ impl<S: Assembly<D>, L: Elector<S>, D: Digest> Engine<S, L, D> {
         ensures quiet { OnOk result (HasNothingNew D.eq L.elect self.new.core.member.facts) }
         ensures idle { OnOk result (IsIdle now self.new.plan) }
     {
-        self.prepare()?;
+        self.prepare(now)?;
         self.finish(now)
     }
 
     /// A moment has come; a record that is long is made short before anything else.
-    fn prepare(&mut self) -> Result<(), Fault>
+    fn prepare(&mut self, now: u64) -> Result<(), Fault>
         ensures goes_on { GoesOn D.eq L.elect S.certificate_bytes None self.old.core self.new.core }
         ensures votes { TakesNone self.old.batcher self.new.batcher }
     {
         self.plan.begin();
         if self.is_long() {
-            return self.prune_record();
+            return self.prune_record(now);
         }
         Ok(())
     }
@@ -477,11 +477,13 @@ impl<S: Assembly<D>, L: Elector<S>, D: Digest> Engine<S, L, D> {
         self.options.long_record < count && self.compacted < count / 2
     }
 
-    /// Makes the record short.
-    fn prune_record(&mut self) -> Result<(), Fault>
+    /// Makes the record short. The member drops the views that are over first: the entries of a view stay as long as it is tracked, and
+    /// at the begin of a life all views of the record are.
+    fn prune_record(&mut self, now: u64) -> Result<(), Fault>
         ensures goes_on { GoesOn D.eq L.elect S.certificate_bytes None self.old.core self.new.core }
         ensures votes { TakesNone self.old.batcher self.new.batcher }
     {
+        self.ask(Task::Prune, now)?;
         self.core.prune_record()?;
         self.compacted = self.core.record().len();
         Ok(())
