@@ -2,6 +2,8 @@ mod Polls
 mod Counting
 mod Batching
 mod Earlier
+mod Once
+mod Passing
 mod Behind
 mod Copying
 mod Lawfully
@@ -14,3 +16,5 @@ mod Kept
 mod Begun
 mod Backing
 mod Quiet
+mod Forgetting
+mod Bounds

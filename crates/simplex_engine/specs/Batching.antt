@@ -1,5 +1,5 @@
 -- The votes that a batcher holds, and what a further one comes to.
-use Rattle.std.specs.Prelude.{◌≡◌, ◌≢◌, ℕ, ◌<◌, ◌^◌, Bool, true, List, [], Option, Some, Contains, slice_get}
+use Rattle.std.specs.Prelude.{◌≡◌, ◌≢◌, ℕ, ◌<◌, ◌≤◌, ◌^◌, Bool, true, List, [], Option, Some, Contains, slice_get}
 use Rattle.simplex_types.specs.declared.types.messages.Certificate.{Certificate}
 use Rattle.simplex_types.specs.declared.types.messages.Certificate.TheVariants as certificate
 use Rattle.simplex_types.specs.declared.types.messages.Subject.{Subject}
@@ -47,6 +47,11 @@ module _ {S D K G C : Type 0} where
       (kind : Kind) (view member : ℕ) (ballot : Ballot D G)
       → ballot_of (held batcher kind view) member ≡ Some ballot
       → Contains given (record { subject = ballot.subject; signer = member; signature = ballot.signature })
+
+  -- no vote is held of a view below
+  abbrev pub HoldsFrom : ℕ → Batcher S D K G C → Type 0
+  HoldsFrom lowest batcher =
+      (kind : Kind) (view member : ℕ) (ballot : Ballot D G) → ballot_of (held batcher kind view) member ≡ Some ballot → lowest ≤ view
 
   -- of another kind or view than this one's the same votes are held
   abbrev pub KeepsOthers : Subject D → Batcher S D K G C → Batcher S D K G C → Type 0

@@ -1,5 +1,5 @@
 -- Fetches that are open, and of whom they are asked.
-use Rattle.std.specs.Prelude.{◌≡◌, ℕ, ◌≤◌, ◌+◌, ◌-◌, ◌%◌, ◌^◌, Bool, true, false, ◌&&◌, ◌==◌, nat_le, nat_lt, min, List, [], All, Any, Option, Some, None, MatchOption, if◌then◌else◌, position}
+use Rattle.std.specs.Prelude.{◌≡◌, ℕ, ◌≤◌, ◌+◌, ◌-◌, ◌%◌, ◌^◌, Bool, true, false, ◌&&◌, ◌==◌, nat_le, nat_lt, min, List, [], ◌∷◌, not, All, Any, Option, Some, None, MatchOption, if◌then◌else◌, position}
 use Rattle.std.specs.List.{list_any}
 use Rattle.simplex_engine.specs.declared.fetches.Fetch.{Fetch}
 use Rattle.simplex_engine.specs.declared.fetches.FetchKind.{FetchKind}
@@ -24,6 +24,11 @@ is_within kind first last fetch = same_kind fetch.kind kind && nat_le first fetc
 -- it is open
 abbrev pub is_open : FetchKind → ℕ → List Fetch → Bool
 is_open kind view fetches = list_any (is_of kind view) fetches
+
+-- each is open once: none is of the kind and view of another
+abbrev pub each_once : List Fetch → Bool
+each_once [] = true
+each_once (fetch ∷ rest) = not (is_open fetch.kind fetch.view rest) && each_once rest
 
 -- one that was never asked for, and is to be at once
 abbrev pub fresh : FetchKind → ℕ → ℕ → ℕ → Fetch

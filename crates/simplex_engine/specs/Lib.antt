@@ -15,3 +15,4 @@ pub mod Quiet
 pub mod Settled
 pub mod Planning
 pub mod Backing
+pub mod Bounds

@@ -51,7 +51,7 @@ pub struct Batcher<S: CertificateScheme, D> {
 }
 
 impl<S: Assembly<D>, D: Digest> Batcher<S, D> {
-    ghost use Rattle.simplex_engine.specs.Batching.{held, kind_of, AreGiven, AreGood, IsGoodIfCertified, HoldsNothing, HoldsAllTheSame, KeepsOthers, MayCount, IsCounted, IsForgotten};
+    ghost use Rattle.simplex_engine.specs.Batching.{held, kind_of, AreGiven, AreGood, IsGoodIfCertified, HoldsNothing, HoldsAllTheSame, HoldsFrom, KeepsOthers, MayCount, IsCounted, IsForgotten};
 
     /// A batcher of the scheme's members that holds nothing.
     pub fn new(alloc: Global, scheme: S) -> Batcher<S, D>
@@ -154,6 +154,7 @@ impl<S: Assembly<D>, D: Digest> Batcher<S, D> {
     /// Forgets the votes of the views below.
     pub fn forget(&mut self, lowest: View)
         ensures forgotten { IsForgotten lowest self.old self.new }
+        ensures lowest { HoldsFrom lowest self.new }
         ensures given { (given : _) → AreGiven given self.old → AreGiven given self.new }
         ensures scheme { self.new.scheme ≡ self.old.scheme }
     {

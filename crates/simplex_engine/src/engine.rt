@@ -23,7 +23,7 @@ use plan::Plan;
 use simplex_assembly::assembly::Assembly;
 use simplex_member::member::Stored;
 use simplex_resolver::replay::LawfulResolver;
-use simplex_types::types::{Artifact, CertificateScheme, Digest, Elector, Fault};
+use simplex_types::types::{Artifact, CertificateScheme, Digest, Elector, Fault, View};
 use simplex_voter::voter::State;
 use std::alloc::Global;
 
@@ -41,6 +41,8 @@ pub struct Engine<S: CertificateScheme, L: Elector<S>, D: Digest> {
     options: Options,
     /// How many entries the record had when it was made short last in this life.
     compacted: usize,
+    /// The views below were forgotten last.
+    forgotten: View,
 }
 
 impl<S: Assembly<D>, L: Elector<S>, D: Digest> Engine<S, L, D> {
@@ -56,6 +58,7 @@ impl<S: Assembly<D>, L: Elector<S>, D: Digest> Engine<S, L, D> {
     ghost use Rattle.simplex_engine.specs.Planning.{IsIdle};
     ghost use Rattle.simplex_engine.specs.Inputs.{subject_in, given_out};
     ghost use Rattle.simplex_engine.specs.Backing.{votes_in, TakesVotes, TakesNone, IsBackedInput};
+    ghost use Rattle.simplex_engine.specs.Bounds.{HoldsFromKept, FetchesAhead};
 
     /// Tells what came in. Answers whether it was of use: what is not is dropped, and changes nothing.
     ///
@@ -101,6 +104,8 @@ impl<S: Assembly<D>, L: Elector<S>, D: Digest> Engine<S, L, D> {
     ///   its work, its votes on the current view and the certificates of it, and had nothing new.
     /// - `idle`: where nothing is answered, nothing is to be done at the moment: no step is queued, the timeout was asked for, and
     ///   no fetch is due.
+    /// - `lowest`, `ahead`: where nothing is answered, no vote is held of a view below the lowest one that is kept, and each open
+    ///   fetch is of a view above the last finalized one.
     ///
     /// # Errors
     ///
@@ -110,6 +115,8 @@ impl<S: Assembly<D>, L: Elector<S>, D: Digest> Engine<S, L, D> {
         ensures does { DoesMoreOn D.eq L.elect None self.old.core.member.facts self.new.core.member.facts }
         ensures none { IfOk result (λ out. IsNone out → IsSettled D.eq L.elect S.certificate_bytes self.new.core) }
         ensures idle { IfOk result (λ out. IsNone out → IsIdle now self.new.plan) }
+        ensures lowest { IfOk result (λ out. IsNone out → HoldsFromKept self.new.core self.new.batcher) }
+        ensures ahead { IfOk result (λ out. IsNone out → FetchesAhead self.new.core self.new.plan.fetches.wanted.items) }
         ensures votes { TakesNone self.old.batcher self.new.batcher }
         ensures failed { OnErr result (has_failed self.new.core ≡ true) }
         ensures refused { has_failed self.old.core ≡ true → (result ≡ Err Failed) × (self.new ≡ self.old) }
@@ -129,6 +136,8 @@ impl<S: Assembly<D>, L: Elector<S>, D: Digest> Engine<S, L, D> {
         ensures does { DoesMoreOn D.eq L.elect None self.old.core.member.facts self.new.core.member.facts }
         ensures none { IfOk result (λ out. IsNone out → IsSettled D.eq L.elect S.certificate_bytes self.new.core) }
         ensures idle { IfOk result (λ out. IsNone out → IsIdle now self.new.plan) }
+        ensures lowest { IfOk result (λ out. IsNone out → HoldsFromKept self.new.core self.new.batcher) }
+        ensures ahead { IfOk result (λ out. IsNone out → FetchesAhead self.new.core self.new.plan.fetches.wanted.items) }
         ensures votes { TakesNone self.old.batcher self.new.batcher }
         ensures failed { OnErr result (has_failed self.new.core ≡ true) }
     {

@@ -4,8 +4,8 @@
 //! retry interval is over, of the next peer in turn and never of this member; and that `wake` is the moment of the next
 //! asking. Moments are milliseconds, and do not fall.
 
-ghost use Rattle.std.specs.Prelude.{◌≡◌, ◌≢◌, ◌≤◌, [], ◌++◌, ◌∷◌, not, filter, is_some, length, nat_lt, IfOk, OnOk, OnErr, IfSome, if◌then◌else◌};
-ghost use Rattle.simplex_engine.specs.Fetches.{same_kind, is_of, is_within, is_open, due_at, fresh, asked, first_of, peers_of, place_of, whose_turn, IsEarliest};
+ghost use Rattle.std.specs.Prelude.{◌≡◌, ◌≢◌, ◌≤◌, [], ◌++◌, ◌∷◌, true, not, filter, is_some, length, nat_lt, IfOk, OnOk, OnErr, IfSome, IsTrue, if◌then◌else◌};
+ghost use Rattle.simplex_engine.specs.Fetches.{same_kind, is_of, is_within, is_open, each_once, due_at, fresh, asked, first_of, peers_of, place_of, whose_turn, IsEarliest};
 
 use simplex_types::types::{Participant, View};
 use std::alloc::{AllocError, Global};
@@ -112,6 +112,7 @@ pub struct Fetches {
     peers: Peers,
     retry: u64,
     wanted: Vec<Fetch>,
+    ghost once: { IsTrue (each_once wanted.items) },
 }
 
 impl Fetches {
@@ -221,9 +222,10 @@ impl Fetches {
         earliest(&self.wanted)
     }
 
-    /// The open fetches, in the order in which they were opened.
+    /// The open fetches, in the order in which they were opened. No kind and view is open twice.
     pub fn all(&self) -> &[Fetch]
-        ensures { result.now ≡ self.now.wanted.items }
+        ensures all { result.now ≡ self.now.wanted.items }
+        ensures once { each_once result.now ≡ true }
     {
         &self.wanted
     }

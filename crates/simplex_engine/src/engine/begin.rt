@@ -186,6 +186,7 @@ fn begin<S: Assembly<D>, L: Elector<S>, D: Digest>(
         plan: Plan::new(alloc, options, company.is_alone, views, resolver, fetches),
         options,
         compacted: 0,
+        forgotten: View::zero(),
     })
 }
 

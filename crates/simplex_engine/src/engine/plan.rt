@@ -1,10 +1,11 @@
 //! What an engine does next, and what it keeps for that: steps, open fetches, blocks that are built, early proposals.
 
 mod accepting;
+mod early;
 mod following;
 mod working;
 
-ghost use Rattle.std.specs.Prelude.{◌≡◌, ◌≢◌, ◌+◌, ◌-◌, ◌^◌, min, max, true, false, [], ◌∷◌, ◌++◌, Some, Ok, IfOk, OnOk, IsOk, IsNone, IsTrue, ◌↔◌};
+ghost use Rattle.std.specs.Prelude.{◌≡◌, ◌≢◌, ◌<◌, ◌+◌, ◌-◌, ◌^◌, ℕ, All, min, max, true, false, [], ◌∷◌, ◌++◌, Some, Ok, IfOk, OnOk, IsOk, IsNone, IsTrue, ◌↔◌};
 ghost use Rattle.simplex_engine.specs.Settled.{IsWake};
 ghost use Rattle.simplex_engine.specs.Planning.{IsIdle, HasPlanned, for_votes, for_certificates, touching};
 ghost use Rattle.simplex_engine.specs.declared.engine.plan.Step.TheVariants.{Ask, Push};
@@ -12,6 +13,7 @@ ghost use Rattle.simplex_engine.specs.declared.engine.plan.Step.TheVariants.{Ask
 use super::task::Task;
 use crate::fetches::{FetchKind, Fetches};
 use crate::output::Work;
+use early::EarlyProposals;
 use simplex_resolver::replay::LawfulResolver;
 use simplex_types::types::{
     CertificateScheme, Context, Digest, Fault, Participant, Proposal, View,
@@ -55,8 +57,6 @@ pub enum Step<S: CertificateScheme, D> {
     Resolve(FetchKind, View, View),
     /// The newest vote to nullify is sent once more, where it is one of the view.
     Repeat(View),
-    /// What is kept of the views below may go.
-    Forget(View),
     /// Work to be carried out.
     Push(Work<S, D>),
 }
@@ -68,14 +68,6 @@ pub struct Views {
     pub last_finalized: View,
 }
 
-/// A proposal that came before its view, and whose it is.
-#[derive(Clone, Copy)]
-struct Early<D> {
-    from: Participant,
-    view: View,
-    proposal: Proposal<D>,
-}
-
 /// A block that is to be built.
 #[derive(Clone, Copy)]
 struct Building<D, P: Copy> {
@@ -83,9 +75,6 @@ struct Building<D, P: Copy> {
     /// The application was asked for it.
     is_told: bool,
 }
-
-/// How many early proposals are kept at most.
-const MOST_EARLY: usize = 8;
 
 /// What is to be done and looked after.
 #[derive(Drop)]
@@ -101,7 +90,7 @@ pub struct Plan<S: CertificateScheme, D> {
     resolver: LawfulResolver,
     fetches: Fetches,
     builds: Vec<Building<D, S::PublicKey>>,
-    early: Vec<Early<D>>,
+    early: EarlyProposals<D>,
     is_watch_due: bool,
     is_timeout_due: bool,
     is_prune_due: bool,
@@ -124,7 +113,7 @@ impl<S: CertificateScheme, D: Digest> Plan<S, D> {
         ensures options { (result.options ≡ options) × (result.is_alone ≡ is_alone) }
         ensures views { (result.views ≡ views) × (result.told ≡ views.last_finalized) }
         ensures fetches { (result.resolver ≡ resolver) × (result.fetches ≡ fetches) }
-        ensures nothing { (result.steps.items ≡ []) × (result.builds.items ≡ []) × (result.early.items ≡ []) × (result.ignored ≡ 0) }
+        ensures nothing { (result.steps.items ≡ []) × (result.builds.items ≡ []) × (result.early.proposals.items ≡ []) × (result.ignored ≡ 0) }
         ensures due { (result.is_watch_due ≡ true) × (result.is_timeout_due ≡ true) × (result.is_prune_due ≡ true) × (result.timeout ≡ 0) }
     {
         Plan {
@@ -137,7 +126,7 @@ impl<S: CertificateScheme, D: Digest> Plan<S, D> {
             resolver,
             fetches,
             builds: Vec::new(alloc),
-            early: Vec::new(alloc),
+            early: EarlyProposals::new(alloc),
             is_watch_due: true,
             is_timeout_due: true,
             is_prune_due: true,
@@ -190,6 +179,18 @@ impl<S: CertificateScheme, D: Digest> Plan<S, D> {
     {
         self.is_timeout_due = true;
         self.is_prune_due = true;
+    }
+
+    /// The fetches that a finalization of the view passed are closed.
+    ///
+    /// - `ahead`: those that are open are of later views.
+    /// - `idle`: where nothing was to be done, nothing is.
+    pub fn pass(&mut self, finalized: View)
+        ensures same { self.new ≡ record self.old { fetches = self.new.fetches } }
+        ensures ahead { All (λ fetch. finalized < fetch.view) self.new.fetches.wanted.items }
+        ensures idle { (now : ℕ) → IsIdle now self.old → IsIdle now self.new }
+    {
+        self.fetches.pass(finalized);
     }
 
     /// Whether nothing is to be done at the moment.

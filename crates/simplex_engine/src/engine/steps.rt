@@ -1,7 +1,7 @@
 //! Inputs and steps, each with the calls of the member that it takes.
 #![tactic(auto, using(crate::proofs::Going::stays, crate::proofs::Going::goes_further, crate::proofs::Backing::takes_nothing, crate::proofs::Backing::takes_no_more, crate::proofs::Backing::takes_anyway))]
 
-ghost use Rattle.std.specs.Prelude.{◌≡◌, ◌∷◌, [], length, None, Some, OnOk, IfOk, IsTrue};
+ghost use Rattle.std.specs.Prelude.{◌≡◌, ◌∷◌, [], ℕ, length, None, Some, OnOk, IfOk, IfSome, IsTrue};
 ghost use Rattle.simplex_types.specs.Certificates.{certificate_facts};
 ghost use Rattle.simplex_types.specs.Encoding.{certificate_subject};
 ghost use Rattle.simplex_member.specs.Calls.{told, asked};
@@ -25,12 +25,21 @@ use simplex_types::types::{
 };
 use simplex_voter::voter::Verify;
 
+/// From which view on what is held is kept, and the last finalized one.
+#[derive(Clone, Copy)]
+struct Horizon {
+    lowest: View,
+    finalized: View,
+}
+
 impl<S: Assembly<D>, L: Elector<S>, D: Digest> Engine<S, L, D> {
     ghost use Rattle.simplex_engine.specs.Going.{IsWhole, GoesOn};
     ghost use Rattle.simplex_engine.specs.Inputs.{subject_in};
     ghost use Rattle.simplex_engine.specs.Backing.{votes_in, TakesVotes, TakesNone, IsBacked, IsBackedInput};
     ghost use Rattle.simplex_engine.specs.Quiet.{current_view, for_all, for_work, for_votes, for_certificates, AnswersNothing, AnswerNothing, HasNothingNew};
     ghost use Rattle.simplex_engine.specs.Planning.{IsIdle};
+    ghost use Rattle.simplex_engine.specs.Bounds.{HoldsFromKept, FetchesAhead};
+    ghost use Rattle.simplex_voter.specs.Windows.{min_active};
 
     /// Takes what came in, while the engine has not failed.
     pub(super) fn take(&mut self, input: Input<S, D>, now: u64) -> Result<bool, Fault>
@@ -54,12 +63,16 @@ impl<S: Assembly<D>, L: Elector<S>, D: Digest> Engine<S, L, D> {
     ///
     /// - `quiet`: it was asked for all that may be due last, and had nothing new.
     /// - `idle`: nothing is to be done at the moment.
+    /// - `lowest`, `ahead`: no vote is held of a view below the lowest one that is kept, and no fetch is open up to the last
+    ///   finalized one.
     pub(super) fn work(&mut self, now: u64) -> Result<(), Fault>
         ensures goes_on { GoesOn D.eq L.elect S.certificate_bytes None self.old.core self.new.core }
         ensures votes { TakesNone self.old.batcher self.new.batcher }
         ensures whole { OnOk result (IsWhole S.certificate_bytes self.new.core) }
         ensures quiet { OnOk result (HasNothingNew D.eq L.elect self.new.core.member.facts) }
         ensures idle { OnOk result (IsIdle now self.new.plan) }
+        ensures lowest { OnOk result (HoldsFromKept self.new.core self.new.batcher) }
+        ensures ahead { OnOk result (FetchesAhead self.new.core self.new.plan.fetches.wanted.items) }
     {
         self.prepare(now)?;
         self.finish(now)
@@ -77,15 +90,32 @@ impl<S: Assembly<D>, L: Elector<S>, D: Digest> Engine<S, L, D> {
         Ok(())
     }
 
-    /// Takes all steps, and queues what the record has grown by.
+    /// Takes all steps, lets go what is kept of views that are not, and queues what the record has grown by.
     fn finish(&mut self, now: u64) -> Result<(), Fault>
         ensures goes_on { GoesOn D.eq L.elect S.certificate_bytes None self.old.core self.new.core }
         ensures votes { TakesNone self.old.batcher self.new.batcher }
         ensures whole { OnOk result (IsWhole S.certificate_bytes self.new.core) }
         ensures quiet { OnOk result (HasNothingNew D.eq L.elect self.new.core.member.facts) }
         ensures idle { OnOk result (IsIdle now self.new.plan) }
+        ensures lowest { OnOk result (HoldsFromKept self.new.core self.new.batcher) }
+        ensures ahead { OnOk result (FetchesAhead self.new.core self.new.plan.fetches.wanted.items) }
     {
         self.run_all(now)?;
+        self.settle()?;
+        Ok(())
+    }
+
+    /// Lets go what is held of views that are not kept, and queues what the record has grown by.
+    fn settle(&mut self) -> Result<(), Fault>
+        ensures goes_on { GoesOn D.eq L.elect S.certificate_bytes None self.old.core self.new.core }
+        ensures votes { TakesNone self.old.batcher self.new.batcher }
+        ensures member { self.new.core.member ≡ self.old.core.member }
+        ensures idle { (now : ℕ) → IsIdle now self.old.plan → IsIdle now self.new.plan }
+        ensures whole { OnOk result (IsWhole S.certificate_bytes self.new.core) }
+        ensures lowest { OnOk result (HoldsFromKept self.new.core self.new.batcher) }
+        ensures ahead { OnOk result (FetchesAhead self.new.core self.new.plan.fetches.wanted.items) }
+    {
+        self.let_go()?;
         self.core.store()?;
         Ok(())
     }
@@ -263,7 +293,6 @@ impl<S: Assembly<D>, L: Elector<S>, D: Digest> Engine<S, L, D> {
             Step::Repeat(view) => {
                 self.core.repeat(view)?;
             }
-            Step::Forget(lowest) => self.forget(lowest)?,
             Step::Push(work) => self.core.push(work)?,
         }
         Ok(true)
@@ -461,13 +490,47 @@ impl<S: Assembly<D>, L: Elector<S>, D: Digest> Engine<S, L, D> {
         self.plan.resolve(kind, view, leader, now)
     }
 
-    /// What is kept of the views below goes, here and elsewhere.
-    fn forget(&mut self, lowest: View) -> Result<(), Fault>
+    /// Lets go what is held of views that are not kept: votes here and elsewhere, and fetches that a finalization passed.
+    fn let_go(&mut self) -> Result<(), Fault>
         ensures goes_on { GoesOn D.eq L.elect S.certificate_bytes None self.old.core self.new.core }
         ensures votes { TakesNone self.old.batcher self.new.batcher }
+        ensures member { self.new.core.member ≡ self.old.core.member }
+        ensures idle { (now : ℕ) → IsIdle now self.old.plan → IsIdle now self.new.plan }
+        ensures lowest { OnOk result (HoldsFromKept self.new.core self.new.batcher) }
+        ensures ahead { OnOk result (FetchesAhead self.new.core self.new.plan.fetches.wanted.items) }
     {
-        self.batcher.forget(lowest);
-        self.core.push(Work::Forget(lowest))?;
+        let horizon = self.horizon()?;
+        self.tell_forgotten(horizon.lowest)?;
+        self.plan.pass(horizon.finalized);
+        self.batcher.forget(horizon.lowest);
+        Ok(())
+    }
+
+    /// Which views are kept. A member that has failed since found no memory.
+    fn horizon(&self) -> Result<Horizon, Fault>
+        ensures { IfOk result (λ horizon. IfSome self.now.core.member.facts.life
+            (λ x. (min_active x ≡ horizon.lowest) × (x.finalized ≡ horizon.finalized))) }
+    {
+        match self.core.state() {
+            Some(state) => Ok(Horizon {
+                lowest: state.min_active(),
+                finalized: state.last_finalized(),
+            }),
+            None => Err(Fault::OutOfMemory),
+        }
+    }
+
+    /// Others are told that the views below may be forgotten, where more may than before.
+    fn tell_forgotten(&mut self, lowest: View) -> Result<(), Fault>
+        ensures goes_on { GoesOn D.eq L.elect S.certificate_bytes None self.old.core self.new.core }
+        ensures votes { TakesNone self.old.batcher self.new.batcher }
+        ensures member { self.new.core.member ≡ self.old.core.member }
+        ensures plan { self.new.plan ≡ self.old.plan }
+    {
+        if self.forgotten < lowest {
+            self.core.push(Work::Forget(lowest))?;
+            self.forgotten = lowest;
+        }
         Ok(())
     }
 

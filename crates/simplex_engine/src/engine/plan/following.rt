@@ -30,7 +30,6 @@ impl<S: CertificateScheme, D: Digest> Plan<S, D> {
             Reply::Nullify(answer) => self.follow_nullify(answer, now),
             Reply::Certificate(certificate) => self.broadcast(certificate),
             Reply::Timeout(moment, reason) => self.follow_timeout(moment, reason, now),
-            Reply::Views(views) => self.follow_prune(&views),
             Reply::Fault(Fault::OutOfMemory) => Err(Fault::OutOfMemory),
             Reply::Fault(_) | Reply::NotAllowed => self.follow_refusal(task),
             _ => Ok(()),
@@ -238,14 +237,6 @@ impl<S: CertificateScheme, D: Digest> Plan<S, D> {
             self.ask(Task::Nullify(self.views.current, reason))?;
         }
         Ok(())
-    }
-
-    /// Views were dropped.
-    fn follow_prune(&mut self, views: &[View]) -> Result<(), Fault> {
-        match views.last() {
-            Some(last) => self.plan(Step::Forget(View::new(last.get().saturating_add(1)))),
-            None => Ok(()),
-        }
     }
 }
 

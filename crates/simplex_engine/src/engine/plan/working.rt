@@ -5,7 +5,8 @@ ghost use Rattle.simplex_engine.specs.Fetches.{is_open, fresh, place_of};
 ghost use Rattle.simplex_engine.specs.Planning.{may_keep};
 
 use super::super::task::Task;
-use super::{Building, Early, MOST_EARLY, Plan, Step, Views, queue};
+use super::early::{Early, MOST_EARLY};
+use super::{Building, Plan, Step, Views, queue};
 use crate::fetches::FetchKind;
 use crate::output::Work;
 use simplex_types::types::{
@@ -48,12 +49,13 @@ impl<S: CertificateScheme, D: Digest> Plan<S, D> {
         proposal: Proposal<D>,
     ) -> Result<(), Fault>
         ensures same { self.new ≡ record self.old { early = self.new.early } }
-        ensures kept { OnOk result (self.new.early.items ≡ (if may_keep self.old.views.current view (length self.old.early.items)
-            then self.old.early.items ++ record { from = from; view = view; proposal = proposal } ∷ [] else self.old.early.items)) }
+        ensures kept { let old = self.old.early.proposals.items in
+            OnOk result (self.new.early.proposals.items ≡ (if may_keep self.old.views.current view (length old)
+            then old ++ record { from = from; view = view; proposal = proposal } ∷ [] else old)) }
     {
         let ahead = view.get().saturating_sub(self.views.current.get());
-        if 0 < ahead && ahead <= MOST_EARLY as u64 && self.early.len() < MOST_EARLY {
-            self.early.push(Early {
+        if 0 < ahead && ahead <= MOST_EARLY as u64 {
+            self.early.keep(Early {
                 from,
                 view,
                 proposal,
@@ -67,8 +69,8 @@ impl<S: CertificateScheme, D: Digest> Plan<S, D> {
         ensures { self.new ≡ record self.old { steps = self.new.steps; early = self.new.early } }
     {
         let current = self.views.current;
-        offer_until(current, &self.early, &mut self.steps)?;
-        self.early.retain(|early| current < early.view);
+        offer_until(current, self.early.all(), &mut self.steps)?;
+        self.early.pass(current);
         Ok(())
     }
 

@@ -1,0 +1,12 @@
+-- That the fetch which is asked for is of the same kind and view after it.
+use Rattle.std.proofs.Common.{ap, ◌∙◌}
+use Rattle.simplex_engine.proofs.Once.{once_again}
+use Rattle.simplex_engine.proofs.fetches.Fetches.ask.Goals as goal
+
+pub invariant_of-self : goal.invariant_of-self
+invariant_of-self c =
+    record {
+      once = once_again c.asked-again.result c.args.self.now.wanted.items c.in_ok-place.place c.index.result.now
+          (ap (λ f. f.kind) c.asked-again.ensures ∙ ap (λ f. f.kind) c.index.ensures, ap (λ f. f.view) c.asked-again.ensures ∙ ap (λ f. f.view) c.index.ensures)
+          c.args.self.now.once;
+    }
