@@ -18,3 +18,5 @@ mod Backing
 mod Quiet
 mod Forgetting
 mod Bounds
+mod Dropping
+mod Planning

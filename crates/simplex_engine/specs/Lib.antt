@@ -16,3 +16,8 @@ pub mod Settled
 pub mod Planning
 pub mod Backing
 pub mod Bounds
+pub mod Building
+pub mod Following
+pub mod Tasks
+pub mod Dropping
+pub mod Admitting

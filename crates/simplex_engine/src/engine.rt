@@ -3,7 +3,7 @@
 //! It holds no network, clock, disk or key but its scheme. Moments are milliseconds that are handed in, and do not fall.
 #![tactic(auto, using(crate::proofs::Going::stays, crate::proofs::Going::goes_further, crate::proofs::Backing::takes_nothing, crate::proofs::Backing::takes_no_more, crate::proofs::Backing::takes_anyway))]
 
-ghost use Rattle.std.specs.Prelude.{◌≡◌, ◌++◌, [], length, None, Err, IfOk, IfSome, OnErr, IsNone, true, false};
+ghost use Rattle.std.specs.Prelude.{◌≡◌, ◌++◌, [], length, None, Err, IfOk, IfSome, OnErr, IsNone, IsFalse, true, false};
 ghost use Rattle.std.specs.Option.{option_copied};
 ghost use Rattle.simplex_types.specs.declared.types.fault.Fault.TheVariants.{Failed};
 
@@ -59,6 +59,8 @@ impl<S: Assembly<D>, L: Elector<S>, D: Digest> Engine<S, L, D> {
     ghost use Rattle.simplex_engine.specs.Inputs.{subject_in, given_out};
     ghost use Rattle.simplex_engine.specs.Backing.{votes_in, TakesVotes, TakesNone, IsBackedInput};
     ghost use Rattle.simplex_engine.specs.Bounds.{HoldsFromKept, FetchesAhead};
+    ghost use Rattle.simplex_engine.specs.Dropping.{IsDropped};
+    ghost use Rattle.simplex_engine.specs.Admitting.{is_admitted, IsTurnedAway, ignoring};
 
     /// Tells what came in. Answers whether it was of use: what is not is dropped, and changes nothing.
     ///
@@ -79,6 +81,9 @@ impl<S: Assembly<D>, L: Elector<S>, D: Digest> Engine<S, L, D> {
         ensures votes { TakesVotes (votes_in input) self.old.batcher self.new.batcher }
         ensures backed { IsBackedInput D.eq L.elect S.certificate_bytes (length (S.participants self.old.batcher.scheme))
             input self.old.batcher self.old.core self.new.core }
+        ensures dropped { IfOk result (λ is_of_use. IsFalse is_of_use → IsDropped now input self.old self.new) }
+        ensures unadmitted { IsFalse (is_admitted S.certificate_bytes self.old.core.member.facts input) → IfOk result (λ is_of_use.
+            IsFalse is_of_use × IsTurnedAway input (ignoring self.old) self.new) }
         ensures failed { OnErr result (has_failed self.new.core ≡ true) }
         ensures refused { has_failed self.old.core ≡ true → (result ≡ Err Failed) × (self.new ≡ self.old) }
     {

@@ -47,6 +47,7 @@ impl<S: Scheme<D>, L: Elector<S>, D: Digest> Journaled<S, L, D> {
     ghost use Rattle.simplex_engine.specs.Outputs.{AreBehind};
     ghost use Rattle.simplex_engine.specs.Journals.{journal_of, IsRecordOf};
     ghost use Rattle.simplex_engine.specs.Going.{IsKept, IsWhole, GoesOn, has_failed};
+    ghost use Rattle.simplex_engine.specs.Dropping.{is_refused, says_nothing, IsLeftBy};
 
     /// A life begins: the whole record is to be stored in place of all that is stored, before anything else.
     ///
@@ -76,12 +77,17 @@ impl<S: Scheme<D>, L: Elector<S>, D: Digest> Journaled<S, L, D> {
     /// - `goes_on`: the member accepts no certificate but the one that the call hands in.
     /// - `quiet`: a call that hands none in accepts none.
     /// - `answered`: as of `LawfulMember::call`.
+    /// - `refused`: a call that is refused, and not for want of memory, changes nothing.
+    /// - `dropped`: what a call leaves that was of no use.
     pub fn call(&mut self, call: Call<S, D>) -> Reply<S, D>
         ensures goes_on { (taken : _) → All (IsDoneOn taken) (certificates_in call)
             → GoesOn D.eq L.elect S.certificate_bytes taken self.old self.new }
         ensures quiet { certificates_in call ≡ [] → GoesOn D.eq L.elect S.certificate_bytes None self.old self.new }
         ensures answered { IsCall D.eq L.elect self.old.member.facts (asked S.certificate_bytes call)
             (told S.certificate_bytes result) self.new.member.facts }
+        ensures refused { IsTrue (is_refused (told S.certificate_bytes result)) → self.new.member.facts ≡ self.old.member.facts }
+        ensures dropped { IsTrue (says_nothing (told S.certificate_bytes result))
+            → IsLeftBy (asked S.certificate_bytes call) self.old.member.facts self.new.member.facts }
         ensures outbox { self.new.outbox ≡ self.old.outbox }
     {
         self.member.call(call)

@@ -3,7 +3,7 @@
 ghost use Rattle.std.specs.Prelude.{◌≡◌, ◌↔◌, IsTrue};
 ghost use Rattle.simplex_types.specs.Proposal.{same_proposal};
 ghost use Rattle.simplex_types.specs.Viewed.{subject_view};
-ghost use Rattle.simplex_engine.specs.Subjects.{same_subject};
+ghost use Rattle.simplex_engine.specs.Subjects.{same_subject, subject_round};
 
 use simplex_types::types::{Digest, Participant, Proposal, Round, Subject};
 
@@ -17,7 +17,8 @@ pub struct Vote<D, G> {
 
 /// The epoch and the view that a vote is of.
 pub fn round_of<D: Copy>(subject: &Subject<D>) -> Round
-    ensures { result.view ≡ subject_view subject.now }
+    ensures round { result ≡ subject_round subject.now }
+    ensures view { result.view ≡ subject_view subject.now }
 {
     match subject {
         Subject::Notarize(proposal) => proposal.round,

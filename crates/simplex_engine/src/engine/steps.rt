@@ -1,12 +1,15 @@
 //! Inputs and steps, each with the calls of the member that it takes.
 #![tactic(auto, using(crate::proofs::Going::stays, crate::proofs::Going::goes_further, crate::proofs::Backing::takes_nothing, crate::proofs::Backing::takes_no_more, crate::proofs::Backing::takes_anyway))]
 
-ghost use Rattle.std.specs.Prelude.{◌≡◌, ◌∷◌, [], ℕ, length, None, Some, OnOk, IfOk, IfSome, IsTrue};
+ghost use Rattle.std.specs.Prelude.{◌≡◌, ◌∷◌, [], ℕ, length, None, Some, OnOk, IfOk, IfSome, IsTrue, not, false, ◌==◌, Ok, IsFalse};
+ghost use Rattle.std.specs.Option.{option_map_or};
 ghost use Rattle.simplex_types.specs.Certificates.{certificate_facts};
 ghost use Rattle.simplex_types.specs.Encoding.{certificate_subject};
 ghost use Rattle.simplex_member.specs.Calls.{told, asked};
 ghost use Rattle.simplex_laws.specs.Shown.{certificates_in};
 ghost use Rattle.simplex_engine.specs.Quiet.{is_nothing};
+ghost use Rattle.simplex_engine.specs.Dropping.{is_lasting, is_refused, says_nothing};
+ghost use Rattle.simplex_engine.specs.Admitting.{admits, admits_votes, admits_proposal};
 
 use super::Engine;
 use super::plan::{Step, Views};
@@ -21,9 +24,9 @@ use simplex_assembly::assembly::Assembly;
 use simplex_member::member::{Call, Reply};
 use simplex_types::types::{
     Certificate, CertificateScheme, Context, Digest, Elector, Fault, Participant, Proposal, Round,
-    View, Viewable,
+    Scheme, View, Viewable,
 };
-use simplex_voter::voter::Verify;
+use simplex_voter::voter::{State, Verify};
 
 /// From which view on what is held is kept, and the last finalized one.
 #[derive(Clone, Copy)]
@@ -40,13 +43,38 @@ impl<S: Assembly<D>, L: Elector<S>, D: Digest> Engine<S, L, D> {
     ghost use Rattle.simplex_engine.specs.Planning.{IsIdle};
     ghost use Rattle.simplex_engine.specs.Bounds.{HoldsFromKept, FetchesAhead};
     ghost use Rattle.simplex_voter.specs.Windows.{min_active};
+    ghost use Rattle.simplex_engine.specs.Batching.{HoldsAllTheSame};
+    ghost use Rattle.simplex_engine.specs.Subjects.{subject_round};
+    ghost use Rattle.simplex_engine.specs.Tasks.{call_of};
+    ghost use Rattle.simplex_engine.specs.Dropping.{IsLeftBy, IsLeftByInput, IsDropped};
+    ghost use Rattle.simplex_engine.specs.Admitting.{is_so, is_admitted, IsTurnedAway, ignoring};
 
-    /// Takes what came in, while the engine has not failed.
+    /// Takes what came in, while the engine has not failed, and counts what is of no use.
     pub(super) fn take(&mut self, input: Input<S, D>, now: u64) -> Result<bool, Fault>
         ensures goes_on { GoesOn D.eq L.elect S.certificate_bytes (subject_in S.certificate_bytes input) self.old.core self.new.core }
         ensures votes { TakesVotes (votes_in input) self.old.batcher self.new.batcher }
         ensures backed { IsBackedInput D.eq L.elect S.certificate_bytes (length (S.participants self.old.batcher.scheme))
             input self.old.batcher self.old.core self.new.core }
+        ensures dropped { IfOk result (λ is_of_use. IsFalse is_of_use → IsDropped now input self.old self.new) }
+        ensures unadmitted { IsFalse (is_admitted S.certificate_bytes self.old.core.member.facts input) → IfOk result (λ is_of_use.
+            IsFalse is_of_use × IsTurnedAway input (ignoring self.old) self.new) }
+    {
+        let is_of_use = self.take_in(input, now)?;
+        if !is_of_use {
+            self.plan.ignore();
+        }
+        Ok(is_of_use)
+    }
+
+    /// Takes what came in.
+    fn take_in(&mut self, input: Input<S, D>, now: u64) -> Result<bool, Fault>
+        ensures goes_on { GoesOn D.eq L.elect S.certificate_bytes (subject_in S.certificate_bytes input) self.old.core self.new.core }
+        ensures votes { TakesVotes (votes_in input) self.old.batcher self.new.batcher }
+        ensures backed { IsBackedInput D.eq L.elect S.certificate_bytes (length (S.participants self.old.batcher.scheme))
+            input self.old.batcher self.old.core self.new.core }
+        ensures dropped { IfOk result (λ is_of_use. IsFalse is_of_use → IsDropped now input self.old self.new) }
+        ensures unadmitted { IsFalse (is_admitted S.certificate_bytes self.old.core.member.facts input) → IfOk result (λ is_of_use.
+            IsFalse is_of_use × IsTurnedAway input self.old self.new) }
     {
         match input {
             Input::Proposal(from, proposal) => self.offer(from, proposal, now),
@@ -302,17 +330,22 @@ impl<S: Assembly<D>, L: Elector<S>, D: Digest> Engine<S, L, D> {
     fn ask(&mut self, task: Task<D>, now: u64) -> Result<bool, Fault>
         ensures goes_on { GoesOn D.eq L.elect S.certificate_bytes None self.old.core self.new.core }
         ensures votes { TakesNone self.old.batcher self.new.batcher }
+        ensures batcher { self.new.batcher ≡ self.old.batcher }
+        ensures dropped { IfOk result (λ is_of_use. IsFalse is_of_use
+            → IsLeftBy (call_of task now) self.old.core.member.facts self.new.core.member.facts) }
     {
         let reply = self.core.call(task.call(now));
         self.follow(task, reply, now)
     }
 
-    /// Follows the answer to a call.
+    /// Follows the answer to a call. Whether that says that anything was done.
     fn follow(&mut self, task: Task<D>, reply: Reply<S, D>, now: u64) -> Result<bool, Fault>
         ensures core { self.new.core ≡ self.old.core }
         ensures votes { TakesNone self.old.batcher self.new.batcher }
+        ensures batcher { self.new.batcher ≡ self.old.batcher }
+        ensures of_use { IfOk result (λ is_of_use. is_of_use ≡ not (says_nothing (told S.certificate_bytes reply))) }
     {
-        let is_of_use = is_answer(&reply);
+        let is_of_use = !says_nothing(&reply);
         self.see()?;
         self.plan.follow(task, reply, now)?;
         Ok(is_of_use)
@@ -322,6 +355,7 @@ impl<S: Assembly<D>, L: Elector<S>, D: Digest> Engine<S, L, D> {
     fn see(&mut self) -> Result<(), Fault>
         ensures core { self.new.core ≡ self.old.core }
         ensures votes { TakesNone self.old.batcher self.new.batcher }
+        ensures batcher { self.new.batcher ≡ self.old.batcher }
     {
         let Some(state) = self.core.state() else {
             return Err(Fault::OutOfMemory);
@@ -334,17 +368,32 @@ impl<S: Assembly<D>, L: Elector<S>, D: Digest> Engine<S, L, D> {
     }
 
     /// A proposal of another member: it is handed in where that member leads its view, which takes votes, and else kept where
-    /// its view comes soon.
+    /// its view comes soon. One of another epoch is not kept.
     fn offer(&mut self, from: Participant, proposal: Proposal<D>, now: u64) -> Result<bool, Fault>
         ensures goes_on { GoesOn D.eq L.elect S.certificate_bytes None self.old.core self.new.core }
         ensures votes { TakesNone self.old.batcher self.new.batcher }
+        ensures batcher { self.new.batcher ≡ self.old.batcher }
+        ensures dropped { IfOk result (λ is_of_use. IsFalse is_of_use → self.new.core.member.facts ≡ self.old.core.member.facts) }
+        ensures unadmitted { IsFalse (is_so (λ x. admits_proposal x from proposal.round) self.old.core.member.facts) → IfOk result (λ is_of_use.
+            IsFalse is_of_use × (self.new ≡ record self.old { plan = record (self.old.plan) { early = self.new.plan.early } })) }
     {
-        let view = proposal.view();
-        if self.is_admitted(from, view) {
-            return self.ask(Task::SetProposal(view, proposal), now);
+        if self.admits_proposal(from, proposal.round) {
+            return self.hand_in(proposal, now);
         }
-        self.keep_early(from, view, proposal)?;
+        if self.is_of_this_epoch(proposal.round) {
+            self.keep_early(from, proposal.view(), proposal)?;
+        }
         Ok(false)
+    }
+
+    /// Hands a proposal in.
+    fn hand_in(&mut self, proposal: Proposal<D>, now: u64) -> Result<bool, Fault>
+        ensures goes_on { GoesOn D.eq L.elect S.certificate_bytes None self.old.core self.new.core }
+        ensures votes { TakesNone self.old.batcher self.new.batcher }
+        ensures batcher { self.new.batcher ≡ self.old.batcher }
+        ensures dropped { IfOk result (λ is_of_use. IsFalse is_of_use → self.new.core.member.facts ≡ self.old.core.member.facts) }
+    {
+        self.ask(Task::SetProposal(proposal.view(), proposal), now)
     }
 
     /// Keeps a proposal whose view comes soon.
@@ -356,19 +405,25 @@ impl<S: Assembly<D>, L: Elector<S>, D: Digest> Engine<S, L, D> {
     ) -> Result<(), Fault>
         ensures core { self.new.core ≡ self.old.core }
         ensures votes { TakesNone self.old.batcher self.new.batcher }
+        ensures same { self.new ≡ record self.old { plan = record (self.old.plan) { early = self.new.plan.early } } }
     {
-        self.plan.ignore();
         self.plan.keep_early(from, view, proposal)
     }
 
     /// Whether a proposal may be handed in. One of this member itself never is: its key would have been used elsewhere.
-    fn is_admitted(&self, from: Participant, view: View) -> bool {
+    fn admits_proposal(&self, from: Participant, round: Round) -> bool
+        ensures { result ≡ is_so (λ x. admits_proposal x from round) self.now.core.member.facts }
+    {
         match self.core.state() {
-            Some(state) => {
-                state.admits_vote(view)
-                    && state.leader_index(view) == Some(from)
-                    && !state.is_me(from)
-            }
+            Some(state) => is_by_leader(state, from, round),
+            None => false,
+        }
+    }
+
+    /// Whether the round is of this epoch.
+    fn is_of_this_epoch(&self, round: Round) -> bool {
+        match self.core.state() {
+            Some(state) => state.epoch() == round.epoch,
             None => false,
         }
     }
@@ -377,6 +432,8 @@ impl<S: Assembly<D>, L: Elector<S>, D: Digest> Engine<S, L, D> {
     fn verified(&mut self, view: View, is_valid: bool, now: u64) -> Result<bool, Fault>
         ensures goes_on { GoesOn D.eq L.elect S.certificate_bytes None self.old.core self.new.core }
         ensures votes { TakesNone self.old.batcher self.new.batcher }
+        ensures batcher { self.new.batcher ≡ self.old.batcher }
+        ensures dropped { IfOk result (λ is_of_use. IsFalse is_of_use → self.new.core.member.facts ≡ self.old.core.member.facts) }
     {
         if is_valid {
             self.ask(Task::Verified(view), now)
@@ -394,9 +451,10 @@ impl<S: Assembly<D>, L: Elector<S>, D: Digest> Engine<S, L, D> {
     ) -> Result<bool, Fault>
         ensures goes_on { GoesOn D.eq L.elect S.certificate_bytes None self.old.core self.new.core }
         ensures votes { TakesNone self.old.batcher self.new.batcher }
+        ensures batcher { self.new.batcher ≡ self.old.batcher }
+        ensures dropped { IfOk result (λ is_of_use. IsFalse is_of_use → self.new.core.member.facts ≡ self.old.core.member.facts) }
     {
         if !self.plan.is_building(context) {
-            self.plan.ignore();
             return Ok(false);
         }
         self.ask(Task::Proposed(context.round.view, payload), now)
@@ -404,43 +462,66 @@ impl<S: Assembly<D>, L: Elector<S>, D: Digest> Engine<S, L, D> {
 
     /// Whether votes of the round are taken. One of another epoch is not: an old vote, sent again, would stand in the place of this
     /// epoch's, and show a contradiction that its signer never signed.
-    fn admits_vote(&self, round: Round) -> bool {
+    fn admits_votes(&self, round: Round) -> bool
+        ensures { result ≡ is_so (λ x. admits_votes x round) self.now.core.member.facts }
+    {
         match self.core.state() {
-            Some(state) => state.epoch() == round.epoch && state.admits_vote(round.view),
+            Some(state) => takes_votes(state, round),
             None => false,
         }
     }
 
-    /// Counts a vote, and takes the certificate that it completes.
+    /// Counts a vote whose round takes votes.
     fn count(&mut self, vote: Vote<D, S::Signature>, now: u64) -> Result<bool, Fault>
         ensures goes_on { GoesOn D.eq L.elect S.certificate_bytes (Some vote.subject) self.old.core self.new.core }
         ensures votes { TakesVotes (vote ∷ []) self.old.batcher self.new.batcher }
         ensures backed { IsBacked D.eq L.elect S.certificate_bytes (length (S.participants self.old.batcher.scheme))
             (vote ∷ []) vote.subject self.old.batcher self.old.core self.new.core }
+        ensures dropped { IfOk result (λ is_of_use. IsFalse is_of_use
+            → (self.new.core ≡ self.old.core) × HoldsAllTheSame self.old.batcher self.new.batcher) }
+        ensures unadmitted { IsFalse (is_so (λ x. admits_votes x (subject_round vote.subject)) self.old.core.member.facts)
+            → (result ≡ Ok false) × (self.new ≡ self.old) }
     {
-        let is_admitted = self.admits_vote(round_of(&vote.subject));
-        match self.batcher.count(vote, is_admitted)? {
-            Counted::Certified(certificate) => self.accept(certificate, now),
+        if !self.admits_votes(round_of(&vote.subject)) {
+            return Ok(false);
+        }
+        self.count_admitted(vote, now)
+    }
+
+    /// Counts a vote, and takes the certificate that it completes.
+    fn count_admitted(&mut self, vote: Vote<D, S::Signature>, now: u64) -> Result<bool, Fault>
+        ensures goes_on { GoesOn D.eq L.elect S.certificate_bytes (Some vote.subject) self.old.core self.new.core }
+        ensures votes { TakesVotes (vote ∷ []) self.old.batcher self.new.batcher }
+        ensures backed { IsBacked D.eq L.elect S.certificate_bytes (length (S.participants self.old.batcher.scheme))
+            (vote ∷ []) vote.subject self.old.batcher self.old.core self.new.core }
+        ensures dropped { IfOk result (λ is_of_use. IsFalse is_of_use
+            → (self.new.core ≡ self.old.core) × HoldsAllTheSame self.old.batcher self.new.batcher) }
+    {
+        match self.batcher.count(vote, true)? {
+            Counted::Certified(certificate) => {
+                self.accept(certificate, now)?;
+                Ok(true)
+            }
             Counted::Equivocated(first, second) => {
                 self.plan.push(Work::Equivocated(first, second))?;
                 Ok(true)
             }
             Counted::Taken => Ok(true),
-            Counted::Known | Counted::Refused => {
-                self.plan.ignore();
-                Ok(false)
-            }
+            Counted::Known | Counted::Refused => Ok(false),
         }
     }
 
-    /// Hands a certificate in, where its view is admitted.
+    /// Hands a certificate in, where it is admitted.
     fn accept(&mut self, certificate: Certificate<S, D>, now: u64) -> Result<bool, Fault>
         ensures goes_on { GoesOn D.eq L.elect S.certificate_bytes
             (Some (certificate_subject (certificate_facts S.certificate_bytes certificate))) self.old.core self.new.core }
         ensures votes { TakesNone self.old.batcher self.new.batcher }
+        ensures batcher { self.new.batcher ≡ self.old.batcher }
+        ensures dropped { IfOk result (λ is_of_use. IsFalse is_of_use → self.new.core.member.facts ≡ self.old.core.member.facts) }
+        ensures unadmitted { IsFalse (is_so (λ x. admits x (certificate_facts S.certificate_bytes certificate)) self.old.core.member.facts)
+            → (result ≡ Ok false) × (self.new ≡ self.old) }
     {
-        if !self.admits_certificate(certificate.view()) {
-            self.plan.ignore();
+        if !self.admits(&certificate) {
             return Ok(false);
         }
         let copy = certificate.clone(self.alloc)?;
@@ -448,15 +529,17 @@ impl<S: Assembly<D>, L: Elector<S>, D: Digest> Engine<S, L, D> {
         self.follow_certificate(&copy, reply, now)
     }
 
-    /// Whether certificates of the view are taken.
-    fn admits_certificate(&self, view: View) -> bool {
+    /// Whether the certificate is admitted. One of a kind and view that has its certificate is not: it would change nothing.
+    fn admits(&self, certificate: &Certificate<S, D>) -> bool
+        ensures { result ≡ is_so (λ x. admits x (certificate_facts S.certificate_bytes certificate.now)) self.now.core.member.facts }
+    {
         match self.core.state() {
-            Some(state) => state.admits_certificate(view),
+            Some(state) => takes(state, certificate),
             None => false,
         }
     }
 
-    /// Follows the answer to a certificate.
+    /// Follows the answer to a certificate. Whether it was not refused.
     fn follow_certificate(
         &mut self,
         certificate: &Certificate<S, D>,
@@ -465,11 +548,13 @@ impl<S: Assembly<D>, L: Elector<S>, D: Digest> Engine<S, L, D> {
     ) -> Result<bool, Fault>
         ensures core { self.new.core ≡ self.old.core }
         ensures votes { TakesNone self.old.batcher self.new.batcher }
+        ensures batcher { self.new.batcher ≡ self.old.batcher }
+        ensures of_use { IfOk result (λ is_of_use. is_of_use ≡ not (is_refused (told S.certificate_bytes reply))) }
     {
-        let is_new = is_new(&reply);
+        let is_of_use = !is_refused(&reply);
         self.see()?;
         self.plan.follow_certificate(certificate, &reply, now)?;
-        Ok(is_new)
+        Ok(is_of_use)
     }
 
     /// A certificate is lacking for a proposal, whose leader is asked first.
@@ -571,15 +656,85 @@ fn is_nothing<S: CertificateScheme, D: Digest>(reply: &Reply<S, D>) -> bool
     }
 }
 
-/// Whether a call was made.
-fn is_answer<S: CertificateScheme, D>(reply: &Reply<S, D>) -> bool {
-    !matches!(reply, Reply::Fault(_) | Reply::NotAllowed)
+/// Whether an answer says that nothing was done.
+fn says_nothing<S: CertificateScheme, D: Digest>(reply: &Reply<S, D>) -> bool
+    ensures { result ≡ says_nothing (told S.certificate_bytes reply.now) }
+{
+    match reply {
+        Reply::Triggered(is_latched) => !*is_latched,
+        Reply::Certified(_, notarization) => notarization.is_none(),
+        Reply::Fault(fault) => is_lasting(fault),
+        Reply::NotAllowed => true,
+        _ => false,
+    }
 }
 
-/// Whether what was handed in is new.
-fn is_new<S: CertificateScheme, D>(reply: &Reply<S, D>) -> bool {
-    matches!(
-        reply,
-        Reply::Added(true, _) | Reply::AddedNullification(true)
-    )
+/// Whether a call is refused, and not for want of memory.
+fn is_refused<S: CertificateScheme, D: Digest>(reply: &Reply<S, D>) -> bool
+    ensures { result ≡ is_refused (told S.certificate_bytes reply.now) }
+{
+    match reply {
+        Reply::Fault(fault) => is_lasting(fault),
+        Reply::NotAllowed => true,
+        _ => false,
+    }
+}
+
+/// Whether a fault is another one than want of memory.
+fn is_lasting(fault: &Fault) -> bool
+    ensures { result ≡ is_lasting fault.now }
+{
+    !matches!(fault, Fault::OutOfMemory)
+}
+
+/// Whether votes of the round are taken.
+fn takes_votes<S: Scheme<D>, L: Elector<S>, D: Digest>(state: &State<S, L, D>, round: Round) -> bool
+    ensures { result ≡ admits_votes state.now round }
+{
+    state.epoch() == round.epoch && state.admits_vote(round.view)
+}
+
+/// Whether a proposal of the round is of its view's leader, and not of this member itself.
+fn is_by_leader<S: Scheme<D>, L: Elector<S>, D: Digest>(
+    state: &State<S, L, D>,
+    from: Participant,
+    round: Round,
+) -> bool
+    ensures { result ≡ admits_proposal state.now from round }
+{
+    let leader = state.leader_index(round.view);
+    takes_votes(state, round) && is_leader(leader, from) && !state.is_me(from)
+}
+
+/// Whether the member is this leader.
+fn is_leader(leader: Option<Participant>, member: Participant) -> bool
+    ensures { result ≡ option_map_or (λ i. i == member) leader false }
+{
+    match leader {
+        Some(leader) => leader == member,
+        None => false,
+    }
+}
+
+/// Whether the certificate is taken, and would be the first of its kind and view.
+fn takes<S: Scheme<D>, L: Elector<S>, D: Digest>(
+    state: &State<S, L, D>,
+    certificate: &Certificate<S, D>,
+) -> bool
+    ensures { result ≡ admits state.now (certificate_facts S.certificate_bytes certificate.now) }
+{
+    match certificate {
+        Certificate::Notarization(notarization) => {
+            let round = notarization.proposal.round;
+            state.takes_round(&round) && state.notarization(round.view).is_none()
+        }
+        Certificate::Nullification(nullification) => {
+            let round = nullification.round;
+            state.takes_round(&round) && state.nullification(round.view).is_none()
+        }
+        Certificate::Finalization(finalization) => {
+            let round = finalization.proposal.round;
+            state.takes_round(&round) && state.finalization(round.view).is_none()
+        }
+    }
 }

@@ -1,7 +1,9 @@
 //! What is asked of the member.
 
 ghost use Rattle.std.specs.Prelude.{◌≡◌, []};
+ghost use Rattle.simplex_member.specs.Calls.{asked};
 ghost use Rattle.simplex_laws.specs.Shown.{certificates_in};
+ghost use Rattle.simplex_engine.specs.Tasks.{call_of};
 
 use simplex_member::member::Call;
 use simplex_types::reasons::TimeoutReason;
@@ -37,7 +39,8 @@ pub enum Task<D> {
 impl<D: Digest> Task<D> {
     /// The call, at a moment in milliseconds.
     pub fn call<S: CertificateScheme>(self, now: u64) -> Call<S, D>
-        ensures { certificates_in result ≡ [] }
+        ensures asked { asked S.certificate_bytes result ≡ call_of self now }
+        ensures plain { certificates_in result ≡ [] }
     {
         match self {
             Task::SetProposal(view, proposal) => Call::SetProposal(view, proposal),

@@ -23,21 +23,9 @@ impl<S: CertificateScheme, D: Digest> Plan<S, D> {
                 self.follow_added(certificate, *is_new, *equivocator, now)
             }
             Reply::AddedNullification(is_new) => self.follow_new(certificate, *is_new, now),
-            Reply::Fault(fault) => self.follow_fault(*fault),
-            _ => {
-                self.ignore();
-                Ok(())
-            }
+            Reply::Fault(Fault::OutOfMemory) => Err(Fault::OutOfMemory),
+            _ => Ok(()),
         }
-    }
-
-    /// A call was refused, and has changed nothing unless memory is wanting.
-    pub(super) fn follow_fault(&mut self, fault: Fault) -> Result<(), Fault> {
-        if fault == Fault::OutOfMemory {
-            return Err(fault);
-        }
-        self.ignore();
-        Ok(())
     }
 
     /// A notarization or a finalization was handed in.
@@ -62,7 +50,6 @@ impl<S: CertificateScheme, D: Digest> Plan<S, D> {
         if is_new {
             return self.accept(certificate, now);
         }
-        self.ignore();
         Ok(())
     }
 

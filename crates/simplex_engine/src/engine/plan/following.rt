@@ -1,5 +1,11 @@
 //! What follows from the answer to a call.
 
+ghost use Rattle.std.specs.Prelude.{◌≡◌, [], ◌∷◌, OnOk};
+ghost use Rattle.simplex_engine.specs.Planning.{HasPlanned, touching};
+ghost use Rattle.simplex_engine.specs.Building.{all_but_at, HasBuilds};
+ghost use Rattle.simplex_engine.specs.declared.engine.task.Task.TheVariants.{Abandon, Supersede};
+ghost use Rattle.simplex_engine.specs.Following.{fetch_kind, watching, IsTouched, IsRefusalFollowed, IsFlagFollowed, IsWatchFollowed, lacking, IsVerifyFollowed, IsRequestFollowed, IsBroadcastFollowed, repeating, IsNullifyFollowed, IsTimeoutFollowed};
+
 use super::super::task::Task;
 use super::{Plan, Step};
 use crate::fetches::FetchKind;
@@ -37,8 +43,9 @@ impl<S: CertificateScheme, D: Digest> Plan<S, D> {
     }
 
     /// A call was refused, and has changed nothing: what it was to go on with is over.
-    fn follow_refusal(&mut self, task: Task<D>) -> Result<(), Fault> {
-        self.ignore();
+    fn follow_refusal(&mut self, task: Task<D>) -> Result<(), Fault>
+        ensures { OnOk result (IsRefusalFollowed task self.old self.new) }
+    {
         match task {
             Task::Abandon(view) | Task::Supersede(view) | Task::Release(view) => {
                 self.stop_building(view)
@@ -52,11 +59,14 @@ impl<S: CertificateScheme, D: Digest> Plan<S, D> {
     }
 
     /// Whether what was handed in was taken.
-    fn follow_flag(&mut self, task: Task<D>, is_taken: bool) -> Result<(), Fault> {
+    fn follow_flag(&mut self, task: Task<D>, is_taken: bool) -> Result<(), Fault>
+        ensures { OnOk result (IsFlagFollowed task is_taken self.old self.new) }
+    {
         match task {
             Task::Proposed(view, _) => self.follow_proposed(view),
-            Task::SetProposal(view, _) | Task::Verified(view) => self.touch_where(is_taken, view),
-            Task::VerificationFailed(view) | Task::GiveUp(view, _) => self.touch(view),
+            Task::SetProposal(view, _) | Task::Verified(view) | Task::GiveUp(view, _) => {
+                self.touch_where(is_taken, view)
+            }
             Task::Release(view) => self.stop_building(view),
             Task::Supersede(view) => self.stop_where(is_taken, view),
             _ => Ok(()),
@@ -64,18 +74,24 @@ impl<S: CertificateScheme, D: Digest> Plan<S, D> {
     }
 
     /// A block was built.
-    fn follow_proposed(&mut self, view: View) -> Result<(), Fault> {
+    fn follow_proposed(&mut self, view: View) -> Result<(), Fault>
+        ensures { OnOk result (HasBuilds (touching view) (all_but_at view self.old.builds.items) (watching self.old) self.new) }
+    {
         self.end_building(view);
         self.touch(view)
     }
 
     /// Something of the view has changed, where it has.
-    fn touch_where(&mut self, is_changed: bool, view: View) -> Result<(), Fault> {
+    fn touch_where(&mut self, is_changed: bool, view: View) -> Result<(), Fault>
+        ensures { OnOk result (IsTouched is_changed view self.old self.new) }
+    {
         if is_changed { self.touch(view) } else { Ok(()) }
     }
 
     /// What is built in the view is of no use any more, where another block is to be built.
-    fn stop_where(&mut self, is_replaced: bool, view: View) -> Result<(), Fault> {
+    fn stop_where(&mut self, is_replaced: bool, view: View) -> Result<(), Fault>
+        ensures { OnOk result (IsFlagFollowed (Supersede view) is_replaced self.old self.new) }
+    {
         if is_replaced {
             self.stop_building(view)
         } else {
@@ -84,7 +100,9 @@ impl<S: CertificateScheme, D: Digest> Plan<S, D> {
     }
 
     /// Whether a block that is built has to be given up, or else is replaced by another.
-    fn follow_watch(&mut self, task: Task<D>, is_abandoned: bool) -> Result<(), Fault> {
+    fn follow_watch(&mut self, task: Task<D>, is_abandoned: bool) -> Result<(), Fault>
+        ensures { OnOk result (IsWatchFollowed task is_abandoned self.old self.new) }
+    {
         match task {
             Task::Abandon(view) => self.ask_of_build(view, is_abandoned),
             _ => Ok(()),
@@ -92,7 +110,9 @@ impl<S: CertificateScheme, D: Digest> Plan<S, D> {
     }
 
     /// A block that is built is given up, or else may be replaced by another.
-    fn ask_of_build(&mut self, view: View, is_abandoned: bool) -> Result<(), Fault> {
+    fn ask_of_build(&mut self, view: View, is_abandoned: bool) -> Result<(), Fault>
+        ensures { OnOk result (IsWatchFollowed (Abandon view) is_abandoned self.old self.new) }
+    {
         if is_abandoned {
             self.ask(Task::Release(view))
         } else {
@@ -101,7 +121,9 @@ impl<S: CertificateScheme, D: Digest> Plan<S, D> {
     }
 
     /// A proposal is verified; or a certificate is lacking for one, which is not asked for yet.
-    fn follow_verify(&mut self, verify: Verify<D, S::PublicKey>) -> Result<(), Fault> {
+    fn follow_verify(&mut self, verify: Verify<D, S::PublicKey>) -> Result<(), Fault>
+        ensures { OnOk result (IsVerifyFollowed verify self.old self.new) }
+    {
         match verify {
             Verify::Ready(context, proposal) => self.push(Work::Verify(context, proposal)),
             Verify::Resolve {
@@ -115,7 +137,9 @@ impl<S: CertificateScheme, D: Digest> Plan<S, D> {
     }
 
     /// A certificate is lacking for a proposal.
-    fn lack(&mut self, kind: FetchKind, view: View, proposal: View) -> Result<(), Fault> {
+    fn lack(&mut self, kind: FetchKind, view: View, proposal: View) -> Result<(), Fault>
+        ensures { OnOk result (HasPlanned (lacking kind view proposal self.old.fetches.wanted.items) self.old self.new) }
+    {
         if self.fetches.is_open(kind, view) {
             return Ok(());
         }
@@ -127,7 +151,9 @@ impl<S: CertificateScheme, D: Digest> Plan<S, D> {
     fn follow_request(
         &mut self,
         request: Option<ProposalRequest<D, S::PublicKey>>,
-    ) -> Result<(), Fault> {
+    ) -> Result<(), Fault>
+        ensures { OnOk result (IsRequestFollowed request self.old self.new) }
+    {
         match request {
             Some(ProposalRequest::Prepare(context)) => self.build(context, !self.is_alone),
             Some(ProposalRequest::Propose(context)) => self.build(context, true),
@@ -136,7 +162,9 @@ impl<S: CertificateScheme, D: Digest> Plan<S, D> {
     }
 
     /// A certificate is sent to all others, where there is one.
-    fn broadcast(&mut self, certificate: Option<Certificate<S, D>>) -> Result<(), Fault> {
+    fn broadcast(&mut self, certificate: Option<Certificate<S, D>>) -> Result<(), Fault>
+        ensures { OnOk result (IsBroadcastFollowed certificate self.old self.new) }
+    {
         match certificate {
             Some(certificate) => self.push(Work::Broadcast(certificate)),
             None => Ok(()),
@@ -203,11 +231,9 @@ impl<S: CertificateScheme, D: Digest> Plan<S, D> {
 
     /// A vote to nullify was cast, or the one before is sent once more with the best certificate, for those who missed either.
     /// Where none is allowed the view was voted final, and its finalization ends it.
-    fn follow_nullify(
-        &mut self,
-        answer: Option<(bool, Nullify<S>)>,
-        now: u64,
-    ) -> Result<(), Fault> {
+    fn follow_nullify(&mut self, answer: Option<(bool, Nullify<S>)>, now: u64) -> Result<(), Fault>
+        ensures { OnOk result (IsNullifyFollowed now answer self.old self.new) }
+    {
         match answer {
             Some((true, vote)) => self.repeat(vote.round.view),
             Some((false, _)) => self.ask(Task::Timeout),
@@ -219,19 +245,18 @@ impl<S: CertificateScheme, D: Digest> Plan<S, D> {
     }
 
     /// The vote to nullify the view is sent once more.
-    fn repeat(&mut self, view: View) -> Result<(), Fault> {
+    fn repeat(&mut self, view: View) -> Result<(), Fault>
+        ensures { OnOk result (HasPlanned (repeating view) self.old self.new) }
+    {
         self.plan(Step::Repeat(view))?;
         self.ask(Task::BestCertificate)?;
         self.ask(Task::Timeout)
     }
 
     /// The current view is given up, where its moment has come.
-    fn follow_timeout(
-        &mut self,
-        moment: u64,
-        reason: TimeoutReason,
-        now: u64,
-    ) -> Result<(), Fault> {
+    fn follow_timeout(&mut self, moment: u64, reason: TimeoutReason, now: u64) -> Result<(), Fault>
+        ensures { OnOk result (IsTimeoutFollowed now moment reason self.old self.new) }
+    {
         self.timeout = moment;
         if moment <= now {
             self.ask(Task::Nullify(self.views.current, reason))?;
@@ -241,7 +266,9 @@ impl<S: CertificateScheme, D: Digest> Plan<S, D> {
 }
 
 /// The kind of certificate to ask for.
-fn fetch_kind(kind: Kind) -> FetchKind {
+fn fetch_kind(kind: Kind) -> FetchKind
+    ensures { result ≡ fetch_kind kind }
+{
     match kind {
         Kind::Notarization => FetchKind::Notarization,
         Kind::Nullification => FetchKind::Nullification,

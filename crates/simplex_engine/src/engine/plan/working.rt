@@ -1,8 +1,10 @@
 //! Work on proposals: what is asked for, what is built, and what came early.
 
+ghost use Rattle.std.specs.List.{list_any};
 ghost use Rattle.std.specs.Prelude.{◌≡◌, ◌+◌, ◌-◌, ◌^◌, min, if◌then◌else◌, [], ◌∷◌, ◌++◌, length, OnOk};
 ghost use Rattle.simplex_engine.specs.Fetches.{is_open, fresh, place_of};
-ghost use Rattle.simplex_engine.specs.Planning.{may_keep};
+ghost use Rattle.simplex_engine.specs.Planning.{may_keep, HasPlanned};
+ghost use Rattle.simplex_engine.specs.Building.{is_asked_in, is_asked_at, stopping, asking_for, HasBuilds, IsEnded, IsStopped};
 
 use super::super::task::Task;
 use super::early::{Early, MOST_EARLY};
@@ -97,7 +99,10 @@ impl<S: CertificateScheme, D: Digest> Plan<S, D> {
         &mut self,
         context: Context<D, S::PublicKey>,
         is_told: bool,
-    ) -> Result<(), Fault> {
+    ) -> Result<(), Fault>
+        ensures { OnOk result (HasBuilds (asking_for context is_told)
+            (self.old.builds.items ++ record { context = context; is_told = is_told } ∷ []) self.old self.new) }
+    {
         self.builds.push(Building { context, is_told })?;
         if is_told {
             self.push(Work::Build(context))?;
@@ -114,19 +119,32 @@ impl<S: CertificateScheme, D: Digest> Plan<S, D> {
     }
 
     /// Whether the application was asked for a block in just this context.
-    pub fn is_building(&self, context: &Context<D, S::PublicKey>) -> bool {
-        self.builds.iter().any(|it| {
-            it.is_told && it.context.round == context.round && it.context.parent == context.parent
-        })
+    pub fn is_building(&self, context: &Context<D, S::PublicKey>) -> bool
+        ensures { result ≡ list_any (is_asked_in D.eq context.now) self.now.builds.items }
+    {
+        self.builds.iter().any(|it| is_asked_in(it, context))
+    }
+
+    /// Whether the application was asked for a block in the view.
+    fn is_asked(&self, view: View) -> bool
+        ensures { result ≡ list_any (is_asked_at view) self.now.builds.items }
+    {
+        self.builds.iter().any(|it| is_asked_at(it, view))
     }
 
     /// What is built in the view is of no use any more.
-    pub(super) fn stop_building(&mut self, view: View) -> Result<(), Fault> {
-        let is_told = self
-            .builds
-            .iter()
-            .any(|it| it.is_told && it.context.round.view == view);
+    pub(super) fn stop_building(&mut self, view: View) -> Result<(), Fault>
+        ensures { OnOk result (IsStopped view self.old self.new) }
+    {
+        let is_told = self.is_asked(view);
         self.end_building(view);
+        self.tell_stopped(view, is_told)
+    }
+
+    /// The application is told that what it builds in the view is of no use any more, where it was asked for it.
+    fn tell_stopped(&mut self, view: View, is_told: bool) -> Result<(), Fault>
+        ensures { OnOk result (HasPlanned (stopping view is_told) self.old self.new) }
+    {
         if is_told {
             self.push(Work::StopBuilding(view))?;
         }
@@ -134,9 +152,27 @@ impl<S: CertificateScheme, D: Digest> Plan<S, D> {
     }
 
     /// Nothing is built in the view any more.
-    pub(super) fn end_building(&mut self, view: View) {
+    pub(super) fn end_building(&mut self, view: View)
+        ensures { IsEnded view self.old self.new }
+    {
         self.builds.retain(|it| it.context.round.view != view);
     }
+}
+
+/// Whether the application was asked for the block in just this context.
+fn is_asked_in<D: Digest, P: Copy>(building: &Building<D, P>, context: &Context<D, P>) -> bool
+    ensures { result ≡ is_asked_in D.eq context.now building.now }
+{
+    building.is_told
+        && building.context.round == context.round
+        && building.context.parent == context.parent
+}
+
+/// Whether the application was asked for the block, in the view.
+fn is_asked_at<D: Digest, P: Copy>(building: &Building<D, P>, view: View) -> bool
+    ensures { result ≡ is_asked_at view building.now }
+{
+    building.is_told && building.context.round.view == view
 }
 
 /// Asks of each block that is to be built whether it has to be given up.

@@ -1,10 +1,12 @@
 use Rattle.std.proofs.Common.{◌++◌, None, refl, sym, subst}
 use Rattle.std.specs.Prelude.{All}
 use Rattle.std.proofs.lemmas.List.Elements.{All-nil}
+use Rattle.simplex_member.specs.Calls.{asked, told}
 use Rattle.simplex_member.specs.Signed.{signed_reply}
 use Rattle.simplex_laws.specs.Shown.{votes_in, taken_by}
 use Rattle.simplex_engine.specs.Doing.{IsDoneOn}
 use Rattle.simplex_engine.proofs.Doing.{call_on}
+use Rattle.simplex_engine.proofs.Dropping.{refused_left, dropped_left}
 use Rattle.simplex_engine.proofs.Kept.{called}
 use Rattle.simplex_engine.proofs.journaled.Journaled.call.Goals as goal
 
@@ -20,3 +22,13 @@ returns-clause-goes_on g c taken may =
 
 pub returns-clause-quiet : goal.returns-clause-quiet
 returns-clause-quiet g c none = returns-clause-goes_on g c None (subst (All (IsDoneOn None)) (sym none) (All-nil (IsDoneOn None)))
+
+pub returns-clause-refused : goal.returns-clause-refused
+returns-clause-refused g c refused =
+    let bytes_of = g.S.CertificateScheme.certificate_bytes in
+    refused_left g.D.PartialEq.eq g.L.Elector.elect c.args.self.now.member.facts c.call.new.self.facts (asked bytes_of c.args.call) (told bytes_of c.call.result) c.call.ensures.answered refused
+
+pub returns-clause-dropped : goal.returns-clause-dropped
+returns-clause-dropped g c says =
+    let bytes_of = g.S.CertificateScheme.certificate_bytes in
+    dropped_left g.D.PartialEq.eq g.L.Elector.elect c.args.self.now.member.facts c.call.new.self.facts (asked bytes_of c.args.call) (told bytes_of c.call.result) c.call.ensures.answered says

@@ -1,0 +1,105 @@
+-- What is planned for an answer of the member.
+use Rattle.std.specs.Prelude.{◌≡◌, ℕ, ◌+◌, ◌-◌, ◌^◌, min, Bool, true, false, not, ◌==◌, nat_le, List, [], ◌∷◌, ◌++◌, Option, Some, None, if◌then◌else◌}
+use Rattle.simplex_types.specs.declared.reasons.Kind.{Kind}
+use Rattle.simplex_types.specs.declared.reasons.Kind.TheVariants as kind
+use Rattle.simplex_types.specs.declared.reasons.TimeoutReason.{TimeoutReason}
+use Rattle.simplex_types.specs.declared.types.messages.Certificate.{Certificate}
+use Rattle.simplex_types.specs.declared.types.messages.Context.{Context}
+use Rattle.simplex_types.specs.declared.types.messages.Nullify.{Nullify}
+use Rattle.simplex_types.specs.declared.types.messages.Proposal.{Proposal}
+use Rattle.simplex_voter.specs.declared.voter.propose.ProposalRequest.{ProposalRequest}
+use Rattle.simplex_voter.specs.declared.voter.propose.ProposalRequest.TheVariants.{Prepare, Propose}
+use Rattle.simplex_voter.specs.declared.voter.verify.Verify.{Verify}
+use Rattle.simplex_voter.specs.declared.voter.verify.Verify.TheVariants as verify
+use Rattle.simplex_engine.specs.declared.engine.plan.Building.{Building}
+use Rattle.simplex_engine.specs.declared.engine.plan.Plan.{Plan}
+use Rattle.simplex_engine.specs.declared.engine.plan.Step.{Step}
+use Rattle.simplex_engine.specs.declared.engine.plan.Step.TheVariants.{Ask, Resolve, Repeat, Push}
+use Rattle.simplex_engine.specs.declared.engine.task.Task.{Task}
+use Rattle.simplex_engine.specs.declared.engine.task.Task.TheVariants as task
+use Rattle.simplex_engine.specs.declared.fetches.Fetch.{Fetch}
+use Rattle.simplex_engine.specs.declared.fetches.FetchKind.{FetchKind}
+use Rattle.simplex_engine.specs.declared.fetches.FetchKind.TheVariants as fetch
+use Rattle.simplex_engine.specs.declared.output.Work.TheVariants as work
+use Rattle.simplex_engine.specs.Building.{all_but_at, asking_for, HasBuilds, IsEnded, IsStopped}
+use Rattle.simplex_engine.specs.Fetches.{is_open}
+use Rattle.simplex_engine.specs.Planning.{HasPlanned, touching}
+
+-- the kind of certificate to ask for
+abbrev pub fetch_kind : Kind → FetchKind
+fetch_kind kind.Notarization = fetch.Notarization
+fetch_kind kind.Nullification = fetch.Nullification
+
+module _ {S D K G C : Type 0} where
+  -- blocks are to be watched
+  abbrev pub watching : Plan S D K G C → Plan S D K G C
+  watching plan = record plan { is_watch_due = true }
+
+  -- something of the view has changed, where it has
+  abbrev pub IsTouched : Bool → ℕ → Plan S D K G C → Plan S D K G C → Type 0
+  IsTouched true view old new = HasPlanned (touching view) (watching old) new
+  IsTouched false view old new = new ≡ old
+
+  -- a call was refused: a block that it was about is of no use any more
+  abbrev pub IsRefusalFollowed : Task D → Plan S D K G C → Plan S D K G C → Type 0
+  IsRefusalFollowed (task.Abandon view) old new = IsStopped view old new
+  IsRefusalFollowed (task.Supersede view) old new = IsStopped view old new
+  IsRefusalFollowed (task.Release view) old new = IsStopped view old new
+  IsRefusalFollowed (task.Proposed view _) old new = IsEnded view old new
+  IsRefusalFollowed _ old new = new ≡ old
+
+  -- whether what was handed in was taken
+  abbrev pub IsFlagFollowed : Task D → Bool → Plan S D K G C → Plan S D K G C → Type 0
+  IsFlagFollowed (task.Proposed view _) is_taken old new = HasBuilds (touching view) (all_but_at view old.builds.items) (watching old) new
+  IsFlagFollowed (task.SetProposal view _) is_taken old new = IsTouched is_taken view old new
+  IsFlagFollowed (task.Verified view) is_taken old new = IsTouched is_taken view old new
+  IsFlagFollowed (task.GiveUp view _) is_taken old new = IsTouched is_taken view old new
+  IsFlagFollowed (task.Release view) is_taken old new = IsStopped view old new
+  IsFlagFollowed (task.Supersede view) true old new = IsStopped view old new
+  IsFlagFollowed _ is_taken old new = new ≡ old
+
+  -- whether a block is given up; else it may be replaced by another
+  abbrev pub IsWatchFollowed : Task D → Bool → Plan S D K G C → Plan S D K G C → Type 0
+  IsWatchFollowed (task.Abandon view) true old new = HasPlanned (Ask (task.Release view) ∷ []) old new
+  IsWatchFollowed (task.Abandon view) false old new = HasPlanned (Ask (task.Supersede view) ∷ []) old new
+  IsWatchFollowed _ is_abandoned old new = new ≡ old
+
+  -- a certificate is lacking for a proposal, and is asked for unless it is already
+  abbrev pub lacking : FetchKind → ℕ → ℕ → List Fetch → List (Step S D K G C)
+  lacking kind view proposal wanted = if is_open kind view wanted then [] else Resolve kind view proposal ∷ []
+
+  -- a proposal is verified, or a certificate is lacking for one
+  abbrev pub IsVerifyFollowed : Verify D K → Plan S D K G C → Plan S D K G C → Type 0
+  IsVerifyFollowed (verify.Ready context proposal) old new = HasPlanned (Push (work.Verify context proposal) ∷ []) old new
+  IsVerifyFollowed (verify.Resolve proposal view kind _) old new = HasPlanned (lacking (fetch_kind kind) view proposal old.fetches.wanted.items) old new
+  IsVerifyFollowed verify.Wait old new = new ≡ old
+
+  -- a block is to be built: by a member alone not before it enters the view
+  abbrev pub IsBuilt : Bool → Context D K → Plan S D K G C → Plan S D K G C → Type 0
+  IsBuilt is_told context old new =
+      HasBuilds (asking_for context is_told) (old.builds.items ++ record { context = context; is_told = is_told } ∷ []) old new
+
+  abbrev pub IsRequestFollowed : Option (ProposalRequest D K) → Plan S D K G C → Plan S D K G C → Type 0
+  IsRequestFollowed (Some (Prepare context)) old new = IsBuilt (not old.is_alone) context old new
+  IsRequestFollowed (Some (Propose context)) old new = IsBuilt true context old new
+  IsRequestFollowed None old new = new ≡ old
+
+  -- a certificate is sent to all others, where there is one
+  abbrev pub IsBroadcastFollowed : Option (Certificate S D K G C) → Plan S D K G C → Plan S D K G C → Type 0
+  IsBroadcastFollowed (Some certificate) old new = HasPlanned (Push (work.Broadcast certificate) ∷ []) old new
+  IsBroadcastFollowed None old new = new ≡ old
+
+  -- the vote to nullify the view is sent once more, and with it the best certificate
+  abbrev pub repeating : ℕ → List (Step S D K G C)
+  repeating view = Repeat view ∷ Ask task.BestCertificate ∷ Ask task.Timeout ∷ []
+
+  -- a vote to nullify was cast, or the one before is sent once more; where none is allowed, that is asked again after the retry interval
+  abbrev pub IsNullifyFollowed : ℕ → Option (Bool × Nullify S K G C) → Plan S D K G C → Plan S D K G C → Type 0
+  IsNullifyFollowed now (Some (true, vote)) old new = HasPlanned (repeating vote.round.view) old new
+  IsNullifyFollowed now (Some (false, _)) old new = HasPlanned (Ask task.Timeout ∷ []) old new
+  IsNullifyFollowed now None old new = new ≡ record old { timeout = min (now + old.options.retry) (2 ^ 64 - 1) }
+
+  -- the current view is given up, where its moment has come
+  abbrev pub IsTimeoutFollowed : ℕ → ℕ → TimeoutReason → Plan S D K G C → Plan S D K G C → Type 0
+  IsTimeoutFollowed now moment reason old new =
+      HasPlanned (if nat_le moment now then Ask (task.Nullify old.views.current reason) ∷ [] else []) (record old { timeout = moment }) new
