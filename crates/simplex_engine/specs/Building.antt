@@ -16,7 +16,8 @@ same_parent same p q = p.0 == q.0 && same p.1 q.1
 module _ {K D : Type 0} where
   -- the application was asked for the block, in this round and on this parent
   abbrev pub is_asked_in : (D → D → Bool) → Context D K → Building D K → Bool
-  is_asked_in same context building = building.is_told && same_round building.context.round context.round && same_parent same building.context.parent context.parent
+  is_asked_in same context building =
+      building.is_told && same_round building.context.round context.round && same_parent same building.context.parent context.parent
 
   -- the application was asked for the block, in this view
   abbrev pub is_asked_at : ℕ → Building D K → Bool

@@ -1,5 +1,5 @@
 -- What is planned for an answer of the member.
-use Rattle.std.specs.Prelude.{◌≡◌, ℕ, ◌+◌, ◌-◌, ◌^◌, min, Bool, true, false, not, ◌==◌, nat_le, List, [], ◌∷◌, ◌++◌, Option, Some, None, if◌then◌else◌}
+use Rattle.std.specs.Prelude.{◌≡◌, ℕ, ◌+◌, ◌-◌, ◌^◌, min, Bool, true, false, not, ◌==◌, nat_le, List, [], ◌∷◌, ◌++◌, Option, Some, None, is_some, if◌then◌else◌}
 use Rattle.simplex_types.specs.declared.reasons.Kind.{Kind}
 use Rattle.simplex_types.specs.declared.reasons.Kind.TheVariants as kind
 use Rattle.simplex_types.specs.declared.reasons.TimeoutReason.{TimeoutReason}
@@ -11,6 +11,8 @@ use Rattle.simplex_voter.specs.declared.voter.propose.ProposalRequest.{ProposalR
 use Rattle.simplex_voter.specs.declared.voter.propose.ProposalRequest.TheVariants.{Prepare, Propose}
 use Rattle.simplex_voter.specs.declared.voter.verify.Verify.{Verify}
 use Rattle.simplex_voter.specs.declared.voter.verify.Verify.TheVariants as verify
+use Rattle.simplex_member.specs.declared.member.calls.Reply.{Reply}
+use Rattle.simplex_member.specs.declared.member.calls.Reply.TheVariants as reply
 use Rattle.simplex_engine.specs.declared.engine.plan.Building.{Building}
 use Rattle.simplex_engine.specs.declared.engine.plan.Plan.{Plan}
 use Rattle.simplex_engine.specs.declared.engine.plan.Step.{Step}
@@ -103,3 +105,22 @@ module _ {S D K G C : Type 0} where
   abbrev pub IsTimeoutFollowed : ℕ → ℕ → TimeoutReason → Plan S D K G C → Plan S D K G C → Type 0
   IsTimeoutFollowed now moment reason old new =
       HasPlanned (if nat_le moment now then Ask (task.Nullify old.views.current reason) ∷ [] else []) (record old { timeout = moment }) new
+
+  -- what is planned for the answer to a task, at a moment; of proposals to certify, of a verdict and of dropped views nothing is
+  -- said here
+  abbrev pub IsFollowed : ℕ → Task D → Reply S D K G C → Plan S D K G C → Plan S D K G C → Type 0
+  IsFollowed now asked (reply.Flag is_taken) old new = IsFlagFollowed asked is_taken old new
+  IsFollowed now asked (reply.Triggered is_latched) old new = IsFlagFollowed asked is_latched old new
+  IsFollowed now asked (reply.Released was_open) old new = IsFlagFollowed asked was_open old new
+  IsFollowed now asked (reply.Abandoned reason) old new = IsWatchFollowed asked (is_some reason) old new
+  IsFollowed now asked (reply.Work verify) old new = IsVerifyFollowed verify old new
+  IsFollowed now asked (reply.Request request) old new = IsRequestFollowed request old new
+  IsFollowed now asked (reply.Candidates _ _) old new = Unit {0}
+  IsFollowed now asked (reply.Certified _ _) old new = Unit {0}
+  IsFollowed now asked (reply.Nullify answer) old new = IsNullifyFollowed now answer old new
+  IsFollowed now asked (reply.Certificate certificate) old new = IsBroadcastFollowed certificate old new
+  IsFollowed now asked (reply.Timeout moment reason) old new = IsTimeoutFollowed now moment reason old new
+  IsFollowed now asked (reply.Views _) old new = Unit {0}
+  IsFollowed now asked (reply.Fault _) old new = IsRefusalFollowed asked old new
+  IsFollowed now asked reply.NotAllowed old new = IsRefusalFollowed asked old new
+  IsFollowed now asked _ old new = new ≡ old

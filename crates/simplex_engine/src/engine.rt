@@ -64,13 +64,18 @@ impl<S: Assembly<D>, L: Elector<S>, D: Digest> Engine<S, L, D> {
 
     /// Tells what came in. Answers whether it was of use: what is not is dropped, and changes nothing.
     ///
-    /// A proposal is dropped where it is of another member than its view's leader, of this member's own view, or of a view that
-    /// takes no votes; one of a view that comes soon is kept until then. A vote is dropped where its view takes none, and where
-    /// its signer voted before. An answer of the application is dropped where it was not asked for.
+    /// A proposal is dropped where it is of another member than its view's leader, of this member itself, or of a round that takes
+    /// no votes; one of a view that comes soon is kept until then. A vote is dropped where its round takes none, and where its
+    /// signer voted before. A certificate is dropped where one of its kind and view is held. An answer of the application is
+    /// dropped where it was not asked for.
     ///
     /// - `goes_on`: no certificate is accepted but the one that is handed in, or one on what the vote that is handed in is on.
     /// - `votes`: of each member it holds votes alone that were handed in.
     /// - `backed`: a certificate that a vote completes is backed by votes of n - f different members on just that, each handed in.
+    /// - `dropped`: what was of no use changed nothing of the member, and no vote was taken; a reason to give a view up or a
+    ///   verdict leaves its moment all the same, and after the verdict none is waited for.
+    /// - `unadmitted`: a proposal, a vote or a certificate that is not admitted is of no use, and changes nothing but how many
+    ///   inputs were; a proposal that comes early may be kept.
     /// - `failed`, `refused`: after an error it has failed; one that has failed answers `Failed`, and nothing changes.
     ///
     /// # Errors

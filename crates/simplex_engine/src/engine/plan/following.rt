@@ -4,7 +4,7 @@ ghost use Rattle.std.specs.Prelude.{◌≡◌, [], ◌∷◌, OnOk};
 ghost use Rattle.simplex_engine.specs.Planning.{HasPlanned, touching};
 ghost use Rattle.simplex_engine.specs.Building.{all_but_at, HasBuilds};
 ghost use Rattle.simplex_engine.specs.declared.engine.task.Task.TheVariants.{Abandon, Supersede};
-ghost use Rattle.simplex_engine.specs.Following.{fetch_kind, watching, IsTouched, IsRefusalFollowed, IsFlagFollowed, IsWatchFollowed, lacking, IsVerifyFollowed, IsRequestFollowed, IsBroadcastFollowed, repeating, IsNullifyFollowed, IsTimeoutFollowed};
+ghost use Rattle.simplex_engine.specs.Following.{fetch_kind, watching, IsTouched, IsRefusalFollowed, IsFlagFollowed, IsWatchFollowed, lacking, IsVerifyFollowed, IsRequestFollowed, IsBroadcastFollowed, repeating, IsNullifyFollowed, IsTimeoutFollowed, IsFollowed};
 
 use super::super::task::Task;
 use super::{Plan, Step};
@@ -19,7 +19,9 @@ use simplex_voter::voter::{CertificateFetch, ProposalRequest, Verify};
 
 impl<S: CertificateScheme, D: Digest> Plan<S, D> {
     /// Follows an answer.
-    pub fn follow(&mut self, task: Task<D>, reply: Reply<S, D>, now: u64) -> Result<(), Fault> {
+    pub fn follow(&mut self, task: Task<D>, reply: Reply<S, D>, now: u64) -> Result<(), Fault>
+        ensures { OnOk result (IsFollowed now task reply self.old self.new) }
+    {
         match reply {
             Reply::Flag(is_taken) => self.follow_flag(task, is_taken),
             Reply::Triggered(is_taken) => self.follow_flag(task, is_taken),
