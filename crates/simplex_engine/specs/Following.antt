@@ -106,6 +106,16 @@ module _ {S D K G C : Type 0} where
   IsTimeoutFollowed now moment reason old new =
       HasPlanned (if nat_le moment now then Ask (task.Nullify old.views.current reason) ∷ [] else []) (record old { timeout = moment }) new
 
+  -- a leader is shown to have signed two proposals of the view, where one did
+  abbrev pub showing : ℕ → Option K → List (Step S D K G C)
+  showing view None = []
+  showing view (Some leader) = Push (work.ProposedTwice view leader) ∷ []
+
+  -- a proposal that is final is told, where none above it was, or it itself
+  abbrev pub IsTold : Proposal D → Bool → Plan S D K G C → Plan S D K G C → Type 0
+  IsTold proposal true old new = HasPlanned (Push (work.Finalized proposal) ∷ []) (record old { told = proposal.round.view }) new
+  IsTold proposal false old new = new ≡ old
+
   -- what is planned for the answer to a task, at a moment; of proposals to certify, of a verdict and of dropped views nothing is
   -- said here
   abbrev pub IsFollowed : ℕ → Task D → Reply S D K G C → Plan S D K G C → Plan S D K G C → Type 0

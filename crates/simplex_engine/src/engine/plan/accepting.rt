@@ -1,5 +1,9 @@
 //! What follows from a certificate that the member accepted.
 
+ghost use Rattle.std.specs.Prelude.{OnOk, nat_lt};
+ghost use Rattle.simplex_engine.specs.Planning.{HasPlanned};
+ghost use Rattle.simplex_engine.specs.Following.{showing, IsTold};
+
 use super::Plan;
 use crate::fetches::FetchKind;
 use crate::output::Work;
@@ -54,7 +58,9 @@ impl<S: CertificateScheme, D: Digest> Plan<S, D> {
     }
 
     /// Shows that a leader signed two proposals, where one did.
-    fn show(&mut self, view: View, equivocator: Option<S::PublicKey>) -> Result<(), Fault> {
+    fn show(&mut self, view: View, equivocator: Option<S::PublicKey>) -> Result<(), Fault>
+        ensures { OnOk result (HasPlanned (showing view equivocator) self.old self.new) }
+    {
         match equivocator {
             Some(leader) => self.push(Work::ProposedTwice(view, leader)),
             None => Ok(()),
@@ -78,7 +84,9 @@ impl<S: CertificateScheme, D: Digest> Plan<S, D> {
     }
 
     /// A proposal is final, and none above it was before.
-    fn tell(&mut self, proposal: &Proposal<D>) -> Result<(), Fault> {
+    fn tell(&mut self, proposal: &Proposal<D>) -> Result<(), Fault>
+        ensures { OnOk result (IsTold proposal.now (nat_lt self.old.told proposal.now.round.view) self.old self.new) }
+    {
         if self.told < proposal.round.view {
             self.told = proposal.round.view;
             self.push(Work::Finalized(*proposal))?;
