@@ -20,3 +20,4 @@ mod Forgetting
 mod Bounds
 mod Dropping
 mod Planning
+mod Planned

@@ -174,20 +174,48 @@ fn begin<S: Assembly<D>, L: Elector<S>, D: Digest>(
     ensures member { IfOk result (λ engine. engine.core.member ≡ member) }
 {
     let options = options.with_a_retry();
-    let resolver = resolver_of(alloc, company.term_length, member.record())?;
-    let mut fetches = Fetches::new(alloc, company.peers, options.retry);
-    open_all(&mut fetches, resolver.fetches())?;
-    let views = views_of(&member);
+    let plan = plan_of(alloc, &member, &company, options)?;
     let core = Journaled::begin(alloc, member)?;
     Ok(Engine {
         alloc,
         core,
         batcher: company.batcher,
-        plan: Plan::new(alloc, options, company.is_alone, views, resolver, fetches),
+        plan,
         options,
         compacted: 0,
         forgotten: View::zero(),
     })
+}
+
+/// What is looked after beside a member that has begun.
+fn plan_of<S: Scheme<D>, L: Elector<S>, D: Digest>(
+    alloc: Global,
+    member: &LawfulMember<S, L, D>,
+    company: &Company<S, D>,
+    options: Options,
+) -> Result<Plan<S, D>, StartError> {
+    let resolver = resolver_of(alloc, company.term_length, member.record())?;
+    let fetches = fetches_of(alloc, company.peers, options.retry, &resolver)?;
+    Ok(Plan::new(
+        alloc,
+        options,
+        company.is_alone,
+        views_of(member),
+        resolver,
+        fetches,
+    ))
+}
+
+/// The fetches of what a resolver wants.
+fn fetches_of(
+    alloc: Global,
+    peers: Peers,
+    retry: u64,
+    resolver: &LawfulResolver,
+) -> Result<Fetches, AllocError> {
+    let mut fetches = Fetches::new(alloc, peers, retry);
+    open_all(&mut fetches, resolver.fetches())?;
+    Ok(fetches)
 }
 
 /// The resolver of a record.

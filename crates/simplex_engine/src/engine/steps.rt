@@ -311,18 +311,29 @@ impl<S: Assembly<D>, L: Elector<S>, D: Digest> Engine<S, L, D> {
         ensures votes { TakesNone self.old.batcher self.new.batcher }
     {
         match step {
-            Step::Ask(task) => {
-                self.ask(task, now)?;
-            }
-            Step::Offer(from, proposal) => {
-                self.offer(from, proposal, now)?;
-            }
-            Step::Resolve(kind, view, proposal) => self.resolve(kind, view, proposal, now)?,
-            Step::Repeat(view) => {
-                self.core.repeat(view)?;
-            }
-            Step::Push(work) => self.core.push(work)?,
+            Step::Ask(task) => taken(self.ask(task, now)),
+            Step::Offer(from, proposal) => taken(self.offer(from, proposal, now)),
+            Step::Resolve(kind, view, proposal) => taken(self.resolve(kind, view, proposal, now)),
+            Step::Repeat(view) => self.repeat(view),
+            Step::Push(work) => self.push(work),
         }
+    }
+
+    /// Sends the newest vote to nullify once more, where it is one of the view.
+    fn repeat(&mut self, view: View) -> Result<bool, Fault>
+        ensures goes_on { GoesOn D.eq L.elect S.certificate_bytes None self.old.core self.new.core }
+        ensures votes { TakesNone self.old.batcher self.new.batcher }
+    {
+        self.core.repeat(view)?;
+        Ok(true)
+    }
+
+    /// Queues work to be carried out.
+    fn push(&mut self, work: Work<S, D>) -> Result<bool, Fault>
+        ensures goes_on { GoesOn D.eq L.elect S.certificate_bytes None self.old.core self.new.core }
+        ensures votes { TakesNone self.old.batcher self.new.batcher }
+    {
+        self.core.push(work)?;
         Ok(true)
     }
 
@@ -568,11 +579,16 @@ impl<S: Assembly<D>, L: Elector<S>, D: Digest> Engine<S, L, D> {
         ensures core { self.new.core ≡ self.old.core }
         ensures votes { TakesNone self.old.batcher self.new.batcher }
     {
-        let leader = match self.core.state() {
-            Some(state) => state.leader_index(proposal),
-            None => None,
-        };
+        let leader = self.leader_of(proposal);
         self.plan.resolve(kind, view, leader, now)
+    }
+
+    /// Who leads the view, where that is known.
+    fn leader_of(&self, view: View) -> Option<Participant> {
+        match self.core.state() {
+            Some(state) => state.leader_index(view),
+            None => None,
+        }
     }
 
     /// Lets go what is held of views that are not kept: votes here and elsewhere, and fetches that a finalization passed.
@@ -666,6 +682,14 @@ fn says_nothing<S: CertificateScheme, D: Digest>(reply: &Reply<S, D>) -> bool
         Reply::Fault(fault) => is_lasting(fault),
         Reply::NotAllowed => true,
         _ => false,
+    }
+}
+
+/// A step was taken, whatever came of it, unless it has failed.
+fn taken<T: Drop>(answer: Result<T, Fault>) -> Result<bool, Fault> {
+    match answer {
+        Ok(_) => Ok(true),
+        Err(fault) => Err(fault),
     }
 }
 

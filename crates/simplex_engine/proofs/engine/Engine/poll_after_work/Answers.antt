@@ -1,19 +1,43 @@
 -- That only the steps have done anything, and that an error fails the engine.
-use Rattle.std.proofs.Common.{refl, ap, sym, subst, ◌<◌}
+use Rattle.std.proofs.Common.{refl, ap, sym, subst, length, ◌<◌, ◌≤◌}
 use Rattle.std.specs.Prelude.{All, IfSome}
 use Rattle.simplex_voter.specs.Windows.{min_active}
 use Rattle.simplex_engine.specs.Batching.{HoldsFrom}
 use Rattle.simplex_engine.specs.declared.fetches.Fetch.{Fetch}
 use Rattle.simplex_engine.specs.Going.{has_failed}
-use Rattle.simplex_engine.proofs.Going.{goes_further, does_more}
+use Rattle.simplex_engine.specs.Quiet.{HasNothingNew}
+use Rattle.simplex_engine.proofs.Going.{goes_further, gives_nothing, does_more}
 use Rattle.simplex_engine.proofs.engine.Engine.poll_after_work.Goals as goal
+
+pub returns-in-Ok-clause-given : goal.returns-in-Ok-clause-given
+returns-in-Ok-clause-given g c = λ given kept. c.next.ensures.kept given (c.work.ensures.goes_on.kept given kept)
 
 pub returns-in-Ok-clause-does : goal.returns-in-Ok-clause-does
 returns-in-Ok-clause-does g c = does_more c.args.self.now.core c.work.new.self.core c.next.new.self c.work.ensures.goes_on c.next.ensures.same.0
 
+pub returns-in-Ok-clause-none : goal.returns-in-Ok-clause-none
+returns-in-Ok-clause-none g c = λ none. record {
+  idle = c.next.ensures.none none;
+  whole = subst (λ m. length m.facts.entries ≤ c.next.new.self.stored) (sym c.next.ensures.same.0)
+      (subst (λ count. length c.work.new.self.core.member.facts.entries ≤ count) (sym c.next.ensures.same.1) c.in-Ok.ensures.whole);
+  quiet = subst (λ m. HasNothingNew g.D.PartialEq.eq g.L.Elector.elect m.facts) (sym c.next.ensures.same.0) c.in-Ok.ensures.quiet;
+}
+
+pub returns-in-Ok-clause-idle : goal.returns-in-Ok-clause-idle
+returns-in-Ok-clause-idle g c = λ none. c.in-Ok.ensures.idle
+
+pub returns-in-Ok-clause-votes : goal.returns-in-Ok-clause-votes
+returns-in-Ok-clause-votes g c = c.work.ensures.votes
+
+pub returns-in-Err-clause-given : goal.returns-in-Err-clause-given
+returns-in-Err-clause-given g c = gives_nothing (goes_further c.work.ensures.goes_on c.fail.ensures.goes_on)
+
 pub returns-in-Err-clause-does : goal.returns-in-Err-clause-does
 returns-in-Err-clause-does g c =
     does_more c.args.self.now.core c.fail.new.self c.fail.new.self (goes_further c.work.ensures.goes_on c.fail.ensures.goes_on) refl
+
+pub returns-in-Err-clause-votes : goal.returns-in-Err-clause-votes
+returns-in-Err-clause-votes g c = c.work.ensures.votes
 
 pub returns-in-Err-clause-failed : goal.returns-in-Err-clause-failed
 returns-in-Err-clause-failed g c = ap has_failed c.fail.ensures.failed

@@ -1,4 +1,4 @@
-use Rattle.std.proofs.Common.{◌≡◌, [], true, None, refl, sym, subst, ◌∙◌, length}
+use Rattle.std.proofs.Common.{◌≡◌, [], true, None, refl, sym, subst, ◌∙◌, length, arith}
 use Rattle.std.proofs.lemmas.List.Elements.{All-nil}
 use Rattle.simplex_member.specs.Journal.{stored_of}
 use Rattle.simplex_engine.specs.Doing.{IsDoneOn}
@@ -32,3 +32,8 @@ returns-in-Err-clause-goes_on g c =
       on_this = All-nil (IsDoneOn None);
       done = c.prune_record.ensures.goes_on;
     }
+
+pub returns-in-Ok-clause-whole : goal.returns-in-Ok-clause-whole
+returns-in-Ok-clause-whole g c =
+    let same_length = counted g.S.CertificateScheme.certificate_bytes c.record-count.result.now c.prune_record.new.self.facts.entries c.record-count.ensures.entries in
+    omega (arith, same_length)

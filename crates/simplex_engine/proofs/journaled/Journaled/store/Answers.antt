@@ -1,6 +1,6 @@
-use Rattle.std.proofs.Common.{refl, length}
+use Rattle.std.proofs.Common.{refl, length, arith}
 use Rattle.simplex_engine.proofs.Going.{stays}
-use Rattle.simplex_engine.proofs.Kept.{does_no_more, stored, kept_as_it_was}
+use Rattle.simplex_engine.proofs.Kept.{does_no_more, stored, kept_as_it_was, counted}
 use Rattle.simplex_engine.proofs.journaled.Journaled.store.Goals as goal
 
 pub returns-clause-goes_on : goal.returns-clause-goes_on
@@ -21,3 +21,13 @@ returns-in_err-store-clause-goes_on g c =
 
 pub returns-then-count-self-clause-goes_on : goal.returns-then-count-self-clause-goes_on
 returns-then-count-self-clause-goes_on g c = stays c.args.self.now
+
+pub returns-clause-whole : goal.returns-clause-whole
+returns-clause-whole g c =
+    let same_length = counted g.S.CertificateScheme.certificate_bytes c.record-count.result.now c.args.self.now.member.facts.entries c.record-count.ensures.entries in
+    omega (arith, same_length)
+
+pub returns-then-count-self-clause-whole : goal.returns-then-count-self-clause-whole
+returns-then-count-self-clause-whole g c =
+    let same_length = counted g.S.CertificateScheme.certificate_bytes c.record-count.result.now c.args.self.now.member.facts.entries c.record-count.ensures.entries in
+    omega (arith, same_length)

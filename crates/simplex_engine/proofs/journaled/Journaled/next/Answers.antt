@@ -1,0 +1,17 @@
+-- That what is given out was queued in front.
+use Rattle.std.proofs.Common.{◌++◌, ap, sym, subst, ◌∙◌, append_assoc}
+use Rattle.std.specs.Prelude.{option_to_list}
+use Rattle.simplex_engine.specs.Journals.{journal_of, IsBeginningOf}
+use Rattle.simplex_engine.proofs.journaled.Journaled.next.Goals as goal
+
+pub returns-clause-kept : goal.returns-clause-kept
+returns-clause-kept g c = λ given kept.
+    let old = c.args.self.now in
+    let out = option_to_list c.next.result in
+    record {
+      lawful = c.next.ensures.goes_on given kept.lawful;
+      stored = λ lives.
+          subst (IsBeginningOf g.S.CertificateScheme.certificate_bytes old.member old.stored)
+          (ap (λ queued. journal_of (given ++ queued)) c.next.ensures.front ∙ ap journal_of (sym (append_assoc given out c.next.new.self.queue.items)))
+          (kept.stored lives);
+    }
