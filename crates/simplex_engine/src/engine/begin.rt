@@ -174,17 +174,37 @@ fn begin<S: Assembly<D>, L: Elector<S>, D: Digest>(
     ensures member { IfOk result (λ engine. engine.core.member ≡ member) }
 {
     let options = options.with_a_retry();
-    let plan = plan_of(alloc, &member, &company, options)?;
-    let core = Journaled::begin(alloc, member)?;
-    Ok(Engine {
-        alloc,
-        core,
-        batcher: company.batcher,
-        plan,
-        options,
-        compacted: 0,
-        forgotten: View::zero(),
-    })
+    match plan_of(alloc, &member, &company, options) {
+        Ok(plan) => begin_with(alloc, member, company.batcher, plan, options),
+        Err(error) => Err(error),
+    }
+}
+
+/// An engine of its parts.
+fn begin_with<S: Assembly<D>, L: Elector<S>, D: Digest>(
+    alloc: Global,
+    member: LawfulMember<S, L, D>,
+    batcher: Batcher<S, D>,
+    plan: Plan<S, D>,
+    options: Options,
+) -> Result<Engine<S, L, D>, StartError>
+    ensures kept { IfOk result (λ engine. IsKept S.certificate_bytes [] engine.core) }
+    ensures whole { IfOk result (λ engine. IsWhole S.certificate_bytes engine.core) }
+    ensures votes { AreGiven [] batcher → IfOk result (λ engine. AreGiven [] engine.batcher) }
+    ensures member { IfOk result (λ engine. engine.core.member ≡ member) }
+{
+    match Journaled::begin(alloc, member) {
+        Ok(core) => Ok(Engine {
+            alloc,
+            core,
+            batcher,
+            plan,
+            options,
+            compacted: 0,
+            forgotten: View::zero(),
+        }),
+        Err(refused) => Err(StartError::from(refused)),
+    }
 }
 
 /// What is looked after beside a member that has begun.

@@ -537,7 +537,7 @@ impl<S: Assembly<D>, L: Elector<S>, D: Digest> Engine<S, L, D> {
         }
         let copy = certificate.clone(self.alloc)?;
         let reply = self.core.call(handing_in(certificate, now));
-        self.follow_certificate(&copy, reply, now)
+        self.follow_certificate(&copy, &reply, now)
     }
 
     /// Whether the certificate is admitted. One of a kind and view that has its certificate is not: it would change nothing.
@@ -554,17 +554,17 @@ impl<S: Assembly<D>, L: Elector<S>, D: Digest> Engine<S, L, D> {
     fn follow_certificate(
         &mut self,
         certificate: &Certificate<S, D>,
-        reply: Reply<S, D>,
+        reply: &Reply<S, D>,
         now: u64,
     ) -> Result<bool, Fault>
         ensures core { self.new.core ≡ self.old.core }
         ensures votes { TakesNone self.old.batcher self.new.batcher }
         ensures batcher { self.new.batcher ≡ self.old.batcher }
-        ensures of_use { IfOk result (λ is_of_use. is_of_use ≡ not (is_refused (told S.certificate_bytes reply))) }
+        ensures of_use { IfOk result (λ is_of_use. is_of_use ≡ not (is_refused (told S.certificate_bytes reply.now))) }
     {
-        let is_of_use = !is_refused(&reply);
+        let is_of_use = !is_refused(reply);
         self.see()?;
-        self.plan.follow_certificate(certificate, &reply, now)?;
+        self.plan.follow_certificate(certificate, reply, now)?;
         Ok(is_of_use)
     }
 
