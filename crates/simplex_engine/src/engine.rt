@@ -66,8 +66,8 @@ impl<S: Assembly<D>, L: Elector<S>, D: Digest> Engine<S, L, D> {
     ///
     /// A proposal is dropped where it is of another member than its view's leader, of this member itself, or of a round that takes
     /// no votes; one of a view that comes soon is kept until then. A vote is dropped where its round takes none, and where its
-    /// signer voted before. A certificate is dropped where one of its kind and view is held. An answer of the application is
-    /// dropped where it was not asked for.
+    /// signer voted before. A certificate is dropped where one of its kind and view is held. What the application verified or built
+    /// is dropped where it was not asked for; a verdict is taken where its view is notarized and has none.
     ///
     /// - `goes_on`: no certificate is accepted but the one that is handed in, or one on what the vote that is handed in is on.
     /// - `votes`: of each member it holds votes alone that were handed in.
