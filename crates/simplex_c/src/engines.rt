@@ -83,7 +83,7 @@ pub unsafe extern "C" fn simplex_engine_handle(
 ) -> FlatTaken
     ghost held: { HeldEngine }
     requires* { sem 𝓛 (engine_at at held) }
-    ensures* { sem 𝓛 (engine_left_at at (result.status ≡ 15) (λ new. IsHandled held input.now bytes.now result new)) }
+    ensures* { sem 𝓛 (engine_left_at at (result.status ≡ 15) (λ new. IsHandled now held input.now bytes.now result new)) }
 {
     if at.is_null() {
         return absent_engine::taken();
@@ -92,7 +92,7 @@ pub unsafe extern "C" fn simplex_engine_handle(
 }
 
 fn tell(held: &mut HeldEngine, input: &FlatInput, bytes: &[u8], now: u64) -> FlatTaken
-    ensures { IsHandled held.old input.now bytes.now result held.new }
+    ensures { IsHandled now held.old input.now bytes.now result held.new }
 {
     held.handle(input, bytes, now)
 }
@@ -102,7 +102,7 @@ fn tell(held: &mut HeldEngine, input: &FlatInput, bytes: &[u8], now: u64) -> Fla
 pub unsafe extern "C" fn simplex_engine_poll(at: *mut u8, now: u64) -> FlatOutput
     ghost held: { HeldEngine }
     requires* { sem 𝓛 (engine_at at held) }
-    ensures* { sem 𝓛 (engine_left_at at (result.status ≡ 15) (λ new. IsPolled held result new)) }
+    ensures* { sem 𝓛 (engine_left_at at (result.status ≡ 15) (λ new. IsPolled now held result new)) }
 {
     if at.is_null() {
         return absent_engine::output();
@@ -111,7 +111,7 @@ pub unsafe extern "C" fn simplex_engine_poll(at: *mut u8, now: u64) -> FlatOutpu
 }
 
 fn give_out(held: &mut HeldEngine, now: u64) -> FlatOutput
-    ensures { IsPolled held.old result held.new }
+    ensures { IsPolled now held.old result held.new }
 {
     held.poll(now)
 }

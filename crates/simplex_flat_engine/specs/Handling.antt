@@ -1,12 +1,17 @@
 -- How an engine behind a handle is told and asked.
-use Rattle.std.specs.Prelude.{◌≡◌, ◌⊎◌, ◌+◌, ◌-◌, ◌^◌, ◌++◌, min, ℕ, Bool, true, false, List, [], length, Option, Some, None, option_to_list, Result, Ok, Err, OnErr}
+use Rattle.std.specs.Prelude.{◌≡◌, ◌⊎◌, ◌+◌, ◌-◌, ◌^◌, ◌++◌, min, ℕ, Bool, true, false, List, [], length, Option, Some, None, option_to_list, Result, Ok, Err, OnErr, IfOk, IsFalse}
 use Rattle.simplex_types.specs.declared.types.fault.Fault.{Fault}
+use Rattle.simplex_types.specs.declared.types.fault.Fault.TheVariants.{Failed}
 use Rattle.simplex_host.specs.Host.{certificate_bytes, keys_of}
 use Rattle.simplex_engine.specs.declared.output.Output.TheVariants as output
+use Rattle.simplex_engine.specs.Admitting.{IsTurnedAway, ignoring, is_admitted}
 use Rattle.simplex_engine.specs.Backing.{IsBackedInput, TakesNone, TakesVotes, votes_in}
+use Rattle.simplex_engine.specs.Bounds.{FetchesAhead, HoldsFromKept}
+use Rattle.simplex_engine.specs.Dropping.{IsDropped}
 use Rattle.simplex_engine.specs.Going.{DoesMoreOn, GoesOn, IsKept, IsWhole, has_failed}
 use Rattle.simplex_engine.specs.Inputs.{subject_in}
 use Rattle.simplex_engine.specs.Journals.{IsRecordOf, journal_of}
+use Rattle.simplex_engine.specs.Planning.{IsIdle}
 use Rattle.simplex_engine.specs.Settled.{IsSettled}
 use Rattle.simplex_flat.specs.declared.journal.NotWritten.{NotWritten}
 use Rattle.simplex_flat.specs.declared.shown.FlatStored.{FlatStored}
@@ -33,13 +38,18 @@ abbrev pub IsAnswer : Result Bool Fault → FlatTaken → Type 0
 IsAnswer (Ok is_of_use) r = (r.status ≡ 0) × (r.is_of_use ≡ flag_number is_of_use)
 IsAnswer (Err fault) r = r.status ≡ fault_number fault
 
--- the engine takes an input, by its contract, and nothing else changes
-pub record IsTaken (input : HostInput) (old : HeldEngine) (r : FlatTaken) (new : HeldEngine) : Type 0 where
+-- the engine takes an input at a moment, by its contract, and nothing else changes
+pub record IsTaken (now : ℕ) (input : HostInput) (old : HeldEngine) (r : FlatTaken) (new : HeldEngine) : Type 0 where
   pub going : old.is_lost ≡ false
   pub answer : Result Bool Fault
   pub tells : IsAnswer answer r
-  -- after an error the engine has failed
+  -- after an error the engine has failed; one that had failed answers only that, and stays as it was
   pub failed : OnErr answer (has_failed new.engine.core ≡ true)
+  pub refused : has_failed old.engine.core ≡ true → (answer ≡ Err Failed) × (new.engine ≡ old.engine)
+  -- what is of no use is dropped: the member has done nothing, and no vote is taken; what is not admitted is of none
+  pub dropped : IfOk answer (λ is_of_use. IsFalse is_of_use → IsDropped now input old.engine new.engine)
+  pub unadmitted : IsFalse (is_admitted certificate_bytes old.engine.core.member.facts input) → IfOk answer (λ is_of_use. IsFalse is_of_use
+      × IsTurnedAway input (ignoring old.engine) new.engine)
   pub goes_on : GoesOn same_payload host_leader certificate_bytes (subject_in certificate_bytes input) old.engine.core new.engine.core
   pub votes : TakesVotes (votes_in input) old.engine.batcher new.engine.batcher
   pub backed : IsBackedInput same_payload host_leader certificate_bytes (length (keys_of old.engine.batcher.scheme)) input old.engine.batcher
@@ -50,8 +60,8 @@ pub record IsTaken (input : HostInput) (old : HeldEngine) (r : FlatTaken) (new :
 abbrev pub HasLost : HeldEngine → ℕ → HeldEngine → Type 0
 HasLost old status new = (old.is_lost ≡ true) × (status ≡ 2) × (new ≡ old)
 
-abbrev pub Takes : HostInput → HeldEngine → FlatTaken → HeldEngine → Type 0
-Takes input old r new = HasLost old r.status new ⊎ IsTaken input old r new
+abbrev pub Takes : ℕ → HostInput → HeldEngine → FlatTaken → HeldEngine → Type 0
+Takes now input old r new = HasLost old r.status new ⊎ IsTaken now input old r new
 
 -- nothing was told, and all is as it was: one of the numbers is none of an input, a vote would make a certificate from which leaders
 -- are drawn, or there was no memory for its bytes
@@ -59,16 +69,16 @@ abbrev pub IsNotTold : HeldEngine → FlatInput → FlatTaken → HeldEngine →
 IsNotTold old f r new =
     (new ≡ old) × (((r.status ≡ 6) × (IsNoInput f ⊎ ((old.draws ≡ 1) × (f.kind ≡ 2)))) ⊎ ((r.status ≡ 7) × HandsInBytes f))
 
--- the input that the flat one stands for was told
-pub record IsTold (old : HeldEngine) (f : FlatInput) (bytes : List ℕ) (r : FlatTaken) (new : HeldEngine) : Type 0 where
+-- the input that the flat one stands for was told, at a moment
+pub record IsTold (now : ℕ) (old : HeldEngine) (f : FlatInput) (bytes : List ℕ) (r : FlatTaken) (new : HeldEngine) : Type 0 where
   pub input : HostInput
   pub numbers : HasInputNumbers f
   pub is_told : IsToldAs f bytes input
-  pub taken : Takes input old r new
+  pub taken : Takes now input old r new
 
 -- what came in was told, or nothing was
-abbrev pub IsHandled : HeldEngine → FlatInput → List ℕ → FlatTaken → HeldEngine → Type 0
-IsHandled old f bytes r new = IsNotTold old f r new ⊎ IsTold old f bytes r new
+abbrev pub IsHandled : ℕ → HeldEngine → FlatInput → List ℕ → FlatTaken → HeldEngine → Type 0
+IsHandled now old f bytes r new = IsNotTold old f r new ⊎ IsTold now old f bytes r new
 
 -- the bytes of an output: its entries as these frames, what is to be signed, a certificate, or the first signature of two
 abbrev pub bytes_in : List ℕ → Option HostOutput → List ℕ
@@ -128,24 +138,33 @@ HoldsRecord given held =
     held.engine.core.failed ≡ false → held.engine.core.outbox.queue.items ≡ [] → IsWhole certificate_bytes held.engine.core
     → IsRecordOf certificate_bytes held.engine.core.member (journal_of given)
 
--- what a poll comes to: something is given out; nothing is left to be done now; or the engine has failed
-abbrev pub IsOutcome : HeldEngine → FlatOutput → HeldEngine → Type 0
-IsOutcome old r new =
+-- an engine has nothing more to do at a moment, and holds no vote or fetch of views that are over
+pub record IsAtRest (now : ℕ) (held : HeldEngine) : Type 0 where
+  pub settled : IsSettled same_payload host_leader certificate_bytes held.engine.core
+  pub idle : IsIdle now held.engine.plan
+  pub lowest : HoldsFromKept held.engine.core held.engine.batcher
+  pub ahead : FetchesAhead held.engine.core held.engine.plan.fetches.wanted.items
+
+-- what a poll comes to at a moment: something is given out; nothing is left to be done then; or the engine has failed
+abbrev pub IsOutcome : ℕ → HeldEngine → FlatOutput → HeldEngine → Type 0
+IsOutcome now old r new =
     ((out : HostOutput) × IsGivenOut out old.stored r new)
-    ⊎ (IsNothing 0 r new × IsSettled same_payload host_leader certificate_bytes new.engine.core)
+    ⊎ (IsNothing 0 r new × IsAtRest now new)
     ⊎ ((fault : Fault) × IsNothing (fault_number fault) r new × (has_failed new.engine.core ≡ true))
 
--- an engine that has lost nothing is asked what is to be carried out next
-pub record IsAsked (old : HeldEngine) (r : FlatOutput) (new : HeldEngine) : Type 0 where
+-- an engine that has lost nothing is asked what is to be carried out next at a moment
+pub record IsAsked (now : ℕ) (old : HeldEngine) (r : FlatOutput) (new : HeldEngine) : Type 0 where
   -- what is given out stands behind all that was
   pub given : (given : List HostOutput) → IsAllGiven given old → IsAllGiven (given ++ option_to_list new.last) new
   -- no certificate is accepted, and no vote is taken
   pub does : DoesMoreOn same_payload host_leader None old.engine.core.member.facts new.engine.core.member.facts
   pub votes : TakesNone old.engine.batcher new.engine.batcher
-  pub outcome : IsOutcome old r new
+  pub outcome : IsOutcome now old r new
+  -- one that had failed tells only that, and stays as it was
+  pub refused : has_failed old.engine.core ≡ true → IsNothing 2 r new × (new.engine ≡ old.engine)
 
--- an engine is polled; one that has lost something has failed
-abbrev pub IsPolled : HeldEngine → FlatOutput → HeldEngine → Type 0
-IsPolled old r new =
-    (((old.is_lost ≡ true) × IsNothing 2 r new × (new.engine ≡ old.engine)) ⊎ ((old.is_lost ≡ false) × IsAsked old r new))
+-- an engine is polled at a moment; one that has lost something has failed
+abbrev pub IsPolled : ℕ → HeldEngine → FlatOutput → HeldEngine → Type 0
+IsPolled now old r new =
+    (((old.is_lost ≡ true) × IsNothing 2 r new × (new.engine ≡ old.engine)) ⊎ ((old.is_lost ≡ false) × IsAsked now old r new))
     × (new.draws ≡ old.draws) × (new.shown ≡ old.shown)

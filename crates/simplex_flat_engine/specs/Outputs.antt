@@ -2,7 +2,6 @@
 use Rattle.std.specs.Prelude.{◌≡◌, ℕ, List, []}
 use Rattle.simplex_types.specs.declared.types.messages.Certificate.TheVariants as certificate
 use Rattle.simplex_codec.specs.declared.digest.BytesDigest.{BytesDigest}
-use Rattle.simplex_host.specs.declared.elector.HostElector.{HostElector}
 use Rattle.simplex_host.specs.declared.scheme.HostCertificate.{HostCertificate}
 use Rattle.simplex_host.specs.declared.scheme.HostKey.{HostKey}
 use Rattle.simplex_host.specs.declared.scheme.HostScheme.{HostScheme}

@@ -1,5 +1,5 @@
 -- What an engine behind a handle shows beside its outputs.
-use Rattle.std.specs.Prelude.{◌≡◌, ◌⊎◌, ◌≤◌, ◌||◌, ℕ, Bool, zero, suc, length, slice_get, Some, MatchOption, if◌then◌else◌}
+use Rattle.std.specs.Prelude.{◌≡◌, ◌||◌, ℕ, Bool, zero, suc, length, slice_get, MatchOption, if◌then◌else◌}
 use Rattle.simplex_engine.specs.declared.fetches.Fetch.{Fetch}
 use Rattle.simplex_engine.specs.Going.{has_failed}
 use Rattle.simplex_engine.specs.Settled.{IsWake}

@@ -73,7 +73,7 @@ impl HeldEngine {
 
     /// Tells what came in. `bytes` are a vote's signature, or a certificate.
     pub fn handle(&mut self, flat: &FlatInput, bytes: &[u8], now: u64) -> FlatTaken
-        ensures { IsHandled self.old flat.now bytes.now result self.new }
+        ensures { IsHandled now self.old flat.now bytes.now result self.new }
     {
         if self.draws == 1 && flat.kind == 2 {
             return untaken(STATUS_NO_INPUT);
@@ -86,7 +86,7 @@ impl HeldEngine {
     }
 
     fn take(&mut self, input: HostInput, now: u64) -> FlatTaken
-        ensures { Takes input self.old result self.new }
+        ensures { Takes now input self.old result self.new }
     {
         if self.is_lost {
             return untaken(number_of_fault(Fault::Failed));
@@ -102,7 +102,7 @@ impl HeldEngine {
 
     /// What is to be carried out next, at a moment in milliseconds.
     pub fn poll(&mut self, now: u64) -> FlatOutput
-        ensures { IsPolled self.old result self.new }
+        ensures { IsPolled now self.old result self.new }
     {
         self.last = None;
         self.frames.clear();
@@ -113,7 +113,7 @@ impl HeldEngine {
     fn poll_engine(&mut self, now: u64) -> FlatOutput
         requires last { self.old.last ≡ None }
         requires empty { self.old.frames.items ≡ [] }
-        ensures { IsPolled self.old result self.new }
+        ensures { IsPolled now self.old result self.new }
     {
         if self.is_lost {
             return no_output(number_of_fault(Fault::Failed));

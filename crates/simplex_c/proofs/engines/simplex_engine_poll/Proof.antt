@@ -75,7 +75,7 @@ simplex_engine_poll_spec 𝓤 𝓛 𝓜 𝓡 wired =
           calls_at ! (framed 𝓤 𝓛.H 𝓜 (tables 𝓤 𝓛.H 𝓜 𝓡 𝓡.env)) G (met 𝓤 𝓛 𝓜 𝓡 (code.calls-simplex_c::engines::give_out 𝓡.env wired)) z
           (and_then ! (get ! refl) (and_then ! (get ! refl) (no_more !))) (λ v.
           use1 𝓛 (later (some (λ (u : FlatOutput). ((‵ (flft κ full_share) ⊛ ‵ ftrue) ⊛ ‵ (A.own_val u (v ∷ []))) ⊛
-          some (λ (ws : Lasts g.ended z.0.0 z.0.3). ‵ (lasts g.ended z.0.0 z.0.3 ws) ⊛ raw (fact 𝓤 (IsPolled held u ws.0)))))) (id⊢ 𝓤 _) $
+          some (λ (ws : Lasts g.ended z.0.0 z.0.3). ‵ (lasts g.ended z.0.0 z.0.3 ws) ⊛ raw (fact 𝓤 (IsPolled number held u ws.0)))))) (id⊢ 𝓤 _) $
           await ! tt $ pick ! (λ u. split ! $ split ! $ split ! $ lft_end ! tt $
           -- [α is over; nothing; the answer; the rest; what the lender keeps]
           move ! (2 ∷ []) $ peeks ! A (Is A) (shows 𝓛 A) u (v ∷ []) (λ is. lands_as ! refl refl ((answer.the_row_laws.lawful 𝓛).typed u (v ∷ []) is).0 $
@@ -83,8 +83,8 @@ simplex_engine_poll_spec 𝓤 𝓛 𝓜 𝓡 wired =
           -- [the loan's last value; its borrow; nothing; the answer; α is over; nothing; what the lender keeps]
           move ! (4 ∷ 6 ∷ 0 ∷ []) $ use3 𝓛 (later (‵ (lies_at R full_share (block_ptr b o) ws.0))) (ref_back 𝓛 R κ γ ws.0 b o) $ await ! tt $
           nothing ! $ fpack ! (Testable (block_ptr b o)) (λ _. ftrue) may $ fjoin ! $
-          nothing ! $ fpack ! (IsPolled held u ws.0) (λ _. ftrue) added $ fjoin ! $
-          fpack ! HeldEngine (λ now. fsep (is_so (IsPolled held u now)) (engine_at (block_ptr b o) now)) ws.0 $
+          nothing ! $ fpack ! (IsPolled number held u ws.0) (λ _. ftrue) added $ fjoin ! $
+          fpack ! HeldEngine (λ now. fsep (is_so (IsPolled number held u now)) (engine_at (block_ptr b o) now)) ws.0 $
           returns ! (look_at ! 0 refl) $ free_all ! refl $ keep ! (3 ∷ 0 ∷ []) $
           suffices ! _ (ends_at 𝓛 f.ended stayed c (y (block_ptr b o)) v u (tt, (tt, tt)) (tt, (tt, tt))) $
           nothing ! $ nothing ! $ join ! $ nothing ! $ join ! $ nothing ! $ group ! 3 $ done !))))))))))

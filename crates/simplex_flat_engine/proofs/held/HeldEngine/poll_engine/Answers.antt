@@ -1,5 +1,9 @@
--- How the contract of `poll_engine` follows where the engine gives something out.
-use Rattle.std.proofs.Common.{inl, inr}
+-- How the contract of `poll_engine` follows where the engine gives something out, and where it has nothing more to do.
+use Rattle.std.proofs.Common.{inl, inr, refl, sym, subst, ◌∙◌}
+use Rattle.std.specs.Prelude.{◌++◌, IsOk, option_to_list}
+use Rattle.std.proofs.lemmas.Bool.{false≢true}
+use Rattle.simplex_host.specs.Host.{certificate_bytes}
+use Rattle.simplex_engine.specs.Going.{IsKept}
 use Rattle.simplex_flat_engine.proofs.Given.{all_given}
 use Rattle.simplex_flat_engine.proofs.held.HeldEngine.poll_engine.Goals as goal
 
@@ -16,8 +20,38 @@ returns-in-Ok-Some c =
           does = rw rest.0 c.in-Ok-Some.ensures.does;
           votes = rw rest.0 c.in-Ok-Some.ensures.votes;
           outcome = inl (c.in-Ok-Some.output, c.give_out.ensures.given);
+          refused = λ had. absurd (false≢true (subst IsOk (sym c.in-Ok-Some.is ∙ (c.poll.ensures.refused had).0) refl));
         },
       ),
       rest.1,
       rest.2,
+    )
+
+pub returns-in-Ok-None : goal.returns-in-Ok-None
+returns-in-Ok-None c =
+    let going = c.if-self.false in
+    let given = rw c.in-Ok-None.field-0-is at c.in-Ok-None.ensures.given in
+    let none = c.in-Ok-None.field-0-is in
+    let told = c.no_output-in-Ok-None.ensures in (
+      inr (
+        going,
+        record {
+          given = λ before all alive. subst (λ last. IsKept certificate_bytes (before ++ option_to_list last) c.poll.new.self.core)
+              (sym c.requires.last) (given before (all going));
+          does = c.in-Ok-None.ensures.does;
+          votes = c.in-Ok-None.ensures.votes;
+          outcome = inr (inl (
+            record { status_is = told.status; nothing = told.nothing.0; last = c.requires.last },
+            record {
+              settled = (rw none at c.in-Ok-None.ensures.none) refl;
+              idle = (rw none at c.in-Ok-None.ensures.idle) refl;
+              lowest = (rw none at c.in-Ok-None.ensures.lowest) refl;
+              ahead = (rw none at c.in-Ok-None.ensures.ahead) refl;
+            },
+          ));
+          refused = λ had. absurd (false≢true (subst IsOk (sym c.in-Ok-None.is ∙ (c.poll.ensures.refused had).0) refl));
+        },
+      ),
+      refl,
+      refl,
     )
