@@ -317,8 +317,8 @@ fn what_is_of_no_use_changes_nothing() -> Tested {
     }
     for view in [View::new(7), View::new(u64::MAX)] {
         let reason = TimeoutReason::Inactivity;
-        engine.handle(Input::GivenUp { view, reason }, START)?;
-        engine.handle(Input::Certified { view, is_success: true }, START)?;
+        assert!(!engine.handle(Input::GivenUp { view, reason }, START)?);
+        assert!(!engine.handle(Input::Certified { view, is_success: true }, START)?);
     }
     assert!(!engine.is_failed());
     assert_eq!((outputs(&mut engine, START)?, engine.views()), (Vec::new(), before));
