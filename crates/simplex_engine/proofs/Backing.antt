@@ -1,5 +1,5 @@
 -- Certificates that votes complete are backed by them.
-use Rattle.std.proofs.Common.{◌≡◌, ℕ, zero, suc, Bool, true, false, cond, List, [], ◌∷◌, ◌++◌, Option, Some, None, Result, Ok, Err, length, refl, subst, inl, inr}
+use Rattle.std.proofs.Common.{◌≡◌, ℕ, zero, suc, Bool, true, false, cond, List, [], ◌∷◌, ◌++◌, Option, Some, None, Result, Ok, Err, length, refl, subst, inl, inr, ◌∙◌}
 use Rattle.std.specs.Prelude.{IfOk, All, Contains, ◌⊎◌}
 use Rattle.std.proofs.lemmas.List.Elements.{All-append, All-cons, All-nil}
 use Rattle.simplex_types.specs.declared.types.messages.Subject.{Subject}
@@ -31,16 +31,20 @@ module _ {S D K G C : Type 0} where
       contains_left given more (record { subject = ballot.subject; signer = member; signature = ballot.signature }) (are kind view member ballot is)
 
   pub takes_nothing : (a : Batcher S D K G C) → TakesNone a a
-  takes_nothing a = record { are_given = λ given are. are }
+  takes_nothing a = record { are_given = λ given are. are; were_held = λ kind view member ballot is. is; scheme = refl }
 
   pub takes_no_more : {a b c : Batcher S D K G C} → TakesNone a b → TakesNone b c → TakesNone a c
-  takes_no_more first second = record { are_given = λ given are. second.are_given given (first.are_given given are) }
+  takes_no_more first second = record {
+    are_given = λ given are. second.are_given given (first.are_given given are);
+    were_held = λ kind view member ballot is. first.were_held kind view member ballot (second.were_held kind view member ballot is);
+    scheme = second.scheme ∙ first.scheme;
+  }
 
   pub takes_anyway : {more : List (Vote D G)} {a b : Batcher S D K G C} → TakesNone a b → TakesVotes more a b
-  takes_anyway {more = more} {b = b} none = record { are_given = λ given are. widened given more b (none.are_given given are) }
+  takes_anyway {more = more} {b = b} none = record { are_given = λ given are. widened given more b (none.are_given given are); scheme = none.scheme }
 
   pub takes_then : {more : List (Vote D G)} {a b c : Batcher S D K G C} → TakesVotes more a b → TakesNone b c → TakesVotes more a c
-  takes_then {more = more} taken none = record { are_given = λ given are. none.are_given (given ++ more) (taken.are_given given are) }
+  takes_then {more = more} taken none = record { are_given = λ given are. none.are_given (given ++ more) (taken.are_given given are); scheme = none.scheme ∙ taken.scheme }
 
 module _ {S L D K G C : Type 0} {same : D → D → Bool} {elect : Elect L} {bytes_of : C → List ℕ} (members : ℕ) where
   backed_by_none : {more : List (Vote D G)} {subject : Subject D} {batcher : Batcher S D K G C} {old new : Journaled S L D K G C}

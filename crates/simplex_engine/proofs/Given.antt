@@ -19,7 +19,7 @@ use Rattle.simplex_engine.specs.Counting.{cast_by, IsAdded, IsCountedIn}
 use Rattle.simplex_engine.specs.Batching.{Kind, Notarizes, Nullifies, Finalizes, kind_of, held, AreGiven, HoldsNothing, HoldsAllTheSame, KeepsOthers, IsForgotten, IsCounted, IsCountedAmong}
 use Rattle.simplex_engine.proofs.Behind.{contains_left, contains_seam}
 
-same_or_not : (k l : Kind) → (k ≡ l) ⊎ (k ≡ l → ⊥)
+pub same_or_not : (k l : Kind) → (k ≡ l) ⊎ (k ≡ l → ⊥)
 same_or_not Notarizes Notarizes = inl refl
 same_or_not Notarizes Nullifies = inr (λ e. cc)
 same_or_not Notarizes Finalizes = inr (λ e. cc)
@@ -32,11 +32,11 @@ same_or_not Finalizes Finalizes = inl refl
 
 module _ {D G : Type 0} where
   -- the vote of a member that a ballot is
-  abbrev vote_by : ℕ → Ballot D G → Vote D G
+  abbrev pub vote_by : ℕ → Ballot D G → Vote D G
   vote_by member ballot = record { subject = ballot.subject; signer = member; signature = ballot.signature }
 
   -- it was held before, or is this one
-  abbrev IsOldOr : List (Option (Ballot D G)) → Vote D G → ℕ → Ballot D G → Type 0
+  abbrev pub IsOldOr : List (Option (Ballot D G)) → Vote D G → ℕ → Ballot D G → Type 0
   IsOldOr old vote member ballot = (ballot_of old member ≡ Some ballot) ⊎ (vote_by member ballot ≡ vote)
 
   some_is : (x y : Ballot D G) → Some x ≡ Some y → x ≡ y
@@ -50,7 +50,7 @@ module _ {D G : Type 0} where
       inl (sym (added.held member ∙ ap (λ t. cond t (Some (cast_by vote)) (ballot_of old member)) e) ∙ is)
 
 module _ {S D K G C : Type 0} (same : D → D → Bool) (IsMadeOf : Subject D → List (ℕ × G) → C → Type 0) (members : ℕ) where
-  counted_by : (old new : List (Option (Ballot D G))) (vote : Vote D G) (r : Counted S D K G C) → IsCountedIn same IsMadeOf members old vote new r → (member : ℕ) (ballot : Ballot D G) → ballot_of new member ≡ Some ballot → IsOldOr old vote member ballot
+  pub counted_by : (old new : List (Option (Ballot D G))) (vote : Vote D G) (r : Counted S D K G C) → IsCountedIn same IsMadeOf members old vote new r → (member : ℕ) (ballot : Ballot D G) → ballot_of new member ≡ Some ballot → IsOldOr old vote member ballot
   counted_by old new vote Refused h member ballot is = absurd h
   counted_by old new vote Known h member ballot is = inl (sym (h.1 member) ∙ is)
   counted_by old new vote (Equivocated first second) h member ballot is = inl (sym (h.1 member) ∙ is)

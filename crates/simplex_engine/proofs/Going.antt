@@ -1,19 +1,23 @@
 -- For the code of the engine.
 -- A member with its outbox goes on, step by step.
-use Rattle.std.proofs.Common.{◌≡◌, refl, ℕ, Bool, List, [], ◌++◌, sym, subst, append_assoc, append-nil, Option, None, Result, Ok, Err}
+use Rattle.std.proofs.Common.{◌≡◌, ◌∙◌, refl, ℕ, Bool, List, [], ◌++◌, sym, subst, append_assoc, append-nil, Option, None, Result, Ok, Err}
 use Rattle.std.specs.Prelude.{All, IfOk}
 use Rattle.std.proofs.lemmas.List.Elements.{All-append, All-nil}
 use Rattle.simplex_types.specs.Certificates.{certificate_facts}
 use Rattle.simplex_types.specs.Encoding.{certificate_subject}
 use Rattle.simplex_types.specs.declared.types.messages.Subject.{Subject}
 use Rattle.simplex_types.specs.declared.types.messages.Subject.TheVariants as subject
-use Rattle.simplex_voter.specs.Facts.{Elect}
-use Rattle.simplex_member.specs.Lives.{MemberFacts}
+use Rattle.simplex_voter.specs.Facts.{Elect, StateFacts}
+use Rattle.simplex_member.specs.Calls.{CallFacts, Told}
+use Rattle.simplex_member.specs.Lives.{MemberFacts, IsCall}
+use Rattle.simplex_laws.specs.LifeLaws.{WhileAlive}
+use Rattle.simplex_laws.proofs.frames.Rising.{never_fell, falls_never, never_falls, call_goes}
+use Rattle.simplex_laws.proofs.lives.WithinLives.{alive_still, alive_joined, each_call}
 use Rattle.simplex_laws.specs.Traces.{TraceEvent, Accepts, Signs}
 use Rattle.simplex_laws.specs.Living.{HasDone, DoesMore}
 use Rattle.simplex_engine.specs.declared.journaled.Journaled.{Journaled}
 use Rattle.simplex_engine.specs.Doing.{IsDoneOn}
-use Rattle.simplex_engine.specs.Going.{IsKept, GoesOn, DoesMoreOn, HasGivenOut}
+use Rattle.simplex_engine.specs.Going.{IsKept, GoesOn, DoesMoreOn, HasGivenOut, HasRisen}
 use Rattle.simplex_engine.specs.Counting.{certificate_of}
 
 module _ {K L D : Type 0} {same : D → D → Bool} {elect : Elect L} where
@@ -21,25 +25,45 @@ module _ {K L D : Type 0} {same : D → D → Bool} {elect : Elect L} where
   pub does_nothing : (m : MemberFacts K L D) → DoesMore same elect m [] m
   does_nothing m term_length i all done = subst (λ xs. HasDone same elect term_length i xs m) (sym (append-nil all)) done
 
+module _ {K L D : Type 0} where
+  stood : (x : StateFacts K L D) → HasRisen x x
+  stood x = record { terms = refl; views = never_fell x }
+
+  -- a member whose state has not changed
+  pub risen_not : (m : MemberFacts K L D) → WhileAlive HasRisen m.life m.life
+  risen_not m = alive_still HasRisen m.life stood
+
+  risen_further : (a b c : MemberFacts K L D) → WhileAlive HasRisen a.life b.life → WhileAlive HasRisen b.life c.life → WhileAlive HasRisen a.life c.life
+  risen_further a b c =
+      alive_joined HasRisen HasRisen HasRisen a.life b.life c.life
+      (λ x y z p q. record { terms = q.terms ∙ p.terms; views = falls_never x y z p.views q.views })
+
+  -- a call
+  pub call_risen : (same : D → D → Bool) (elect : Elect L) (m : MemberFacts K L D) (call : CallFacts D) (told : Told K D) (left : MemberFacts K L D) → IsCall same elect m call told left → WhileAlive HasRisen m.life left.life
+  call_risen same elect =
+      each_call same elect (λ call told. HasRisen) (λ call fault x. stood x) (λ call x. stood x)
+      (λ call x o allowed. let goes = call_goes same elect x o call in record { terms = goes.terms; views = never_falls x _ goes })
+
 module _ {S L D K G C : Type 0} {same : D → D → Bool} {elect : Elect L} {bytes_of : C → List ℕ} {taken : Option (Subject D)} where
   -- nothing has changed
   pub stays : (a : Journaled S L D K G C) → GoesOn same elect bytes_of taken a a
-  stays a = record { kept = λ given kept. kept; more = []; on_this = All-nil (IsDoneOn taken); done = does_nothing a.member.facts }
+  stays a = record { kept = λ given kept. kept; more = []; on_this = All-nil (IsDoneOn taken); done = does_nothing a.member.facts; risen = risen_not a.member.facts }
 
   -- from one moment to a later one, and on to one later still
   pub goes_further : {a b c : Journaled S L D K G C} → GoesOn same elect bytes_of taken a b → GoesOn same elect bytes_of taken b c → GoesOn same elect bytes_of taken a c
-  goes_further {c = c} first second = record {
+  goes_further {a = a} {b = b} {c = c} first second = record {
     kept = λ given kept. second.kept given (first.kept given kept);
     more = first.more ++ second.more;
     on_this = All-append (IsDoneOn taken) first.more second.more first.on_this second.on_this;
     done = λ term_length i all done.
         subst (λ xs. HasDone same elect term_length i xs c.member.facts) (append_assoc all first.more second.more)
         (second.done term_length i (all ++ first.more) (first.done term_length i all done));
+    risen = risen_further a.member.facts b.member.facts c.member.facts first.risen second.risen;
   }
 
   -- where no certificate is accepted
   pub goes_on_anyway : {a b : Journaled S L D K G C} → GoesOn same elect bytes_of None a b → GoesOn same elect bytes_of taken a b
-  goes_on_anyway went = record { kept = went.kept; more = went.more; on_this = λ k d less. anyway _ (went.on_this k d less); done = went.done }
+  goes_on_anyway went = record { kept = went.kept; more = went.more; on_this = λ k d less. anyway _ (went.on_this k d less); done = went.done; risen = went.risen }
     where
       anyway : (event : TraceEvent D) → IsDoneOn None event → IsDoneOn taken event
       anyway (Signs _ _) is = tt

@@ -16,6 +16,7 @@ use Rattle.simplex_member.specs.Lives.{SignedMember, HasGrown}
 use Rattle.simplex_member.specs.declared.member.journal.Stored.{Stored}
 use Rattle.simplex_laws.specs.Traces.{TraceEvent}
 use Rattle.simplex_laws.specs.Living.{DoesMore}
+use Rattle.simplex_laws.specs.LifeLaws.{WhileAlive}
 use Rattle.simplex_engine.specs.declared.journaled.Journaled.{Journaled}
 use Rattle.simplex_engine.specs.declared.outbox.Outbox.{Outbox}
 use Rattle.simplex_engine.specs.declared.output.Output.{Output}
@@ -27,8 +28,8 @@ use Rattle.simplex_engine.specs.Entries.{AreCopies}
 use Rattle.simplex_engine.specs.Outboxes.{IsLawful, HasBecome, HasStayed, IsStored, IsReplaced, IsRepeated}
 use Rattle.simplex_engine.specs.Outputs.{storing}
 use Rattle.simplex_engine.specs.Journals.{Journal, written_all, journal_of, IsBeginningOf}
-use Rattle.simplex_engine.specs.Going.{IsKept, GoesOn}
-use Rattle.simplex_engine.proofs.Going.{does_nothing}
+use Rattle.simplex_engine.specs.Going.{IsKept, GoesOn, HasRisen}
+use Rattle.simplex_engine.proofs.Going.{does_nothing, risen_not}
 use Rattle.simplex_engine.proofs.Journals.{behind_others, stored_behind, still_begun, stored_too, stored_whole, copied_votes}
 
 module _ {S L D K G C : Type 0} (bytes_of : C → List ℕ) (old new : Journaled S L D K G C) where
@@ -128,6 +129,7 @@ does_no_more {same = same} {elect = elect} {taken = taken} old new same_member k
   more = [];
   on_this = All-nil (IsDoneOn taken);
   done = subst (λ m. DoesMore same elect old.member.facts [] m.facts) (sym same_member) (does_nothing old.member.facts);
+  risen = subst (λ m. WhileAlive HasRisen old.member.facts.life m.facts.life) (sym same_member) (risen_not old.member.facts);
 }
 
 -- a record has as many entries as its artifacts are

@@ -17,6 +17,7 @@ mod Begun
 mod Backing
 mod Quiet
 mod Forgetting
+mod Within
 mod Bounds
 mod Dropping
 mod Planning

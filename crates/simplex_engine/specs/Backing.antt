@@ -7,7 +7,7 @@ use Rattle.simplex_engine.specs.declared.input.Input.{Input}
 use Rattle.simplex_engine.specs.declared.input.Input.TheVariants as input
 use Rattle.simplex_engine.specs.declared.journaled.Journaled.{Journaled}
 use Rattle.simplex_engine.specs.declared.votes.Vote.{Vote}
-use Rattle.simplex_engine.specs.Batching.{AreGiven}
+use Rattle.simplex_engine.specs.Batching.{AreGiven, HoldsNoOther}
 use Rattle.simplex_assembly.specs.Quorums.{quorum_of, AreRising}
 use Rattle.simplex_engine.specs.Going.{GoesOn}
 
@@ -17,13 +17,16 @@ votes_in (input.Vote vote) = vote ∷ []
 votes_in _ = []
 
 module _ {S D K G C : Type 0} where
-  -- each vote that is held is one of those that were handed in, with these behind them
+  -- each vote that is held is one of those that were handed in, with these behind them; the members are the same
   pub record TakesVotes (more : List (Vote D G)) (old new : Batcher S D K G C) : Type 0 where
     pub are_given : (given : List (Vote D G)) → AreGiven given old → AreGiven (given ++ more) new
+    pub scheme : new.scheme ≡ old.scheme
 
-  -- or without any
+  -- or without any: each vote that is held was held
   pub record TakesNone (old new : Batcher S D K G C) : Type 0 where
     pub are_given : (given : List (Vote D G)) → AreGiven given old → AreGiven given new
+    pub were_held : HoldsNoOther old new
+    pub scheme : new.scheme ≡ old.scheme
 
 -- votes of just n - f different members on the subject are among these
 pub record HasQuorum {D G : Type 0} (members : ℕ) (given : List (Vote D G)) (subject : Subject D) : Type 0 where

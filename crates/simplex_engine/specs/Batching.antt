@@ -48,6 +48,22 @@ module _ {S D K G C : Type 0} where
       → ballot_of (held batcher kind view) member ≡ Some ballot
       → Contains given (record { subject = ballot.subject; signer = member; signature = ballot.signature })
 
+  -- each vote that is held was held
+  abbrev pub HoldsNoOther : Batcher S D K G C → Batcher S D K G C → Type 0
+  HoldsNoOther old new =
+      (kind : Kind) (view member : ℕ) (ballot : Ballot D G)
+      → ballot_of (held new kind view) member ≡ Some ballot
+      → ballot_of (held old kind view) member ≡ Some ballot
+
+  -- each vote that is held is of a view and of a member of which this is true
+  abbrev pub EachVote : (ℕ → ℕ → Type 0) → Batcher S D K G C → Type 0
+  EachVote Holds batcher =
+      (kind : Kind) (view member : ℕ) (ballot : Ballot D G) → ballot_of (held batcher kind view) member ≡ Some ballot → Holds view member
+
+  -- each is of one of so many members, and of a view from the first one to this one
+  abbrev pub HoldsUpTo : ℕ → ℕ → Batcher S D K G C → Type 0
+  HoldsUpTo members highest = EachVote (λ view member. (1 ≤ view) × (view ≤ highest) × (member < members))
+
   -- no vote is held of a view below
   abbrev pub HoldsFrom : ℕ → Batcher S D K G C → Type 0
   HoldsFrom lowest batcher =

@@ -1,11 +1,12 @@
 -- A member with its outbox, from one moment of a life to a later one.
 use Rattle.std.specs.Prelude.{◌≡◌, ℕ, ◌≤◌, Bool, false, ◌||◌, List, ◌++◌, length, All, Option, is_none}
 use Rattle.simplex_types.specs.declared.types.messages.Subject.{Subject}
-use Rattle.simplex_voter.specs.Facts.{Elect}
+use Rattle.simplex_voter.specs.Facts.{Elect, StateFacts}
 use Rattle.simplex_member.specs.Lives.{MemberFacts}
 use Rattle.simplex_member.specs.declared.member.journal.Stored.{Stored}
 use Rattle.simplex_laws.specs.Traces.{TraceEvent}
 use Rattle.simplex_laws.specs.Living.{DoesMore}
+use Rattle.simplex_laws.specs.LifeLaws.{NeverFalls, WhileAlive}
 use Rattle.simplex_engine.specs.declared.journaled.Journaled.{Journaled}
 use Rattle.simplex_engine.specs.declared.output.Output.{Output}
 use Rattle.simplex_engine.specs.Outboxes.{IsLawful}
@@ -32,14 +33,20 @@ module _ {S L D K G C : Type 0} (bytes_of : C → List ℕ) where
   abbrev pub IsWholeAlive : Journaled S L D K G C → Type 0
   IsWholeAlive member = member.failed ≡ false → IsWhole member
 
+-- the terms are the same, and neither the current view nor the last finalized one falls
+pub record HasRisen {K L D : Type 0} (first last : StateFacts K L D) : Type 0 where
+  pub terms : last.terms ≡ first.terms
+  pub views : NeverFalls first last
+
 module _ {S L D K G C : Type 0} (same : D → D → Bool) (elect : Elect L) (bytes_of : C → List ℕ) (taken : Option (Subject D)) where
   -- what was kept stays kept, and what the member has done stays done; besides it accepts certificates on this subject alone,
-  -- and signs votes
+  -- and signs votes; and while it has not failed, its views do not fall
   pub record GoesOn (old new : Journaled S L D K G C) : Type 0 where
     pub kept : (given : List (Output S D Stored K G C)) → IsKept bytes_of given old → IsKept bytes_of given new
     pub more : List (TraceEvent D)
     pub on_this : All (IsDoneOn taken) more
     pub done : DoesMore same elect old.member.facts more new.member.facts
+    pub risen : WhileAlive HasRisen old.member.facts.life new.member.facts.life
 
 module _ {S L D K G C : Type 0} (bytes_of : C → List ℕ) where
   -- what was kept stays kept, with these outputs given out behind all that was

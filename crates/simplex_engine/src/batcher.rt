@@ -5,7 +5,7 @@
 //! a vote which is refused changes nothing. It holds at most one vote of each kind of each member in each view that was
 //! admitted and is not forgotten. That a vote's signature is good is tested before.
 
-ghost use Rattle.std.specs.Prelude.{◌≡◌, ◌≢◌, ◌++◌, ◌∷◌, [], ℕ, true, length, IfOk, OnOk, OnErr, MatchOption};
+ghost use Rattle.std.specs.Prelude.{◌≡◌, ◌≢◌, ◌≤◌, ◌++◌, ◌∷◌, [], ℕ, true, length, IfOk, OnOk, OnErr, MatchOption};
 ghost use Rattle.std.specs.FinMap as map;
 ghost use Rattle.simplex_types.specs.Viewed.{subject_view};
 ghost use Rattle.simplex_engine.specs.Polls.{slots_at, HoldsTheSame};
@@ -51,7 +51,7 @@ pub struct Batcher<S: CertificateScheme, D> {
 }
 
 impl<S: Assembly<D>, D: Digest> Batcher<S, D> {
-    ghost use Rattle.simplex_engine.specs.Batching.{held, kind_of, AreGiven, AreGood, IsGoodIfCertified, HoldsNothing, HoldsAllTheSame, HoldsFrom, KeepsOthers, MayCount, IsCounted, IsForgotten};
+    ghost use Rattle.simplex_engine.specs.Batching.{held, kind_of, AreGiven, AreGood, IsGoodIfCertified, HoldsNothing, HoldsAllTheSame, HoldsNoOther, HoldsUpTo, HoldsFrom, KeepsOthers, MayCount, IsCounted, IsForgotten};
 
     /// A batcher of the scheme's members that holds nothing.
     pub fn new(alloc: Global, scheme: S) -> Batcher<S, D>
@@ -75,6 +75,7 @@ impl<S: Assembly<D>, D: Digest> Batcher<S, D> {
     ///
     /// - `given`: of each member it holds votes alone that were handed in.
     /// - `good`: where each vote that was handed in is good, so is a certificate that is answered: `verify` finds it good.
+    /// - `within`: votes are held of members alone, and of views up to the highest one that is admitted.
     pub fn count(
         &mut self,
         vote: Vote<D, S::Signature>,
@@ -87,6 +88,9 @@ impl<S: Assembly<D>, D: Digest> Batcher<S, D> {
         ensures good { (given : _) → AreGiven given self.old
             → AreGood S.IsSignature (S.participants self.old.scheme) (given ++ vote ∷ [])
             → IfOk result (IsGoodIfCertified (S.accepts self.old.scheme)) }
+        ensures within { let members = length (S.participants self.old.scheme) in (highest : ℕ)
+            → (is_admitted ≡ true → (1 ≤ subject_view vote.subject) × (subject_view vote.subject ≤ highest))
+            → HoldsUpTo members highest self.old → HoldsUpTo members highest self.new }
         ensures scheme { self.new.scheme ≡ self.old.scheme }
     {
         self.count_vote(vote, is_admitted)
@@ -154,6 +158,7 @@ impl<S: Assembly<D>, D: Digest> Batcher<S, D> {
     /// Forgets the votes of the views below.
     pub fn forget(&mut self, lowest: View)
         ensures forgotten { IsForgotten lowest self.old self.new }
+        ensures fewer { HoldsNoOther self.old self.new }
         ensures lowest { HoldsFrom lowest self.new }
         ensures given { (given : _) → AreGiven given self.old → AreGiven given self.new }
         ensures scheme { self.new.scheme ≡ self.old.scheme }

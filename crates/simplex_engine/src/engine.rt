@@ -58,7 +58,7 @@ impl<S: Assembly<D>, L: Elector<S>, D: Digest> Engine<S, L, D> {
     ghost use Rattle.simplex_engine.specs.Planning.{IsIdle};
     ghost use Rattle.simplex_engine.specs.Inputs.{subject_in, given_out};
     ghost use Rattle.simplex_engine.specs.Backing.{votes_in, TakesVotes, TakesNone, IsBackedInput};
-    ghost use Rattle.simplex_engine.specs.Bounds.{HoldsFromKept, FetchesAhead};
+    ghost use Rattle.simplex_engine.specs.Bounds.{HoldsFromKept, FetchesAhead, HoldsNoneAhead, StaysBounded, HoldsAdmitted};
     ghost use Rattle.simplex_engine.specs.Dropping.{IsDropped};
     ghost use Rattle.simplex_engine.specs.Admitting.{is_admitted, IsTurnedAway, ignoring};
 
@@ -76,6 +76,7 @@ impl<S: Assembly<D>, L: Elector<S>, D: Digest> Engine<S, L, D> {
     ///   verdict leaves its moment all the same, and after the verdict none is waited for.
     /// - `unadmitted`: a proposal, a vote or a certificate that is not admitted is of no use, and changes nothing but how many
     ///   inputs were; a proposal that comes early may be kept.
+    /// - `bounded`: where each vote that is held was a member's, and of no view above those whose votes are taken, each still is.
     /// - `failed`, `refused`: after an error it has failed; one that has failed answers `Failed`, and nothing changes.
     ///
     /// # Errors
@@ -89,6 +90,7 @@ impl<S: Assembly<D>, L: Elector<S>, D: Digest> Engine<S, L, D> {
         ensures dropped { IfOk result (λ is_of_use. IsFalse is_of_use → IsDropped now input self.old self.new) }
         ensures unadmitted { IsFalse (is_admitted S.certificate_bytes self.old.core.member.facts input) → IfOk result (λ is_of_use.
             IsFalse is_of_use × IsTurnedAway input (ignoring self.old) self.new) }
+        ensures bounded { StaysBounded S.participants self.old.core self.old.batcher self.new.core self.new.batcher }
         ensures failed { OnErr result (has_failed self.new.core ≡ true) }
         ensures refused { has_failed self.old.core ≡ true → (result ≡ Err Failed) × (self.new ≡ self.old) }
     {
@@ -109,13 +111,15 @@ impl<S: Assembly<D>, L: Elector<S>, D: Digest> Engine<S, L, D> {
     ///
     /// - `given`: what is answered is given out.
     /// - `does`: no certificate is accepted.
-    /// - `votes`, `failed`, `refused`: as of `handle`.
+    /// - `votes`, `bounded`, `failed`, `refused`: as of `handle`.
     /// - `none`: where nothing is answered, all of the record was given out to be stored, and the member was asked last for all
     ///   its work, its votes on the current view and the certificates of it, and had nothing new.
     /// - `idle`: where nothing is answered, nothing is to be done at the moment: no step is queued, the timeout was asked for, and
     ///   no fetch is due.
     /// - `lowest`, `ahead`: where nothing is answered, no vote is held of a view below the lowest one that is kept, and each open
     ///   fetch is of a view above the last finalized one.
+    /// - `admitted`: so each vote that is held is a member's, and of a view whose votes are taken: at most three of each member a
+    ///   view.
     ///
     /// # Errors
     ///
@@ -127,7 +131,10 @@ impl<S: Assembly<D>, L: Elector<S>, D: Digest> Engine<S, L, D> {
         ensures idle { IfOk result (λ out. IsNone out → IsIdle now self.new.plan) }
         ensures lowest { IfOk result (λ out. IsNone out → HoldsFromKept self.new.core self.new.batcher) }
         ensures ahead { IfOk result (λ out. IsNone out → FetchesAhead self.new.core self.new.plan.fetches.wanted.items) }
+        ensures admitted { HoldsNoneAhead S.participants self.old.core self.old.batcher
+            → IfOk result (λ out. IsNone out → HoldsAdmitted S.participants self.new.core self.new.batcher) }
         ensures votes { TakesNone self.old.batcher self.new.batcher }
+        ensures bounded { StaysBounded S.participants self.old.core self.old.batcher self.new.core self.new.batcher }
         ensures failed { OnErr result (has_failed self.new.core ≡ true) }
         ensures refused { has_failed self.old.core ≡ true → (result ≡ Err Failed) × (self.new ≡ self.old) }
     {
@@ -149,6 +156,7 @@ impl<S: Assembly<D>, L: Elector<S>, D: Digest> Engine<S, L, D> {
         ensures lowest { IfOk result (λ out. IsNone out → HoldsFromKept self.new.core self.new.batcher) }
         ensures ahead { IfOk result (λ out. IsNone out → FetchesAhead self.new.core self.new.plan.fetches.wanted.items) }
         ensures votes { TakesNone self.old.batcher self.new.batcher }
+        ensures bounded { StaysBounded S.participants self.old.core self.old.batcher self.new.core self.new.batcher }
         ensures failed { OnErr result (has_failed self.new.core ≡ true) }
     {
         match self.work(now) {

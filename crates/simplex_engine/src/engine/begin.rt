@@ -71,14 +71,15 @@ impl<S: Assembly<D>, L: Elector<S>, D: Digest> Engine<S, L, D> {
     ghost use Rattle.simplex_member.specs.Journal.{IsResumed};
     ghost use Rattle.simplex_member.specs.Start.{started_member};
     ghost use Rattle.simplex_laws.specs.Living.{HasBegun, HasGoneOn};
+    ghost use Rattle.simplex_engine.specs.Bounds.{HoldsNoneAhead};
 
     /// The engine of a member that begins at a floor, where nothing was stored.
     ///
     /// The elector's members are the scheme's participants.
     /// - `started`: its member is the one that `LawfulMember::start` makes.
     /// - `begins`: it has accepted the floor's finalization, if there is one, and done nothing else.
-    /// - `kept`, `whole`, `votes`: nothing was given out, the whole record stands to be stored in place of all that is, and no vote
-    ///   is held.
+    /// - `kept`, `whole`, `votes`, `bounded`: nothing was given out, the whole record stands to be stored in place of all that is,
+    ///   and no vote is held.
     ///
     /// # Errors
     ///
@@ -92,6 +93,7 @@ impl<S: Assembly<D>, L: Elector<S>, D: Digest> Engine<S, L, D> {
         ensures kept { IfOk result (λ engine. IsKept S.certificate_bytes [] engine.core) }
         ensures whole { IfOk result (λ engine. IsWhole S.certificate_bytes engine.core) }
         ensures votes { IfOk result (λ engine. AreGiven [] engine.batcher) }
+        ensures bounded { IfOk result (λ engine. HoldsNoneAhead S.participants engine.core engine.batcher) }
         ensures started { IfOk result (λ engine. engine.core.member.facts ≡ started_member D.eq L.elect
             (set_up S.me S.participants L.terms L.elects_early start.settings)
             (floor_facts S.certificate_bytes start.floor) start.now) }
@@ -110,7 +112,7 @@ impl<S: Assembly<D>, L: Elector<S>, D: Digest> Engine<S, L, D> {
     /// - `resumed`: its member is the one that `LawfulMember::resume` makes.
     /// - `goes_on`: in terms of the same length and with the key of the same member or none, what was done before stays done,
     ///   and the floor's finalization is accepted too.
-    /// - `kept`, `whole`, `votes`: as of `start`.
+    /// - `kept`, `whole`, `votes`, `bounded`: as of `start`.
     ///
     /// # Errors
     ///
@@ -126,6 +128,7 @@ impl<S: Assembly<D>, L: Elector<S>, D: Digest> Engine<S, L, D> {
         ensures kept { IfOk result (λ engine. IsKept S.certificate_bytes [] engine.core) }
         ensures whole { IfOk result (λ engine. IsWhole S.certificate_bytes engine.core) }
         ensures votes { IfOk result (λ engine. AreGiven [] engine.batcher) }
+        ensures bounded { IfOk result (λ engine. HoldsNoneAhead S.participants engine.core engine.batcher) }
         ensures resumed { IfOk result (λ engine. IsResumed D.eq L.elect stored
             (entries_of S.certificate_bytes entries.items)
             (start_facts S.me S.participants L.terms L.elects_early S.certificate_bytes start) engine.core.member.facts) }

@@ -41,7 +41,7 @@ impl<S: Assembly<D>, L: Elector<S>, D: Digest> Engine<S, L, D> {
     ghost use Rattle.simplex_engine.specs.Backing.{votes_in, TakesVotes, TakesNone, IsBacked, IsBackedInput};
     ghost use Rattle.simplex_engine.specs.Quiet.{current_view, for_all, for_work, for_votes, for_certificates, AnswersNothing, AnswerNothing, HasNothingNew};
     ghost use Rattle.simplex_engine.specs.Planning.{IsIdle};
-    ghost use Rattle.simplex_engine.specs.Bounds.{HoldsFromKept, FetchesAhead};
+    ghost use Rattle.simplex_engine.specs.Bounds.{HoldsFromKept, FetchesAhead, StaysBounded};
     ghost use Rattle.simplex_voter.specs.Windows.{min_active};
     ghost use Rattle.simplex_engine.specs.Batching.{HoldsAllTheSame};
     ghost use Rattle.simplex_engine.specs.Subjects.{subject_round};
@@ -58,6 +58,7 @@ impl<S: Assembly<D>, L: Elector<S>, D: Digest> Engine<S, L, D> {
         ensures dropped { IfOk result (λ is_of_use. IsFalse is_of_use → IsDropped now input self.old self.new) }
         ensures unadmitted { IsFalse (is_admitted S.certificate_bytes self.old.core.member.facts input) → IfOk result (λ is_of_use.
             IsFalse is_of_use × IsTurnedAway input (ignoring self.old) self.new) }
+        ensures bounded { StaysBounded S.participants self.old.core self.old.batcher self.new.core self.new.batcher }
     {
         let is_of_use = self.take_in(input, now)?;
         if !is_of_use {
@@ -75,6 +76,7 @@ impl<S: Assembly<D>, L: Elector<S>, D: Digest> Engine<S, L, D> {
         ensures dropped { IfOk result (λ is_of_use. IsFalse is_of_use → IsDropped now input self.old self.new) }
         ensures unadmitted { IsFalse (is_admitted S.certificate_bytes self.old.core.member.facts input) → IfOk result (λ is_of_use.
             IsFalse is_of_use × IsTurnedAway input self.old self.new) }
+        ensures bounded { StaysBounded S.participants self.old.core self.old.batcher self.new.core self.new.batcher }
     {
         match input {
             Input::Proposal(from, proposal) => self.offer(from, proposal, now),
@@ -492,6 +494,7 @@ impl<S: Assembly<D>, L: Elector<S>, D: Digest> Engine<S, L, D> {
             → (self.new.core ≡ self.old.core) × HoldsAllTheSame self.old.batcher self.new.batcher) }
         ensures unadmitted { IsFalse (is_so (λ x. admits_votes x (subject_round vote.subject)) self.old.core.member.facts)
             → (result ≡ Ok false) × (self.new ≡ self.old) }
+        ensures bounded { StaysBounded S.participants self.old.core self.old.batcher self.new.core self.new.batcher }
     {
         if !self.admits_votes(round_of(&vote.subject)) {
             return Ok(false);
@@ -507,6 +510,8 @@ impl<S: Assembly<D>, L: Elector<S>, D: Digest> Engine<S, L, D> {
             (vote ∷ []) vote.subject self.old.batcher self.old.core self.new.core }
         ensures dropped { IfOk result (λ is_of_use. IsFalse is_of_use
             → (self.new.core ≡ self.old.core) × HoldsAllTheSame self.old.batcher self.new.batcher) }
+        ensures bounded { IsTrue (is_so (λ x. admits_votes x (subject_round vote.subject)) self.old.core.member.facts)
+            → StaysBounded S.participants self.old.core self.old.batcher self.new.core self.new.batcher }
     {
         match self.batcher.count(vote, true)? {
             Counted::Certified(certificate) => {

@@ -1,5 +1,6 @@
+-- That what is left was held, and is not of a view below.
 use Rattle.simplex_engine.proofs.Given.{forgotten_given}
-use Rattle.simplex_engine.proofs.Forgetting.{forgotten_from}
+use Rattle.simplex_engine.proofs.Forgetting.{forgotten_other, forgotten_from}
 use Rattle.simplex_engine.proofs.batcher.Batcher.forget.Goals as goal
 
 pub returns-clause-given : goal.returns-clause-given
@@ -9,3 +10,7 @@ returns-clause-given g c = λ given are.
 pub returns-clause-lowest : goal.returns-clause-lowest
 returns-clause-lowest g c =
     forgotten_from c.args.self.now (record c.args.self.now { notarize = c.drop_below.new.self; nullify = c.drop_below-2.new.self; finalize = c.drop_below-3.new.self }) c.args.lowest (c.drop_below.ensures, c.drop_below-2.ensures, c.drop_below-3.ensures)
+
+pub returns-clause-fewer : goal.returns-clause-fewer
+returns-clause-fewer g c =
+    forgotten_other c.args.self.now (record c.args.self.now { notarize = c.drop_below.new.self; nullify = c.drop_below-2.new.self; finalize = c.drop_below-3.new.self }) c.args.lowest (c.drop_below.ensures, c.drop_below-2.ensures, c.drop_below-3.ensures)

@@ -3,6 +3,7 @@ use Rattle.std.proofs.Common.{◌≡◌, sym, subst}
 use Rattle.std.specs.Prelude.{IfSome}
 use Rattle.simplex_voter.specs.Windows.{min_active}
 use Rattle.simplex_engine.specs.Planning.{IsIdle}
+use Rattle.simplex_engine.proofs.Backing.{takes_no_more}
 use Rattle.simplex_engine.proofs.Bounds.{kept_from, ahead_of}
 use Rattle.simplex_engine.proofs.engine.Engine.let_go.Goals as goal
 
@@ -22,3 +23,7 @@ returns-clause-ahead g c =
     (subst (λ m. IfSome m.facts.life (λ x. (min_active x ≡ c.in_ok-horizon.horizon.lowest) × (x.finalized ≡ c.in_ok-horizon.horizon.finalized)))
     (sym c.tell_forgotten.ensures.member) c.in_ok-horizon.ensures)
     c.pass.ensures.ahead
+
+pub returns-clause-votes : goal.returns-clause-votes
+returns-clause-votes g c =
+    takes_no_more c.tell_forgotten.ensures.votes (record { are_given = c.forget.ensures.given; were_held = c.forget.ensures.fewer; scheme = c.forget.ensures.scheme })

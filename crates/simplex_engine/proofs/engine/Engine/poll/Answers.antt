@@ -1,6 +1,7 @@
--- That nothing is done where nothing but the next output is taken.
+-- That nothing is done where nothing but the next output is taken, and that each vote which is held is of a view that takes votes.
 use Rattle.std.proofs.Common.{refl}
-use Rattle.simplex_engine.proofs.Going.{does_nothing_more}
+use Rattle.simplex_engine.proofs.Bounds.{bounded_same, bounded_admitted}
+use Rattle.simplex_engine.proofs.Going.{does_nothing_more, where_ok}
 use Rattle.simplex_engine.proofs.engine.Engine.poll.Goals as goal
 
 pub returns-then-has_failed-clause-does : goal.returns-then-has_failed-clause-does
@@ -8,3 +9,17 @@ returns-then-has_failed-clause-does g c = does_nothing_more c.args.self.now.core
 
 pub returns-in-Some-clause-does : goal.returns-in-Some-clause-does
 returns-in-Some-clause-does g c = does_nothing_more c.args.self.now.core c.next.new.self c.next.ensures.same.0
+
+pub returns-then-has_failed-clause-bounded : goal.returns-then-has_failed-clause-bounded
+returns-then-has_failed-clause-bounded g c = bounded_same g.S.CertificateScheme.participants c.args.self.now.core c.args.self.now.core c.args.self.now.batcher refl
+
+pub returns-in-Some-clause-bounded : goal.returns-in-Some-clause-bounded
+returns-in-Some-clause-bounded g c = bounded_same g.S.CertificateScheme.participants c.args.self.now.core c.next.new.self c.args.self.now.batcher c.next.ensures.same.0
+
+pub returns-in-None-clause-admitted : goal.returns-in-None-clause-admitted
+returns-in-None-clause-admitted g c = λ within.
+    let keys_of = g.S.CertificateScheme.participants in
+    let same = bounded_same keys_of c.args.self.now.core c.next.new.self c.args.self.now.batcher c.next.ensures.same.0 in
+    where_ok c.poll_after_work.result c.poll_after_work.ensures.lowest
+    (λ out lowest none. bounded_admitted keys_of c.poll_after_work.new.self.core c.poll_after_work.new.self.batcher
+    (c.poll_after_work.ensures.bounded.stays (same.stays within)) (lowest none))

@@ -6,6 +6,8 @@ use Rattle.simplex_engine.specs.Batching.{HoldsFrom}
 use Rattle.simplex_engine.specs.declared.fetches.Fetch.{Fetch}
 use Rattle.simplex_engine.specs.Going.{has_failed}
 use Rattle.simplex_engine.specs.Quiet.{HasNothingNew}
+use Rattle.simplex_engine.proofs.Backing.{takes_nothing}
+use Rattle.simplex_engine.proofs.Bounds.{bounded_still, bounded_further, bounded_same}
 use Rattle.simplex_engine.proofs.Going.{goes_further, gives_nothing, does_more}
 use Rattle.simplex_engine.proofs.engine.Engine.poll_after_work.Goals as goal
 
@@ -50,3 +52,13 @@ pub returns-in-Ok-clause-ahead : goal.returns-in-Ok-clause-ahead
 returns-in-Ok-clause-ahead g c none =
     subst (λ m. IfSome m.facts.life (λ x. All (λ (fetch : Fetch). x.finalized < fetch.view) c.work.new.self.plan.fetches.wanted.items))
     (sym c.next.ensures.same.0) c.in-Ok.ensures.ahead
+
+pub returns-in-Ok-clause-bounded : goal.returns-in-Ok-clause-bounded
+returns-in-Ok-clause-bounded g c =
+    bounded_further g.S.CertificateScheme.participants (bounded_still g.S.CertificateScheme.participants c.work.ensures.goes_on c.work.ensures.votes)
+    (bounded_same g.S.CertificateScheme.participants c.work.new.self.core c.next.new.self c.work.new.self.batcher c.next.ensures.same.0)
+
+pub returns-in-Err-clause-bounded : goal.returns-in-Err-clause-bounded
+returns-in-Err-clause-bounded g c =
+    bounded_further g.S.CertificateScheme.participants (bounded_still g.S.CertificateScheme.participants c.work.ensures.goes_on c.work.ensures.votes)
+    (bounded_still g.S.CertificateScheme.participants c.fail.ensures.goes_on (takes_nothing c.work.new.self.batcher))

@@ -4,6 +4,7 @@ use Rattle.simplex_record.specs.Entries.{entries_of}
 use Rattle.simplex_record.specs.Start.{start_facts}
 use Rattle.simplex_member.specs.Journal.{IsResumed}
 use Rattle.simplex_laws.specs.Living.{HasGoneOn}
+use Rattle.simplex_engine.proofs.Bounds.{bounded_empty}
 use Rattle.simplex_engine.proofs.Going.{where_ok}
 use Rattle.simplex_engine.proofs.engine.Engine.resume.Goals as goal
 
@@ -20,3 +21,7 @@ returns-in-Ok-clause-goes_on g c =
     where_ok c.begin.result c.begin.ensures.member
     (λ engine is. subst (λ m. HasGoneOn g.D.PartialEq.eq g.L.Elector.elect g.S.CertificateScheme.me g.L.Elector.terms c.args.stored
     (entries_of g.S.CertificateScheme.certificate_bytes c.args.entries.items) c.args.start m.facts) (sym is) c.in-Ok.ensures.goes_on)
+
+pub returns-in-Ok-clause-bounded : goal.returns-in-Ok-clause-bounded
+returns-in-Ok-clause-bounded g c =
+    where_ok c.begin.result (c.begin.ensures.votes c.in_ok-company.ensures) (λ engine none. bounded_empty g.S.CertificateScheme.participants engine.core engine.batcher none)

@@ -14,3 +14,9 @@ loop-preserved g c = record {
   goes_on = goes_further c.loop.invariant.goes_on c.is_settled.ensures.goes_on;
   votes = takes_no_more c.loop.invariant.votes c.is_settled.ensures.votes;
 }
+
+pub returns-in_err-is_settled-clause-votes : goal.returns-in_err-is_settled-clause-votes
+returns-in_err-is_settled-clause-votes g c = takes_no_more c.loop.invariant.votes c.is_settled.ensures.votes
+
+pub returns-then-branch-clause-votes : goal.returns-then-branch-clause-votes
+returns-then-branch-clause-votes g c = takes_no_more c.loop.invariant.votes c.is_settled.ensures.votes

@@ -4,6 +4,7 @@ use Rattle.simplex_types.specs.Config.{floor_facts}
 use Rattle.simplex_record.specs.Start.{set_up}
 use Rattle.simplex_member.specs.Start.{started_member}
 use Rattle.simplex_laws.specs.Living.{HasBegun}
+use Rattle.simplex_engine.proofs.Bounds.{bounded_empty}
 use Rattle.simplex_engine.proofs.Going.{where_ok}
 use Rattle.simplex_engine.proofs.engine.Engine.start.Goals as goal
 
@@ -18,3 +19,7 @@ pub returns-in-Ok-clause-begins : goal.returns-in-Ok-clause-begins
 returns-in-Ok-clause-begins g c =
     where_ok c.begin.result c.begin.ensures.member
     (λ engine is. subst (λ m. HasBegun g.D.PartialEq.eq g.L.Elector.elect g.S.CertificateScheme.me g.L.Elector.terms c.args.start m.facts) (sym is) c.in-Ok.ensures.begins)
+
+pub returns-in-Ok-clause-bounded : goal.returns-in-Ok-clause-bounded
+returns-in-Ok-clause-bounded g c =
+    where_ok c.begin.result (c.begin.ensures.votes c.in_ok-company.ensures) (λ engine none. bounded_empty g.S.CertificateScheme.participants engine.core engine.batcher none)

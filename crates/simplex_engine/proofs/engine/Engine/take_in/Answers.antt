@@ -4,6 +4,7 @@ use Rattle.simplex_engine.specs.Going.{GoesOn}
 use Rattle.simplex_engine.specs.Inputs.{subject_in}
 use Rattle.simplex_engine.specs.Backing.{votes_in, TakesVotes, IsBackedInput}
 use Rattle.simplex_engine.proofs.Backing.{takes_anyway}
+use Rattle.simplex_engine.proofs.Bounds.{bounded_still}
 use Rattle.simplex_engine.proofs.engine.Engine.take_in.Goals as goal
 
 pub returns-in-Proposal-clause-goes_on : goal.returns-in-Proposal-clause-goes_on
@@ -117,3 +118,24 @@ returns-in-GivenUp-clause-backed g c =
     subst (λ what. IsBackedInput g.D.PartialEq.eq g.L.Elector.elect g.S.CertificateScheme.certificate_bytes
     (length (g.S.CertificateScheme.participants c.args.self.now.batcher.scheme)) what c.args.self.now.batcher c.args.self.now.core c.ask-in-GivenUp.new.self.core)
     (sym c.in-GivenUp.is) tt
+
+pub returns-in-Proposal-clause-bounded : goal.returns-in-Proposal-clause-bounded
+returns-in-Proposal-clause-bounded g c = bounded_still g.S.CertificateScheme.participants c.offer.ensures.goes_on c.offer.ensures.votes
+
+pub returns-in-Certificate-clause-bounded : goal.returns-in-Certificate-clause-bounded
+returns-in-Certificate-clause-bounded g c = bounded_still g.S.CertificateScheme.participants c.accept.ensures.goes_on c.accept.ensures.votes
+
+pub returns-in-Verified-clause-bounded : goal.returns-in-Verified-clause-bounded
+returns-in-Verified-clause-bounded g c = bounded_still g.S.CertificateScheme.participants c.verified.ensures.goes_on c.verified.ensures.votes
+
+pub returns-in-Built-clause-bounded : goal.returns-in-Built-clause-bounded
+returns-in-Built-clause-bounded g c = bounded_still g.S.CertificateScheme.participants c.build.ensures.goes_on c.build.ensures.votes
+
+pub returns-in-Certified-clause-bounded : goal.returns-in-Certified-clause-bounded
+returns-in-Certified-clause-bounded g c = bounded_still g.S.CertificateScheme.participants c.ask.ensures.goes_on c.ask.ensures.votes
+
+pub returns-in-GivenUp-clause-bounded : goal.returns-in-GivenUp-clause-bounded
+returns-in-GivenUp-clause-bounded g c = bounded_still g.S.CertificateScheme.participants c.ask-in-GivenUp.ensures.goes_on c.ask-in-GivenUp.ensures.votes
+
+pub returns-in-Vote-clause-bounded : goal.returns-in-Vote-clause-bounded
+returns-in-Vote-clause-bounded g c = c.count.ensures.bounded

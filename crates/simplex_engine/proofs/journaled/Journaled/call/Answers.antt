@@ -7,6 +7,7 @@ use Rattle.simplex_laws.specs.Shown.{votes_in, taken_by}
 use Rattle.simplex_engine.specs.Doing.{IsDoneOn}
 use Rattle.simplex_engine.proofs.Doing.{call_on}
 use Rattle.simplex_engine.proofs.Dropping.{refused_left, dropped_left}
+use Rattle.simplex_engine.proofs.Going.{call_risen}
 use Rattle.simplex_engine.proofs.Kept.{called}
 use Rattle.simplex_engine.proofs.journaled.Journaled.call.Goals as goal
 
@@ -18,6 +19,7 @@ returns-clause-goes_on g c taken may =
       more = taken_by c.args.call c.call.result ++ votes_in c.call.result;
       on_this = call_on taken c.args.call c.call.result may;
       done = c.call.ensures.goes_on;
+      risen = call_risen g.D.PartialEq.eq g.L.Elector.elect old.member.facts _ _ c.call.new.self.facts c.call.ensures.answered;
     }
 
 pub returns-clause-quiet : goal.returns-clause-quiet

@@ -1,8 +1,11 @@
 use Rattle.std.proofs.Common.{◌≡◌, [], true, None, refl, sym, subst, ◌∙◌, length, arith}
 use Rattle.std.proofs.lemmas.List.Elements.{All-nil}
+use Rattle.simplex_laws.specs.LifeLaws.{WhileAlive}
 use Rattle.simplex_member.specs.Journal.{stored_of}
 use Rattle.simplex_engine.specs.Doing.{IsDoneOn}
+use Rattle.simplex_engine.specs.Going.{HasRisen}
 use Rattle.simplex_engine.specs.Outboxes.{IsReplaced}
+use Rattle.simplex_engine.proofs.Going.{risen_not}
 use Rattle.simplex_engine.proofs.Kept.{replaced, ended, counted}
 use Rattle.simplex_engine.proofs.journaled.Journaled.prune_record.Goals as goal
 
@@ -20,6 +23,7 @@ returns-in-Ok-clause-goes_on g c =
       more = [];
       on_this = All-nil (IsDoneOn None);
       done = c.prune_record.ensures.goes_on;
+      risen = subst (λ m. WhileAlive HasRisen old.member.facts.life m.life) (sym c.prune_record.ensures.pruned) (risen_not old.member.facts);
     }
 
 pub returns-in-Err-clause-goes_on : goal.returns-in-Err-clause-goes_on
@@ -31,6 +35,7 @@ returns-in-Err-clause-goes_on g c =
       more = [];
       on_this = All-nil (IsDoneOn None);
       done = c.prune_record.ensures.goes_on;
+      risen = subst (λ m. WhileAlive HasRisen old.member.facts.life m.life) (sym c.prune_record.ensures.pruned) (risen_not old.member.facts);
     }
 
 pub returns-in-Ok-clause-whole : goal.returns-in-Ok-clause-whole
