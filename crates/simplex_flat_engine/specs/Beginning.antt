@@ -1,7 +1,7 @@
 -- How an engine behind a handle begins.
 use Rattle.std.specs.Prelude.{◌≡◌, ◌⊎◌, ◌≤◌, ℕ, List, [], length}
 use Rattle.simplex_host.specs.Electing.{terms_of}
-use Rattle.simplex_host.specs.Host.{certificate_bytes, signer_of}
+use Rattle.simplex_host.specs.Host.{certificate_bytes, keys_of, signer_of}
 use Rattle.simplex_record.specs.Entries.{entries_of}
 use Rattle.simplex_member.specs.Journal.{IsResumed}
 use Rattle.simplex_member.specs.declared.member.journal.Stored.{Stored}
@@ -11,6 +11,7 @@ use Rattle.simplex_engine.specs.declared.engine.begin.StartError.{StartError}
 use Rattle.simplex_engine.specs.declared.engine.begin.StartError.TheVariants as start_error
 use Rattle.simplex_engine.specs.declared.engine.plan.Options.{Options}
 use Rattle.simplex_engine.specs.Batching.{AreGiven}
+use Rattle.simplex_engine.specs.Bounds.{HoldsNoneAhead}
 use Rattle.simplex_engine.specs.Going.{IsWhole}
 use Rattle.simplex_flat.specs.declared.flat.FlatSettings.{FlatSettings}
 use Rattle.simplex_flat.specs.declared.opening.NotResumed.TheVariants as not_resumed
@@ -38,6 +39,7 @@ pub record HasGivenNothing (f : FlatSettings) (held : HeldEngine) : Type 0 where
   pub kept : IsAllGiven [] held
   pub whole : IsWhole certificate_bytes held.engine.core
   pub votes : AreGiven [] held.engine.batcher
+  pub bounded : HoldsNoneAhead keys_of held.engine.core held.engine.batcher
   pub draws : held.draws ≡ f.draws
   pub fresh : HasShownNothing held
 

@@ -6,7 +6,7 @@ use Rattle.simplex_host.specs.Host.{certificate_bytes, keys_of}
 use Rattle.simplex_engine.specs.declared.output.Output.TheVariants as output
 use Rattle.simplex_engine.specs.Admitting.{IsTurnedAway, ignoring, is_admitted}
 use Rattle.simplex_engine.specs.Backing.{IsBackedInput, TakesNone, TakesVotes, votes_in}
-use Rattle.simplex_engine.specs.Bounds.{FetchesAhead, HoldsFromKept}
+use Rattle.simplex_engine.specs.Bounds.{FetchesAhead, HoldsAdmitted, HoldsFromKept, HoldsNoneAhead, StaysBounded}
 use Rattle.simplex_engine.specs.Dropping.{IsDropped}
 use Rattle.simplex_engine.specs.Going.{DoesMoreOn, GoesOn, IsKept, IsWhole, has_failed}
 use Rattle.simplex_engine.specs.Inputs.{subject_in}
@@ -25,7 +25,7 @@ use Rattle.simplex_flat_engine.specs.declared.told.FlatInput.{FlatInput}
 use Rattle.simplex_flat_engine.specs.declared.told.FlatOutput.{FlatOutput}
 use Rattle.simplex_flat_engine.specs.declared.told.FlatTaken.{FlatTaken}
 use Rattle.simplex_flat_engine.specs.Inputs.{HandsInBytes, HasInputNumbers, HostInput, IsNoInput, IsToldAs}
-use Rattle.simplex_flat_engine.specs.Outputs.{HasOutputOf, HostOutput, other_signature, signature_in}
+use Rattle.simplex_flat_engine.specs.Outputs.{HasOutputOf, HostEngine, HostOutput, other_signature, signature_in}
 
 -- nothing was given out or shown yet, and nothing is lost
 pub record HasShownNothing (held : HeldEngine) : Type 0 where
@@ -54,6 +54,7 @@ pub record IsTaken (now : ℕ) (input : HostInput) (old : HeldEngine) (r : FlatT
   pub votes : TakesVotes (votes_in input) old.engine.batcher new.engine.batcher
   pub backed : IsBackedInput same_payload host_leader certificate_bytes (length (keys_of old.engine.batcher.scheme)) input old.engine.batcher
       old.engine.core new.engine.core
+  pub bounded : StaysBounded keys_of old.engine.core old.engine.batcher new.engine.core new.engine.batcher
   pub rest : new ≡ record old { engine = new.engine }
 
 -- or what it gave out was lost before, and it takes nothing
@@ -138,18 +139,20 @@ HoldsRecord given held =
     held.engine.core.failed ≡ false → held.engine.core.outbox.queue.items ≡ [] → IsWhole certificate_bytes held.engine.core
     → IsRecordOf certificate_bytes held.engine.core.member (journal_of given)
 
--- an engine has nothing more to do at a moment, and holds no vote or fetch of views that are over
-pub record IsAtRest (now : ℕ) (held : HeldEngine) : Type 0 where
-  pub settled : IsSettled same_payload host_leader certificate_bytes held.engine.core
-  pub idle : IsIdle now held.engine.plan
-  pub lowest : HoldsFromKept held.engine.core held.engine.batcher
-  pub ahead : FetchesAhead held.engine.core held.engine.plan.fetches.wanted.items
+-- an engine has nothing more to do at a moment, and holds no vote or fetch of views that are over; where no vote was held above
+-- those that are taken, each that is held is a member's, and of a view whose votes are taken
+pub record IsAtRest (now : ℕ) (old new : HostEngine) : Type 0 where
+  pub settled : IsSettled same_payload host_leader certificate_bytes new.core
+  pub idle : IsIdle now new.plan
+  pub lowest : HoldsFromKept new.core new.batcher
+  pub ahead : FetchesAhead new.core new.plan.fetches.wanted.items
+  pub admitted : HoldsNoneAhead keys_of old.core old.batcher → HoldsAdmitted keys_of new.core new.batcher
 
 -- what a poll comes to at a moment: something is given out; nothing is left to be done then; or the engine has failed
 abbrev pub IsOutcome : ℕ → HeldEngine → FlatOutput → HeldEngine → Type 0
 IsOutcome now old r new =
     ((out : HostOutput) × IsGivenOut out old.stored r new)
-    ⊎ (IsNothing 0 r new × IsAtRest now new)
+    ⊎ (IsNothing 0 r new × IsAtRest now old.engine new.engine)
     ⊎ ((fault : Fault) × IsNothing (fault_number fault) r new × (has_failed new.engine.core ≡ true))
 
 -- an engine that has lost nothing is asked what is to be carried out next at a moment
@@ -159,6 +162,7 @@ pub record IsAsked (now : ℕ) (old : HeldEngine) (r : FlatOutput) (new : HeldEn
   -- no certificate is accepted, and no vote is taken
   pub does : DoesMoreOn same_payload host_leader None old.engine.core.member.facts new.engine.core.member.facts
   pub votes : TakesNone old.engine.batcher new.engine.batcher
+  pub bounded : StaysBounded keys_of old.engine.core old.engine.batcher new.engine.core new.engine.batcher
   pub outcome : IsOutcome now old r new
   -- one that had failed tells only that, and stays as it was
   pub refused : has_failed old.engine.core ≡ true → IsNothing 2 r new × (new.engine ≡ old.engine)

@@ -2,12 +2,14 @@
 use Rattle.std.specs.Prelude.{◌≡◌, ℕ, List, []}
 use Rattle.simplex_types.specs.declared.types.messages.Certificate.TheVariants as certificate
 use Rattle.simplex_codec.specs.declared.digest.BytesDigest.{BytesDigest}
+use Rattle.simplex_host.specs.declared.elector.HostElector.{HostElector}
 use Rattle.simplex_host.specs.declared.scheme.HostCertificate.{HostCertificate}
 use Rattle.simplex_host.specs.declared.scheme.HostKey.{HostKey}
 use Rattle.simplex_host.specs.declared.scheme.HostScheme.{HostScheme}
 use Rattle.simplex_host.specs.declared.scheme.Order.{Order}
 use Rattle.simplex_host.specs.Host.{certificate_bytes}
 use Rattle.simplex_member.specs.declared.member.journal.Stored.{Stored}
+use Rattle.simplex_engine.specs.declared.engine.Engine.{Engine}
 use Rattle.simplex_engine.specs.declared.fetches.Ask.{Ask}
 use Rattle.simplex_engine.specs.declared.fetches.FetchKind.{FetchKind}
 use Rattle.simplex_engine.specs.declared.fetches.FetchKind.TheVariants as fetch
@@ -21,6 +23,10 @@ use Rattle.simplex_flat.specs.Replies.{IsContext}
 use Rattle.simplex_flat_engine.specs.declared.told.FlatOutput.{FlatOutput}
 use Rattle.simplex_flat_engine.specs.declared.told.FlatSubject.{FlatSubject}
 use Rattle.simplex_flat_engine.specs.Inputs.{HostCertified, HostVote, IsOn}
+
+-- an engine of the host
+abbrev pub HostEngine : Type 0
+HostEngine = Engine HostScheme HostElector (BytesDigest 32) HostKey Order HostCertificate
 
 -- what an engine of the host gives out
 abbrev pub HostOutput : Type 0

@@ -19,6 +19,7 @@ returns-in-Ok-Some c =
               (rw rest.0 given) c.give_out.ensures.given;
           does = rw rest.0 c.in-Ok-Some.ensures.does;
           votes = rw rest.0 c.in-Ok-Some.ensures.votes;
+          bounded = rw rest.0 c.in-Ok-Some.ensures.bounded;
           outcome = inl (c.in-Ok-Some.output, c.give_out.ensures.given);
           refused = λ had. absurd (false≢true (subst IsOk (sym c.in-Ok-Some.is ∙ (c.poll.ensures.refused had).0) refl));
         },
@@ -40,6 +41,7 @@ returns-in-Ok-None c =
               (sym c.requires.last) (given before (all going));
           does = c.in-Ok-None.ensures.does;
           votes = c.in-Ok-None.ensures.votes;
+          bounded = c.in-Ok-None.ensures.bounded;
           outcome = inr (inl (
             record { status_is = told.status; nothing = told.nothing.0; last = c.requires.last },
             record {
@@ -47,6 +49,7 @@ returns-in-Ok-None c =
               idle = (rw none at c.in-Ok-None.ensures.idle) refl;
               lowest = (rw none at c.in-Ok-None.ensures.lowest) refl;
               ahead = (rw none at c.in-Ok-None.ensures.ahead) refl;
+              admitted = λ before. (rw none at c.in-Ok-None.ensures.admitted before) refl;
             },
           ));
           refused = λ had. absurd (false≢true (subst IsOk (sym c.in-Ok-None.is ∙ (c.poll.ensures.refused had).0) refl));

@@ -23,6 +23,7 @@ returns-in-Ok-resume-clause-resumed c =
         kept = λ _. rw c.new.ensures.engine c.in-Ok-resume.ensures.kept;
         whole = rw c.new.ensures.engine c.in-Ok-resume.ensures.whole;
         votes = rw c.new.ensures.engine c.in-Ok-resume.ensures.votes;
+        bounded = rw c.new.ensures.engine c.in-Ok-resume.ensures.bounded;
         draws = c.new.ensures.draws;
         fresh = c.new.ensures.fresh;
       };

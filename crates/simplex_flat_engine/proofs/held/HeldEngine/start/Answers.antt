@@ -14,6 +14,7 @@ returns-in-Ok-start-clause-begun c = record {
     kept = λ _. rw c.new.ensures.engine c.in-Ok-start.ensures.kept;
     whole = rw c.new.ensures.engine c.in-Ok-start.ensures.whole;
     votes = rw c.new.ensures.engine c.in-Ok-start.ensures.votes;
+    bounded = rw c.new.ensures.engine c.in-Ok-start.ensures.bounded;
     draws = c.new.ensures.draws;
     fresh = c.new.ensures.fresh;
   };
