@@ -61,7 +61,7 @@ counters! {
     /// Fetches that are open.
     open_fetches: "gauge",
     /// Inputs that were of no use to the engine.
-    not_allowed: "counter",
+    ignored_inputs: "counter",
     /// Times that the disk was waited for.
     syncs: "counter",
     /// Microseconds that the disk was waited for.

@@ -372,7 +372,7 @@ impl<A: Application> Replica<A> {
         counters.height.store(self.parts.application.height(), Relaxed);
         counters.journal_bytes.store(self.parts.journal.bytes(), Relaxed);
         counters.record_entries.store(self.parts.journal.entries(), Relaxed);
-        counters.not_allowed.store(self.parts.engine.ignored(), Relaxed);
+        counters.ignored_inputs.store(self.parts.engine.ignored(), Relaxed);
         if self.parts.settings.trial.fault == Some(Fault::Jumps) && self.parts.clock.jump(AN_HOUR, views.current.get()) {
             info!(view = views.current.get(), "the clock jumps");
         }
