@@ -1,10 +1,11 @@
 #!/usr/bin/env python3
 """That what stands twice in the repository stands there with the same content.
 
-The program is deterministic: the same lines behind the same arguments have the same reply wherever they are written, in the
-tables of `crates/simplex_program_tests/src/program`, in `docs/PROGRAM.md`, the program's own run and the stored schedules. And
-copies of source, output, numbers and names in the docs are those of what they are copied from. A must-fail edit names a text of
-the source, which still stands there.
+The program is deterministic: the same lines behind the same arguments have the same reply wherever they are written, in the pages
+of `tests/scripts`, in `docs/PROGRAM.md`, the program's own run and the stored schedules. The tables of
+`crates/simplex_program_tests/src/program` are those that `tests/lib/tables.py` writes from these pages. And copies of source,
+output, numbers and names in the docs are those of what they are copied from. A must-fail edit names a text of the source, which
+still stands there.
 
     tests/copies.py [--program PATH]       with a built program, the picture in docs/TESTED.md too
 
@@ -17,7 +18,7 @@ import sys
 import edits
 import wrong_bodies
 import wrong_definitions
-from lib import schedules, scripts
+from lib import schedules, scripts, tables
 from lib.draw import drawn
 from lib.floors import lacking
 from lib.member import Served
@@ -152,7 +153,7 @@ def main():
     parser = argparse.ArgumentParser(description=__doc__, formatter_class=argparse.RawDescriptionHelpFormatter)
     parser.add_argument("--program", help="a built program, which draws the picture")
     given = parser.parse_args()
-    checks = (differing_replies, doubled_names, source_copies, numbered_names, listed_names, edits_not_made)
+    checks = (differing_replies, doubled_names, tables.differing, source_copies, numbered_names, listed_names, edits_not_made)
     faults = [fault for check in checks for fault in check()]
     faults += picture(given.program) if given.program else []
     seen = {

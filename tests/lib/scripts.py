@@ -1,4 +1,10 @@
-"""The scripts of the repository's tests, read from the tables of `crates/simplex_program_tests/src/program`, and one run of the program."""
+"""The scripts of the repository's tests, read from `tests/scripts`, and one run of the program.
+
+Each page there has a title, and scripts below it: a name, the command behind `$`, and the lines that the program is given, each with
+the reply that it has to give behind ` => `, or `*` for any. A line without a reply is no call, and ends the program. `\\r`, `\\t` and
+`\\0` stand for these bytes, `\\s` for a space at a line's end or beginning, `\\e` for a line that is empty, and `\\c` for no line feed
+behind the last line. `tests/lib/tables.py` writes the tables of `crates/simplex_program_tests` from the same pages, and the Rust package
+serves them (`bindings/rust/tests/scripts.rs`)."""
 
 import re
 import subprocess
@@ -7,14 +13,14 @@ from typing import NamedTuple
 
 from lib.program import ROOT
 
-TABLES = ROOT / "crates/simplex_program_tests/src/program"
-TEXT = r'"((?:[^"\\]|\\.)*)"'
-SCRIPT = re.compile(rf"Script\s*\{{\s*shows:\s*{TEXT},\s*command:\s*{TEXT},\s*lines:\s*{TEXT},\s*\}}", re.DOTALL)
-MISUSE = re.compile(rf"\(\s*{TEXT},\s*{TEXT},?\s*\)", re.DOTALL)
-ESCAPE = re.compile(r"\\(\n\s*|.)", re.DOTALL)
-ESCAPED = {"n": "\n", "r": "\r", "t": "\t", "0": "\0"}
+PAGES = ROOT / "tests/scripts"
+MISUSES = "misuses"
+INDENT = "    "
+COMMAND = "$ "
 REPLIED = " => "
 ANY = "*"
+NO_FEED = r"\c"
+ESCAPES = {r"\r": "\r", r"\t": "\t", r"\0": "\0", r"\s": " ", r"\e": ""}
 
 
 @dataclass(frozen=True)
@@ -36,32 +42,50 @@ class Script:
         return self.arguments[0] == "voter"
 
 
+class Page(NamedTuple):
+    """The scripts of a page, in their order."""
+
+    name: str
+    title: str
+    scripts: tuple
+
+
 def unescaped(text):
-    """What a literal of the language stands for: a backslash at a line's end takes the next line's indent with it."""
-    return ESCAPE.sub(lambda found: ESCAPED.get(found[1], "" if found[1][0] == "\n" else found[1]), text)
+    """The bytes that a line of a page stands for."""
+    return re.sub(r"\\.", lambda found: ESCAPES[found[0]], text)
 
 
-def script_in(shows, command, text):
-    rows = unescaped(text).split("\n")
-    has_last_feed = rows[-1] == ""
-    if has_last_feed:
-        rows.pop()
-    lines = tuple(row.partition(REPLIED)[0] for row in rows)
+def script_in(part):
+    """The script of a part of a page: its name, and the indented rows, of which the first is the command."""
+    shows, _, rest = part.partition("\n")
+    command, *rows = (row.removeprefix(INDENT) for row in rest.splitlines() if row.startswith(INDENT))
+    has_last_feed = not (rows and rows[-1].endswith(NO_FEED))
+    if not has_last_feed:
+        rows[-1] = rows[-1].removesuffix(NO_FEED)
+    lines = tuple(unescaped(row.partition(REPLIED)[0]) for row in rows)
     replies = tuple(row.partition(REPLIED)[2] for row in rows if REPLIED in row)
-    return Script(unescaped(shows), tuple(command.split(" ")[1:]), lines, replies, has_last_feed)
+    return Script(shows, tuple(unescaped(command.removeprefix(COMMAND)).split(" ")[1:]), lines, replies, has_last_feed)
+
+
+def page_in(file):
+    """A page, read."""
+    title, *parts = re.split(r"^## ", file.read_text(), flags=re.MULTILINE)
+    return Page(file.stem, title.strip().removeprefix("# "), tuple(script_in(part) for part in parts))
+
+
+def all_pages():
+    """Every page, by name."""
+    return [page_in(file) for file in sorted(PAGES.glob("*.md"))]
 
 
 def all_scripts():
-    """Every script of the tables."""
-    found = [script_in(*it) for file in sorted(TABLES.glob("*.rt")) for it in SCRIPT.findall(file.read_text())]
-    if len(found) != sum(file.read_text().count("lines:") for file in TABLES.glob("*.rt") if file.name != "script.rt"):
-        raise ValueError(f"a table below {TABLES} is not read")
-    return found
+    """Every script but those whose command asks for no mode."""
+    return [script for page in all_pages() if page.name != MISUSES for script in page.scripts]
 
 
 def misused_commands():
     """The arguments that ask for no mode."""
-    return [command.split(" ")[1:] for _, command in MISUSE.findall((TABLES / "misuses.rt").read_text())]
+    return [list(script.arguments) for page in all_pages() if page.name == MISUSES for script in page.scripts]
 
 
 class NotAsAsked(Exception):

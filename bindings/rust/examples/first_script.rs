@@ -37,20 +37,7 @@ fn main() -> Result<(), Box<dyn Error>> {
         }
         _ => return Err("usage: first_script [voter N ME T OPTIMISTIC [resume|compact]]".into()),
     };
-    let mut member = Member::start(&config, Moment::from_millis(0))?;
-    let journal = match way {
-        Some("compact") => Some(Journal {
-            kept: member.entries_since(EntryCount::ZERO)?,
-            taken: 0,
-        }),
-        _ => None,
-    };
-    let mut voter = Voter {
-        config,
-        member,
-        resumes: way == Some("resume"),
-        journal,
-    };
+    let mut voter = Voter::start(config, way)?;
     let mut out = io::BufWriter::new(io::stdout().lock());
     for line in lines.lines() {
         let reply = voter.answer(&line?)?;
@@ -64,7 +51,7 @@ fn main() -> Result<(), Box<dyn Error>> {
 }
 
 /// The program's settings.
-fn config(members: &str, me: &str, terms: &str, optimistic: &str) -> Result<Config, Box<dyn Error>> {
+pub fn config(members: &str, me: &str, terms: &str, optimistic: &str) -> Result<Config, Box<dyn Error>> {
     let signer = match me {
         "-" => None,
         index => Some(Participant::new(index.parse()?)),
@@ -81,7 +68,7 @@ fn config(members: &str, me: &str, terms: &str, optimistic: &str) -> Result<Conf
 }
 
 /// A member that lines are asked of.
-struct Voter {
+pub struct Voter {
     config: Config,
     member: Member,
     resumes: bool,
@@ -113,8 +100,26 @@ impl Journal {
 }
 
 impl Voter {
+    /// One in its first life, with a way to restart it, if one is named.
+    pub fn start(config: Config, way: Option<&str>) -> Result<Voter, Box<dyn Error>> {
+        let mut member = Member::start(&config, Moment::from_millis(0))?;
+        let journal = match way {
+            Some("compact") => Some(Journal {
+                kept: member.entries_since(EntryCount::ZERO)?,
+                taken: 0,
+            }),
+            _ => None,
+        };
+        Ok(Voter {
+            config,
+            member,
+            resumes: way == Some("resume"),
+            journal,
+        })
+    }
+
     /// The reply to a line, behind which the journal is kept.
-    fn answer(&mut self, line: &str) -> Result<String, Box<dyn Error>> {
+    pub fn answer(&mut self, line: &str) -> Result<String, Box<dyn Error>> {
         let reply = self.reply(line)?;
         if let Some(journal) = &mut self.journal {
             journal.grow(&mut self.member)?;

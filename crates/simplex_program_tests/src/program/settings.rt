@@ -30,7 +30,8 @@ pub static SETTINGS: [Script; 6] = [
     Script {
         shows: "the last line may lack its line feed",
         command: "viewstate voter 4 0 1 0",
-        lines: "view => view 1 0 0\n\
+        lines: "\
+            view => view 1 0 0\n\
             view => view 1 0 0",
     },
     Script {
