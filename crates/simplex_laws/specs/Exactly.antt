@@ -8,10 +8,8 @@ use Rattle.simplex_voter.specs.Rules.{NotarizeRule, NullifyRule, FinalizeRule}
 use Rattle.simplex_member.specs.Calls.{ConstructNotarize, ConstructNullify, ConstructFinalize, Told, Refused}
 use Rattle.simplex_member.specs.Lives.{MemberFacts}
 use Rattle.simplex_member.specs.Runs.{StepFacts, Calls, IsStep}
-use Rattle.simplex_record.specs.Start.{new_state}
-use Rattle.simplex_member.specs.Start.{started_member}
 use Rattle.simplex_laws.specs.Traces.{TraceEvent, Signs, signed_in}
-use Rattle.simplex_laws.specs.Executions.{Execution}
+use Rattle.simplex_laws.specs.Executions.{new_member, Execution}
 
 -- a call is refused for a fault
 abbrev pub is_refused : {K D : Type 0} → Told K D → Bool
@@ -53,4 +51,4 @@ module _ {K L D : Type 0} (same : D → D → Bool) (elect : Elect L) where
 
   -- so it is from the start on
   abbrev pub SignsExactly : Execution K L D → Type 0
-  SignsExactly s = RunsExactly (started_member same elect (new_state s.start.setup) s.start.floor s.start.now) s.steps s.replies
+  SignsExactly s = RunsExactly (new_member same elect s.start) s.steps s.replies

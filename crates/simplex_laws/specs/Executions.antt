@@ -1,12 +1,18 @@
 -- What a member of a network does, over all its lives: what comes to it, what it answers, and its trace.
 use Rattle.std.specs.Prelude.{◌≡◌, ◌⊎◌, ℕ, Bool, List, ◌++◌, Contains, Some, None}
 use Rattle.simplex_voter.specs.Facts.{Elect}
+use Rattle.simplex_record.specs.Start.{Setup, StartFacts, new_state}
 use Rattle.simplex_member.specs.Calls.{Told}
+use Rattle.simplex_member.specs.Lives.{MemberFacts}
 use Rattle.simplex_member.specs.Runs.{StepFacts, Restarts, IsRunFrom}
-use Rattle.simplex_record.specs.Start.{Setup, StartFacts}
+use Rattle.simplex_member.specs.Start.{started_member}
 use Rattle.simplex_laws.specs.Traces.{TraceEvent, of_floor, trace_of_steps}
 use Rattle.simplex_laws.specs.TermLengths.{HasTerms, KeepTerms}
 use Rattle.simplex_laws.specs.Lawful.{IsLawful}
+
+-- the member that a start makes, before its first step
+abbrev pub new_member : {K L D : Type 0} → (D → D → Bool) → Elect L → StartFacts K L D → MemberFacts K L D
+new_member same elect start = started_member same elect (new_state start.setup) start.floor start.now
 
 -- a start, then steps, each with its reply: calls and restarts
 pub record Execution (K L D : Type 0) : Type 0 where

@@ -5,6 +5,7 @@ use Rattle.simplex_voter.specs.Facts.{StateFacts, Elect}
 use Rattle.simplex_member.specs.Calls.{CallFacts, Told, Refused, NotAllowed, NotRestarted}
 use Rattle.simplex_member.specs.OutstandingWork.{OutstandingWork}
 use Rattle.simplex_record.specs.Entries.{entry_view}
+use Rattle.simplex_laws.specs.Executions.{new_member}
 use Rattle.simplex_laws.specs.Events.{Event, History, SetFloor, AddNotarization, AddNullification, AddFinalization, Certified, Replay, IsEvent, after_event, with_event, events_of}
 use Rattle.simplex_member.specs.Lives.{MemberFacts, IsCall}
 use Rattle.simplex_record.specs.Recovery.{recovered_state, recover_error}
@@ -12,7 +13,6 @@ use Rattle.simplex_member.specs.Restarts.{RestartFacts, IsByView, IsRestart, cut
 use Rattle.simplex_member.specs.Runs.{StepFacts, Calls, Prunes, Restarts, IsStep, IsRun}
 use Rattle.simplex_laws.specs.Shows.{Shows}
 use Rattle.simplex_record.specs.Start.{Setup, StartFacts, new_state}
-use Rattle.simplex_member.specs.Start.{started_member}
 use Rattle.simplex_laws.specs.HistoryFolds.{finalized_by_events}
 
 -- an entry is taken again: a certificate is added before it is replayed, and a verdict is given after that
@@ -115,7 +115,7 @@ module _ (K : Type 0) {L D : Type 0} (same : D → D → Bool) (elect : Elect L)
   RunsAreShown =
       (start : StartFacts K L D) (steps : List (StepFacts K L D)) (replies : List (Told K D)) (end : MemberFacts K L D)
       → recover_error same (new_state start.setup) start.floor start.now [] ≡ None
-      → IsRun same elect (started_member same elect (new_state start.setup) start.floor start.now) steps replies end
+      → IsRun same elect (new_member same elect start) steps replies end
       → (last : History K L D)
-      × LeadsTo same elect (started_member same elect (new_state start.setup) start.floor start.now) (recovery start []) steps replies last end
+      × LeadsTo same elect (new_member same elect start) (recovery start []) steps replies last end
       × IsShown same elect last end

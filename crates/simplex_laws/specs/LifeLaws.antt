@@ -16,7 +16,7 @@ use Rattle.simplex_member.specs.Lives.{MemberFacts}
 use Rattle.simplex_record.specs.Recovery.{recover_error}
 use Rattle.simplex_member.specs.Runs.{StepFacts, Calls, IsRun, IsRunFrom}
 use Rattle.simplex_record.specs.Start.{StartFacts, new_state}
-use Rattle.simplex_member.specs.Start.{started_member}
+use Rattle.simplex_laws.specs.Executions.{new_member}
 use Rattle.simplex_laws.specs.Exactly.{proposal_at}
 use Rattle.simplex_laws.specs.TermLengths.{HasTerms, KeepTerms}
 
@@ -29,7 +29,7 @@ module _ {K L D : Type 0} (same : D → D → Bool) (elect : Elect L) where
   pub record IsLifeOfRun (start : StartFacts K L D) (steps : List (StepFacts K L D)) (told : List (Told K D))
       (m : MemberFacts K L D) (calls : List (CallFacts D)) (replies : List (Told K D)) (end : MemberFacts K L D) : Type 0 where
     pub accepted : recover_error same (new_state start.setup) start.floor start.now [] ≡ None
-    pub reached : IsRun same elect (started_member same elect (new_state start.setup) start.floor start.now) steps told m
+    pub reached : IsRun same elect (new_member same elect start) steps told m
     pub life : IsLife m calls replies end
 
 -- this holds of the first state and the last one, unless the member has failed by then; no state comes after a failure
@@ -159,7 +159,7 @@ module _ (K : Type 0) {L D : Type 0} (same : D → D → Bool) (elect : Elect L)
       (term_length : ℕ) (start : StartFacts K L D) (steps : List (StepFacts K L D)) (replies : List (Told K D)) (end : MemberFacts K L D)
       → HasTerms term_length start.setup
       → KeepTerms term_length steps
-      → IsRun same elect (started_member same elect (new_state start.setup) start.floor start.now) steps replies end
+      → IsRun same elect (new_member same elect start) steps replies end
       → MatchOption end.life (Unit {0}) Holds
 
   -- of the steps of each run and their replies, whose lives share a length of terms
@@ -168,7 +168,7 @@ module _ (K : Type 0) {L D : Type 0} (same : D → D → Bool) (elect : Elect L)
       (term_length : ℕ) (start : StartFacts K L D) (steps : List (StepFacts K L D)) (replies : List (Told K D)) (end : MemberFacts K L D)
       → HasTerms term_length start.setup
       → KeepTerms term_length steps
-      → IsRun same elect (started_member same elect (new_state start.setup) start.floor start.now) steps replies end
+      → IsRun same elect (new_member same elect start) steps replies end
       → Holds steps replies
 
   -- calls of a run with no restart among them are such a stretch

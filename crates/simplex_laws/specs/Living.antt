@@ -14,10 +14,9 @@ use Rattle.simplex_member.specs.Lives.{MemberFacts}
 use Rattle.simplex_record.specs.Recovery.{recover_error}
 use Rattle.simplex_member.specs.Runs.{StepFacts, steps_of, IsRun}
 use Rattle.simplex_record.specs.Start.{StartFacts, start_facts, new_state}
-use Rattle.simplex_member.specs.Start.{started_member}
 use Rattle.simplex_laws.specs.Traces.{TraceEvent}
 use Rattle.simplex_laws.specs.Shown.{floor_in, begun_by, StartsAs}
-use Rattle.simplex_laws.specs.Executions.{Execution, trace_of, LivesAs, IsExecution}
+use Rattle.simplex_laws.specs.Executions.{new_member, Execution, trace_of, LivesAs, IsExecution}
 
 -- what came to a member of the code and what it answered, as an execution
 abbrev pub execution_of : {S L D K G C : Type 0} → (S → Option ℕ) → (S → List K) → (L → Terms) → (L → Bool) → (C → List ℕ) → Start S L D K G C
@@ -42,7 +41,7 @@ module _ {K L D : Type 0} (same : D → D → Bool) (elect : Elect L) where
   pub record HasExecution (term_length i : ℕ) (s : Execution K L D) (m : MemberFacts K L D) : Type 0 where
     pub lives : LivesAs term_length i s.start s.steps
     pub accepted : recover_error same (new_state s.start.setup) s.start.floor s.start.now [] ≡ None
-    pub run : IsRun same elect (started_member same elect (new_state s.start.setup) s.start.floor s.start.now) s.steps s.replies m
+    pub run : IsRun same elect (new_member same elect s.start) s.steps s.replies m
 
   -- this is all that the member accepted and signed so far, as member `i` of a network
   pub record HasDone (term_length i : ℕ) (all : List (TraceEvent D)) (m : MemberFacts K L D) : Type 0 where

@@ -15,7 +15,7 @@ use Rattle.simplex_record.specs.Recovery.{recover_error}
 use Rattle.simplex_member.specs.Restarts.{RestartFacts, IsByView, cut_member, IsRestart}
 use Rattle.simplex_member.specs.Runs.{StepFacts, Calls, IsRun, EndsRunFrom}
 use Rattle.simplex_record.specs.Start.{StartFacts, new_state}
-use Rattle.simplex_member.specs.Start.{started_member}
+use Rattle.simplex_laws.specs.Executions.{new_member}
 use Rattle.simplex_laws.specs.Traces.{TraceEvent, Accepts, of_floor, trace_of_steps}
 use Rattle.simplex_laws.specs.Lawful.{HasSigned}
 use Rattle.simplex_laws.specs.TermLengths.{HasTerms, KeepTerms}
@@ -68,7 +68,7 @@ module _ (K : Type 0) {L D : Type 0} (same : D → D → Bool) (elect : Elect L)
       (term_length : ℕ) (start : StartFacts K L D) (steps : List (StepFacts K L D)) (replies : List (Told K D)) (end : MemberFacts K L D)
       → HasTerms term_length start.setup
       → KeepTerms term_length steps
-      → IsRun same elect (started_member same elect (new_state start.setup) start.floor start.now) steps replies end
+      → IsRun same elect (new_member same elect start) steps replies end
       → Holds end
 
   -- whatever restart comes next: what it leaves of the record, by view, is refused only for what comes from outside
@@ -90,7 +90,7 @@ module _ (K : Type 0) {L D : Type 0} (same : D → D → Bool) (elect : Elect L)
       (term_length : ℕ) (start : StartFacts K L D) (steps : List (StepFacts K L D)) (replies : List (Told K D)) (end : MemberFacts K L D)
       → HasTerms term_length start.setup
       → KeepTerms term_length steps
-      → IsRun same elect (started_member same elect (new_state start.setup) start.floor start.now) steps replies end
+      → IsRun same elect (new_member same elect start) steps replies end
       → (next : RestartFacts K L D) (copy : List (ArtifactFacts D))
       → IsByView (cut_member end next.drop next.prune).entries copy
       → recover_error same (new_state next.start.setup) next.start.floor next.start.now copy ≡ Some error.ParentNotBelow
@@ -104,7 +104,7 @@ module _ (K : Type 0) {L D : Type 0} (same : D → D → Bool) (elect : Elect L)
       → HasTerms term_length start.setup
       → KeepTerms term_length steps
       → recover_error same (new_state start.setup) start.floor start.now [] ≡ None
-      → IsRun same elect (started_member same elect (new_state start.setup) start.floor start.now) steps replies end
+      → IsRun same elect (new_member same elect start) steps replies end
       → (next : RestartFacts K L D) (copy : List (ArtifactFacts D))
       → IsByView (cut_member end next.drop next.prune).entries copy
       → recover_error same (new_state next.start.setup) next.start.floor next.start.now copy ≡ Some error.ViewTooLarge

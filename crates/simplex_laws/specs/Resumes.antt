@@ -9,8 +9,8 @@ use Rattle.simplex_member.specs.Lives.{MemberFacts}
 use Rattle.simplex_member.specs.Pruning.{pruned_member}
 use Rattle.simplex_member.specs.Restarts.{cut_member}
 use Rattle.simplex_member.specs.Runs.{StepFacts, Restarts, IsStep, IsRun, IsRefused}
-use Rattle.simplex_record.specs.Start.{StartFacts, new_state}
-use Rattle.simplex_member.specs.Start.{started_member}
+use Rattle.simplex_record.specs.Start.{StartFacts}
+use Rattle.simplex_laws.specs.Executions.{new_member}
 
 module _ {K L D : Type 0} (same : D → D → Bool) (elect : Elect L) where
   -- it goes on from what a journal holds of it just as it takes a restart that drops and prunes nothing for its next step
@@ -32,7 +32,7 @@ module _ (K : Type 0) {L D : Type 0} (same : D → D → Bool) (elect : Elect L)
   abbrev pub OfEachLeft : (MemberFacts K L D → Type 0) → Type 0
   OfEachLeft Holds =
       (start : StartFacts K L D) (steps : List (StepFacts K L D)) (replies : List (Told K D)) (m : MemberFacts K L D)
-      → IsRun same elect (started_member same elect (new_state start.setup) start.floor start.now) steps replies m
+      → IsRun same elect (new_member same elect start) steps replies m
       → Holds m
 
 -- a restart that drops nothing and prunes leaves of a record that was pruned within the life what it leaves of the whole one

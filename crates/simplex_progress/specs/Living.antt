@@ -4,11 +4,9 @@ use Rattle.simplex_voter.specs.Facts.{StateFacts, Elect}
 use Rattle.simplex_voter.specs.Refusals.{has_late_deadline}
 use Rattle.simplex_member.specs.Lives.{MemberFacts}
 use Rattle.simplex_member.specs.Runs.{IsRun}
-use Rattle.simplex_member.specs.Start.{started_member}
-use Rattle.simplex_record.specs.Start.{new_state}
 use Rattle.simplex_laws.specs.Continuations.{EachHonest}
 use Rattle.simplex_laws.specs.Replicas.{Replica}
-use Rattle.simplex_laws.specs.Executions.{Execution}
+use Rattle.simplex_laws.specs.Executions.{new_member, Execution}
 
 module _ {K L D : Type 0} where
   -- the member's life is set up as this one of the network's, and a view that is entered at moment 0 has deadlines in time
@@ -24,7 +22,7 @@ module _ {K L D : Type 0} (same : D → D → Bool) (elect : Elect L) where
   abbrev pub LivesWith : Execution K L D → StateFacts K L D → Type 0
   LivesWith s x =
       (m : MemberFacts K L D)
-      × IsRun same elect (started_member same elect (new_state s.start.setup) s.start.floor s.start.now) s.steps s.replies m
+      × IsRun same elect (new_member same elect s.start) s.steps s.replies m
       × (m.life ≡ Some x)
 
   -- each honest member of the network lives with such a state

@@ -13,9 +13,8 @@ use Rattle.simplex_record.specs.Recovery.{recover_error}
 use Rattle.simplex_member.specs.Restarts.{RestartFacts}
 use Rattle.simplex_member.specs.Runs.{Calls, Restarts, restart_told, IsStep, IsRun, IsRunFrom}
 use Rattle.simplex_record.specs.Start.{StartFacts, new_state}
-use Rattle.simplex_member.specs.Start.{started_member}
 use Rattle.simplex_laws.specs.Lawful.{IsLawful}
-use Rattle.simplex_laws.specs.Executions.{BeginsAs, IsExecution, trace_of}
+use Rattle.simplex_laws.specs.Executions.{new_member, BeginsAs, IsExecution, trace_of}
 use Rattle.simplex_laws.proofs.records.RunsLawful.{execution_lawful}
 use Rattle.simplex_laws.proofs.lists.Splits.{Contains-cases}
 use Rattle.simplex_program.specs.declared.network.Network.{Network}
@@ -192,7 +191,7 @@ accepted : (n : Network) (e : PlainElector) (payload : PlainDigest) → IsGenesi
 unfolding first_recover_error
 accepted n e payload is = rw is.terms refl
 
-run_from : (n : Network) (m end : PlainMember) (start : StartFacts PlainKey PlainElector PlainDigest) (steps : List PlainStep) (replies : List PlainTold) → IsGenesisStart n 0 start → m ≡ started_member same_payload plain_leader (new_state start.setup) start.floor start.now → IsRun same_payload plain_leader m steps replies end → IsRunFrom same_payload plain_leader start steps replies
+run_from : (n : Network) (m end : PlainMember) (start : StartFacts PlainKey PlainElector PlainDigest) (steps : List PlainStep) (replies : List PlainTold) → IsGenesisStart n 0 start → m ≡ new_member same_payload plain_leader start → IsRun same_payload plain_leader m steps replies end → IsRunFrom same_payload plain_leader start steps replies
 unfolding IsRunFrom
 run_from n m end start steps replies (e, payload, is, same) made run =
     (subst (λ (s : StartFacts PlainKey PlainElector PlainDigest). recover_error same_payload (new_state s.setup) s.floor s.now [] ≡ None) (sym same) (accepted n e payload is), end, subst (λ l. IsRun same_payload plain_leader l steps replies end) made run)

@@ -23,11 +23,9 @@ use Rattle.simplex_member.specs.Lives.{MemberFacts, IsCall, AnswersAlive, reply_
 use Rattle.simplex_member.specs.OutstandingWork.{OutstandingWork}
 use Rattle.simplex_member.specs.Runs.{StepFacts, Calls, Prunes, Restarts, restart_told, IsStep, IsRun, IsRunFrom}
 use Rattle.simplex_member.specs.Restarts.{RestartFacts}
-use Rattle.simplex_record.specs.Start.{new_state}
-use Rattle.simplex_member.specs.Start.{started_member}
 use Rattle.simplex_laws.specs.Exactly.{is_refused, IsSignedFor, IsExact, proposal_at, ExactAt, RunsExactly, SignsExactly}
 use Rattle.simplex_laws.specs.Traces.{TraceEvent, Signs, signed_in}
-use Rattle.simplex_laws.specs.Executions.{Execution}
+use Rattle.simplex_laws.specs.Executions.{new_member, Execution}
 
 is_only : {X : Type 0} (y x : X) → Contains (y ∷ []) x → y ≡ x
 is_only y x (zero, less, same) = same
@@ -153,4 +151,4 @@ module _ {K L D : Type 0} (same : D → D → Bool) (elect : Elect L) where
 
   pub run_exact : (s : Execution K L D) → IsRunFrom same elect s.start s.steps s.replies → SignsExactly same elect s
   unfolding IsRunFrom
-  run_exact s (accepted, end, run) = exact_steps (started_member same elect (new_state s.start.setup) s.start.floor s.start.now) end s.steps s.replies run
+  run_exact s (accepted, end, run) = exact_steps (new_member same elect s.start) end s.steps s.replies run

@@ -12,12 +12,11 @@ use Rattle.simplex_record.specs.Recovery.{recover_error}
 use Rattle.simplex_member.specs.Restarts.{RestartFacts, IsRestart}
 use Rattle.simplex_member.specs.Runs.{StepFacts, Calls, Prunes, Restarts, restart_told, IsStep, IsRun, IsRunFrom}
 use Rattle.simplex_record.specs.Start.{StartFacts, new_state}
-use Rattle.simplex_member.specs.Start.{started_member}
 use Rattle.std.proofs.lemmas.List.{append-nil}
 use Rattle.simplex_laws.specs.Living.{new_execution, with_step, HasExecution, HasDone}
 use Rattle.simplex_laws.specs.Traces.{TraceEvent, of_floor, trace_at, trace_of_steps}
 use Rattle.simplex_laws.specs.Lawful.{IsLawful}
-use Rattle.simplex_laws.specs.Executions.{Execution, trace_of, BeginsAs, LivesAs, IsExecution}
+use Rattle.simplex_laws.specs.Executions.{new_member, Execution, trace_of, BeginsAs, LivesAs, IsExecution}
 use Rattle.simplex_laws.proofs.records.RunsLawful.{execution_lawful}
 
 module _ {K L D : Type 0} where
@@ -50,10 +49,10 @@ module _ {K L D : Type 0} (same : D → D → Bool) (elect : Elect L) where
     step_on s m next step told begins has is_step = record {
       lives = lives_on s.start s.steps step has.lives begins;
       accepted = has.accepted;
-      run = run_push (started_member same elect (new_state s.start.setup) s.start.floor s.start.now) m next s.steps s.replies step told has.run is_step;
+      run = run_push (new_member same elect s.start) m next s.steps s.replies step told has.run is_step;
     }
 
-    pub begin_execution : (start : StartFacts K L D) (m : MemberFacts K L D) → BeginsAs term_length i start.setup → recover_error same (new_state start.setup) start.floor start.now [] ≡ None → m ≡ started_member same elect (new_state start.setup) start.floor start.now → HasExecution same elect term_length i (new_execution start) m
+    pub begin_execution : (start : StartFacts K L D) (m : MemberFacts K L D) → BeginsAs term_length i start.setup → recover_error same (new_state start.setup) start.floor start.now [] ≡ None → m ≡ new_member same elect start → HasExecution same elect term_length i (new_execution start) m
     begin_execution start m begins none is = record {
       lives = record { first = begins; later = λ r h. absurd (omega (arith, h.1)) };
       accepted = none;
@@ -84,12 +83,12 @@ module _ {K L D : Type 0} (same : D → D → Bool) (elect : Elect L) where
       execution = with_step s step told;
       told = now;
       same_trace =
-          ap (λ ds. of_floor s.start.floor ++ ds) (steps_pushed (started_member same elect (new_state s.start.setup) s.start.floor s.start.now) m s.steps s.replies step told has.run)
+          ap (λ ds. of_floor s.start.floor ++ ds) (steps_pushed (new_member same elect s.start) m s.steps s.replies step told has.run)
           ∙ (sym (append_assoc (of_floor s.start.floor) (trace_of_steps s.steps s.replies) (trace_at step told))
           ∙ (ap (λ ds. ds ++ trace_at step told) is ∙ ap (λ ds. all ++ ds) shows));
     }
 
-    pub start_done : (start : StartFacts K L D) (m : MemberFacts K L D) (all : List (TraceEvent D)) → BeginsAs term_length i start.setup → recover_error same (new_state start.setup) start.floor start.now [] ≡ None → m ≡ started_member same elect (new_state start.setup) start.floor start.now → of_floor start.floor ≡ all → HasDone same elect term_length i all m
+    pub start_done : (start : StartFacts K L D) (m : MemberFacts K L D) (all : List (TraceEvent D)) → BeginsAs term_length i start.setup → recover_error same (new_state start.setup) start.floor start.now [] ≡ None → m ≡ new_member same elect start → of_floor start.floor ≡ all → HasDone same elect term_length i all m
     start_done start m all begins none is shows = record { execution = new_execution start; told = begin_execution start m begins none is; same_trace = append-nil (of_floor start.floor) ∙ shows }
 
     pub call_done : (m next : MemberFacts K L D) (call : CallFacts D) (told : Told K D) (all more : List (TraceEvent D)) → IsCall same elect m call told next → trace_at {L = L} (Calls call) told ≡ more → HasDone same elect term_length i all m → HasDone same elect term_length i (all ++ more) next

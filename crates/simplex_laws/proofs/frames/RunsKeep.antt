@@ -7,13 +7,13 @@ use Rattle.simplex_voter.specs.Facts.{StateFacts, Elect}
 use Rattle.simplex_voter.specs.Acceptance.{after_set_floor}
 use Rattle.simplex_record.specs.declared.record.error.RecoverError.{RecoverError}
 use Rattle.simplex_member.specs.Calls.{CallFacts, Told}
+use Rattle.simplex_laws.specs.Executions.{new_member}
 use Rattle.simplex_laws.specs.Events.{Event, after_event}
 use Rattle.simplex_member.specs.Lives.{MemberFacts, IsCall, without_life}
 use Rattle.simplex_record.specs.Recovery.{recover_error}
 use Rattle.simplex_member.specs.Restarts.{RestartFacts, cut_member, new_life, retention_grows, RecoversByView, IsRestart, IsRestartWhere}
 use Rattle.simplex_member.specs.Runs.{StepFacts, Calls, Prunes, Restarts, IsRun}
 use Rattle.simplex_record.specs.Start.{StartFacts, new_state}
-use Rattle.simplex_member.specs.Start.{started_member}
 use Rattle.simplex_laws.specs.TermLengths.{HasTerms, KeepTerms}
 use Rattle.simplex_laws.proofs.frames.Fresh.{IsFresh, fresh_state}
 use Rattle.simplex_member.proofs.EventsMake.{call_by_any}
@@ -66,5 +66,5 @@ module _ {K L D : Type 0} (same : D → D → Bool) (elect : Elect L) (term_leng
       run_keeps steps replies next end fresh.1 (restart_keeps m r is_step.0 next fresh.0 sound is_step.1) rest
 
   -- from the start of a run on
-  pub run_induction : (start : StartFacts K L D) (steps : List (StepFacts K L D)) (replies : List (Told K D)) (end : MemberFacts K L D) → HasTerms term_length start.setup → KeepTerms term_length steps → IsRun same elect (started_member same elect (new_state start.setup) start.floor start.now) steps replies end → HoldsIn P end.life
-  run_induction start steps replies end begun fresh run = run_keeps steps replies (started_member same elect (new_state start.setup) start.floor start.now) end fresh (begins (new_state start.setup) start.floor start.now (fresh_state term_length start.setup begun)) run
+  pub run_induction : (start : StartFacts K L D) (steps : List (StepFacts K L D)) (replies : List (Told K D)) (end : MemberFacts K L D) → HasTerms term_length start.setup → KeepTerms term_length steps → IsRun same elect (new_member same elect start) steps replies end → HoldsIn P end.life
+  run_induction start steps replies end begun fresh run = run_keeps steps replies (new_member same elect start) end fresh (begins (new_state start.setup) start.floor start.now (fresh_state term_length start.setup begun)) run

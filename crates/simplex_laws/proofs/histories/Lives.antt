@@ -16,6 +16,7 @@ use Rattle.simplex_member.specs.Allowed.{is_allowed, fault_of}
 use Rattle.simplex_member.specs.CallSemantics.{answer, after_call}
 use Rattle.simplex_record.specs.Check.{first_error, recovery_floor_rules, first_broken_after, first_recover_error}
 use Rattle.simplex_record.specs.Entries.{entry_view, entries_of}
+use Rattle.simplex_laws.specs.Executions.{new_member}
 use Rattle.simplex_laws.specs.Events.{History, with_event, SetFloor, AddNotarization, AddNullification, AddFinalization, Certified, Replay, events_of}
 use Rattle.simplex_laws.specs.Histories.{retaken_events, with_events, with_call_events, with_entry_taken, with_entries, recovery, IsShown, LeadsTo}
 use Rattle.simplex_member.specs.Lives.{MemberFacts, without_life, reply_of, left_of, AnswersAlive, IsCall}
@@ -24,7 +25,6 @@ use Rattle.simplex_member.specs.Restarts.{RestartFacts, IsByView, IsRestart, IsR
 use Rattle.simplex_member.specs.Runs.{StepFacts, Calls, Prunes, Restarts, restart_told, IsRun}
 use Rattle.simplex_laws.specs.Shows.{Shows}
 use Rattle.simplex_record.specs.Start.{Setup, StartFacts, new_state}
-use Rattle.simplex_member.specs.Start.{started_member}
 use Rattle.simplex_laws.specs.HistoryFolds.{finalized_by_events}
 use Rattle.simplex_record.proofs.Allowing.{new_bears}
 use Rattle.simplex_record.proofs.Bearing.{BearsAll}
@@ -245,7 +245,7 @@ module _ {K L D : Type 0} (same : D → D → Bool) (decides : (d e : D) → sam
           subst After (sym so) (later.0, (next, (result, restarts, sym (ap restart_told is)), later.1), later.2)
 
   -- from the start on
-  pub ran_shown : (start : StartFacts K L D) (steps : List (StepFacts K L D)) (replies : List (Told K D)) (end : MemberFacts K L D) → recover_error same (new_state start.setup) start.floor start.now [] ≡ None → IsRun same elect (started_member same elect (new_state start.setup) start.floor start.now) steps replies end → (last : History K L D) × LeadsTo same elect (started_member same elect (new_state start.setup) start.floor start.now) (recovery start []) steps replies last end × IsShown same elect last end
+  pub ran_shown : (start : StartFacts K L D) (steps : List (StepFacts K L D)) (replies : List (Told K D)) (end : MemberFacts K L D) → recover_error same (new_state start.setup) start.floor start.now [] ≡ None → IsRun same elect (new_member same elect start) steps replies end → (last : History K L D) × LeadsTo same elect (new_member same elect start) (recovery start []) steps replies last end × IsShown same elect last end
   unfolding recovered_state
   ran_shown start steps replies end good run =
-      run_shown steps replies (recovery start []) (started_member same elect (new_state start.setup) start.floor start.now) end (recovered_shown same decides elect start [] good) run
+      run_shown steps replies (recovery start []) (new_member same elect start) end (recovered_shown same decides elect start [] good) run

@@ -9,8 +9,8 @@ use Rattle.simplex_member.specs.Calls.{Told}
 use Rattle.simplex_member.specs.Lives.{MemberFacts}
 use Rattle.simplex_member.specs.OutstandingWork.{OutstandingWork}
 use Rattle.simplex_member.specs.Runs.{StepFacts, IsRun}
-use Rattle.simplex_member.specs.Start.{started_member}
-use Rattle.simplex_record.specs.Start.{StartFacts, new_state}
+use Rattle.simplex_record.specs.Start.{StartFacts}
+use Rattle.simplex_laws.specs.Executions.{new_member}
 use Rattle.simplex_laws.specs.Traces.{TraceEvent, of_floor, trace_of_steps}
 use Rattle.simplex_laws.specs.LifeLaws.{NotarizesGapless}
 use Rattle.simplex_laws.specs.TermLengths.{HasTerms, KeepTerms}
@@ -26,7 +26,7 @@ module _ {K L D : Type 0} (same : D → D → Bool) (decides : (d e : D) → sam
       λ v p rule holds. held_reaches same decides elect term_length noted.0 noted.1 trace o x (omega (arith, some, terms)) terms noted.2 v (notarize_whole same elect x v rule) p holds
 
   pub states_reach : (term_length : ℕ) (start : StartFacts K L D) (steps : List (StepFacts K L D)) (replies : List (Told K D)) (end : MemberFacts K L D) → HasTerms term_length start.setup → KeepTerms term_length steps
-      → IsRun same elect (started_member same elect (new_state start.setup) start.floor start.now) steps replies end → MatchOption end.life (Unit {0}) (NotarizesGapless same elect)
+      → IsRun same elect (new_member same elect start) steps replies end → MatchOption end.life (Unit {0}) (NotarizesGapless same elect)
   states_reach term_length start steps replies end begins keep run =
       let lives = run_lives same decides elect term_length begins.some steps replies (of_floor start.floor) _ end keep (start_lives same decides elect term_length start begins) run in
       state_reaches term_length (of_floor start.floor ++ trace_of_steps steps replies) end.closed lives.0 end.entries end.outstanding_work end.life begins.some lives.1

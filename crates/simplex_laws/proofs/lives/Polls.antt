@@ -17,8 +17,8 @@ use Rattle.simplex_member.specs.Calls.{NextTimeout, Told, TimesOut}
 use Rattle.simplex_member.specs.Lives.{MemberFacts, IsCall, AnswersAlive, unless_refused}
 use Rattle.simplex_member.specs.OutstandingWork.{OutstandingWork}
 use Rattle.simplex_member.specs.Runs.{StepFacts, Calls, Prunes, Restarts, IsStep, IsRun}
-use Rattle.simplex_member.specs.Start.{started_member}
 use Rattle.simplex_record.specs.Start.{StartFacts, new_state}
+use Rattle.simplex_laws.specs.Executions.{new_member}
 use Rattle.simplex_laws.specs.Traces.{TraceEvent, of_floor, trace_at, trace_of_steps}
 use Rattle.simplex_laws.specs.LifeLaws.{CurrentTimesOut, IsPolled, PollsAreAnswered}
 use Rattle.simplex_laws.specs.TermLengths.{HasTerms, KeepTerms}
@@ -87,7 +87,7 @@ module _ {K L D : Type 0} (same : D → D → Bool) (elect : Elect L) where
 
 module _ {K L D : Type 0} (same : D → D → Bool) (decides : (d e : D) → same d e ≡ true → d ≡ e) (elect : Elect L) where
   pub states_time_out : (term_length : ℕ) (start : StartFacts K L D) (steps : List (StepFacts K L D)) (replies : List (Told K D)) (end : MemberFacts K L D) → HasTerms term_length start.setup → KeepTerms term_length steps
-      → IsRun same elect (started_member same elect (new_state start.setup) start.floor start.now) steps replies end → MatchOption end.life (Unit {0}) CurrentTimesOut
+      → IsRun same elect (new_member same elect start) steps replies end → MatchOption end.life (Unit {0}) CurrentTimesOut
   states_time_out term_length start steps replies end begins keep run =
       let lives = run_lives same decides elect term_length begins.some steps replies (of_floor start.floor) _ end keep (start_lives same decides elect term_length start begins) run in
       by_life lives.0 end.life (run_induction same elect term_length Timed (floor_times_out same elect term_length) (event_times_out same elect) start steps replies end begins keep run) lives.1
@@ -121,10 +121,9 @@ module _ {K L D : Type 0} (same : D → D → Bool) (decides : (d e : D) → sam
 
 module _ {K L D : Type 0} (same : D → D → Bool) (decides : (d e : D) → same d e ≡ true → d ≡ e) (elect : Elect L) where
   pub polls_answered : (term_length : ℕ) (start : StartFacts K L D) (steps : List (StepFacts K L D)) (replies : List (Told K D)) (end : MemberFacts K L D) → HasTerms term_length start.setup → KeepTerms term_length steps
-      → IsRun same elect (started_member same elect (new_state start.setup) start.floor start.now) steps replies end → PollsAreAnswered steps replies
+      → IsRun same elect (new_member same elect start) steps replies end → PollsAreAnswered steps replies
   polls_answered term_length start steps replies end begins keep run =
-      let first = started_member same elect (new_state start.setup) start.floor start.now in
-      run_polls same decides elect term_length begins.some steps replies (of_floor start.floor) first end keep
+      run_polls same decides elect term_length begins.some steps replies (of_floor start.floor) (new_member same elect start) end keep
       (floor_times_out same elect term_length (new_state start.setup) start.floor start.now (fresh_state term_length start.setup begins))
       (start_lives same decides elect term_length start begins)
       run

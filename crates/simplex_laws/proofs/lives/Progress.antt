@@ -20,8 +20,8 @@ use Rattle.simplex_member.specs.Calls.{Told, AddNullification, AddFinalization, 
 use Rattle.simplex_member.specs.Lives.{MemberFacts}
 use Rattle.simplex_member.specs.OutstandingWork.{OutstandingWork}
 use Rattle.simplex_member.specs.Runs.{StepFacts, IsRun}
-use Rattle.simplex_record.specs.Start.{StartFacts, new_state}
-use Rattle.simplex_member.specs.Start.{started_member}
+use Rattle.simplex_record.specs.Start.{StartFacts}
+use Rattle.simplex_laws.specs.Executions.{new_member}
 use Rattle.simplex_laws.specs.Events as event
 use Rattle.simplex_laws.specs.Events.{Event, after_event}
 use Rattle.simplex_laws.specs.Progress.{GoesPast, CanBeLeft}
@@ -145,7 +145,7 @@ module _ {K L D : Type 0} (same : D → D → Bool) (elect : Elect L) where
   }
 
   pub states_are_left : (term_length : ℕ) (start : StartFacts K L D) (steps : List (StepFacts K L D)) (replies : List (Told K D)) (end : MemberFacts K L D) → HasTerms term_length start.setup → KeepTerms term_length steps
-      → IsRun same elect (started_member same elect (new_state start.setup) start.floor start.now) steps replies end → MatchOption end.life (Unit {0}) (CanBeLeft same elect)
+      → IsRun same elect (new_member same elect start) steps replies end → MatchOption end.life (Unit {0}) (CanBeLeft same elect)
   states_are_left term_length start steps replies end begins keep run =
       by_life end.life (run_induction same elect term_length (IsSoundAndAlive term_length) (floor_goes_on term_length) (event_goes_on term_length) start steps replies end begins keep run)
     where

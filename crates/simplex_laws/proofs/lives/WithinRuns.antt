@@ -7,13 +7,13 @@ use Rattle.simplex_voter.specs.Facts.{StateFacts, Elect}
 use Rattle.simplex_voter.specs.Windows.{min_active}
 use Rattle.simplex_member.specs.Allowed.{is_allowed}
 use Rattle.simplex_member.specs.Calls.{CallFacts, Told, Dropped, Refused, NotAllowed}
+use Rattle.simplex_laws.specs.Executions.{new_member}
 use Rattle.simplex_laws.specs.LifeLaws.{IsLife, IsLifeOfRun, WhileAlive, IsDropped, ConflictsStay, DroppedForGood, HandedOnce, IsAsAsked, HandedAsAsked}
 use Rattle.simplex_member.specs.Lives.{MemberFacts, IsCall}
 use Rattle.simplex_member.specs.CallSemantics.{answer, after_call}
 use Rattle.simplex_member.specs.OutstandingWork.{OutstandingWork}
 use Rattle.simplex_member.specs.Runs.{StepFacts, Calls, IsRun, IsRunFrom}
-use Rattle.simplex_record.specs.Start.{StartFacts, new_state}
-use Rattle.simplex_member.specs.Start.{started_member}
+use Rattle.simplex_record.specs.Start.{StartFacts}
 use Rattle.simplex_laws.specs.TermLengths.{HasTerms, KeepTerms}
 use Rattle.simplex_laws.proofs.lives.Conflicts.{ConflictsLast, life_keeps}
 use Rattle.simplex_laws.proofs.lives.HandedOut.{life_hands_once}
@@ -173,14 +173,14 @@ module _ {K L D : Type 0} (same : D → D → Bool) (elect : Elect L) where
   pub run_from_before : (start : StartFacts K L D) (steps after : List (StepFacts K L D)) (told rest : List (Told K D)) → length steps ≡ length told → IsRunFrom same elect start (steps ++ after) (told ++ rest) → IsRunFrom same elect start steps told
   unfolding IsRunFrom
   run_from_before start steps after told rest as_many (accepted, last, run) =
-      let first = run_apart steps after told rest (started_member same elect (new_state start.setup) start.floor start.now) last as_many run in
+      let first = run_apart steps after told rest (new_member same elect start) last as_many run in
       (accepted, first.0, first.1)
 
   -- calls of a run without a restart among them go on from a member that the run leads to
   pub stretch_is_life : (start : StartFacts K L D) (steps after : List (StepFacts K L D)) (calls : List (CallFacts D)) (told replies rest : List (Told K D)) → length steps ≡ length told → length calls ≡ length replies → IsRunFrom same elect start (steps ++ (map Calls calls ++ after)) (told ++ (replies ++ rest)) → (m end : MemberFacts K L D) × IsLifeOfRun same elect start steps told m calls replies end
   unfolding IsRunFrom
   stretch_is_life start steps after calls told replies rest as_many as_told (accepted, last, run) =
-      let first = run_apart steps (map Calls calls ++ after) told (replies ++ rest) (started_member same elect (new_state start.setup) start.floor start.now) last as_many run in
+      let first = run_apart steps (map Calls calls ++ after) told (replies ++ rest) (new_member same elect start) last as_many run in
       let step_of : CallFacts D → StepFacts K L D = λ call. Calls call in
       let second = run_apart (map Calls calls) after replies rest first.0 last (length-map calls step_of ∙ as_told) first.2 in
       (first.0, second.0, record { accepted = accepted; reached = first.1; life = second.1 })

@@ -16,18 +16,18 @@ use Rattle.simplex_record.specs.Recovery.{recovered_state, after_kept_entry}
 use Rattle.simplex_laws.specs.ChangingLives.{wider_start, refusing, keyless_start, other_start, changing, with_refusing, giving_up, with_changing}
 use Rattle.simplex_laws.specs.Replicas.{FewFaulty, IsNetworkOf}
 use Rattle.simplex_laws.specs.Scripts.{leader, patient}
-use Rattle.simplex_laws.specs.Executions.{Execution, BeginsAs, IsExecution}
+use Rattle.simplex_laws.specs.Executions.{new_member, Execution, BeginsAs, IsExecution}
 use Rattle.simplex_laws.specs.ScenarioSteps.{round, certificate, nullification, one, two}
 use Rattle.simplex_laws.proofs.networks.Continuations.{network_of}
 use Rattle.simplex_laws.proofs.networks.Scripts.{patient_ran}
-use Rattle.simplex_laws.proofs.networks.ComputedRuns.{replies_from, FindsRisingRecords, begun, fits_run_from, rises, each_begins}
+use Rattle.simplex_laws.proofs.networks.ComputedRuns.{replies_from, FindsRisingRecords, fits_run_from, rises, each_begins}
 
 -- what the steps are told, and that the record rises at each restart
 abbrev told_from : Execution ℕ ℕ ℕ → List (Told ℕ ℕ)
-told_from s = replies_from nat_eq leader (begun nat_eq leader s.start) s.steps
+told_from s = replies_from nat_eq leader (new_member nat_eq leader s.start) s.steps
 
 abbrev FitsFrom : Execution ℕ ℕ ℕ → Type 0
-FitsFrom s = FindsRisingRecords nat_eq leader (begun nat_eq leader s.start) s.steps
+FitsFrom s = FindsRisingRecords nat_eq leader (new_member nat_eq leader s.start) s.steps
 
 refusing_told : told_from refusing ≡ refusing.replies
 unfolding first_recover_error recovered_state after_kept_entry may_drop pruned_entries has_valid_parent_span ancestry_payload_for_child first_unnullified_view explicit_ancestry_payload in_issuance_window is_admitted verification_matches parent_payload_for may_notarize may_nullify may_finalize has_conflicting_nullify required_certification_parent

@@ -18,8 +18,7 @@ use Rattle.simplex_member.specs.Restarts.{RestartFacts, cut_member, new_life, re
 use Rattle.simplex_member.specs.Runs.{StepFacts, Calls, Prunes, Restarts, restart_told, IsRun, IsRunFrom}
 use Rattle.simplex_record.specs.Start.{StartFacts, new_state}
 use Rattle.simplex_member.specs.Pruning.{pruned_member}
-use Rattle.simplex_member.specs.Start.{started_member}
-use Rattle.simplex_laws.specs.Executions.{Execution, BeginsAs}
+use Rattle.simplex_laws.specs.Executions.{new_member, Execution, BeginsAs}
 use Rattle.simplex_laws.proofs.lists.Splits.{Contains-cases}
 
 -- what a restart answers, by whether the retention grows and the error that is due
@@ -110,12 +109,9 @@ module _ {K L D : Type 0} (same : D → D → Bool) (elect : Elect L) where
       let due = due_error m r in
       (next_then m.life m (Restarts r), (result_then grows due, restart_made m r fits.0, told_so grows due), fits_run (next_then m.life m (Restarts r)) steps fits.1)
 
-  abbrev pub begun : StartFacts K L D → MemberFacts K L D
-  begun start = started_member same elect (new_state start.setup) start.floor start.now
-
-  pub fits_run_from : (s : Execution K L D) → recover_error same (new_state s.start.setup) s.start.floor s.start.now [] ≡ None → FindsRisingRecords (begun s.start) s.steps → replies_from (begun s.start) s.steps ≡ s.replies → IsRunFrom same elect s.start s.steps s.replies
+  pub fits_run_from : (s : Execution K L D) → recover_error same (new_state s.start.setup) s.start.floor s.start.now [] ≡ None → FindsRisingRecords (new_member same elect s.start) s.steps → replies_from (new_member same elect s.start) s.steps ≡ s.replies → IsRunFrom same elect s.start s.steps s.replies
   unfolding IsRunFrom
-  fits_run_from s none fits is = (none, end_from (begun s.start) s.steps, subst (λ (told : List (Told K D)). IsRun same elect (begun s.start) s.steps told (end_from (begun s.start) s.steps)) is (fits_run (begun s.start) s.steps fits))
+  fits_run_from s none fits is = (none, end_from (new_member same elect s.start) s.steps, subst (λ (told : List (Told K D)). IsRun same elect (new_member same elect s.start) s.steps told (end_from (new_member same elect s.start) s.steps)) is (fits_run (new_member same elect s.start) s.steps fits))
 
 -- the numbers of the items rise
 abbrev pub rises_from : {X : Type 0} → (X → ℕ) → ℕ → List X → Bool

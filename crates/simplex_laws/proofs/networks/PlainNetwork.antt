@@ -21,8 +21,8 @@ use Rattle.simplex_record.specs.Check.{first_recover_error}
 use Rattle.simplex_laws.specs.Traces.{Accepts}
 use Rattle.simplex_laws.specs.Replicas.{Honest, Backed, IsNetworkOf}
 use Rattle.simplex_laws.specs.PlainNetwork.{plain_first, plain_leader, plain_follower, plain_four}
-use Rattle.simplex_laws.specs.Executions.{Execution, trace_of, IsExecution}
-use Rattle.simplex_laws.proofs.networks.ComputedRuns.{replies_from, begun, fits_run_from, each_begins}
+use Rattle.simplex_laws.specs.Executions.{new_member, Execution, trace_of, IsExecution}
+use Rattle.simplex_laws.proofs.networks.ComputedRuns.{replies_from, fits_run_from, each_begins}
 
 abbrev pub PlainExecution : Type 0
 PlainExecution = Execution PlainKey PlainElector PlainDigest
@@ -42,7 +42,7 @@ pub payload : PlainDigest
 payload = record { bytes = 0 ∷ 0 ∷ 0 ∷ 0 ∷ 0 ∷ 0 ∷ 0 ∷ 7 ∷ []; sized = refl }
 
 abbrev told_from : PlainExecution → List (Told PlainKey PlainDigest)
-told_from s = replies_from same in_turn (begun same in_turn s.start) s.steps
+told_from s = replies_from same in_turn (new_member same in_turn s.start) s.steps
 
 leader_told : told_from (plain_leader elector payload) ≡ (plain_leader elector payload).replies
 unfolding elector payload standing propose_answer proposed_answer find_parent captured_parent_valid has_valid_parent_span ancestry_payload_for_child first_unnullified_view explicit_ancestry_payload optimistic_ancestry_payload is_handoff_parent is_voted_ancestor can_chain_on in_issuance_window is_admitted verification_matches parent_payload_for may_notarize may_nullify may_finalize has_conflicting_nullify required_certification_parent

@@ -20,9 +20,9 @@ use Rattle.simplex_laws.specs.DividedNetwork.{rival}
 use Rattle.simplex_laws.specs.Replicas.{quorum, Backed}
 use Rattle.simplex_laws.specs.Rivals.{voting_for, two_proposals, known_of_two_proposals, past_two, misled, skipped_over, known_of_skipped}
 use Rattle.simplex_laws.specs.Scripts.{leader}
-use Rattle.simplex_laws.specs.Executions.{Execution, trace_of, IsExecution}
+use Rattle.simplex_laws.specs.Executions.{new_member, Execution, trace_of, IsExecution}
 use Rattle.simplex_laws.specs.ScenarioSteps.{round, one, two}
-use Rattle.simplex_laws.proofs.networks.ComputedRuns.{replies_from, begun, fits_run_from, each_begins}
+use Rattle.simplex_laws.proofs.networks.ComputedRuns.{replies_from, fits_run_from, each_begins}
 use Rattle.simplex_laws.proofs.networks.Continuations.{same_trace_event, same_trace_event-true, each_one, each_one-true, enough, enough-true, passes, backed_network_of, backed_so}
 use Rattle.simplex_laws.proofs.networks.Scripts.{begins, skipping_ran_1}
 
@@ -62,7 +62,7 @@ accept_so members is i trace c at h = certified_so members c (known_so (may_be_c
 -- the members ran
 
 abbrev told_from : Execution ℕ ℕ ℕ → List (Told ℕ ℕ)
-told_from s = replies_from nat_eq leader (begun nat_eq leader s.start) s.steps
+told_from s = replies_from nat_eq leader (new_member nat_eq leader s.start) s.steps
 
 first_told : told_from (voting_for one 0) ≡ (voting_for one 0).replies
 unfolding standing has_valid_parent_span ancestry_payload_for_child first_unnullified_view explicit_ancestry_payload in_issuance_window is_admitted verification_matches parent_payload_for may_notarize may_nullify may_finalize has_conflicting_nullify required_certification_parent

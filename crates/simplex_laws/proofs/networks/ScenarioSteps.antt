@@ -4,19 +4,19 @@ use Rattle.std.proofs.Common.{◌≡◌, refl, ℕ, inl, ◌<◌, [], List, None
 use Rattle.simplex_member.specs.Calls.{Told}
 use Rattle.simplex_record.specs.Recovery.{recover_error}
 use Rattle.simplex_record.specs.Start.{new_state}
-use Rattle.simplex_laws.specs.Executions.{Execution, BeginsAs, IsExecution}
+use Rattle.simplex_laws.specs.Executions.{new_member, Execution, BeginsAs, IsExecution}
 use Rattle.simplex_laws.specs.ScenarioSteps.{in_turn, begin_at}
-use Rattle.simplex_laws.proofs.networks.ComputedRuns.{replies_from, FindsRisingRecords, begun, fits_run_from, AllBegin, each_begins}
+use Rattle.simplex_laws.proofs.networks.ComputedRuns.{replies_from, FindsRisingRecords, fits_run_from, AllBegin, each_begins}
 
 pub begins : (term_length me : ℕ) → 0 < term_length → BeginsAs term_length me (begin_at term_length me).setup
 begins term_length me some = record { terms = record { terms = refl; some = some }; signs_as = inl refl }
 
 -- what the steps of an execution are told by the definitions
 abbrev pub told_in : Execution ℕ ℕ ℕ → List (Told ℕ ℕ)
-told_in s = replies_from nat_eq in_turn (begun nat_eq in_turn s.start) s.steps
+told_in s = replies_from nat_eq in_turn (new_member nat_eq in_turn s.start) s.steps
 
 abbrev pub FitsIn : Execution ℕ ℕ ℕ → Type 0
-FitsIn s = FindsRisingRecords nat_eq in_turn (begun nat_eq in_turn s.start) s.steps
+FitsIn s = FindsRisingRecords nat_eq in_turn (new_member nat_eq in_turn s.start) s.steps
 
 pub ran_as_told : (term_length me : ℕ) (s : Execution ℕ ℕ ℕ) → BeginsAs term_length me s.start.setup → AllBegin term_length me s.steps → recover_error nat_eq (new_state s.start.setup) s.start.floor s.start.now [] ≡ None → FitsIn s → told_in s ≡ s.replies → IsExecution nat_eq in_turn term_length me s
 ran_as_told term_length me s first later accepted fits told = record {

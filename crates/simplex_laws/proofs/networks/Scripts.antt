@@ -21,15 +21,15 @@ use Rattle.simplex_laws.specs.Accountability.{AcceptCertified, MayBeCertified, H
 use Rattle.simplex_laws.specs.Scripts.{leader, start_at, impatient, patient, forgetful, four, overrun, two_faced, known_of_overrun, restarting, skipping, five}
 use Rattle.simplex_laws.specs.ScenarioSteps.{round, proposal, certificate, one, two}
 use Rattle.simplex_laws.specs.Traces.{Accepts, Signs}
-use Rattle.simplex_laws.specs.Executions.{Execution, trace_of, BeginsAs, IsExecution}
-use Rattle.simplex_laws.proofs.networks.ComputedRuns.{replies_from, FindsRisingRecords, begun, fits_run_from, rises, each_begins}
+use Rattle.simplex_laws.specs.Executions.{new_member, Execution, trace_of, BeginsAs, IsExecution}
+use Rattle.simplex_laws.proofs.networks.ComputedRuns.{replies_from, FindsRisingRecords, fits_run_from, rises, each_begins}
 
 pub begins : (term_length me : ℕ) (floor : FloorFacts ℕ) → 0 < term_length → BeginsAs term_length me (start_at term_length floor me).setup
 begins term_length me floor some = record { terms = record { terms = refl; some = some }; signs_as = inl refl }
 
 module _ where
   abbrev from_start : Execution ℕ ℕ ℕ → List (Told ℕ ℕ)
-  from_start s = replies_from nat_eq leader (begun nat_eq leader s.start) s.steps
+  from_start s = replies_from nat_eq leader (new_member nat_eq leader s.start) s.steps
 
   impatient_told : from_start impatient ≡ impatient.replies
   unfolding has_valid_parent_span ancestry_payload_for_child first_unnullified_view explicit_ancestry_payload in_issuance_window is_admitted verification_matches parent_payload_for may_notarize may_nullify may_finalize has_conflicting_nullify required_certification_parent
@@ -47,7 +47,7 @@ module _ where
   unfolding first_recover_error recovered_state after_kept_entry may_drop pruned_entries standing has_valid_parent_span ancestry_payload_for_child first_unnullified_view explicit_ancestry_payload in_issuance_window is_admitted verification_matches parent_payload_for may_notarize may_nullify may_finalize has_conflicting_nullify required_certification_parent
   forgetful_told = refl
 
-  forgetful_fits : FindsRisingRecords nat_eq leader (begun nat_eq leader (forgetful).start) (forgetful).steps
+  forgetful_fits : FindsRisingRecords nat_eq leader (new_member nat_eq leader (forgetful).start) (forgetful).steps
   unfolding first_recover_error recovered_state after_kept_entry may_drop pruned_entries standing has_valid_parent_span ancestry_payload_for_child first_unnullified_view explicit_ancestry_payload in_issuance_window is_admitted verification_matches parent_payload_for may_notarize may_nullify may_finalize has_conflicting_nullify required_certification_parent
   forgetful_fits = (rises entry_view 0 kept refl, tt)
 
@@ -81,7 +81,7 @@ module _ where
   unfolding first_recover_error recovered_state after_kept_entry may_drop pruned_entries standing has_valid_parent_span ancestry_payload_for_child first_unnullified_view explicit_ancestry_payload in_issuance_window is_admitted verification_matches parent_payload_for may_notarize may_nullify may_finalize has_conflicting_nullify required_certification_parent
   restarting_told = refl
 
-  restarting_fits : FindsRisingRecords nat_eq leader (begun nat_eq leader restarting.start) restarting.steps
+  restarting_fits : FindsRisingRecords nat_eq leader (new_member nat_eq leader restarting.start) restarting.steps
   unfolding first_recover_error recovered_state after_kept_entry may_drop pruned_entries standing has_valid_parent_span ancestry_payload_for_child first_unnullified_view explicit_ancestry_payload in_issuance_window is_admitted verification_matches parent_payload_for may_notarize may_nullify may_finalize has_conflicting_nullify required_certification_parent
   restarting_fits = (rises entry_view 0 once refl, (rises entry_view 0 twice refl, (rises entry_view 0 twice refl, tt)))
 

@@ -23,7 +23,7 @@ use Rattle.simplex_member.specs.Restarts.{RestartFacts, IsByView, cut_member, ne
 use Rattle.simplex_member.specs.Runs.{StepFacts, Calls, Prunes, Restarts, restart_told, IsRun}
 use Rattle.simplex_record.specs.Start.{StartFacts, new_state}
 use Rattle.simplex_member.specs.Pruning.{pruned_member}
-use Rattle.simplex_member.specs.Start.{started_member}
+use Rattle.simplex_laws.specs.Executions.{new_member}
 use Rattle.simplex_laws.specs.Traces.{TraceEvent, Signs, handed_in, of_floor, signed_in, accepted_by, trace_of_call, trace_at, trace_of_steps}
 use Rattle.simplex_laws.specs.Exactly.{ExactAt, proposal_at}
 use Rattle.simplex_laws.specs.Lawful.{HasSigned}
@@ -207,7 +207,7 @@ module _ {K L D : Type 0} (same : D → D → Bool) (decides : (d e : D) → sam
       rest)
 
 module _ {K L D : Type 0} (same : D → D → Bool) (decides : (d e : D) → same d e ≡ true → d ≡ e) (itself : (d : D) → same d d ≡ true) (elect : Elect L) (term_length : ℕ) (start : StartFacts K L D) (begins : HasTerms term_length start.setup) (accepted : recover_error same (new_state start.setup) start.floor start.now [] ≡ None) where
-  start_builds : VotesBuilt [] (of_floor start.floor) (started_member same elect (new_state start.setup) start.floor start.now)
+  start_builds : VotesBuilt [] (of_floor start.floor) (new_member same elect start)
   unfolding recovered_state
   start_builds =
       let small = taken_small same (new_state start.setup) start.floor start.now [] accepted in
@@ -218,14 +218,13 @@ module _ {K L D : Type 0} (same : D → D → Bool) (decides : (d e : D) → sam
 
   -- a copy of a member's own record is refused for a view that is too large only where the next floor names one, or the member
   -- voted in one
-  pub own_high_voted : (steps : List (StepFacts K L D)) (replies : List (Told K D)) (end : MemberFacts K L D) (next : RestartFacts K L D) (copy : List (ArtifactFacts D)) → KeepTerms term_length steps → IsRun same elect (started_member same elect (new_state start.setup) start.floor start.now) steps replies end → IsByView (cut_member end next.drop next.prune).entries copy → recover_error same (new_state next.start.setup) next.start.floor next.start.now copy ≡ Some error.ViewTooLarge → (is_floor_too_large next.start.floor ≡ true) ⊎ VotedTooHigh steps (of_floor start.floor ++ trace_of_steps steps replies)
+  pub own_high_voted : (steps : List (StepFacts K L D)) (replies : List (Told K D)) (end : MemberFacts K L D) (next : RestartFacts K L D) (copy : List (ArtifactFacts D)) → KeepTerms term_length steps → IsRun same elect (new_member same elect start) steps replies end → IsByView (cut_member end next.drop next.prune).entries copy → recover_error same (new_state next.start.setup) next.start.floor next.start.now copy ≡ Some error.ViewTooLarge → (is_floor_too_large next.start.floor ≡ true) ⊎ VotedTooHigh steps (of_floor start.floor ++ trace_of_steps steps replies)
   own_high_voted steps replies end next copy fresh run by_view is =
-      let begun = started_member same elect (new_state start.setup) start.floor start.now in
       let trace = of_floor start.floor ++ trace_of_steps steps replies in
       let first = start_own same decides itself elect term_length start begins in
-      let own = run_own same decides itself elect term_length begins.some steps replies (of_floor start.floor) begun end fresh first run in
-      let small = small_both (of_floor start.floor) (trace_of_steps steps replies) (floor_small same (new_state start.setup) start.floor start.now [] accepted) (steps_small same elect steps replies begun end run) in
-      let built = run_builds same decides itself elect term_length begins.some steps replies [] (of_floor start.floor) begun end fresh first start_builds run in
+      let own = run_own same decides itself elect term_length begins.some steps replies (of_floor start.floor) (new_member same elect start) end fresh first run in
+      let small = small_both (of_floor start.floor) (trace_of_steps steps replies) (floor_small same (new_state start.setup) start.floor start.now [] accepted) (steps_small same elect steps replies (new_member same elect start) end run) in
+      let built = run_builds same decides itself elect term_length begins.some steps replies [] (of_floor start.floor) (new_member same elect start) end fresh first start_builds run in
       elim (copy_high same decides itself elect term_length begins.some trace end next copy small own by_view is) [
         | inl floor ↦ inl floor
         | inr (inl nullified) ↦ inr (inl nullified)

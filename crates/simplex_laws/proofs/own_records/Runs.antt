@@ -16,12 +16,12 @@ use Rattle.simplex_record.specs.Check.{stands}
 use Rattle.simplex_record.specs.Cuts.{may_drop, without_last, finalized_in, pruned_entries}
 use Rattle.simplex_record.specs.Entries.{entry_view}
 use Rattle.simplex_member.specs.Lives.{MemberFacts, IsCall, AnswersAlive, reply_of, left_of, without_life}
+use Rattle.simplex_laws.specs.Executions.{new_member}
 use Rattle.simplex_laws.specs.Outside.{AcceptedParentAbove, is_floor_too_large, IsFromOutside, IsExcused, VerdictsFollowNotarizations}
 use Rattle.simplex_record.specs.Recovery.{recover_error, recovered_state, is_finalization, with_floor}
 use Rattle.simplex_member.specs.Restarts.{RestartFacts, IsByView, cut_member, new_life, retention_grows, RecoversByView, IsRestart, IsRestartWhere}
 use Rattle.simplex_member.specs.Runs.{StepFacts, Calls, Prunes, Restarts, restart_told, IsRun, EndsRun, EndsRunFrom}
 use Rattle.simplex_record.specs.Start.{StartFacts, new_state}
-use Rattle.simplex_member.specs.Start.{started_member}
 use Rattle.simplex_record.proofs.Cuts.{none_dropped}
 use Rattle.simplex_laws.specs.Traces.{TraceEvent, of_floor, trace_of_call, trace_at, trace_of_steps}
 use Rattle.simplex_laws.specs.TermLengths.{HasTerms, KeepTerms}
@@ -271,7 +271,7 @@ module _ {K L D : Type 0} (same : D → D → Bool) (decides : (d e : D) → sam
   run_excused (Restarts r ∷ steps) trace m found fresh own (inr (told, next, is_step, served, later)) = run_excused steps (trace ++ trace_at (Restarts r) told) next found fresh.1 (restarted trace m next r told fresh.0 own is_step) later
 
 module _ {K L D : Type 0} (same : D → D → Bool) (decides : (d e : D) → same d e ≡ true → d ≡ e) (itself : (d : D) → same d d ≡ true) (elect : Elect L) (term_length : ℕ) (start : StartFacts K L D) (begins : HasTerms term_length start.setup) where
-  start_tells : MemberTells (of_floor start.floor) (started_member same elect (new_state start.setup) start.floor start.now)
+  start_tells : MemberTells (of_floor start.floor) (new_member same elect start)
   unfolding recovered_state
   start_tells =
       let x = new_state start.setup in
@@ -282,32 +282,32 @@ module _ {K L D : Type 0} (same : D → D → Bool) (decides : (d e : D) → sam
         shows = shows_whole none none start.floor (recovered_state same elect x start.floor start.now none) (λ v. refl) shows;
       }
 
-  pub start_own : LivesAndTells term_length (of_floor start.floor) (started_member same elect (new_state start.setup) start.floor start.now)
+  pub start_own : LivesAndTells term_length (of_floor start.floor) (new_member same elect start)
   start_own = record { lives = start_lives same decides elect term_length start begins; tells = start_tells }
 
   module _ (steps : List (StepFacts K L D)) (fresh : KeepTerms term_length steps) where
     -- a copy of a member's own record is refused only for what comes from outside
-    pub own_record_outside : (replies : List (Told K D)) (end : MemberFacts K L D) (next : RestartFacts K L D) (copy : List (ArtifactFacts D)) (found : RecoverError) → IsRun same elect (started_member same elect (new_state start.setup) start.floor start.now) steps replies end → IsByView (cut_member end next.drop next.prune).entries copy → recover_error same (new_state next.start.setup) next.start.floor next.start.now copy ≡ Some found → IsFromOutside found
+    pub own_record_outside : (replies : List (Told K D)) (end : MemberFacts K L D) (next : RestartFacts K L D) (copy : List (ArtifactFacts D)) (found : RecoverError) → IsRun same elect (new_member same elect start) steps replies end → IsByView (cut_member end next.drop next.prune).entries copy → recover_error same (new_state next.start.setup) next.start.floor next.start.now copy ≡ Some found → IsFromOutside found
     own_record_outside replies end next copy found run by_view is =
-        let own = run_own same decides itself elect term_length begins.some steps replies (of_floor start.floor) (started_member same elect (new_state start.setup) start.floor start.now) end fresh start_own run in
+        let own = run_own same decides itself elect term_length begins.some steps replies (of_floor start.floor) (new_member same elect start) end fresh start_own run in
         copy_outside same decides itself elect term_length begins.some (of_floor start.floor ++ trace_of_steps steps replies) end next copy found own by_view is
 
     -- for a parent, only where such a notarization was accepted
-    pub own_parent_accepted : (replies : List (Told K D)) (end : MemberFacts K L D) (next : RestartFacts K L D) (copy : List (ArtifactFacts D)) → IsRun same elect (started_member same elect (new_state start.setup) start.floor start.now) steps replies end → IsByView (cut_member end next.drop next.prune).entries copy → recover_error same (new_state next.start.setup) next.start.floor next.start.now copy ≡ Some error.ParentNotBelow → AcceptedParentAbove (of_floor start.floor ++ trace_of_steps steps replies)
+    pub own_parent_accepted : (replies : List (Told K D)) (end : MemberFacts K L D) (next : RestartFacts K L D) (copy : List (ArtifactFacts D)) → IsRun same elect (new_member same elect start) steps replies end → IsByView (cut_member end next.drop next.prune).entries copy → recover_error same (new_state next.start.setup) next.start.floor next.start.now copy ≡ Some error.ParentNotBelow → AcceptedParentAbove (of_floor start.floor ++ trace_of_steps steps replies)
     own_parent_accepted replies end next copy run by_view is =
-        let own = run_own same decides itself elect term_length begins.some steps replies (of_floor start.floor) (started_member same elect (new_state start.setup) start.floor start.now) end fresh start_own run in
+        let own = run_own same decides itself elect term_length begins.some steps replies (of_floor start.floor) (new_member same elect start) end fresh start_own run in
         copy_parent same decides itself elect term_length begins.some (of_floor start.floor ++ trace_of_steps steps replies) end next copy own by_view is
 
     -- behind its verdicts stand notarizations, in its own order
-    pub own_verdicts_follow : (replies : List (Told K D)) (end : MemberFacts K L D) → IsRun same elect (started_member same elect (new_state start.setup) start.floor start.now) steps replies end → VerdictsFollowNotarizations end
+    pub own_verdicts_follow : (replies : List (Told K D)) (end : MemberFacts K L D) → IsRun same elect (new_member same elect start) steps replies end → VerdictsFollowNotarizations end
     own_verdicts_follow replies end run =
-        let own = run_own same decides itself elect term_length begins.some steps replies (of_floor start.floor) (started_member same elect (new_state start.setup) start.floor start.now) end fresh start_own run in
+        let own = run_own same decides itself elect term_length begins.some steps replies (of_floor start.floor) (new_member same elect start) end fresh start_own run in
         (own_of (of_floor start.floor ++ trace_of_steps steps replies) end.entries end.life own.tells).notarized
 
     -- so is a restart, but for its retention and want of memory
-    pub own_restart_excused : (replies : List (Told K D)) (end left : MemberFacts K L D) (next : RestartFacts K L D) (found : RecoverError) → IsRun same elect (started_member same elect (new_state start.setup) start.floor start.now) steps replies end → IsRestart same elect end next (Err found) left → IsExcused found
+    pub own_restart_excused : (replies : List (Told K D)) (end left : MemberFacts K L D) (next : RestartFacts K L D) (found : RecoverError) → IsRun same elect (new_member same elect start) steps replies end → IsRestart same elect end next (Err found) left → IsExcused found
     own_restart_excused replies end left next found run restarts =
-        let own = run_own same decides itself elect term_length begins.some steps replies (of_floor start.floor) (started_member same elect (new_state start.setup) start.floor start.now) end fresh start_own run in
+        let own = run_own same decides itself elect term_length begins.some steps replies (of_floor start.floor) (new_member same elect start) end fresh start_own run in
         restart_excused same decides itself elect term_length begins.some (of_floor start.floor ++ trace_of_steps steps replies) end left next (Err found) found refl own restarts
 
     -- and a run
@@ -315,4 +315,4 @@ module _ {K L D : Type 0} (same : D → D → Bool) (decides : (d e : D) → sam
     unfolding EndsRunFrom
     own_run_excused found (inl memory) = inr (inr memory)
     own_run_excused found (inr (inl refused)) = inl (error_outside same (new_state start.setup) start.floor start.now [] found tt refused)
-    own_run_excused found (inr (inr ends)) = run_excused same decides itself elect term_length begins.some steps (of_floor start.floor) (started_member same elect (new_state start.setup) start.floor start.now) found fresh start_own ends
+    own_run_excused found (inr (inr ends)) = run_excused same decides itself elect term_length begins.some steps (of_floor start.floor) (new_member same elect start) found fresh start_own ends

@@ -23,7 +23,7 @@ use Rattle.simplex_record.specs.Recovery.{recover_error, is_finalization, with_f
 use Rattle.simplex_member.specs.Restarts.{RestartFacts, cut_member, retention_grows, new_life, RecoversByView, IsRestartWhere, IsRestart}
 use Rattle.simplex_member.specs.Runs.{StepFacts, Calls, Prunes, Restarts, IsStep, IsRun, IsRefused}
 use Rattle.simplex_record.specs.Start.{StartFacts, new_state}
-use Rattle.simplex_member.specs.Start.{started_member}
+use Rattle.simplex_laws.specs.Executions.{new_member}
 use Rattle.simplex_laws.specs.Resumes.{LosesNothing}
 
 -- all that was closed stands in its record
@@ -113,8 +113,8 @@ module _ {K L D : Type 0} (same : D → D → Bool) (elect : Elect L) where
   run_within m end (Prunes ∷ steps) (told ∷ replies) within (next, (tells, leaves), rest) = run_within next end steps replies (rw leaves (omega arith)) rest
   run_within m end (Restarts r ∷ steps) (told ∷ replies) within (next, (result, restarts, tell), rest) = run_within next end steps replies (restart_within m r result next within restarts) rest
 
-  pub run_loses_nothing : (start : StartFacts K L D) (steps : List (StepFacts K L D)) (replies : List (Told K D)) (m : MemberFacts K L D) → IsRun same elect (started_member same elect (new_state start.setup) start.floor start.now) steps replies m → LosesNothing m
-  run_loses_nothing start steps replies m run = not_below m.closed (length m.entries) (run_within (started_member same elect (new_state start.setup) start.floor start.now) m steps replies (omega arith) run)
+  pub run_loses_nothing : (start : StartFacts K L D) (steps : List (StepFacts K L D)) (replies : List (Told K D)) (m : MemberFacts K L D) → IsRun same elect (new_member same elect start) steps replies m → LosesNothing m
+  run_loses_nothing start steps replies m run = not_below m.closed (length m.entries) (run_within (new_member same elect start) m steps replies (omega arith) run)
 
 -- the member that a journal holds restarts as the one that it was stored of
 

@@ -19,13 +19,12 @@ use Rattle.simplex_record.specs.Recovery.{recover_error, recovered_state, with_f
 use Rattle.simplex_member.specs.Restarts.{RestartFacts, IsByView, cut_member, new_life, retention_grows, RecoversByView, IsRestart, IsRestartWhere}
 use Rattle.simplex_laws.specs.Traces.{TraceEvent, of_floor, trace_of_call, trace_at, trace_of_steps}
 use Rattle.simplex_laws.specs.Lawful.{IsLawful}
-use Rattle.simplex_laws.specs.Executions.{Execution, trace_of, BeginsAs, IsExecution}
+use Rattle.simplex_laws.specs.Executions.{new_member, Execution, trace_of, BeginsAs, IsExecution}
 use Rattle.simplex_laws.proofs.lists.Signed.{signed_none}
 use Rattle.simplex_laws.proofs.lists.Splits.{Contains-cons_rest}
 use Rattle.simplex_laws.specs.TermLengths.{HasTerms, KeepTerms}
 use Rattle.simplex_member.specs.Runs.{StepFacts, Calls, Prunes, Restarts, restart_told, IsStep, IsRun, IsRunFrom}
 use Rattle.simplex_record.specs.Start.{StartFacts, new_state}
-use Rattle.simplex_member.specs.Start.{started_member}
 use Rattle.simplex_laws.proofs.agreement.Lawful.{lawful_start}
 use Rattle.simplex_laws.proofs.records.Remembering.{none_split}
 use Rattle.simplex_laws.proofs.records.Lifetimes.{Between, dropped_between, pruned_between}
@@ -177,7 +176,7 @@ nothing_between term_length = record {
 }
 
 module _ {K L D : Type 0} (same : D → D → Bool) (decides : (d e : D) → same d e ≡ true → d ≡ e) (elect : Elect L) (term_length : ℕ) (start : StartFacts K L D) (begins : HasTerms term_length start.setup) where
-  pub start_lives : MemberLives term_length (of_floor start.floor) (started_member same elect (new_state start.setup) start.floor start.now)
+  pub start_lives : MemberLives term_length (of_floor start.floor) (new_member same elect start)
   unfolding recovered_state
   start_lives =
       let x = new_state start.setup in
@@ -189,7 +188,7 @@ module _ {K L D : Type 0} (same : D → D → Bool) (decides : (d e : D) → sam
   pub run_from_lawful : (steps : List (StepFacts K L D)) (replies : List (Told K D)) → KeepTerms term_length steps → IsRunFrom same elect start steps replies → IsLawful term_length (of_floor start.floor ++ trace_of_steps steps replies)
   unfolding IsRunFrom
   run_from_lawful steps replies fresh (accepted, end, run) =
-      run_lawful same decides elect term_length begins.some steps replies (of_floor start.floor) (started_member same elect (new_state start.setup) start.floor start.now) end fresh start_lives run
+      run_lawful same decides elect term_length begins.some steps replies (of_floor start.floor) (new_member same elect start) end fresh start_lives run
 
 -- the lives of a member of a network share a length of terms
 keep_terms : {K L D : Type 0} (term_length i : ℕ) (steps : List (StepFacts K L D)) → ((r : RestartFacts K L D) → Contains steps (Restarts r) → BeginsAs term_length i r.start.setup) → KeepTerms term_length steps

@@ -14,9 +14,9 @@ use Rattle.simplex_record.specs.Cuts.{may_drop, pruned_entries}
 use Rattle.simplex_record.specs.Entries.{entry_view}
 use Rattle.simplex_record.specs.Recovery.{recovered_state, after_kept_entry}
 use Rattle.simplex_laws.specs.DividedNetwork.{rival, deceived, warned, divided}
-use Rattle.simplex_laws.specs.Executions.{Execution}
+use Rattle.simplex_laws.specs.Executions.{new_member, Execution}
 use Rattle.simplex_laws.specs.ScenarioSteps.{one, in_turn}
-use Rattle.simplex_laws.proofs.networks.ComputedRuns.{begun, end_from, rises}
+use Rattle.simplex_laws.proofs.networks.ComputedRuns.{end_from, rises}
 use Rattle.simplex_laws.proofs.networks.DividedNetwork.{divided_network}
 use Rattle.simplex_laws.proofs.networks.ScenarioSteps.{told_in}
 use Rattle.simplex_progress.specs.Living.{IsSetUpAs, LivesWith}
@@ -34,7 +34,7 @@ pub first_told : told_in first ≡ (first).replies
 unfolding first_recover_error recovered_state after_kept_entry may_drop pruned_entries standing has_valid_parent_span ancestry_payload_for_child first_unnullified_view explicit_ancestry_payload in_issuance_window is_admitted verification_matches parent_payload_for may_notarize
 first_told = refl
 
-pub first_alive : is_some (end_from nat_eq in_turn (begun nat_eq in_turn (first).start) (first).steps).life ≡ true
+pub first_alive : is_some (end_from nat_eq in_turn (new_member nat_eq in_turn (first).start) (first).steps).life ≡ true
 unfolding first_recover_error recovered_state after_kept_entry may_drop pruned_entries standing has_valid_parent_span ancestry_payload_for_child first_unnullified_view explicit_ancestry_payload in_issuance_window is_admitted verification_matches parent_payload_for may_notarize
 first_alive = refl
 
@@ -61,7 +61,7 @@ pub second_told : told_in second ≡ (second).replies
 unfolding first_recover_error recovered_state after_kept_entry may_drop pruned_entries standing has_valid_parent_span ancestry_payload_for_child first_unnullified_view explicit_ancestry_payload in_issuance_window is_admitted verification_matches parent_payload_for may_notarize
 second_told = refl
 
-pub second_alive : is_some (end_from nat_eq in_turn (begun nat_eq in_turn (second).start) (second).steps).life ≡ true
+pub second_alive : is_some (end_from nat_eq in_turn (new_member nat_eq in_turn (second).start) (second).steps).life ≡ true
 unfolding first_recover_error recovered_state after_kept_entry may_drop pruned_entries standing has_valid_parent_span ancestry_payload_for_child first_unnullified_view explicit_ancestry_payload in_issuance_window is_admitted verification_matches parent_payload_for may_notarize
 second_alive = refl
 
@@ -88,7 +88,7 @@ pub third_told : told_in third ≡ (third).replies
 unfolding first_recover_error recovered_state after_kept_entry may_drop pruned_entries standing has_valid_parent_span ancestry_payload_for_child first_unnullified_view explicit_ancestry_payload in_issuance_window is_admitted verification_matches parent_payload_for may_notarize
 third_told = refl
 
-pub third_alive : is_some (end_from nat_eq in_turn (begun nat_eq in_turn (third).start) (third).steps).life ≡ true
+pub third_alive : is_some (end_from nat_eq in_turn (new_member nat_eq in_turn (third).start) (third).steps).life ≡ true
 unfolding first_recover_error recovered_state after_kept_entry may_drop pruned_entries standing has_valid_parent_span ancestry_payload_for_child first_unnullified_view explicit_ancestry_payload in_issuance_window is_admitted verification_matches parent_payload_for may_notarize
 third_alive = refl
 

@@ -10,9 +10,9 @@ use Rattle.simplex_voter.specs.Rules.{may_notarize, may_nullify, may_finalize, h
 use Rattle.simplex_voter.specs.Verifying.{standing}
 use Rattle.simplex_voter.specs.Windows.{is_admitted, in_issuance_window}
 use Rattle.simplex_laws.specs.HandoffNetwork.{takes_over, can_not_verify, taken_over}
-use Rattle.simplex_laws.specs.Executions.{Execution}
+use Rattle.simplex_laws.specs.Executions.{new_member, Execution}
 use Rattle.simplex_laws.specs.ScenarioSteps.{in_turn}
-use Rattle.simplex_laws.proofs.networks.ComputedRuns.{begun, end_from}
+use Rattle.simplex_laws.proofs.networks.ComputedRuns.{end_from}
 use Rattle.simplex_laws.proofs.networks.HandoffNetwork.{taken_over_network}
 use Rattle.simplex_laws.proofs.networks.ScenarioSteps.{told_in}
 use Rattle.simplex_progress.specs.Living.{IsSetUpAs, LivesWith}
@@ -30,7 +30,7 @@ first_told : told_in first ≡ (first).replies
 unfolding standing propose_answer proposed_answer find_parent captured_parent_valid has_valid_parent_span ancestry_payload_for_child first_unnullified_view explicit_ancestry_payload optimistic_ancestry_payload is_handoff_parent is_voted_ancestor can_chain_on in_issuance_window is_admitted verification_matches parent_payload_for may_notarize may_nullify may_finalize has_conflicting_nullify required_certification_parent
 first_told = refl
 
-first_alive : is_some (end_from nat_eq in_turn (begun nat_eq in_turn (first).start) (first).steps).life ≡ true
+first_alive : is_some (end_from nat_eq in_turn (new_member nat_eq in_turn (first).start) (first).steps).life ≡ true
 unfolding standing propose_answer proposed_answer find_parent captured_parent_valid has_valid_parent_span ancestry_payload_for_child first_unnullified_view explicit_ancestry_payload optimistic_ancestry_payload is_handoff_parent is_voted_ancestor can_chain_on in_issuance_window is_admitted verification_matches parent_payload_for may_notarize may_nullify may_finalize has_conflicting_nullify required_certification_parent
 first_alive = refl
 
@@ -56,7 +56,7 @@ second_told : told_in second ≡ (second).replies
 unfolding standing propose_answer proposed_answer find_parent captured_parent_valid has_valid_parent_span ancestry_payload_for_child first_unnullified_view explicit_ancestry_payload optimistic_ancestry_payload is_handoff_parent is_voted_ancestor can_chain_on in_issuance_window is_admitted verification_matches parent_payload_for may_notarize may_nullify may_finalize has_conflicting_nullify required_certification_parent
 second_told = refl
 
-second_alive : is_some (end_from nat_eq in_turn (begun nat_eq in_turn (second).start) (second).steps).life ≡ true
+second_alive : is_some (end_from nat_eq in_turn (new_member nat_eq in_turn (second).start) (second).steps).life ≡ true
 unfolding standing propose_answer proposed_answer find_parent captured_parent_valid has_valid_parent_span ancestry_payload_for_child first_unnullified_view explicit_ancestry_payload optimistic_ancestry_payload is_handoff_parent is_voted_ancestor can_chain_on in_issuance_window is_admitted verification_matches parent_payload_for may_notarize may_nullify may_finalize has_conflicting_nullify required_certification_parent
 second_alive = refl
 
@@ -82,7 +82,7 @@ third_told : told_in third ≡ (third).replies
 unfolding standing propose_answer proposed_answer find_parent captured_parent_valid has_valid_parent_span ancestry_payload_for_child first_unnullified_view explicit_ancestry_payload optimistic_ancestry_payload is_handoff_parent is_voted_ancestor can_chain_on in_issuance_window is_admitted verification_matches parent_payload_for may_notarize may_nullify may_finalize has_conflicting_nullify required_certification_parent
 third_told = refl
 
-third_alive : is_some (end_from nat_eq in_turn (begun nat_eq in_turn (third).start) (third).steps).life ≡ true
+third_alive : is_some (end_from nat_eq in_turn (new_member nat_eq in_turn (third).start) (third).steps).life ≡ true
 unfolding standing propose_answer proposed_answer find_parent captured_parent_valid has_valid_parent_span ancestry_payload_for_child first_unnullified_view explicit_ancestry_payload optimistic_ancestry_payload is_handoff_parent is_voted_ancestor can_chain_on in_issuance_window is_admitted verification_matches parent_payload_for may_notarize may_nullify may_finalize has_conflicting_nullify required_certification_parent
 third_alive = refl
 

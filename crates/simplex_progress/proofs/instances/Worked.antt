@@ -10,10 +10,10 @@ use Rattle.simplex_record.specs.Start.{new_state}
 use Rattle.simplex_member.specs.Runs.{IsRun}
 use Rattle.simplex_laws.specs.Continuations.{EachHonest}
 use Rattle.simplex_laws.specs.Replicas.{Replica, Faulty, Honest, IsNetworkOf}
-use Rattle.simplex_laws.specs.Executions.{Execution}
+use Rattle.simplex_laws.specs.Executions.{new_member, Execution}
 use Rattle.simplex_laws.specs.ScenarioSteps.{in_turn}
 use Rattle.simplex_laws.proofs.lists.Splits.{Contains-cases}
-use Rattle.simplex_laws.proofs.networks.ComputedRuns.{begun, end_from, fits_run}
+use Rattle.simplex_laws.proofs.networks.ComputedRuns.{end_from, fits_run}
 use Rattle.simplex_laws.proofs.networks.ScenarioSteps.{told_in, FitsIn}
 use Rattle.simplex_progress.specs.Living.{IsSetUpAs, LivesWith, EachLives}
 use Rattle.simplex_progress.specs.Reaching.{HasCertified, judged_of}
@@ -22,23 +22,23 @@ use Rattle.simplex_progress.proofs.runs.LedLives.{state_led}
 
 -- what a member knows at the end of an execution whose replies are computed
 abbrev pub state_of : Execution ℕ ℕ ℕ → StateFacts ℕ ℕ ℕ
-state_of s = unwrap_or (end_from nat_eq in_turn (begun nat_eq in_turn s.start) s.steps).life (new_state s.start.setup)
+state_of s = unwrap_or (end_from nat_eq in_turn (new_member nat_eq in_turn s.start) s.steps).life (new_state s.start.setup)
 
 some_is : {A : Type 0} (o : Option A) (a : A) → is_some o ≡ true → o ≡ Some (unwrap_or o a)
 some_is None a is = absurd (false≢true is)
 some_is (Some b) a is = refl
 
 -- where it lives
-pub lives_there : (s : Execution ℕ ℕ ℕ) → FitsIn s → told_in s ≡ s.replies → is_some (end_from nat_eq in_turn (begun nat_eq in_turn s.start) s.steps).life ≡ true → LivesWith nat_eq in_turn s (state_of s)
+pub lives_there : (s : Execution ℕ ℕ ℕ) → FitsIn s → told_in s ≡ s.replies → is_some (end_from nat_eq in_turn (new_member nat_eq in_turn s.start) s.steps).life ≡ true → LivesWith nat_eq in_turn s (state_of s)
 lives_there s fits told alive =
-    let m = begun nat_eq in_turn s.start in (
+    let m = new_member nat_eq in_turn s.start in (
       end_from nat_eq in_turn m s.steps,
       subst (λ replies. IsRun nat_eq in_turn m s.steps replies (end_from nat_eq in_turn m s.steps)) told (fits_run nat_eq in_turn m s.steps fits),
       some_is (end_from nat_eq in_turn m s.steps).life (new_state s.start.setup) alive,
     )
 
 -- and was set up so, and its view lies below the start, which it doesn't know
-pub lives_by : (term_length start i : ℕ) (s : Execution ℕ ℕ ℕ) → FitsIn s → told_in s ≡ s.replies → is_some (end_from nat_eq in_turn (begun nat_eq in_turn s.start) s.steps).life ≡ true → IsSetUpAs 1 4 term_length i (state_of s) → is_tracked (state_of s) start ≡ false → nat_lt (state_of s).current start ≡ true
+pub lives_by : (term_length start i : ℕ) (s : Execution ℕ ℕ ℕ) → FitsIn s → told_in s ≡ s.replies → is_some (end_from nat_eq in_turn (new_member nat_eq in_turn s.start) s.steps).life ≡ true → IsSetUpAs 1 4 term_length i (state_of s) → is_tracked (state_of s) start ≡ false → nat_lt (state_of s).current start ≡ true
     → (x : StateFacts ℕ ℕ ℕ) × LivesWith nat_eq in_turn s x × (IsSetUpAs 1 4 term_length i x × (is_tracked x start ≡ false) × (x.current < start))
 lives_by term_length start i s fits told alive set unknown below = (state_of s, lives_there s fits told alive, (set, unknown, ltb-true (state_of s).current start below))
 

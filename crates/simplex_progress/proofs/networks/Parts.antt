@@ -6,15 +6,13 @@ use Rattle.simplex_types.specs.declared.types.messages.Proposal.{Proposal}
 use Rattle.simplex_types.specs.declared.types.messages.Subject.{Subject}
 use Rattle.simplex_types.specs.declared.types.messages.Subject.TheVariants.{Notarize}
 use Rattle.simplex_voter.specs.Facts.{Elect}
-use Rattle.simplex_record.specs.Start.{new_state}
 use Rattle.simplex_member.specs.Calls.{CallFacts, SetProposal, Proposed}
 use Rattle.simplex_member.specs.Lives.{MemberFacts}
 use Rattle.simplex_member.specs.Runs.{StepFacts, Calls, IsRun}
-use Rattle.simplex_member.specs.Start.{started_member}
 use Rattle.simplex_laws.specs.Continuations.{ExecutionGoesOn, SomeHonest, HasBuilt, IsHonestlySigned, HonestlyBacked}
 use Rattle.simplex_laws.specs.Traces.{TraceEvent, Accepts, Signs}
 use Rattle.simplex_laws.specs.Replicas.{Replica, Honest, faults, max_faults, quorum}
-use Rattle.simplex_laws.specs.Executions.{Execution, trace_of, IsExecution}
+use Rattle.simplex_laws.specs.Executions.{new_member, Execution, trace_of, IsExecution}
 use Rattle.simplex_laws.proofs.lists.Splits.{Contains-cases, Contains-cons_rest}
 use Rattle.simplex_progress.specs.Soon.{IsExchange, Exchanges}
 use Rattle.simplex_progress.proofs.networks.Followed.{quorum_fits, honest_enough, ReplicasFollow, follows_so, one_further, replicas_follow, same_many, was_there, is_there}
@@ -70,7 +68,7 @@ module _ {K L D : Type 0} (same : D → D → Bool) (elect : Elect L) (term_leng
     pub steps : t.steps ≡ s.steps ++ map Calls (calls i)
     pub trace : trace_of t ≡ trace_of s ++ done i
     pub member : MemberFacts K L D
-    pub run : IsRun same elect (started_member same elect (new_state t.start.setup) t.start.floor t.start.now) t.steps t.replies member
+    pub run : IsRun same elect (new_member same elect t.start) t.steps t.replies member
     pub ready : Sequence same elect member (rest i)
 
   -- it does one part more

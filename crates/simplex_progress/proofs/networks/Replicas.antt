@@ -4,14 +4,12 @@ use Rattle.std.proofs.lemmas.List.{append-nil}
 use Rattle.std.proofs.lemmas.List.Elements.{Contains-append_left}
 use Rattle.simplex_types.specs.declared.types.messages.Subject.{Subject}
 use Rattle.simplex_voter.specs.Facts.{Elect}
-use Rattle.simplex_record.specs.Start.{new_state}
 use Rattle.simplex_member.specs.Calls.{Told}
 use Rattle.simplex_member.specs.Runs.{StepFacts, IsRunFrom}
-use Rattle.simplex_member.specs.Start.{started_member}
 use Rattle.simplex_laws.specs.Continuations.{and_then, ExecutionGoesOn, ReplicasGoOn, IsHonestlySigned, HonestlyBacked}
 use Rattle.simplex_laws.specs.Traces.{TraceEvent, of_floor, trace_of_steps}
 use Rattle.simplex_laws.specs.Replicas.{Replica, Faulty, Honest, faults, quorum, AtLeastFrom, MayHaveSigned, Backed}
-use Rattle.simplex_laws.specs.Executions.{Execution, trace_of}
+use Rattle.simplex_laws.specs.Executions.{new_member, Execution, trace_of}
 use Rattle.simplex_laws.proofs.agreement.Quorums.{AtLeastFrom-map}
 use Rattle.simplex_progress.proofs.networks.Followed.{one_more}
 use Rattle.simplex_progress.proofs.runs.Onward.{traces_joined}
@@ -110,7 +108,7 @@ module _ {K L D : Type 0} (same : D → D → Bool) (elect : Elect L) where
   pub trace_stays : (s t : Execution K L D) → ExecutionGoesOn s t → IsRunFrom same elect s.start s.steps s.replies → (d : TraceEvent D) → Contains (trace_of s) d → Contains (trace_of t) d
   unfolding IsRunFrom
   trace_stays s t (more, is) (none, end, run) d h =
-      let joined = traces_joined same elect s.steps (map (λ e. e.0) more) s.replies (map (λ e. e.1) more) (started_member same elect (new_state s.start.setup) s.start.floor s.start.now) end run in
+      let joined = traces_joined same elect s.steps (map (λ e. e.0) more) s.replies (map (λ e. e.1) more) (new_member same elect s.start) end run in
       let rest = trace_of_steps (map (λ (e : StepFacts K L D × Told K D). e.0) more) (map (λ (e : StepFacts K L D × Told K D). e.1) more) in
       let whole : trace_of t ≡ trace_of s ++ rest = ap trace_of is ∙ (ap (λ ds. of_floor s.start.floor ++ ds) joined ∙ sym (append_assoc (of_floor s.start.floor) (trace_of_steps s.steps s.replies) rest)) in
       subst (λ ds. Contains ds d) (sym whole) (Contains-append_left (trace_of s) rest d h)

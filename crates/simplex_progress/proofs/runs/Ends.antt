@@ -3,12 +3,10 @@ use Rattle.std.proofs.Common.{◌≡◌, refl, subst, inl, inr, ℕ, ◌≤◌, 
 use Rattle.std.proofs.lemmas.Bool.{cases_Bool}
 use Rattle.simplex_round.specs.Round.{is_finalize}
 use Rattle.simplex_voter.specs.Facts.{StateFacts, Elect, round_of}
-use Rattle.simplex_record.specs.Start.{new_state}
 use Rattle.simplex_member.specs.Lives.{MemberFacts}
 use Rattle.simplex_member.specs.Runs.{StepFacts, Calls, Prunes, Restarts}
-use Rattle.simplex_member.specs.Start.{started_member}
 use Rattle.simplex_laws.specs.Traces.{of_floor}
-use Rattle.simplex_laws.specs.Executions.{Execution, trace_of, BeginsAs, IsExecution}
+use Rattle.simplex_laws.specs.Executions.{new_member, Execution, trace_of, BeginsAs, IsExecution}
 use Rattle.simplex_laws.specs.TermLengths.{KeepTerms}
 use Rattle.simplex_laws.proofs.frames.RunsKeep.{HoldsIn, run_induction}
 use Rattle.simplex_laws.proofs.lists.Splits.{Contains-cons_rest}
@@ -37,7 +35,7 @@ module _ {K L D : Type 0} (same : D → D → Bool) (decides : (d e : D) → sam
   end_shown x (m, run, alive) =
       let begins = ran.lives.first.terms in
       let keep = terms_kept term_length i s.steps ran.lives.later in
-      let held = run_lives same decides elect term_length begins.some s.steps s.replies (of_floor s.start.floor) (started_member same elect (new_state s.start.setup) s.start.floor s.start.now) m keep (start_lives same decides elect term_length s.start begins) run in
+      let held = run_lives same decides elect term_length begins.some s.steps s.replies (of_floor s.start.floor) (new_member same elect s.start) m keep (start_lives same decides elect term_length s.start begins) run in
       let owned = run_induction same elect term_length Owns (floor_owns same elect term_length) (λ y e. event_owns same elect y e) s.start s.steps s.replies m begins keep run in
       let timed = run_induction same elect term_length TimesOut (floor_times_out same elect term_length) (λ y e. event_times_out same elect y e) s.start s.steps s.replies m begins keep run in
       record {

@@ -31,12 +31,11 @@ use Rattle.simplex_member.specs.CallSemantics.{answer, recorded_by}
 use Rattle.simplex_member.specs.Restarts.{RestartFacts, IsByView, cut_member, new_life, retention_grows, RecoversByView, IsRestart, IsRestartWhere}
 use Rattle.simplex_member.specs.Runs.{StepFacts, Calls, Prunes, Restarts, restart_told, IsRun, IsRunFrom}
 use Rattle.simplex_member.specs.Pruning.{stays_within, pruned_member}
-use Rattle.simplex_member.specs.Start.{started_member}
 use Rattle.simplex_laws.specs.Traces.{TraceEvent, Accepts, of_floor, trace_of_call, trace_at, trace_of_steps}
 use Rattle.simplex_laws.specs.Events as event
 use Rattle.simplex_laws.specs.Events.{Event, after_event}
 use Rattle.simplex_laws.specs.Lawful.{HasSigned}
-use Rattle.simplex_laws.specs.Executions.{Execution, trace_of, IsExecution}
+use Rattle.simplex_laws.specs.Executions.{new_member, Execution, trace_of, IsExecution}
 use Rattle.simplex_laws.specs.TermLengths.{HasTerms, KeepTerms}
 use Rattle.simplex_laws.proofs.frames.Rising.{event_goes}
 use Rattle.simplex_laws.proofs.frames.RunsKeep.{HoldsIn}
@@ -373,10 +372,7 @@ module _ {K L D : Type 0} (same : D → D → Bool) (decides : (d e : D) → sam
       (subst (λ ps. MemberLed term_length ((trace ++ trace_at (Restarts r) told) ++ trace_of_steps steps replies) ps end) (append_assoc verdicts (judged_by told) (judged_in replies)) last)
 
 module _ {K L D : Type 0} (same : D → D → Bool) (decides : (d e : D) → same d e ≡ true → d ≡ e) (elect : Elect L) (term_length i : ℕ) (s : Execution K L D) (ran : IsExecution same elect term_length i s) where
-  abbrev begun : MemberFacts K L D
-  begun = started_member same elect (new_state s.start.setup) s.start.floor s.start.now
-
-  start_led : recover_error same (new_state s.start.setup) s.start.floor s.start.now [] ≡ None → MemberLed term_length (of_floor s.start.floor) [] begun
+  start_led : recover_error same (new_state s.start.setup) s.start.floor s.start.now [] ≡ None → MemberLed term_length (of_floor s.start.floor) [] (new_member same elect s.start)
   unfolding recovered_state
   start_led none = record {
     life = subst (λ t. Led t (of_floor s.start.floor) [] (recovered_state same elect (new_state s.start.setup) s.start.floor s.start.now [])) ran.lives.first.terms.terms (recovered_led same decides elect [] [] s.start [] (first_none (first_recover_error same s.start.setup.settings.epoch s.start.setup.me s.start.floor []) _ none).0 nothing);
@@ -389,10 +385,10 @@ module _ {K L D : Type 0} (same : D → D → Bool) (decides : (d e : D) → sam
       nothing = record { accepted = λ c h. absurd (omega (arith, h.1)); judged = λ success round h. absurd (omega (arith, h.1)) }
 
   -- a run shows it of its end
-  pub member_led : (end : MemberFacts K L D) → IsRun same elect begun s.steps s.replies end → MemberLed term_length (trace_of s) (judged_of s) end
+  pub member_led : (end : MemberFacts K L D) → IsRun same elect (new_member same elect s.start) s.steps s.replies end → MemberLed term_length (trace_of s) (judged_of s) end
   unfolding IsRunFrom
   member_led end run =
-      end_led same decides elect term_length ran.lives.first.terms.some s.steps s.replies (of_floor s.start.floor) [] begun end (terms_kept term_length i s.steps ran.lives.later) (start_lives same decides elect term_length s.start ran.lives.first.terms) (start_led ran.run.0) run
+      end_led same decides elect term_length ran.lives.first.terms.some s.steps s.replies (of_floor s.start.floor) [] (new_member same elect s.start) end (terms_kept term_length i s.steps ran.lives.later) (start_lives same decides elect term_length s.start ran.lives.first.terms) (start_led ran.run.0) run
 
   pub state_led : (x : StateFacts K L D) → LivesWith same elect s x → Led term_length (trace_of s) (judged_of s) x
   state_led x (end, run, alive) = subst (HoldsIn (Led term_length (trace_of s) (judged_of s))) alive (member_led end run).life

@@ -2,14 +2,12 @@
 use Rattle.std.proofs.Common.{◌≡◌, refl, ap, sym, ◌∙◌, subst, inl, inr, ℕ, Bool, List, [], ◌∷◌, ◌++◌, append_assoc, map, Contains, arith}
 use Rattle.std.proofs.lemmas.List.Elements.{Contains-append_cases}
 use Rattle.simplex_voter.specs.Facts.{Elect}
-use Rattle.simplex_record.specs.Start.{new_state}
 use Rattle.simplex_member.specs.Calls.{CallFacts, Told}
 use Rattle.simplex_member.specs.Lives.{MemberFacts}
 use Rattle.simplex_member.specs.Runs.{StepFacts, Calls, Restarts, IsRun, IsRunFrom}
-use Rattle.simplex_member.specs.Start.{started_member}
 use Rattle.simplex_laws.specs.Continuations.{ExecutionGoesOn}
 use Rattle.simplex_laws.specs.Traces.{TraceEvent, of_floor, trace_at, trace_of_steps}
-use Rattle.simplex_laws.specs.Executions.{Execution, trace_of, IsExecution}
+use Rattle.simplex_laws.specs.Executions.{new_member, Execution, trace_of, IsExecution}
 use Rattle.simplex_laws.proofs.lists.Splits.{Contains-cases}
 use Rattle.simplex_progress.specs.Reaching.{judged_by, judged_in}
 use Rattle.simplex_progress.proofs.states.Sequences.{Does}
@@ -52,14 +50,14 @@ module _ {K L D : Type 0} (same : D → D → Bool) (elect : Elect L) where
   abbrev pub and_calls : Execution K L D → List (CallFacts D) → List (Told K D) → Execution K L D
   and_calls s calls replies = record s { steps = s.steps ++ map Calls calls; replies = s.replies ++ replies }
 
-  module _ (term_length i : ℕ) (s : Execution K L D) (m end : MemberFacts K L D) (calls : List (CallFacts D)) (replies : List (Told K D)) (run : IsRun same elect (started_member same elect (new_state s.start.setup) s.start.floor s.start.now) s.steps s.replies m) (goes : IsRun same elect m (map Calls calls) replies end) where
+  module _ (term_length i : ℕ) (s : Execution K L D) (m end : MemberFacts K L D) (calls : List (CallFacts D)) (replies : List (Told K D)) (run : IsRun same elect (new_member same elect s.start) s.steps s.replies m) (goes : IsRun same elect m (map Calls calls) replies end) where
     pub calls_go_on : ExecutionGoesOn s (and_calls s calls replies)
     calls_go_on =
         let pairs = paired (map Calls calls) replies m end goes in
         (pairs.0, λ j. record s { steps = s.steps ++ sym pairs.1 j; replies = s.replies ++ sym pairs.2 j })
 
-    pub calls_run : IsRun same elect (started_member same elect (new_state s.start.setup) s.start.floor s.start.now) (s.steps ++ map Calls calls) (s.replies ++ replies) end
-    calls_run = run_joined s.steps (map Calls calls) s.replies replies (started_member same elect (new_state s.start.setup) s.start.floor s.start.now) m end run goes
+    pub calls_run : IsRun same elect (new_member same elect s.start) (s.steps ++ map Calls calls) (s.replies ++ replies) end
+    calls_run = run_joined s.steps (map Calls calls) s.replies replies (new_member same elect s.start) m end run goes
 
     pub calls_ran : IsExecution same elect term_length i s → IsExecution same elect term_length i (and_calls s calls replies)
     unfolding IsRunFrom
@@ -73,7 +71,7 @@ module _ {K L D : Type 0} (same : D → D → Bool) (elect : Elect L) where
 
     pub calls_trace : trace_of (and_calls s calls replies) ≡ trace_of s ++ trace_of_steps {L = L} (map Calls calls) replies
     calls_trace =
-        ap (λ ds. of_floor s.start.floor ++ ds) (traces_joined s.steps (map Calls calls) s.replies replies (started_member same elect (new_state s.start.setup) s.start.floor s.start.now) m run)
+        ap (λ ds. of_floor s.start.floor ++ ds) (traces_joined s.steps (map Calls calls) s.replies replies (new_member same elect s.start) m run)
         ∙ sym (append_assoc (of_floor s.start.floor) (trace_of_steps s.steps s.replies) (trace_of_steps {L = L} (map Calls calls) replies))
 
   -- the execution with these calls
@@ -84,7 +82,7 @@ module _ {K L D : Type 0} (same : D → D → Bool) (elect : Elect L) where
     pub steps : execution.steps ≡ s.steps ++ map Calls calls
     pub trace : trace_of execution ≡ trace_of s ++ done
 
-  pub execution_on : (term_length i : ℕ) (s : Execution K L D) (m : MemberFacts K L D) (calls : List (CallFacts D)) (done : List (TraceEvent D)) → IsExecution same elect term_length i s → IsRun same elect (started_member same elect (new_state s.start.setup) s.start.floor s.start.now) s.steps s.replies m → Does same elect m (map Calls calls) done → Onward term_length i s calls done
+  pub execution_on : (term_length i : ℕ) (s : Execution K L D) (m : MemberFacts K L D) (calls : List (CallFacts D)) (done : List (TraceEvent D)) → IsExecution same elect term_length i s → IsRun same elect (new_member same elect s.start) s.steps s.replies m → Does same elect m (map Calls calls) done → Onward term_length i s calls done
   execution_on term_length i s m calls done ran run does = record {
     execution = and_calls s calls does.replies;
     goes_on = calls_go_on term_length i s m does.end calls does.replies run does.run;

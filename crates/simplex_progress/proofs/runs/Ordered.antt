@@ -8,15 +8,13 @@ use Rattle.simplex_types.specs.declared.types.messages.Subject.{Subject}
 use Rattle.simplex_types.specs.declared.types.messages.Subject.TheVariants as subject
 use Rattle.simplex_types.specs.declared.types.numbers.Round.{Round}
 use Rattle.simplex_voter.specs.Facts.{Elect}
-use Rattle.simplex_record.specs.Start.{new_state}
 use Rattle.simplex_member.specs.Calls.{CallFacts, Told, Added, AddedNullification, Nullify, Finalize, Notarize, Restarted, AddNotarization, AddNullification, AddFinalization}
 use Rattle.simplex_member.specs.Lives.{MemberFacts}
 use Rattle.simplex_member.specs.Runs.{StepFacts, Calls, Prunes, Restarts, IsRun, IsRunFrom}
-use Rattle.simplex_member.specs.Start.{started_member}
 use Rattle.simplex_laws.specs.Continuations.{ExecutionGoesOn}
 use Rattle.simplex_laws.specs.Traces.{TraceEvent, Accepts, Signs, handed_in, of_floor, of_vote, trace_at, trace_of_steps}
 use Rattle.simplex_laws.specs.Lawful.{SignsAfter}
-use Rattle.simplex_laws.specs.Executions.{Execution, trace_of, IsExecution}
+use Rattle.simplex_laws.specs.Executions.{new_member, Execution, trace_of, IsExecution}
 use Rattle.simplex_laws.proofs.agreement.VoteOrder.{Contains-middle}
 use Rattle.simplex_laws.proofs.lives.WithinRuns.{run_from_before}
 use Rattle.simplex_laws.proofs.records.TracesShown.{only_one}
@@ -236,5 +234,5 @@ vote_ordered same decides elect term_length i s ran before round (signer, after,
     elim (append_split (of_floor s.start.floor) (trace_of_steps s.steps s.replies) before after (vote signer round) is) [
       | inl (rest, here) ↦ absurd (no_floor signer round s.start.floor before rest here)
       | inr (later, before_is, there) ↦ of_step same decides elect term_length i s ran signer round before later before_is
-          (vote_at same elect signer round s.steps s.replies (started_member same elect (new_state s.start.setup) s.start.floor s.start.now) ran.run.1 ran.run.2 later after there)
+          (vote_at same elect signer round s.steps s.replies (new_member same elect s.start) ran.run.1 ran.run.2 later after there)
     ]
