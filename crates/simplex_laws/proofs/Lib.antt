@@ -1,3 +1,4 @@
+-- The lemmas of the laws, by what they are for; each law's own answers stand at its path.
 pub mod lists
 pub mod frames
 pub mod lives
@@ -6,5 +7,4 @@ pub mod records
 pub mod own_records
 pub mod agreement
 pub mod executions
-pub mod histories
 pub mod networks

@@ -1,2 +1,3 @@
+-- For the code of `simplex_lawful`: a member's execution so far, and what the code shows of it.
 pub mod Living
 pub mod Shown

@@ -1,8 +1,8 @@
+-- For the laws by steps: what each event keeps, and what a run keeps by it.
 pub mod Fresh
 pub mod InOrder
 pub mod Rising
 pub mod Untracked
-pub mod DroppedViews
 pub mod CallsOnWork
 pub mod CallsMake
 pub mod EachRound

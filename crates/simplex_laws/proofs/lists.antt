@@ -1,3 +1,4 @@
+-- For all laws over runs: where elements stand in lists.
 pub mod Splits
 pub mod Signed
 pub mod Filters

@@ -1,3 +1,4 @@
+-- What each life keeps, and each state of a run.
 pub mod WithinLives
 pub mod Lasting
 pub mod Conflicts

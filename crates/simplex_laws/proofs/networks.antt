@@ -1,3 +1,4 @@
+-- The worked networks: what their members do is computed, and is what the rules ask for.
 pub mod ComputedRuns
 pub mod Scripts
 pub mod Continuations

@@ -1,3 +1,4 @@
+-- For `own_record_is_taken`: what a member records is taken again, but for what comes from outside.
 pub mod BrokenRules
 pub mod BrokenParents
 pub mod SmallViews

@@ -1,3 +1,4 @@
+-- What a member's record remembers of its trace, over all its lives.
 pub mod EntryTraces
 pub mod ShownVotesByEntries
 pub mod TracesShown

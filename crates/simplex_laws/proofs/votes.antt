@@ -1,3 +1,4 @@
+-- For `votes_are_lawful`: what the facts of a life show of its votes, and that each call keeps it.
 pub mod ShownVotes
 pub mod ShownVotesInRounds
 pub mod NullifyVotes
@@ -10,6 +11,8 @@ pub mod UnchangedProposals
 pub mod Proposals
 pub mod VotedParents
 pub mod OutstandingWork
+pub mod Scanned
+pub mod HeldProposals
 pub mod NotarizeVotesShown
 pub mod NotarizeVotesByWork
 pub mod NotarizeVotesByCalls

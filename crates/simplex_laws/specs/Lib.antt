@@ -4,15 +4,7 @@ pub mod Accountability
 pub mod TermLengths
 pub mod LifeLaws
 pub mod Outside
-pub mod Events
-pub mod HistoryFolds
-pub mod OwnWork
-pub mod Shows
-pub mod Histories
-pub mod Leading
-pub mod Requested
-pub mod ShownRounds
-pub mod Timing
+pub mod Standings
 pub mod Executions
 pub mod Exactly
 pub mod Replicas

@@ -1,9 +1,8 @@
 //! The laws of members: agreement and the laws of votes, networks in which they are exercised, what lives keep in order, and
-//! what holds of records and histories. Nothing here does anything: the contracts are the laws.
+//! what holds of records. Nothing here does anything: the contracts are the laws.
 
 mod continuations;
 mod contradictions;
-mod histories;
 mod instances;
 mod lives;
 mod network;
@@ -15,7 +14,6 @@ mod rivals;
 
 pub use continuations::{conflicts_are_left, gaps_are_closed, nullified_handoffs_are_left};
 pub use contradictions::{accountability, contradictions_need_faults};
-pub use histories::histories_are_shown;
 pub use instances::{
     contradictions_are_answered_for, lives_may_differ, refusals_accept_nothing, restarts_are_runs,
     skipped_views_are_agreed_on, terms_are_agreed_on, views_ahead_are_agreed_on,

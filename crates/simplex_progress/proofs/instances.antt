@@ -1,3 +1,4 @@
+-- Networks that are worked out, in which the premises hold or fail.
 pub mod FreshNetwork
 pub mod WaitingNetwork
 pub mod Worked

@@ -1,3 +1,4 @@
+-- A network: its honest members go on together.
 pub mod Followed
 pub mod Replicas
 pub mod Continued

@@ -1,3 +1,4 @@
+-- One member: what its run leads to, and how it goes on.
 pub mod Owned
 pub mod Ends
 pub mod Starts

@@ -1,3 +1,4 @@
+-- One state: what each call makes of it on the way to a finalization.
 pub mod Standing
 pub mod Words
 pub mod Calls

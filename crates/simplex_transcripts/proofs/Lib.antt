@@ -1,3 +1,4 @@
+-- Transcripts as executions of members, and as the calls of a resolver.
 pub mod Growing
 pub mod VoterExecutions
 pub mod ResolverFetches

@@ -1,4 +1,3 @@
--- For the code of `simplex_lawful`.
 -- A member's execution goes on step by step.
 use Rattle.std.proofs.Common.{◌≡◌, refl, ap, sym, subst, ℕ, zero, suc, inl, inr, Bool, true, List, [], ◌∷◌, ◌++◌, append_assoc, ◌∙◌, Contains, None, Result, Ok, Err, arith}
 use Rattle.std.specs.Prelude.{IfOk}

@@ -1,4 +1,3 @@
--- For the code of `simplex_lawful`.
 -- What the code's steps and replies show is what the execution of them says.
 use Rattle.std.proofs.Common.{◌≡◌, refl, ap, sym, subst, ◌∙◌, ℕ, inl, inr, Option, Bool, List, [], ◌∷◌, ◌++◌, map, Contains, Some, None, Result, Ok, Err, arith}
 use Rattle.simplex_types.specs.Config.{floor_facts}

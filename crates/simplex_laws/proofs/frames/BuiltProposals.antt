@@ -1,4 +1,3 @@
--- For the laws by steps: what each event keeps, and what a run keeps by it.
 -- Where each proposal that comes to a state has a property, each one that it holds has it.
 use Rattle.std.proofs.Common.{◌≡◌, ap, sym, ◌∙◌, subst, ℕ, ◌⊎◌, inl, inr, Bool, true, Option, Some, None, unwrap_or, arith}
 use Rattle.simplex_types.specs.Certificates.{ProposalFacts}
@@ -7,11 +6,10 @@ use Rattle.simplex_types.specs.declared.types.messages.Proposal.{Proposal}
 use Rattle.simplex_round.specs.Round.{RoundFacts, new_round}
 use Rattle.simplex_voter.specs.Facts.{StateFacts, Elect, round_of, round_number}
 use Rattle.simplex_voter.specs.Proposing.{proposal_of}
-use Rattle.simplex_laws.specs.Events.{Event, after_event, Proposed}
-use Rattle.simplex_laws.specs.HistoryFolds.{or_new}
+use Rattle.simplex_record.specs.Events.{Event, after_event, Proposed}
+use Rattle.std.specs.Option.{option_or}
 use Rattle.simplex_laws.proofs.frames.EachRound.{rounds_or_gone}
-use Rattle.simplex_laws.proofs.histories.FollowingHanded.{settled_held}
-use Rattle.simplex_laws.proofs.histories.FollowingVotes.{own_held, heard_held}
+use Rattle.simplex_laws.proofs.votes.HeldProposals.{settled_held, own_held, heard_held}
 use Rattle.simplex_record.proofs.Paths.{event_path, asked_of_all}
 use Rattle.simplex_record.proofs.Steps as step
 use Rattle.simplex_record.proofs.Steps.{RoundStep, notarization_by, finalization_by, proposal_by, note_by}
@@ -33,13 +31,13 @@ module _ {K D : Type 0} (Q : Proposal D → Type 0) where
 abbrev pub AllHeld : {K L D : Type 0} → (Proposal D → Type 0) → StateFacts K L D → Type 0
 AllHeld Q x = (v : ℕ) → HoldsOf Q (round_of x v)
 
-held_or_new : {D : Type 0} (o : Option (Proposal D)) (p q : Proposal D) → or_new o (Some p) ≡ Some q → (o ≡ Some q) ⊎ (p ≡ q)
-held_or_new None p q is = inr (let same : p ≡ q = cc in same)
-held_or_new (Some h) p q is = inl is
+held_or_brought : {D : Type 0} (o : Option (Proposal D)) (p q : Proposal D) → option_or o (Some p) ≡ Some q → (o ≡ Some q) ⊎ (p ≡ q)
+held_or_brought None p q is = inr (let same : p ≡ q = cc in same)
+held_or_brought (Some h) p q is = inl is
 
 module _ {K L D : Type 0} (same : D → D → Bool) (decides : (d e : D) → same d e ≡ true → d ≡ e) (elect : Elect L) (Q : Proposal D → Type 0) (x : StateFacts K L D) (e : Event K D) (brings : BringsProposals Q e) where
-  one_of : (o : Option (Proposal D)) (p q : Proposal D) → ((r : Proposal D) → o ≡ Some r → Q r) → Q p → or_new o (Some p) ≡ Some q → Q q
-  one_of o p q old new is = elim (held_or_new o p q is) [ inl before ↦ old q before | inr here ↦ subst Q here new ]
+  one_of : (o : Option (Proposal D)) (p q : Proposal D) → ((r : Proposal D) → o ≡ Some r → Q r) → Q p → option_or o (Some p) ≡ Some q → Q q
+  one_of o p q old new is = elim (held_or_brought o p q is) [ inl before ↦ old q before | inr here ↦ subst Q here new ]
 
   the_one : (p q : Proposal D) → Q p → Some p ≡ Some q → Q q
   the_one p q new is = let here : p ≡ q = cc in subst Q here new

@@ -1,4 +1,3 @@
--- For the laws by steps: what each event keeps, and what a run keeps by it.
 -- Each call of a member is one event or none, and an entry that is taken again one or two; so what each event keeps holds
 -- after each call and in each new life.
 use Rattle.std.proofs.Common.{◌≡◌, refl, sym, subst, ℕ, Bool, true, false, if◌then◌else◌, nat_lt, List, [], ◌∷◌, Option, Some, None}
@@ -18,7 +17,8 @@ use Rattle.simplex_record.specs.Entries.{entry_view}
 use Rattle.simplex_member.specs.CallSemantics.{after_call}
 use Rattle.simplex_member.specs.OutstandingWork.{OutstandingWork, context_at, is_offered}
 use Rattle.simplex_record.specs.Recovery.{after_replaying, after_entry, after_kept_entry, after_entries, recovered_state}
-use Rattle.simplex_laws.specs.Events.{Event, IsEvent, after_event, SetFloor, AddNotarization, AddNullification, AddFinalization, Certified, Proposed, Supersede, Replay, in_context, events_of}
+use Rattle.simplex_record.specs.Events.{Event, IsEvent, after_event, SetFloor, AddNotarization, AddNullification, AddFinalization, Certified, Proposed, Supersede, Replay}
+use Rattle.simplex_member.specs.Events.{in_context, events_of}
 use Rattle.simplex_record.proofs.Steps.{IsSilent}
 use Rattle.simplex_member.proofs.EventsMake.{after_one, call_is}
 use Rattle.simplex_laws.proofs.frames.CallsOnWork.{is_work}

@@ -1,4 +1,3 @@
--- For the laws by steps: what each event keeps, and what a run keeps by it.
 -- Which calls are on the work of a view.
 use Rattle.std.proofs.Common.{◌≡◌, refl, Bool, true, false}
 use Rattle.simplex_member.specs.Calls.{CallFacts, SetProposal, TryPropose, Proposed, SupersedeProposalRequest, PendingHandoffAbandonment, ReleaseProposalRequest, TryVerify, Verified, VerificationFailed, ConstructNotarize, CertifyCandidates, SetCertifyHandle, TriggerTimeout, NextTimeout}

@@ -1,4 +1,3 @@
--- For the laws by steps: what each event keeps, and what a run keeps by it.
 -- What a path does to each round: changes of the round alone, but where a prune drops the view.
 use Rattle.std.proofs.Common.{◌≡◌, refl, ap, sym, ◌∙◌, subst, ℕ, ◌<◌, ◌⊎◌, inl, inr, Bool, true, false, cond, if◌then◌else◌, nat_le, None, is_some, unwrap_or, arith}
 use Rattle.std.specs.Ordering.{nat_cmp}
@@ -14,8 +13,7 @@ use Rattle.simplex_voter.specs.declared.voter.verify.Standing.TheVariants.{Nothi
 use Rattle.simplex_voter.specs.Verifying.{standing, round_left, was_scanned, scan_left}
 use Rattle.simplex_types.specs.declared.reasons.TimeoutReason.TheVariants.{InvalidProposal}
 use Rattle.simplex_voter.proofs.Elsewhere.{round_of-with_round}
-use Rattle.simplex_laws.specs.Events.{Event, after_event, TryVerify, Prune}
-use Rattle.simplex_laws.specs.HistoryFolds.{is_prune}
+use Rattle.simplex_record.specs.Events.{Event, after_event, TryVerify, Prune, is_prune}
 use Rattle.simplex_record.proofs.Rounds.{round_put, round_changed}
 use Rattle.simplex_laws.proofs.votes.NullifyVotes.{tied}
 use Rattle.simplex_record.proofs.Steps as step

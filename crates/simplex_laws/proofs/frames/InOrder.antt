@@ -1,4 +1,3 @@
--- For the laws by steps: what each event keeps, and what a run keeps by it.
 -- A state's tracked views stand in order, and stay so with each event.
 use Rattle.std.proofs.Common.{sym, subst, ℕ, Bool, if◌then◌else◌, nat_le, List, Option, arith}
 use Rattle.std.specs.Prelude.{T}
@@ -17,7 +16,7 @@ use Rattle.simplex_member.specs.Calls.{CallFacts}
 use Rattle.simplex_member.specs.CallSemantics.{after_call}
 use Rattle.simplex_member.specs.OutstandingWork.{OutstandingWork}
 use Rattle.simplex_record.specs.Recovery.{recovered_state}
-use Rattle.simplex_laws.specs.Events.{Event, after_event}
+use Rattle.simplex_record.specs.Events.{Event, after_event}
 use Rattle.simplex_member.proofs.EventsMake.{call_by_any}
 use Rattle.simplex_laws.proofs.frames.CallsMake.{recovered_keeps}
 use Rattle.simplex_record.proofs.Paths.{event_path, asked_of_all}

@@ -1,4 +1,3 @@
--- For the laws by steps: what each event keeps, and what a run keeps by it.
 -- No event lets the current view or the last finalized one fall, or changes how a state was set up.
 use Rattle.std.proofs.Common.{◌≡◌, refl, ap, ℕ, ◌≤◌, Bool, true, false, nat_lt, max, arith}
 use Rattle.std.proofs.lemmas.Bool.Decides.{nat_tests}
@@ -11,9 +10,8 @@ use Rattle.simplex_voter.specs.Acceptance.{after_add_finalization}
 use Rattle.simplex_member.specs.Calls.{CallFacts}
 use Rattle.simplex_member.specs.CallSemantics.{after_call}
 use Rattle.simplex_member.specs.OutstandingWork.{OutstandingWork}
-use Rattle.simplex_laws.specs.Events.{Event, AddFinalization, after_event}
+use Rattle.simplex_record.specs.Events.{Event, AddFinalization, after_event, finalized_by_event}
 use Rattle.simplex_laws.specs.LifeLaws.{NeverFalls}
-use Rattle.simplex_laws.specs.HistoryFolds.{finalized_by_event}
 use Rattle.simplex_member.proofs.EventsMake.{call_by_any}
 use Rattle.simplex_record.proofs.Paths.{event_path, asked_of_all, from_raised}
 use Rattle.simplex_record.proofs.Steps.{Step, Path, Reaches, Raises, Still, along}

@@ -1,4 +1,3 @@
--- For the laws by steps: what each event keeps, and what a run keeps by it.
 -- What a floor sets up in a new state and each event keeps holds of each state of a run.
 use Rattle.std.proofs.Common.{◌≡◌, sym, subst, ℕ, inl, inr, Bool, true, false, List, [], ◌∷◌, Option, Some, None, Result, Ok, Err}
 use Rattle.std.specs.Prelude.{MatchOption}
@@ -8,7 +7,7 @@ use Rattle.simplex_voter.specs.Acceptance.{after_set_floor}
 use Rattle.simplex_record.specs.declared.record.error.RecoverError.{RecoverError}
 use Rattle.simplex_member.specs.Calls.{CallFacts, Told}
 use Rattle.simplex_laws.specs.Executions.{new_member}
-use Rattle.simplex_laws.specs.Events.{Event, after_event}
+use Rattle.simplex_record.specs.Events.{Event, after_event}
 use Rattle.simplex_member.specs.Lives.{MemberFacts, IsCall, without_life}
 use Rattle.simplex_record.specs.Recovery.{recover_error}
 use Rattle.simplex_member.specs.Restarts.{RestartFacts, cut_member, new_life, retention_grows, RecoversByView, IsRestart, IsRestartWhere}

@@ -1,4 +1,3 @@
--- For the laws by steps: what each event keeps, and what a run keeps by it.
 -- What each state of a life keeps: its terms, the current view above the last finalized one, each certificate at its view,
 -- and the tracked views in order.
 use Rattle.std.proofs.Common.{◌≡◌, refl, ap, sym, ◌∙◌, subst, ℕ, ◌+◌, ◌<◌, ◌≤◌, ◌⊎◌, inl, inr, Bool, true, false, List, Option, Some, None, unwrap_or, nat_lt, arith}
@@ -12,10 +11,9 @@ use Rattle.simplex_voter.specs.Facts.{Settings, StateFacts, Elect, new_facts, ro
 use Rattle.simplex_voter.specs.Entering.{at_moment, with_view_entered}
 use Rattle.simplex_voter.specs.Certification.{with_finalized_view}
 use Rattle.simplex_voter.specs.Acceptance.{after_add_finalization, after_set_floor}
-use Rattle.simplex_laws.specs.Events as event
-use Rattle.simplex_laws.specs.Events.{Event, after_event}
+use Rattle.simplex_record.specs.Events as event
+use Rattle.simplex_record.specs.Events.{Event, after_event, finalized_by_event, is_prune}
 use Rattle.simplex_laws.specs.LifeLaws.{Kind, Notarization, Nullification, Finalization}
-use Rattle.simplex_laws.specs.HistoryFolds.{finalized_by_event, is_prune}
 use Rattle.simplex_laws.proofs.frames.Fresh.{IsFresh}
 use Rattle.simplex_laws.proofs.frames.CallsMake.{is_floor}
 use Rattle.simplex_laws.proofs.frames.EachRound.{IsGone}

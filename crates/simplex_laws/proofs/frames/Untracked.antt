@@ -1,4 +1,3 @@
--- For the laws by steps: what each event keeps, and what a run keeps by it.
 -- Where no view below some other is tracked, none comes to be: with each event and each call.
 use Rattle.std.proofs.Common.{◌≡◌, ◌≢◌, refl, ap, sym, ◌∙◌, subst, ℕ, ◌<◌, ◌≤◌, inl, inr, Bool, true, false, ◌&&◌, cond, if◌then◌else◌, nat_lt, nat_le, List, [], ◌∷◌, Contains, Some, None, is_some, arith}
 use Rattle.std.specs.Prelude.{map, filter, ◌==◌}
@@ -27,9 +26,8 @@ use Rattle.simplex_record.specs.Entries.{entry_view}
 use Rattle.simplex_member.specs.CallSemantics.{answer, after_call}
 use Rattle.simplex_member.specs.OutstandingWork.{OutstandingWork}
 use Rattle.simplex_record.specs.Recovery.{as_artifact}
-use Rattle.simplex_laws.specs.Events as event
-use Rattle.simplex_laws.specs.Events.{Event, IsEvent, after_event}
-use Rattle.simplex_laws.specs.HistoryFolds.{is_prune}
+use Rattle.simplex_record.specs.Events as event
+use Rattle.simplex_record.specs.Events.{Event, IsEvent, after_event, is_prune}
 use Rattle.simplex_laws.proofs.frames.CallsMake.{call_by_event}
 use Rattle.simplex_laws.proofs.frames.EachRound.{pruned_view}
 use Rattle.simplex_record.proofs.Paths.{AskedFrom, event_path}

@@ -1,4 +1,3 @@
--- For all laws over runs.
 -- Where an element stands in a filtered list.
 use Rattle.std.proofs.Common.{◌≡◌, refl, sym, ap, ◌∙◌, subst, inl, inr, Bool, true, false, cond, List, [], ◌∷◌, ◌++◌, Contains, filter, arith}
 use Rattle.std.proofs.lemmas.List.Elements.{filter-append}

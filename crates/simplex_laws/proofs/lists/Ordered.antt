@@ -1,4 +1,3 @@
--- For all laws over runs.
 -- Entries in order by their views: each is found at its view.
 use Rattle.std.proofs.Common.{◌≡◌, ap, sym, subst, ℕ, ◌<◌, inl, inr, Bool, true, false, ◌&&◌, List, [], ◌∷◌, Contains, Some, arith}
 use Rattle.std.specs.Prelude.{T}

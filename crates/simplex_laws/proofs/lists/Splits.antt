@@ -1,4 +1,3 @@
--- For all laws over runs.
 -- Where an element stands in a list, and in one that was made longer by one.
 use Rattle.std.proofs.Common.{◌≡◌, ◌⊎◌, inl, inr, zero, suc, List, [], ◌∷◌, ◌++◌, Contains, refl, ap, arith}
 use Rattle.std.proofs.lemmas.List.Elements.{Contains-append_right}

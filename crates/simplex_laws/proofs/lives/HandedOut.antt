@@ -20,7 +20,7 @@ use Rattle.simplex_laws.proofs.lives.Lasting.{is_handed, standing_view, handed, 
 use Rattle.simplex_laws.proofs.frames.CallsMake.{is_floor, call_by_event}
 use Rattle.simplex_laws.proofs.frames.Rising.{floor_goes, event_goes}
 use Rattle.simplex_laws.proofs.frames.Sound.{nothing_stands}
-use Rattle.simplex_laws.specs.Events.{Event, IsEvent, after_event}
+use Rattle.simplex_record.specs.Events.{Event, IsEvent, after_event}
 use Rattle.simplex_record.proofs.Rounds.{round_put}
 use Rattle.simplex_laws.proofs.lives.WithinLives.{call_outcome}
 

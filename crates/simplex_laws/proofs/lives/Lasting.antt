@@ -12,8 +12,9 @@ use Rattle.simplex_round.specs.Slot.{SlotFacts, holds_or_empty, after_own, after
 use Rattle.simplex_round.specs.Round.{RoundFacts}
 use Rattle.simplex_voter.specs.Facts.{StateFacts, Elect, round_of, is_tracked}
 use Rattle.simplex_voter.specs.Windows.{min_active}
-use Rattle.simplex_laws.specs.Events as event
-use Rattle.simplex_laws.specs.Events.{Event, IsEvent, after_event, in_context, events_of}
+use Rattle.simplex_record.specs.Events as event
+use Rattle.simplex_record.specs.Events.{Event, IsEvent, after_event, is_prune}
+use Rattle.simplex_member.specs.Events.{in_context, events_of}
 use Rattle.simplex_member.specs.Allowed.{is_allowed}
 use Rattle.simplex_member.specs.Calls.{CallFacts, Proposed, SupersedeProposalRequest, Prune, Told}
 use Rattle.simplex_member.specs.CallSemantics.{answer, after_call}
@@ -25,7 +26,6 @@ use Rattle.std.specs.Ordering.{nat_cmp}
 use Rattle.std.specs.List.{list_any}
 use Rattle.std.proofs.lemmas.Bool.Decides.{nat_tests}
 use Rattle.simplex_laws.specs.LifeLaws.{Kind, Notarization, Nullification, Finalization, IsDropped}
-use Rattle.simplex_laws.specs.HistoryFolds.{is_prune}
 use Rattle.simplex_laws.proofs.frames.CallsMake.{is_floor, call_by_event}
 use Rattle.simplex_laws.proofs.lists.Splits.{Contains-cons_rest}
 use Rattle.simplex_laws.proofs.frames.EachRound.{IsGone, rounds_or_gone}

@@ -1,19 +1,24 @@
 -- For `views_are_left`.
 -- The current view of each state of a run can be left.
-use Rattle.std.proofs.Common.{◌≡◌, refl, ap, sym, ◌∙◌, subst, ℕ, ◌+◌, ◌<◌, max, Bool, true, false, ◌&&◌, not, nat_lt, nat_le, if◌then◌else◌, inl, inr, List, Option, Some, None, is_some, unwrap_or, arith}
+use Rattle.std.proofs.Common.{◌≡◌, refl, ap, sym, ◌∙◌, subst, ℕ, ◌+◌, ◌<◌, ◌≤◌, Bool, true, false, ◌&&◌, not, nat_lt, nat_le, if◌then◌else◌, inl, inr, List, Option, Some, None, is_some, unwrap_or, arith}
 use Rattle.std.specs.Prelude.{◌==◌, MatchOption}
 use Rattle.std.specs.Option.{option_map_or}
-use Rattle.std.proofs.Math.Nat.{le-max_right}
+use Rattle.std.specs.Ordering.{nat_cmp}
+use Rattle.std.specs.BTreeSet.{insert_key}
+use Rattle.std.proofs.Math.Bool.{and-false}
 use Rattle.std.proofs.lemmas.Bool.{lt-ltb, le-leb, eq-eqb, false≢true}
+use Rattle.std.proofs.lemmas.Bool.Decides.{nat_tests}
 use Rattle.simplex_types.specs.Certificates.{ProposalFacts, NullificationFacts}
 use Rattle.simplex_types.specs.Config.{FloorFacts}
 use Rattle.simplex_types.specs.Terms.{next_term_start}
 use Rattle.simplex_types.specs.declared.types.numbers.Round.{Round}
 use Rattle.simplex_sorted.proofs.Gaps.{next_above}
-use Rattle.simplex_round.specs.Round.{RoundFacts, is_judged, new_round}
+use Rattle.simplex_round.specs.Round.{RoundFacts, is_judged, leader_at, new_round}
 use Rattle.simplex_voter.specs.Acceptance.{after_set_floor}
-use Rattle.simplex_voter.specs.Certification.{takes_verdict}
-use Rattle.simplex_voter.specs.Facts.{StateFacts, Elect, round_at, round_of, round_number, is_tracked}
+use Rattle.simplex_voter.specs.Certification.{named_also, takes_verdict, verdict_taken, waits_for, with_verdict, with_waiting_candidate}
+use Rattle.simplex_voter.specs.Entering.{at_moment, with_view_entered}
+use Rattle.simplex_voter.specs.Leaders.{has_leader, with_elected_leader}
+use Rattle.simplex_voter.specs.Facts.{StateFacts, Elect, round_at, round_of, round_number, is_tracked, with_round}
 use Rattle.simplex_voter.specs.Refusals.{first_fault, is_too_large, names_too_large, has_late_deadline, takes_round}
 use Rattle.simplex_voter.specs.Windows.{min_active}
 use Rattle.simplex_member.specs.Calls.{Told, AddNullification, AddFinalization, Certified}
@@ -22,11 +27,10 @@ use Rattle.simplex_member.specs.OutstandingWork.{OutstandingWork}
 use Rattle.simplex_member.specs.Runs.{StepFacts, IsRun}
 use Rattle.simplex_record.specs.Start.{StartFacts}
 use Rattle.simplex_laws.specs.Executions.{new_member}
-use Rattle.simplex_laws.specs.Events as event
-use Rattle.simplex_laws.specs.Events.{Event, after_event}
+use Rattle.simplex_record.specs.Events as event
+use Rattle.simplex_record.specs.Events.{Event, after_event}
 use Rattle.simplex_laws.specs.Progress.{GoesPast, CanBeLeft}
 use Rattle.simplex_laws.specs.TermLengths.{HasTerms, KeepTerms}
-use Rattle.simplex_laws.proofs.histories.FollowingHanded.{and_false, nullification_follows, verdict_follows}
 use Rattle.simplex_laws.proofs.frames.Fresh.{IsFresh}
 use Rattle.simplex_laws.proofs.frames.Rising.{event_goes}
 use Rattle.simplex_laws.proofs.frames.RunsKeep.{HoldsIn, run_induction}
@@ -38,10 +42,32 @@ no_fault_due failed too_large late alive small early = rw (alive, small, early) 
 
 -- a moment without a late deadline is never late
 never_late : (enters late : Bool) → late ≡ false → (enters && late) ≡ false
-never_late enters late early = ap (λ b. enters && b) early ∙ and_false enters
+never_late enters late early = ap (λ b. enters && b) early ∙ and-false enters
 
 both : (a b : Bool) → a ≡ true → b ≡ true → (a && b) ≡ true
 both a b is so = rw (is, so) refl
+
+-- where a view is entered, the current one lies no lower from then on
+
+module _ {K L D : Type 0} (v : ℕ) where
+  either_reaches : (b : Bool) (y z : StateFacts K L D) → v ≤ y.current → v ≤ z.current → v ≤ (if b then y else z).current
+  either_reaches true y z reached other = reached
+  either_reaches false y z reached other = other
+
+  entered_reaches : (x : StateFacts K L D) (now : ℕ) → v ≤ (with_view_entered x v now).current
+  entered_reaches x now = by_test (nat_lt x.current v) refl
+    where
+      by_test : (b : Bool) → nat_lt x.current v ≡ b → v ≤ (with_view_entered x v now).current
+      by_test true is = rw is (omega arith)
+      by_test false is = rw is (grind (arith, nat_tests))
+
+  led_reaches : (elect : Elect L) (x : StateFacts K L D) (w : ℕ) (seed : Option (List ℕ)) → v ≤ x.current → v ≤ (with_elected_leader elect x w seed).current
+  led_reaches elect x w seed reached = either_reaches (has_leader x w) x (with_round x w (record (round_of x w) { leader = leader_at x.members (elect x.elector (round_number x w) seed) })) reached reached
+
+  woken_reaches : (elect : Elect L) (x : StateFacts K L D) (p : ℕ) → v ≤ x.current → v ≤ (with_waiting_candidate elect x p).current
+  woken_reaches elect x p reached =
+      either_reaches (option_map_or (waits_for elect x p) (round_at x (p + 1)) false) (named_also x (p + 1)) x
+      (either_reaches (nat_lt x.finalized (p + 1)) (record x { named = insert_key nat_cmp x.named (p + 1) }) x reached reached) reached
 
 -- a state that goes on, above its last finalized view
 pub record IsSoundAndAlive {K L D : Type 0} (term_length : ℕ) (x : StateFacts K L D) : Type 0 where
@@ -69,12 +95,12 @@ module _ {K L D : Type 0} (same : D → D → Bool) (elect : Elect L) (term_leng
         let next = next_term_start x.terms.term_length c.round.view in
         let view = ap (λ (r : Round). r.view) at in
         let above : x.current < next = subst (λ v. x.current < next_term_start x.terms.term_length v) (sym view) next_term_above in
-        let follows = (nullification_follows same elect x c now).current in
-        let reaches = le-max_right x.current next in
+        let e = with_view_entered (at_moment x now) next now in
+        let reaches : next ≤ (after_event same elect x (event.AddNullification c now)).current = led_reaches next elect e next (Some c.bytes) (entered_reaches next (at_moment x now) now) in
         record {
           allowed = ap (takes_round x) at ∙ takes_current;
           no_fault = no_fault_due x.failed (is_too_large c.round.view) (nat_lt x.current next && has_late_deadline x now) goes.alive (ap is_too_large view ∙ small) (never_late (nat_lt x.current next) (has_late_deadline x now) early);
-          past = omega (arith, above, follows, reaches);
+          past = omega (arith, above, reaches);
         }
 
     finalization_goes : (c : ProposalFacts D) → c.proposal.round ≡ round_number x x.current → names_too_large c.proposal ≡ false → GoesPast same elect x o (AddFinalization c now)
@@ -96,8 +122,8 @@ module _ {K L D : Type 0} (same : D → D → Bool) (elect : Elect L) (term_leng
     notarized_tracked notarized None is = absurd (false≢true (sym (ap (λ f. is_some (unwrap_or f (new_round x.me x.members (round_number x x.current))).notarization) is) ∙ notarized))
     notarized_tracked notarized (Some r) is = refl
 
-    verdict_taken : is_some (round_of x x.current).notarization ≡ true → is_judged false (round_of x x.current).certification ≡ false → takes_verdict x x.current true ≡ true
-    verdict_taken notarized unjudged = let ahead = goes.sound.ahead in both (nat_lt 0 x.current) (fits (round_at x x.current)) (lt-ltb 0 x.current (omega (arith, ahead))) (by_round (round_at x x.current) refl)
+    verdict_allowed : is_some (round_of x x.current).notarization ≡ true → is_judged false (round_of x x.current).certification ≡ false → takes_verdict x x.current true ≡ true
+    verdict_allowed notarized unjudged = let ahead = goes.sound.ahead in both (nat_lt 0 x.current) (fits (round_at x x.current)) (lt-ltb 0 x.current (omega (arith, ahead))) (by_round (round_at x x.current) refl)
       where
         fits : Option (RoundFacts K D) → Bool
         fits found = option_map_or (λ r. is_some r.notarization && not (is_judged false r.certification)) found true
@@ -110,16 +136,18 @@ module _ {K L D : Type 0} (same : D → D → Bool) (elect : Elect L) (term_leng
 
     verdict_goes : is_some (round_of x x.current).notarization ≡ true → is_judged false (round_of x x.current).certification ≡ false → GoesPast same elect x o (Certified x.current true now)
     verdict_goes notarized unjudged =
-        let takes = verdict_taken notarized unjudged in
+        let takes = verdict_allowed notarized unjudged in
         let tracked : is_tracked x x.current ≡ true = notarized_tracked notarized (round_at x x.current) refl in
         let late = nat_lt x.current (x.current + 1) && has_late_deadline x now in
-        let entered = ap (λ b. max x.current (if b then x.current + 1 else 0)) tracked in
-        let follows = (verdict_follows same elect x x.current now true takes).current ∙ entered in
-        let reaches = le-max_right x.current (x.current + 1) in
+        let a = at_moment x now in
+        let e = with_view_entered (with_verdict a x.current true) (x.current + 1) now in
+        let reaches : x.current + 1 ≤ (after_event same elect x (event.Certified x.current true now)).current =
+        subst (λ b. x.current + 1 ≤ (if b then verdict_taken elect a x.current true now else a).current) (sym tracked)
+        (woken_reaches (x.current + 1) elect e x.current (entered_reaches (x.current + 1) (with_verdict a x.current true) now)) in
         record {
           allowed = takes;
           no_fault = no_fault_due x.failed false (is_tracked x x.current && late) goes.alive refl (never_late (is_tracked x x.current) late (never_late (nat_lt x.current (x.current + 1)) (has_late_deadline x now) early));
-          past = omega (arith, follows, reaches);
+          past = omega (arith, reaches);
         }
 
   goes_past : CanBeLeft same elect x

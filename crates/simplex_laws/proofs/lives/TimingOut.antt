@@ -16,9 +16,8 @@ use Rattle.simplex_voter.specs.Facts.{Settings, StateFacts, Elect, new_facts, ro
 use Rattle.simplex_voter.specs.Timeouts.{has_timeout, has_skip_budget}
 use Rattle.simplex_voter.specs.Serving.{after_prune}
 use Rattle.simplex_voter.specs.Acceptance.{after_set_floor}
-use Rattle.simplex_laws.specs.Events as event
-use Rattle.simplex_laws.specs.Events.{Event, after_event}
-use Rattle.simplex_laws.specs.HistoryFolds.{finalized_by_event, is_prune}
+use Rattle.simplex_record.specs.Events as event
+use Rattle.simplex_record.specs.Events.{Event, after_event, finalized_by_event, is_prune}
 use Rattle.simplex_laws.proofs.frames.Fresh.{IsFresh}
 use Rattle.simplex_laws.proofs.frames.EachRound.{IsGone, step_round, rounds_or_gone, pruned_round, prune_alone}
 use Rattle.simplex_record.proofs.Paths.{event_path, asked_of_all, armed_timed}

@@ -16,7 +16,7 @@ use Rattle.simplex_record.specs.declared.record.error.RecoverError.{RecoverError
 use Rattle.simplex_record.specs.declared.record.error.RecoverError.TheVariants as error
 use Rattle.simplex_member.specs.Restarts.{RestartFacts, cut_member, new_life, retention_grows, IsRestart, IsRestartWhere}
 use Rattle.simplex_member.specs.Runs.{StepFacts, Calls, Prunes, Restarts, restart_told, IsRun, IsRunFrom}
-use Rattle.simplex_record.specs.Start.{StartFacts, new_state}
+use Rattle.simplex_record.specs.Start.{new_state}
 use Rattle.simplex_member.specs.Pruning.{pruned_member}
 use Rattle.simplex_laws.specs.Executions.{new_member, Execution, BeginsAs}
 use Rattle.simplex_laws.proofs.lists.Splits.{Contains-cases}

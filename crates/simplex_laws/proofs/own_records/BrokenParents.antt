@@ -1,4 +1,3 @@
--- For `own_record_is_taken`.
 -- A member's record is refused for a parent only where it accepted a notarization with such a parent.
 use Rattle.std.proofs.Common.{◌≡◌, refl, ℕ, ◌≤◌, ◌⊎◌, inl, inr, Bool, true, false, if◌then◌else◌, List, [], ◌∷◌, Option, Some, None, Contains, arith}
 use Rattle.std.proofs.lemmas.Bool.{leb-true}

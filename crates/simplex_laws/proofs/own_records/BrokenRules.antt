@@ -1,4 +1,3 @@
--- For `own_record_is_taken`.
 -- A record is refused for the first of its rules that is broken.
 use Rattle.std.proofs.Common.{◌≡◌, refl, subst, ◌⊎◌, inl, inr, Bool, true, false, List, [], ◌∷◌, ◌++◌, Option, Some, None}
 use Rattle.std.specs.Option.{option_or}

@@ -1,4 +1,3 @@
--- For `own_record_is_taken`.
 -- A proposal of a view that is too large is held only where this member built it: a call hands none in, and a record that is
 -- taken again has none.
 use Rattle.std.proofs.Common.{◌≡◌, refl, ap, sym, ◌∙◌, subst, ℕ, Bool, true, false, nat_lt, if◌then◌else◌, List, [], ◌∷◌, ◌++◌, Contains, Option, Some, None, arith}
@@ -24,7 +23,8 @@ use Rattle.simplex_member.specs.OutstandingWork.{OutstandingWork, context_at}
 use Rattle.simplex_record.specs.Recovery.{recover_error, after_replaying, after_entry, after_kept_entry, after_entries, recovered_state}
 use Rattle.simplex_member.specs.Runs.{StepFacts, Calls}
 use Rattle.simplex_record.specs.Start.{Setup, new_state}
-use Rattle.simplex_laws.specs.Events.{Event, after_event, SetFloor, AddNotarization, AddNullification, AddFinalization, Certified, Proposed, Supersede, Replay, in_context, events_of}
+use Rattle.simplex_record.specs.Events.{Event, after_event, SetFloor, AddNotarization, AddNullification, AddFinalization, Certified, Proposed, Supersede, Replay}
+use Rattle.simplex_member.specs.Events.{in_context, events_of}
 use Rattle.simplex_laws.specs.Outside.{HasBuiltIn, is_floor_too_large}
 use Rattle.simplex_laws.proofs.frames.BuiltProposals.{BringsProposals, AllHeld, event_held}
 use Rattle.simplex_laws.proofs.frames.CallsMake.{call_by_event}

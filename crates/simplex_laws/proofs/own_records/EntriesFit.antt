@@ -1,4 +1,3 @@
--- For `own_record_is_taken`.
 -- Entries that hold together fit behind one another, in whatever order their views come that does not fall.
 use Rattle.std.proofs.Common.{◌≡◌, refl, ap, sym, ◌∙◌, subst, ℕ, suc, ◌≤◌, inl, inr, Bool, true, false, not, ◌&&◌, ◌||◌, ◌==◌, List, [], ◌∷◌, ◌++◌, append_assoc, Contains, arith}
 use Rattle.std.specs.List.Sorted.{IsNonDecreasingBy}

@@ -1,4 +1,3 @@
--- For `own_record_is_taken`.
 -- A member's record is refused for a view that is too large only where the member voted in one.
 use Rattle.std.proofs.Common.{◌≡◌, refl, sym, ◌∙◌, subst, ℕ, ◌≤◌, ◌^◌, ◌⊎◌, inl, inr, Bool, true, false, if◌then◌else◌, List, [], ◌∷◌, Option, Some, None, Contains, arith}
 use Rattle.std.proofs.Math.Bool.{or-false}

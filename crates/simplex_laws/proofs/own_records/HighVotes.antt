@@ -1,4 +1,3 @@
--- For `own_record_is_taken`.
 -- A vote to notarize a view that is too large is for a proposal that this member built, in each run whose start is taken.
 use Rattle.std.proofs.Common.{◌≡◌, refl, ap, sym, subst, ℕ, ◌<◌, ◌^◌, ◌⊎◌, inl, inr, Bool, true, false, List, [], ◌∷◌, ◌++◌, append_assoc, Contains, Option, Some, None, Result, Ok, Err, arith}
 use Rattle.std.specs.Prelude.{MatchOption, option_map}

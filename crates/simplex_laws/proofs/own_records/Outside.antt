@@ -1,4 +1,3 @@
--- For `own_record_is_taken`.
 -- A record whose entries fit behind one another breaks only rules on what comes from outside.
 use Rattle.std.proofs.Common.{◌≡◌, sym, ◌∙◌, subst, ℕ, inl, inr, Bool, true, false, nat_lt, if◌then◌else◌, List, [], ◌∷◌, Option, Some, None}
 use Rattle.std.proofs.lemmas.Bool.{false≢true}

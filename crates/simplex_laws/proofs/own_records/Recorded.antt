@@ -1,4 +1,3 @@
--- For `own_record_is_taken`.
 -- What holds of the verdicts and votes that a member records: drops, prunes, copies by view and growth keep it.
 use Rattle.std.proofs.Common.{◌≡◌, refl, ap, sym, ◌∙◌, subst, ℕ, inl, inr, Bool, true, false, List, [], ◌∷◌, ◌++◌, append_assoc, Contains, filter, arith}
 use Rattle.std.specs.Prelude.{◌==◌}

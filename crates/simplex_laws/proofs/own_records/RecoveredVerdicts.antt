@@ -1,4 +1,3 @@
--- For `own_record_is_taken`.
 -- A state that is made from a record shows the record's notarizations and verdicts.
 use Rattle.std.proofs.Common.{◌≡◌, refl, ap, sym, ◌∙◌, subst, ℕ, ◌<◌, ◌≤◌, ◌⊎◌, inl, inr, Bool, true, false, nat_lt, nat_le, max, List, [], ◌∷◌, ◌++◌, append_assoc, Contains, filter, Option, None, is_some, arith}
 use Rattle.std.specs.List.Sorted.{IsNonDecreasingBy}
@@ -21,9 +20,8 @@ use Rattle.simplex_laws.proofs.records.TracesShown.{only_one}
 use Rattle.simplex_laws.proofs.own_records.Recorded.{HasNoVerdict}
 use Rattle.simplex_laws.proofs.lists.Splits.{Contains-cons_rest}
 use Rattle.simplex_laws.proofs.own_records.EntriesFit.{RisesFrom, rises_from}
-use Rattle.simplex_laws.specs.Events as event
-use Rattle.simplex_laws.specs.Events.{Event, IsEvent, after_event}
-use Rattle.simplex_laws.specs.HistoryFolds.{finalized_by_event}
+use Rattle.simplex_record.specs.Events as event
+use Rattle.simplex_record.specs.Events.{Event, IsEvent, after_event, finalized_by_event}
 use Rattle.simplex_record.proofs.Rounds.{round_put}
 use Rattle.simplex_laws.proofs.frames.Rising.{event_goes, event_finalizes}
 use Rattle.simplex_record.proofs.Steps.{notarization_by, verdict_by}

@@ -1,6 +1,5 @@
--- For `own_record_is_taken`.
 -- What a member records in a run, over all its lives, is taken again but for what comes from outside.
-use Rattle.std.proofs.Common.{◌≡◌, refl, ap, sym, ◌∙◌, subst, ℕ, zero, suc, ◌-◌, ◌<◌, ◌⊎◌, inl, inr, Bool, true, false, ◌||◌, nat_le, is_some, Contains, List, [], ◌∷◌, ◌++◌, append_assoc, length, take, drop, filter, Option, Some, None, Result, Ok, Err, arith}
+use Rattle.std.proofs.Common.{◌≡◌, refl, ap, sym, ◌∙◌, subst, ℕ, zero, suc, ◌-◌, ◌<◌, ◌⊎◌, inl, inr, Bool, true, false, ◌||◌, nat_le, is_some, List, [], ◌∷◌, ◌++◌, append_assoc, length, take, drop, filter, Option, Some, None, Result, Ok, Err, arith}
 use Rattle.std.specs.Prelude.{◌==◌, MatchOption}
 use Rattle.std.proofs.lemmas.Bool.{cases_Bool}
 use Rattle.std.proofs.lemmas.List.{append-nil, take-append-drop}

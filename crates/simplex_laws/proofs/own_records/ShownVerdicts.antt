@@ -1,4 +1,3 @@
--- For `own_record_is_taken`.
 -- What a state's facts show of the notarizations and verdicts in its record, call by call.
 use Rattle.std.proofs.Common.{◌≡◌, refl, ap, sym, ◌∙◌, subst, ℕ, inl, inr, Bool, true, false, not, ◌&&◌, List, [], ◌∷◌, ◌++◌, Contains, Option, Some, None, is_some, unwrap_or, arith}
 use Rattle.std.specs.Prelude.{option_map, option_and_then}
@@ -24,8 +23,8 @@ use Rattle.simplex_laws.specs.Traces.{TraceEvent, trace_of_call}
 use Rattle.simplex_laws.proofs.own_records.Recorded.{OwnRecord, AreQuiet, quiet_none, quiet_newly, HasNoVerdict, no_verdict, own_quiet, own_verdict}
 use Rattle.simplex_laws.proofs.records.TracesShown.{only_one}
 use Rattle.simplex_laws.proofs.frames.CallsOnWork.{is_work}
-use Rattle.simplex_laws.specs.Events as event
-use Rattle.simplex_laws.specs.Events.{Event, IsEvent, after_event}
+use Rattle.simplex_record.specs.Events as event
+use Rattle.simplex_record.specs.Events.{Event, IsEvent, after_event}
 use Rattle.simplex_laws.proofs.lives.Lasting.{brings_kept}
 use Rattle.simplex_record.proofs.Steps.{notarization_by, verdict_by}
 use Rattle.simplex_laws.proofs.own_records.Verdicts.{ShowsVerdicts, given_so, event_shows, verdict_stands}

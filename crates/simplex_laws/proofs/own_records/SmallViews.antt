@@ -1,4 +1,3 @@
--- For `own_record_is_taken`.
 -- Each certificate that a member accepts in a run names no view that is too large.
 use Rattle.std.proofs.Common.{◌≡◌, refl, subst, ℕ, inl, inr, Bool, true, false, if◌then◌else◌, List, [], ◌∷◌, ◌++◌, Contains, Option, Some, None, Result, Ok, Err, arith}
 use Rattle.std.specs.Prelude.{MatchOption}

@@ -1,4 +1,3 @@
--- For `own_record_is_taken`.
 -- The notarizations and verdicts of a record, and what each event leaves of them in the state.
 use Rattle.std.proofs.Common.{◌≡◌, refl, ap, sym, ◌∙◌, subst, ℕ, ◌≤◌, ◌⊎◌, inl, inr, Bool, true, false, not, if◌then◌else◌, List, Contains, Some, None, is_some, unwrap_or, arith}
 use Rattle.std.proofs.lemmas.Bool.{cases_Bool, false≢true}
@@ -11,9 +10,8 @@ use Rattle.simplex_voter.specs.Facts.{StateFacts, Elect, round_at, round_of, rou
 use Rattle.simplex_voter.specs.Windows.{min_active}
 use Rattle.simplex_voter.specs.Entering.{at_moment}
 use Rattle.simplex_voter.specs.Certification.{with_verdict, verdict_taken, after_certified}
-use Rattle.simplex_laws.specs.Events as event
-use Rattle.simplex_laws.specs.Events.{Event, IsEvent, after_event}
-use Rattle.simplex_laws.specs.HistoryFolds.{is_prune}
+use Rattle.simplex_record.specs.Events as event
+use Rattle.simplex_record.specs.Events.{Event, IsEvent, after_event, is_prune}
 use Rattle.simplex_laws.proofs.frames.EachRound.{IsGone, rounds_along, rounds_or_gone}
 use Rattle.simplex_record.proofs.Rounds.{round_put}
 use Rattle.simplex_record.proofs.Paths.{event_path, asked_of_all, from_judged}

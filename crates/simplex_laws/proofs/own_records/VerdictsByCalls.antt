@@ -1,4 +1,3 @@
--- For `own_record_is_taken`.
 -- What a state's facts show of the notarizations and verdicts in its record, also by calls on the work of a view, which leave
 -- the verdicts and record none.
 use Rattle.std.proofs.Common.{unwrap_or, ◌++◌, ◌≡◌, refl, ap, sym, subst, ℕ, List, [], ◌∷◌, Bool, true, false, Option, Some, None, is_some}

@@ -31,8 +31,8 @@ use Rattle.simplex_laws.proofs.records.TracesShown.{Remembers}
 use Rattle.simplex_laws.proofs.records.RecordedVotes.{Marked, marked_more, event_marked, quiet_marked}
 use Rattle.simplex_laws.proofs.records.EntryTraces.{subject_of}
 use Rattle.simplex_record.proofs.Steps.{verdict_by, nullify_by}
-use Rattle.simplex_laws.specs.Events as event
-use Rattle.simplex_laws.specs.Events.{Event, after_event}
+use Rattle.simplex_record.specs.Events as event
+use Rattle.simplex_record.specs.Events.{Event, after_event}
 use Rattle.simplex_laws.proofs.records.Remembering.{remembers_more, grows_nothing, grows_verdict, grows_certificate, grows_again, grows_nullify, grows_finalize}
 
 -- the record remembers the trace, and what the state's facts show

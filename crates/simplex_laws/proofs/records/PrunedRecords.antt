@@ -1,6 +1,6 @@
 -- For `votes_are_lawful`.
 -- A pruning of the record within a life leaves all that the state's facts show: what it tracks stays in the record.
-use Rattle.std.proofs.Common.{◌≡◌, refl, ap, sym, ◌∙◌, subst, ℕ, ◌-◌, ◌≤◌, inl, inr, Bool, true, false, ◌||◌, nat_le, max, List, Contains, filter, length, Option, Some, None, is_some, unwrap_or, arith}
+use Rattle.std.proofs.Common.{◌≡◌, refl, sym, ◌∙◌, subst, ℕ, ◌-◌, ◌≤◌, Bool, true, false, ◌||◌, nat_le, max, List, Contains, filter, Option, Some, None, is_some, unwrap_or, arith}
 use Rattle.std.proofs.lemmas.Bool.{false≢true, le-leb}
 use Rattle.simplex_types.specs.Certificates.{ArtifactFacts, NullifyVote, Verdict}
 use Rattle.simplex_round.specs.Round.{RoundFacts, new_round, is_nullify, is_certified}
@@ -8,7 +8,6 @@ use Rattle.simplex_voter.specs.Facts.{StateFacts, round_at, round_of, round_numb
 use Rattle.simplex_record.specs.Cuts.{finalized_in}
 use Rattle.simplex_record.specs.Entries.{entry_view}
 use Rattle.simplex_member.specs.Lives.{MemberFacts}
-use Rattle.simplex_member.specs.OutstandingWork.{OutstandingWork}
 use Rattle.simplex_member.specs.Pruning.{tracks, stays_within, pruned_member}
 use Rattle.simplex_laws.specs.Traces.{TraceEvent}
 use Rattle.simplex_laws.proofs.lists.Filters.{Contains-filter}

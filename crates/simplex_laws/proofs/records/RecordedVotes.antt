@@ -7,8 +7,7 @@ use Rattle.simplex_types.specs.Certificates.{ArtifactFacts, NullifyVote, Verdict
 use Rattle.simplex_types.specs.declared.types.numbers.Round.{Round}
 use Rattle.simplex_round.specs.Round.{RoundFacts, new_round, is_nullify, is_certified}
 use Rattle.simplex_voter.specs.Facts.{StateFacts, Elect, round_at, round_of, round_number}
-use Rattle.simplex_laws.specs.Events.{Event, after_event}
-use Rattle.simplex_laws.specs.HistoryFolds.{is_prune}
+use Rattle.simplex_record.specs.Events.{Event, after_event, is_prune}
 use Rattle.simplex_laws.proofs.frames.EachRound.{IsGone, rounds_or_gone}
 use Rattle.simplex_record.proofs.Paths.{event_path, asked_of_all}
 use Rattle.simplex_laws.proofs.frames.Rising.{event_goes}

@@ -25,9 +25,8 @@ use Rattle.simplex_laws.proofs.frames.Rising.{finalization_passes}
 use Rattle.simplex_laws.proofs.lists.Splits.{Contains-cases, Contains-cons_rest}
 use Rattle.simplex_record.proofs.Rounds.{round_put}
 use Rattle.simplex_laws.proofs.votes.UnchangedProposals.{UnchangedProposalsFrom, IsNoProposalWork, calm_along, event_calm, leaves}
-use Rattle.simplex_laws.specs.Events as event
-use Rattle.simplex_laws.specs.Events.{Event, after_event}
-use Rattle.simplex_laws.specs.HistoryFolds.{covers_from}
+use Rattle.simplex_record.specs.Events as event
+use Rattle.simplex_record.specs.Events.{Event, after_event, covers_from}
 use Rattle.simplex_record.proofs.Steps.{Still}
 use Rattle.simplex_record.proofs.Paths.{asked_of_all, to_prepared}
 use Rattle.simplex_laws.proofs.votes.Proposals.{Tidy, tidy_calm, opposite}

@@ -9,8 +9,8 @@ use Rattle.simplex_types.specs.declared.types.window.Terms.{Terms}
 use Rattle.simplex_voter.specs.Facts.{Settings, StateFacts, Elect, new_facts, round_number}
 use Rattle.simplex_record.specs.Entries.{entry_round}
 use Rattle.simplex_record.specs.Recovery.{after_entry, after_kept_entry, after_entries, recovered_state}
-use Rattle.simplex_laws.specs.Events as event
-use Rattle.simplex_laws.specs.Events.{Event, after_event}
+use Rattle.simplex_record.specs.Events as event
+use Rattle.simplex_record.specs.Events.{Event, after_event}
 use Rattle.simplex_laws.proofs.records.RecordedVotes.{Marked, event_marked, quiet_marked}
 use Rattle.simplex_laws.proofs.records.ShownVotesByEntries.{taken_if, taken_keeps}
 use Rattle.simplex_laws.proofs.frames.Rising.{event_goes}

@@ -20,7 +20,7 @@ use Rattle.simplex_laws.proofs.votes.ShownVotes.{ShowsVotesInLife}
 use Rattle.simplex_laws.proofs.votes.ShownVotesAtStart.{start_stays, floor_unsigned}
 use Rattle.simplex_laws.proofs.frames.CallsMake.{all_keep}
 use Rattle.simplex_laws.proofs.frames.Rising.{event_goes, finalization_passes}
-use Rattle.simplex_laws.specs.Events as event
+use Rattle.simplex_record.specs.Events as event
 use Rattle.simplex_laws.proofs.records.TracesShown.{Remembers, AreRecorded, entries_trace, entry_of, trace_event_of, of_accept, all_stay, stays_over}
 
 module _ {K L D : Type 0} (same : D → D → Bool) (elect : Elect L) (x : StateFacts K L D) (now : ℕ) where

@@ -16,8 +16,8 @@ use Rattle.simplex_voter.specs.Certification.{after_certified}
 use Rattle.simplex_record.specs.Entries.{entry_view}
 use Rattle.simplex_record.specs.Recovery.{after_entry, after_kept_entry}
 use Rattle.simplex_laws.specs.Traces.{TraceEvent, Accepts}
-use Rattle.simplex_laws.specs.Events as event
-use Rattle.simplex_laws.specs.Events.{Event, after_event}
+use Rattle.simplex_record.specs.Events as event
+use Rattle.simplex_record.specs.Events.{Event, after_event}
 use Rattle.simplex_laws.proofs.frames.CallsMake.{retaken_keeps}
 use Rattle.simplex_laws.proofs.votes.NullifyVotes.{noted_new}
 use Rattle.simplex_laws.proofs.records.EntryTraces.{entry_trace, MayRetake, notarize_cast_stays, nullify_cast_stays, finalize_cast_stays, passed_over}

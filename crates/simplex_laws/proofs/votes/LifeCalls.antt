@@ -1,4 +1,3 @@
--- For `votes_are_lawful`.
 -- Each call of a life keeps the voting rules, with the trace that it shows.
 use Rattle.std.proofs.Common.{◌≡◌, refl, ap, sym, ◌∙◌, subst, ℕ, Bool, true, false, ◌&&◌, List, [], ◌∷◌, ◌++◌, Option, Some, None, is_some}
 use Rattle.std.specs.Prelude.{option_map, option_and_then}
@@ -25,9 +24,8 @@ use Rattle.simplex_laws.proofs.agreement.Lawful.{lawful_push}
 use Rattle.simplex_laws.proofs.votes.ShownVotesByCalls.{certified_stays, notarization_stays, nullification_stays, finalization_stays}
 use Rattle.simplex_laws.proofs.votes.ShownVotesBySteps.{plain_suits, stays_on}
 use Rattle.simplex_record.proofs.Steps.{notarization_by, verdict_by, nullify_by, finalize_by}
-use Rattle.simplex_laws.specs.Events as event
-use Rattle.simplex_laws.specs.Events.{Event, after_event}
-use Rattle.simplex_laws.specs.HistoryFolds.{finalized_by_event}
+use Rattle.simplex_record.specs.Events as event
+use Rattle.simplex_record.specs.Events.{Event, after_event, finalized_by_event}
 use Rattle.simplex_laws.proofs.votes.ShownVotesByVotes.{nullify_allowed, nullify_decided, nullify_voted, finalize_allowed, finalize_decided, finalize_voted}
 
 -- what each call of a life keeps: its trace is lawful, and its facts show it

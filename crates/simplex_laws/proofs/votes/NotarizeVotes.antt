@@ -1,4 +1,3 @@
--- For `votes_are_lawful`.
 -- A vote to notarize keeps the voting rules, and what the facts show of such votes.
 use Rattle.std.proofs.Common.{◌≡◌, refl, ap, sym, ◌∙◌, subst, ℕ, ◌<◌, inl, inr, Bool, true, false, ◌&&◌, not, List, [], ◌∷◌, ◌++◌, Option, Some, None, is_some, unwrap_or, arith}
 use Rattle.std.specs.Prelude.{option_map, option_and_then}
@@ -26,7 +25,7 @@ use Rattle.simplex_laws.proofs.lists.Signed.{signed_push}
 use Rattle.simplex_laws.proofs.votes.LifeCalls.{none_follows}
 use Rattle.simplex_laws.proofs.agreement.Lawful.{AllowsNotarize}
 use Rattle.simplex_laws.proofs.votes.UnchangedProposals.{calm_along, leaves}
-use Rattle.simplex_laws.specs.Events as event
+use Rattle.simplex_record.specs.Events as event
 use Rattle.simplex_record.proofs.Steps.{Still}
 use Rattle.simplex_record.proofs.Paths.{to_prepared}
 use Rattle.simplex_laws.proofs.votes.Proposals.{opposite}

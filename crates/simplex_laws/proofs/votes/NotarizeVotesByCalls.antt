@@ -1,4 +1,3 @@
--- For `votes_are_lawful`.
 -- Each call of a life keeps what its facts show of the votes to notarize.
 use Rattle.std.proofs.Common.{◌≡◌, refl, ap, sym, ◌∙◌, subst, ℕ, ◌≤◌, ◌<◌, Bool, true, false, ◌&&◌, ◌==◌, cond, nat_le, List, [], ◌∷◌, ◌++◌, Contains, Some, None, is_some, unwrap_or, arith}
 use Rattle.std.specs.Ordering.{nat_cmp}
@@ -26,9 +25,8 @@ use Rattle.simplex_laws.proofs.lists.Filters.{Contains-filtered}
 use Rattle.simplex_laws.proofs.votes.NullifyVotes.{tied}
 use Rattle.simplex_laws.proofs.votes.UnchangedProposals.{UnchangedProposalsFrom, calm_along, event_calm, leaves}
 use Rattle.simplex_record.proofs.Steps.{Still}
-use Rattle.simplex_laws.specs.Events as event
-use Rattle.simplex_laws.specs.Events.{Event}
-use Rattle.simplex_laws.specs.HistoryFolds.{covers_from}
+use Rattle.simplex_record.specs.Events as event
+use Rattle.simplex_record.specs.Events.{Event, covers_from}
 use Rattle.simplex_laws.proofs.votes.Proposals.{Tidy}
 use Rattle.simplex_laws.proofs.frames.CallsOnWork.{is_work}
 use Rattle.simplex_laws.proofs.votes.NotarizeVotesShown.{NotesStand, notes_acted, notes_calm}

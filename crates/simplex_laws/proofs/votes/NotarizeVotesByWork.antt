@@ -1,4 +1,3 @@
--- For `votes_are_lawful`.
 -- Each call on the work of a view keeps what the facts show of the votes to notarize.
 use Rattle.std.proofs.Common.{◌≡◌, ◌≢◌, refl, ap, sym, ◌∙◌, subst, ℕ, ◌≤◌, ◌⊎◌, inl, inr, Bool, true, false, ◌&&◌, ◌==◌, not, if◌then◌else◌, nat_le, List, Contains, Option, Some, None, is_some, is_none, slice_get, unwrap_or, arith}
 use Rattle.std.specs.Prelude.{option_map, option_and_then}
@@ -39,13 +38,12 @@ use Rattle.simplex_member.specs.Allowed.{is_allowed}
 use Rattle.simplex_member.specs.Calls.{CallFacts, SetProposal, TryPropose, Proposed, SupersedeProposalRequest, PendingHandoffAbandonment, ReleaseProposalRequest, TryVerify, Verified, VerificationFailed, CertifyCandidates, SetCertifyHandle, TriggerTimeout, NextTimeout}
 use Rattle.simplex_member.specs.CallSemantics.{after_call, outstanding_work_after}
 use Rattle.simplex_laws.specs.Traces.{TraceEvent}
-use Rattle.simplex_laws.specs.Requested.{is_given_out}
+use Rattle.simplex_laws.specs.Standings.{is_given_out}
 use Rattle.simplex_record.proofs.Rounds.{round_put}
 use Rattle.simplex_laws.proofs.votes.UnchangedRounds.{leads_round, Grown, UnchangedProposal, calm, calm_alike}
 use Rattle.simplex_laws.proofs.votes.UnchangedProposals.{UnchangedProposalsFrom, IsNoProposalWork, above_put, calm_along, leaves}
-use Rattle.simplex_laws.specs.Events as event
-use Rattle.simplex_laws.specs.Events.{Event}
-use Rattle.simplex_laws.specs.HistoryFolds.{covers_from}
+use Rattle.simplex_record.specs.Events as event
+use Rattle.simplex_record.specs.Events.{Event, covers_from}
 use Rattle.simplex_record.proofs.Steps as step
 use Rattle.simplex_record.proofs.Steps.{Path, Still, Then, Moves, Unnames}
 use Rattle.simplex_record.proofs.Paths.{either, put, to_prepared, to_triggered, build_path, proposal_path, handle_path, polled_path}
@@ -56,7 +54,7 @@ use Rattle.simplex_laws.proofs.votes.OutstandingWork.{among_others, now_among, g
 use Rattle.simplex_laws.proofs.frames.InOrder.{InOrder}
 use Rattle.simplex_laws.proofs.lists.Filters.{Contains-filtered, filtered_passes}
 use Rattle.simplex_laws.proofs.lists.Ordered.{found_in_order}
-use Rattle.simplex_laws.proofs.histories.Scanned.{among_through, any_there, first_through, tracked_scanned, round_scanned}
+use Rattle.simplex_laws.proofs.votes.Scanned.{among_through, any_there, first_through, tracked_scanned, round_scanned}
 
 module _ {K L D : Type 0} where
   -- an entry of the tracked views is the round of its view

@@ -1,4 +1,3 @@
--- For `votes_are_lawful`.
 -- What a state's facts show of the votes to notarize that led to it, and what a record remembers of them.
 use Rattle.std.proofs.Common.{◌≡◌, ap, ℕ, ◌≤◌, ◌<◌, ◌⊎◌, inl, inr, true, false, List, ◌++◌, Contains, Some, is_some, arith}
 use Rattle.std.proofs.lemmas.List.Elements.{Contains-append_left}
@@ -10,9 +9,8 @@ use Rattle.simplex_voter.specs.Facts.{Settings, StateFacts, round_of}
 use Rattle.simplex_voter.specs.Windows.{min_active}
 use Rattle.simplex_member.specs.OutstandingWork.{OutstandingWork, is_verifying, context_at}
 use Rattle.simplex_laws.specs.Traces.{TraceEvent, Accepts}
-use Rattle.simplex_laws.specs.Events.{Event}
+use Rattle.simplex_record.specs.Events.{Event, covers_from}
 use Rattle.simplex_laws.specs.Lawful.{HasSigned}
-use Rattle.simplex_laws.specs.HistoryFolds.{covers_from}
 use Rattle.simplex_laws.proofs.lists.Signed.{signed_cases}
 use Rattle.simplex_laws.proofs.votes.OutstandingWork.{ArePlaced, NoMoreContexts, some_still}
 use Rattle.simplex_laws.proofs.votes.UnchangedProposals.{Above, UnchangedProposalsFrom}

@@ -1,4 +1,3 @@
--- For `votes_are_lawful`.
 -- What stays open of a member's requests and verifications.
 use Rattle.std.proofs.Common.{◌≡◌, ◌≢◌, refl, ap, sym, ◌∙◌, ℕ, ◌⊎◌, inl, inr, Bool, true, false, ◌||◌, not, cond, eqb, List, [], ◌∷◌, Option, Some, None, is_some}
 use Rattle.std.specs.Prelude.{filter}
@@ -7,12 +6,34 @@ use Rattle.std.specs.FinMap.{nat_cmp-IsAntisymmetric}
 use Rattle.std.specs.FinMap.Entries.{find, put, find-put, where_key, find-where_key}
 use Rattle.simplex_sorted.proofs.Maps.{is_eq-nat_cmp}
 use Rattle.std.specs.List.{list_any}
-use Rattle.std.specs.Ordering.{nat_cmp}
+use Rattle.std.specs.Ordering.{nat_cmp, match_ordering}
+use Rattle.std.specs.declared.cmp.Ordering.{Ordering}
+use Rattle.std.specs.declared.cmp.Ordering.TheVariants.{Less, Equal, Greater}
 use Rattle.std.specs.Cmp.{nat_cmp_total}
 use Rattle.std.proofs.lemmas.Bool.{false≢true, eqb-true, eq-eqb}
 use Rattle.simplex_types.specs.declared.types.messages.Context.{Context}
 use Rattle.simplex_member.specs.OutstandingWork.{OutstandingWork, all_but, is_among, context_at, without_context, with_context}
-use Rattle.simplex_laws.proofs.histories.Following.{among_noted}
+use Rattle.simplex_laws.proofs.votes.NullifyVotes.{tied}
+
+-- a view is among those with one more
+pub among_noted : (k v : ℕ) (ks : List ℕ) → is_among v (insert_key nat_cmp ks k) ≡ (eqb v k || is_among v ks)
+among_noted k v [] = refl
+among_noted k v (u ∷ ks) =
+    let behind : is_among v (insert_key nat_cmp ks k) ≡ (eqb v k || is_among v ks) = among_noted k v ks in
+    (elim (nat_cmp k u) as (λ (o : Ordering). nat_cmp k u ≡ o → is_among v (match_ordering o (k ∷ u ∷ ks) (u ∷ ks) (u ∷ insert_key nat_cmp ks k)) ≡ (eqb v k || (eqb v u || is_among v ks))) [
+      | Less ↦ λ is. refl
+      | Equal ↦ λ is. rw (tied k u is) (twice (eqb v u) (is_among v ks))
+      | Greater ↦ λ is. rw behind (swapped (eqb v u) (eqb v k) (is_among v ks))
+    ]) refl
+  where
+    twice : (a b : Bool) → (a || b) ≡ (a || (a || b))
+    twice true b = refl
+    twice false b = refl
+
+    swapped : (a b c : Bool) → (a || (b || c)) ≡ (b || (a || c))
+    swapped true true c = refl
+    swapped true false c = refl
+    swapped false b c = refl
 
 -- a view among others but one
 pub among_others : (v w : ℕ) (views : List ℕ) → is_among w (all_but v views) ≡ true → (is_among w views ≡ true) × (w ≢ v)

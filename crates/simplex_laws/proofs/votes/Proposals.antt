@@ -1,4 +1,3 @@
--- For `votes_are_lawful`.
 -- What a life keeps of one view's proposal, its verification and its binding.
 use Rattle.std.proofs.Common.{◌≡◌, refl, ap, sym, ◌∙◌, ℕ, Bool, true, false, Option, Some, None, is_some}
 use Rattle.std.specs.Option.{option_map_or}

@@ -1,4 +1,3 @@
--- For `votes_are_lawful`.
 -- What a state's facts show of the trace that led to it, and that it stays so while the trace grows.
 use Rattle.std.proofs.Common.{◌≡◌, refl, sym, subst, ℕ, ◌≤◌, ◌<◌, ◌⊎◌, inl, inr, true, List, [], ◌∷◌, ◌++◌, Contains, Some, arith}
 use Rattle.std.proofs.lemmas.Bool.{cases_eq}

@@ -1,4 +1,3 @@
--- For `votes_are_lawful`.
 -- A state at its floor stands with no event but the floor's.
 use Rattle.std.proofs.Common.{◌≡◌, refl, ℕ, inl, inr, Bool, true, List, Option, arith}
 use Rattle.std.proofs.lemmas.Bool.{false≢true}
@@ -10,10 +9,9 @@ use Rattle.simplex_round.specs.Round.{new_round}
 use Rattle.simplex_voter.specs.Facts.{Settings, StateFacts, Elect, new_facts}
 use Rattle.simplex_voter.specs.Acceptance.{after_set_floor}
 use Rattle.simplex_laws.specs.Traces.{Accepts, of_floor}
-use Rattle.simplex_laws.specs.Events as event
-use Rattle.simplex_laws.specs.Events.{Event}
+use Rattle.simplex_record.specs.Events as event
+use Rattle.simplex_record.specs.Events.{Event, finalized_by_event}
 use Rattle.simplex_laws.specs.Lawful.{HasSigned}
-use Rattle.simplex_laws.specs.HistoryFolds.{finalized_by_event}
 use Rattle.simplex_laws.proofs.lists.Signed.{signed_none, only_signed}
 use Rattle.simplex_laws.proofs.votes.ShownVotes.{RoundShowsVotes, ShowsVotes, HasFinal, ShowsVotesInLife}
 use Rattle.simplex_laws.proofs.votes.ShownVotesBySteps.{Suits, event_stays}

@@ -1,4 +1,3 @@
--- For `votes_are_lawful`.
 -- Certificates and verdicts keep what stands of the votes.
 use Rattle.std.proofs.Common.{◌≡◌, refl, ap, subst, ℕ, ◌+◌, ◌<◌, inl, inr, Bool, true, false, List, [], ◌∷◌, ◌++◌, Contains, Some, arith}
 use Rattle.simplex_types.specs.Certificates.{ProposalFacts, NullificationFacts}
@@ -8,8 +7,8 @@ use Rattle.simplex_voter.specs.Facts.{StateFacts, Elect, is_tracked}
 use Rattle.simplex_voter.specs.Entering.{at_moment, with_view_entered}
 use Rattle.simplex_voter.specs.Certification.{with_verdict, verdict_taken, after_certified}
 use Rattle.simplex_laws.specs.Traces.{TraceEvent, Accepts}
-use Rattle.simplex_laws.specs.Events as event
-use Rattle.simplex_laws.specs.Events.{Event, after_event}
+use Rattle.simplex_record.specs.Events as event
+use Rattle.simplex_record.specs.Events.{Event, after_event}
 use Rattle.simplex_record.proofs.Paths.{to_woken}
 use Rattle.simplex_laws.proofs.frames.Rising.{goes_along}
 use Rattle.simplex_laws.proofs.frames.Sound.{entered_reaches}

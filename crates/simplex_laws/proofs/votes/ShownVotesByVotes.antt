@@ -1,4 +1,3 @@
--- For `votes_are_lawful`.
 -- The votes that a member answers are allowed, and what stands of the votes is kept.
 use Rattle.std.proofs.Common.{◌≡◌, refl, ap, sym, ◌∙◌, subst, ℕ, ◌<◌, ◌≤◌, ◌⊎◌, inl, inr, true, false, not, List, [], ◌∷◌, ◌++◌, Contains, Option, Some, None, is_some, arith}
 use Rattle.std.specs.Ordering.{nat_cmp}

@@ -1,4 +1,3 @@
--- For `votes_are_lawful`.
 -- A slot goes on to hold what it holds, unless another proposal is seen; and a round that knows nothing stands.
 use Rattle.std.proofs.Common.{◌≡◌, refl, ap, sym, ◌∙◌, subst, ℕ, ◌≤◌, ◌⊎◌, inl, inr, Bool, true, false, List, Option, Some, None}
 use Rattle.std.specs.Option.{option_map_or}

@@ -1,4 +1,3 @@
--- For `votes_are_lawful`.
 -- Events that leave each view's proposal, its verification and its binding as they are.
 use Rattle.std.proofs.Common.{◌≡◌, ◌≢◌, refl, ap, sym, ◌∙◌, subst, ℕ, ◌<◌, ◌≤◌, ◌⊎◌, inl, inr, Bool, true, false, cond, List, [], ◌∷◌, Contains, Some, None, is_some, arith}
 use Rattle.std.specs.Ordering.{nat_cmp, match_ordering}
@@ -15,8 +14,7 @@ use Rattle.simplex_round.specs.Slot.{after_vote, after_certificate}
 use Rattle.simplex_round.specs.Round.{RoundFacts}
 use Rattle.simplex_voter.specs.Facts.{StateFacts, Elect, round_of, is_tracked, with_round}
 use Rattle.simplex_sorted.proofs.Maps.{is_eq-nat_cmp}
-use Rattle.simplex_laws.specs.Events.{Event, Proposed, TryVerify, SetProposal, Verified, VerificationFailed, Prune, Replay, after_event}
-use Rattle.simplex_laws.specs.HistoryFolds.{covers_from, is_prune}
+use Rattle.simplex_record.specs.Events.{Event, Proposed, TryVerify, SetProposal, Verified, VerificationFailed, Prune, Replay, after_event, covers_from, is_prune}
 use Rattle.simplex_laws.proofs.lists.Splits.{Contains-cases, Contains-cons_rest}
 use Rattle.simplex_record.proofs.Steps as step
 use Rattle.simplex_record.proofs.Steps.{RoundStep, Step, Path, Covers, Prunes, along, note_by, proposal_by, is_answer}

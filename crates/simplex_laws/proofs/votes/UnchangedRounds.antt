@@ -1,4 +1,3 @@
--- For `votes_are_lawful`.
 -- Changes of a view's round that leave a proposal's verification and binding as they are.
 use Rattle.std.proofs.Common.{◌≡◌, refl, ap, sym, ◌∙◌, subst, ℕ, ◌⊎◌, inl, inr, Bool, true, false, ◌&&◌, ◌||◌, not, if◌then◌else◌, Option, Some, None, is_some}
 use Rattle.std.specs.Option.{option_map_or}

@@ -1,4 +1,3 @@
--- For `votes_are_lawful`.
 -- The parent of a proposal that may be voted for lies below it, and each view between is nullified.
 use Rattle.std.proofs.Common.{◌≡◌, refl, ap, sym, ◌∙◌, subst, ℕ, ◌+◌, ◌-◌, ◌<◌, ◌⊎◌, inl, inr, Bool, true, false, ◌&&◌, ◌||◌, ◌==◌, nat_lt, nat_le, if◌then◌else◌, List, [], ◌∷◌, Contains, Option, Some, None, is_some, is_none, unwrap_or, arith}
 use Rattle.std.specs.Prelude.{option_and_then, MatchOption}

@@ -20,7 +20,7 @@ use Rattle.simplex_member.specs.Runs.{Calls}
 use Rattle.simplex_laws.specs.Continuations.{ExecutionGoesOn, EachHonest, SomeHonest, HasAccepted, HasHeard}
 use Rattle.simplex_laws.specs.Traces.{TraceEvent, Accepts, trace_of_steps}
 use Rattle.simplex_laws.specs.Replicas.{Replica, Honest, faults, FewFaulty, quorum, AtLeastFrom, MayHaveSigned, IsNetworkOf}
-use Rattle.simplex_laws.specs.Shows.{verdict_of}
+use Rattle.simplex_histories.specs.Shows.{verdict_of}
 use Rattle.simplex_laws.specs.Executions.{Execution, trace_of, IsExecution}
 use Rattle.simplex_laws.proofs.agreement.Claims.{finalized_uncovered, parent_before}
 use Rattle.simplex_progress.specs.Going.{MayGoOn, NetworksMeet}

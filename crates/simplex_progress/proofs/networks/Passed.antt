@@ -1,6 +1,6 @@
 -- From one view, on one parent, the honest members go on together to a later term's start, and finalize it.
 use Rattle.std.proofs.Common.{◌≡◌, refl, ap, sym, ◌∙◌, subst, inl, inr, ℕ, zero, suc, ◌<◌, Bool, true, false, List, [], ◌∷◌, length, slice_get, map, Contains, Option, Some, None, is_some, arith}
-use Rattle.std.specs.Prelude.{◌==◌, option_map}
+use Rattle.std.specs.Prelude.{◌==◌, option_map, MatchOption, is_none}
 use Rattle.std.proofs.lemmas.Bool.{cases_eq, eq-eqb, ne_eqb, false≢true, true≢false}
 use Rattle.std.proofs.lemmas.List.Elements.{Contains-append_cases, Contains-append_right}
 use Rattle.simplex_types.specs.Terms.{term_start, next_term_start}
@@ -13,7 +13,6 @@ use Rattle.simplex_voter.specs.Facts.{StateFacts, Elect, round_at}
 use Rattle.simplex_voter.specs.Gaps.{IsGapless, IsFirstGap, is_gapless, first_unnullified_view}
 use Rattle.simplex_voter.specs.Refusals.{is_too_large}
 use Rattle.simplex_voter.proofs.Gaps.{first_unnullified_view-is}
-use Rattle.std.specs.Prelude.{MatchOption, is_none}
 use Rattle.simplex_member.specs.Calls.{CallFacts, SetProposal, Proposed, ConstructNullify, AddNullification}
 use Rattle.simplex_member.specs.Runs.{StepFacts, Calls}
 use Rattle.simplex_laws.specs.Traces.{TraceEvent, Accepts, Signs}

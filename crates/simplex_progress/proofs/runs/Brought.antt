@@ -16,14 +16,14 @@ use Rattle.simplex_voter.specs.Windows.{min_active}
 use Rattle.simplex_voter.proofs.Gaps.{and_parts}
 use Rattle.simplex_record.proofs.Steps.{notarization_by, nullification_by, finalization_by}
 use Rattle.simplex_laws.specs.Traces.{TraceEvent, Accepts}
-use Rattle.simplex_laws.specs.Events as event
-use Rattle.simplex_laws.specs.Events.{Event, IsEvent, after_event}
-use Rattle.simplex_laws.specs.OwnWork.{first_certificate_by, hears, owns}
-use Rattle.simplex_laws.specs.Shows.{verdict_of}
-use Rattle.simplex_laws.specs.HistoryFolds.{or_new, notarizes, finalizes, verdict_of_event, entered_by, finalized_by_event, sets_genesis, is_prune}
+use Rattle.simplex_record.specs.Events as event
+use Rattle.simplex_record.specs.Events.{Event, IsEvent, after_event, finalized_by_event, is_prune}
+use Rattle.simplex_histories.specs.OwnWork.{first_certificate_by, hears, owns}
+use Rattle.simplex_histories.specs.Shows.{verdict_of}
+use Rattle.simplex_histories.specs.HistoryFolds.{or_new, notarizes, finalizes, verdict_of_event, entered_by, sets_genesis}
 use Rattle.simplex_laws.proofs.frames.EachRound.{pruned_view, prune_alone}
-use Rattle.simplex_laws.proofs.histories.Following.{FollowsEvent, left_from}
-use Rattle.simplex_laws.proofs.histories.FollowingReplays.{event_follows}
+use Rattle.simplex_histories.proofs.Following.{FollowsEvent, left_from}
+use Rattle.simplex_histories.proofs.FollowingReplays.{event_follows}
 use Rattle.simplex_progress.specs.Reaching.{IsIn, IsLedTo, First, PastFinalized, PastCertified, PastNullified, HasJudged}
 
 module _ {K L D : Type 0} (epoch : ℕ) (trace : List (TraceEvent D)) (verdicts : List (Bool × Proposal D)) (x : StateFacts K L D) where

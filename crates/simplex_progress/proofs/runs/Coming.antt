@@ -2,6 +2,7 @@
 use Rattle.std.proofs.Common.{◌≡◌, refl, ap, sym, ◌∙◌, subst, ◌⊎◌, inl, inr, ℕ, ◌+◌, ◌<◌, ◌≤◌, max, Bool, true, false, ◌&&◌, not, List, [], ◌∷◌, map, Contains, Option, Some, None, is_some, unwrap_or, arith}
 use Rattle.std.specs.Prelude.{◌==◌, option_and_then, is_none}
 use Rattle.std.specs.Option.{option_map_or}
+use Rattle.std.proofs.Math.Bool.{and-false}
 use Rattle.std.proofs.lemmas.Bool.{eq-eqb, lt-ltb}
 use Rattle.std.proofs.lemmas.List.Elements.{Contains-append_cases}
 use Rattle.simplex_types.specs.Certificates.{ProposalFacts, NullificationFacts}
@@ -17,27 +18,28 @@ use Rattle.simplex_voter.specs.Certification.{takes_verdict}
 use Rattle.simplex_voter.specs.Facts.{StateFacts, Elect, round_at, round_of, round_number, is_tracked}
 use Rattle.simplex_voter.specs.Refusals.{is_too_large, names_too_large, is_started, enters_late}
 use Rattle.simplex_voter.proofs.Gaps.{and_both, or_right}
+use Rattle.simplex_member.specs.OutstandingWork.{is_among}
 use Rattle.simplex_member.specs.Allowed.{is_allowed, fault_of}
 use Rattle.simplex_member.specs.Calls.{CallFacts, Told, Judged, SetProposal, AddNotarization, AddNullification, AddFinalization, Certified}
 use Rattle.simplex_member.specs.Lives.{MemberFacts, with_call}
 use Rattle.simplex_member.specs.CallSemantics.{answer, after_call}
 use Rattle.simplex_member.specs.Runs.{StepFacts, Calls, IsRun}
 use Rattle.simplex_laws.specs.Traces.{Accepts, trace_of_call, trace_of_steps}
-use Rattle.simplex_laws.specs.Events as event
-use Rattle.simplex_laws.specs.Events.{Event, after_event}
-use Rattle.simplex_laws.specs.Leading.{tracks_by}
-use Rattle.simplex_laws.specs.Shows.{verdict_of}
-use Rattle.simplex_laws.specs.HistoryFolds.{or_new, has_view}
-use Rattle.simplex_laws.proofs.histories.EventsWorked.{event_works}
-use Rattle.simplex_laws.proofs.histories.Following.{FollowsEvent}
-use Rattle.simplex_laws.proofs.histories.FollowingReplays.{event_follows}
+use Rattle.simplex_record.specs.Events as event
+use Rattle.simplex_record.specs.Events.{Event, after_event}
+use Rattle.simplex_histories.specs.Leading.{tracks_by}
+use Rattle.simplex_histories.specs.Shows.{verdict_of}
+use Rattle.simplex_histories.specs.HistoryFolds.{or_new}
+use Rattle.simplex_histories.proofs.EventsWorked.{event_works}
+use Rattle.simplex_histories.proofs.Following.{FollowsEvent}
+use Rattle.simplex_histories.proofs.FollowingReplays.{event_follows}
 use Rattle.simplex_laws.proofs.lists.Splits.{Contains-cases, Contains-cons_rest}
 use Rattle.simplex_laws.proofs.records.TracesShown.{only_one}
 use Rattle.simplex_progress.specs.Living.{IsSetUpAs}
 use Rattle.simplex_progress.specs.Reaching.{judged_by, judged_in}
 use Rattle.simplex_progress.proofs.runs.Brought.{some_brought}
 use Rattle.simplex_progress.proofs.runs.Nearing.{Nears, event_nears, no_window_there, takes_it, not_late, given_less, nullified_nears}
-use Rattle.simplex_progress.proofs.states.Calls.{and_false, no_fault_due}
+use Rattle.simplex_progress.proofs.states.Calls.{and-false, no_fault_due}
 use Rattle.simplex_progress.proofs.states.Sequences.{answered}
 use Rattle.simplex_progress.proofs.states.Skipping.{small_under}
 
@@ -107,7 +109,7 @@ pub record Came {K L D : Type 0} (term_length epoch count me : ℕ) (elector : L
   pub above : parent < x.current
   pub reached : x.current ≤ view
   pub untouched : is_tracked x start ≡ false
-  pub known : (round : Round) → given round → (has_view x.nullified round.view ≡ true) × (next_term_start term_length round.view ≤ x.current)
+  pub known : (round : Round) → given round → (is_among round.view x.nullified ≡ true) × (next_term_start term_length round.view ≤ x.current)
   -- the last finalized view, or one that is notarized and certified
   pub stands : (x.finalized ≡ parent) ⊎ ((verdict_of (round_of x parent).certification ≡ Some true) × (is_some (round_of x parent).notarization ≡ true))
 
@@ -269,7 +271,7 @@ module _ {K L D : Type 0} (same : D → D → Bool) (decides : (d e : D) → sam
                 and_both (is_some r.notarization) _ (ap (λ (s : RoundFacts K D). is_some s.notarization) (sym here) ∙ notarized) (no_other r.certification (ap (λ (s : RoundFacts K D). verdict_of s.certification) (sym here) ∙ after.judged))
 
         then_no_fault : fault_of y (Certified parent true 0) ≡ None
-        then_no_fault = no_fault_due y.failed false (true && is_tracked y parent && enters_late y (parent + 1) 0) after.alive refl (ap (λ b. true && is_tracked y parent && b) (not_late term_length epoch count me elector parent view start finalized verdict given y after (parent + 1)) ∙ and_false (true && is_tracked y parent))
+        then_no_fault = no_fault_due y.failed false (true && is_tracked y parent && enters_late y (parent + 1) 0) after.alive refl (ap (λ b. true && is_tracked y parent && b) (not_late term_length epoch count me elector parent view start finalized verdict given y after (parent + 1)) ∙ and-false (true && is_tracked y parent))
 
         told_placed : (o : Option (RoundFacts K D)) → round_at y parent ≡ o → (p : Proposal D) → Contains (judged_by {K = K} (Judged true (option_and_then (λ (r : RoundFacts K D). r.notarization) o))) (true, p) → p.round.view ≡ parent
         told_placed None at p h = absurd (omega (arith, h.1))

@@ -14,11 +14,11 @@ use Rattle.simplex_voter.specs.Facts.{StateFacts, round_at, round_of, round_numb
 use Rattle.simplex_voter.specs.Gaps.{IsGapless, IsFirstGap, is_gapless, first_unnullified_view}
 use Rattle.simplex_voter.specs.Payloads.{certified_payload, explicit_ancestry_payload}
 use Rattle.simplex_voter.proofs.Gaps.{first_unnullified_view-is, or_right}
+use Rattle.simplex_member.specs.OutstandingWork.{is_among}
 use Rattle.simplex_laws.specs.Traces.{TraceEvent}
-use Rattle.simplex_laws.specs.Shows.{verdict_of}
+use Rattle.simplex_histories.specs.Shows.{verdict_of}
 use Rattle.simplex_laws.proofs.lives.TimingOut.{TimesOut}
 use Rattle.simplex_laws.proofs.votes.ShownVotes.{ShowsVotesInLife}
-use Rattle.simplex_laws.specs.HistoryFolds.{has_view}
 use Rattle.simplex_progress.specs.Reaching.{HasFinalized, HasCertified, HasJudged}
 use Rattle.simplex_progress.specs.Standing.{StandsBefore}
 use Rattle.simplex_progress.proofs.runs.Coming.{Came}
@@ -120,11 +120,11 @@ explicit_passed {K} {L} {D} {term_length} {trace} {x} stays times_out v payload 
 
 -- nullifications that are known
 
-any_known : (test : ℕ → Bool) (us : List ℕ) (u : ℕ) → has_view us u ≡ true → test u ≡ true → list_any test us ≡ true
+any_known : (test : ℕ → Bool) (us : List ℕ) (u : ℕ) → is_among u us ≡ true → test u ≡ true → list_any test us ≡ true
 any_known test [] u known is = absurd (false≢true known)
 any_known test (w ∷ us) u known is = by_view (λ h. any_known test us u h is) (u == w) refl known
   where
-    by_view : (has_view us u ≡ true → list_any test us ≡ true) → (b : Bool) → (u == w) ≡ b → (b || has_view us u) ≡ true → (test w || list_any test us) ≡ true
+    by_view : (is_among u us ≡ true → list_any test us ≡ true) → (b : Bool) → (u == w) ≡ b → (b || is_among u us) ≡ true → (test w || list_any test us) ≡ true
     by_view behind true at known = rw (ap test (sym (eqb-true u w at)) ∙ is) refl
     by_view behind false apart known = or_right (test w) _ (behind known)
 

@@ -12,11 +12,11 @@ use Rattle.simplex_voter.specs.Acceptance.{takes_floor, after_set_floor}
 use Rattle.simplex_voter.specs.Facts.{Settings, StateFacts, Elect, new_facts, round_of}
 use Rattle.simplex_voter.proofs.Gaps.{and_parts}
 use Rattle.simplex_laws.specs.Traces.{TraceEvent, Accepts, of_floor}
-use Rattle.simplex_laws.specs.Events as event
-use Rattle.simplex_laws.specs.Events.{Event, IsEvent, after_event}
+use Rattle.simplex_record.specs.Events as event
+use Rattle.simplex_record.specs.Events.{Event, IsEvent, after_event}
 use Rattle.simplex_laws.proofs.frames.Rising.{event_goes}
 use Rattle.simplex_laws.proofs.frames.Sound.{event_ahead}
-use Rattle.simplex_laws.proofs.histories.FollowingReplays.{event_follows}
+use Rattle.simplex_histories.proofs.FollowingReplays.{event_follows}
 use Rattle.simplex_progress.specs.Reaching.{HasJudged, IsLedTo, First, PastFinalized, PastCertified, PastNullified}
 use Rattle.simplex_progress.proofs.runs.Brought.{BringsAccepted, RoundsLed, brings_nothing, rounds_led, final_after, genesis_still, reached_after}
 

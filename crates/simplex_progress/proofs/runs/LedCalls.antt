@@ -20,12 +20,13 @@ use Rattle.simplex_voter.proofs.Gaps.{and_parts}
 use Rattle.simplex_voter.proofs.Rules.{nullify_parts}
 use Rattle.simplex_member.specs.Allowed.{is_allowed}
 use Rattle.simplex_member.specs.Calls as calls
-use Rattle.simplex_member.specs.Calls.{CallFacts, Told, Notarize, Nullify, Finalize, Judged}
+use Rattle.simplex_member.specs.Calls.{CallFacts, Notarize, Nullify, Finalize, Judged}
 use Rattle.simplex_member.specs.CallSemantics.{answer, after_call, recorded_by, if_new, vote_entry, unrepeated_vote, nullify_vote}
 use Rattle.simplex_member.specs.OutstandingWork.{OutstandingWork, context_at}
 use Rattle.simplex_laws.specs.Traces.{TraceEvent, Accepts, Signs, signed_in, trace_of_call}
-use Rattle.simplex_laws.specs.Events as event
-use Rattle.simplex_laws.specs.Events.{Event, after_event, in_context, events_of}
+use Rattle.simplex_record.specs.Events as event
+use Rattle.simplex_record.specs.Events.{Event}
+use Rattle.simplex_member.specs.Events.{in_context, events_of}
 use Rattle.simplex_laws.specs.Lawful.{HasSigned}
 use Rattle.simplex_laws.proofs.frames.CallsMake.{call_by_event}
 use Rattle.simplex_laws.proofs.lists.Signed.{signed_none, only_signed}

@@ -32,8 +32,8 @@ use Rattle.simplex_member.specs.Restarts.{RestartFacts, IsByView, cut_member, ne
 use Rattle.simplex_member.specs.Runs.{StepFacts, Calls, Prunes, Restarts, restart_told, IsRun, IsRunFrom}
 use Rattle.simplex_member.specs.Pruning.{stays_within, pruned_member}
 use Rattle.simplex_laws.specs.Traces.{TraceEvent, Accepts, of_floor, trace_of_call, trace_at, trace_of_steps}
-use Rattle.simplex_laws.specs.Events as event
-use Rattle.simplex_laws.specs.Events.{Event, after_event}
+use Rattle.simplex_record.specs.Events as event
+use Rattle.simplex_record.specs.Events.{Event, after_event}
 use Rattle.simplex_laws.specs.Lawful.{HasSigned}
 use Rattle.simplex_laws.specs.Executions.{new_member, Execution, trace_of, IsExecution}
 use Rattle.simplex_laws.specs.TermLengths.{HasTerms, KeepTerms}

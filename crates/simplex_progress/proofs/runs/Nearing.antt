@@ -3,6 +3,7 @@ use Rattle.std.proofs.Common.{◌≡◌, refl, ap, sym, ◌∙◌, subst, ◌⊎
 use Rattle.std.specs.Prelude.{◌==◌}
 use Rattle.std.specs.List.{range_with_len}
 use Rattle.std.specs.Option.{option_map_or}
+use Rattle.std.proofs.Math.Bool.{and-false}
 use Rattle.std.proofs.lemmas.Bool.{eq-eqb, ne_eqb, lt-ltb, le-leb}
 use Rattle.simplex_types.specs.Certificates.{ProposalFacts, NullificationFacts}
 use Rattle.simplex_types.specs.Terms.{next_term_start, term_end}
@@ -13,20 +14,21 @@ use Rattle.simplex_voter.specs.Leaders.{has_leader, with_leader_at, with_elected
 use Rattle.simplex_voter.specs.Refusals.{takes_round, is_started, is_past_u64, has_late_deadline}
 use Rattle.simplex_voter.specs.Windows.{admits_certificate, min_active}
 use Rattle.simplex_voter.proofs.Gaps.{and_both, or_right}
-use Rattle.simplex_laws.specs.Events as event
-use Rattle.simplex_laws.specs.Events.{Event, IsEvent, after_event}
-use Rattle.simplex_laws.specs.Leading.{tracks, tracks_by, opens}
-use Rattle.simplex_laws.specs.Shows.{verdict_of}
-use Rattle.simplex_laws.specs.HistoryFolds.{or_new, notarizes, verdict_of_event, entered_by, finalized_by_event, covers_from, is_prune, has_view}
-use Rattle.simplex_laws.specs.Timing.{enters}
+use Rattle.simplex_member.specs.OutstandingWork.{is_among}
+use Rattle.simplex_record.specs.Events as event
+use Rattle.simplex_record.specs.Events.{Event, IsEvent, after_event, finalized_by_event, covers_from, is_prune}
+use Rattle.simplex_histories.specs.Leading.{tracks, tracks_by, opens}
+use Rattle.simplex_histories.specs.Shows.{verdict_of}
+use Rattle.simplex_histories.specs.HistoryFolds.{or_new, notarizes, verdict_of_event, entered_by}
+use Rattle.simplex_histories.specs.Timing.{enters}
 use Rattle.simplex_laws.proofs.frames.Rising.{event_goes}
 use Rattle.simplex_laws.proofs.frames.Sound.{event_ahead}
-use Rattle.simplex_laws.proofs.histories.EventsWorked.{event_works}
-use Rattle.simplex_laws.proofs.histories.Following.{FollowsEvent, left_from}
-use Rattle.simplex_laws.proofs.histories.FollowingReplays.{event_follows}
+use Rattle.simplex_histories.proofs.EventsWorked.{event_works}
+use Rattle.simplex_histories.proofs.Following.{FollowsEvent, left_from}
+use Rattle.simplex_histories.proofs.FollowingReplays.{event_follows}
 use Rattle.simplex_progress.specs.Living.{IsSetUpAs}
 use Rattle.simplex_progress.proofs.runs.Brought.{new_or_old, notarizes_by}
-use Rattle.simplex_progress.proofs.states.Calls.{and_false}
+use Rattle.simplex_progress.proofs.states.Calls.{and-false}
 
 -- the member stands at the view or below it, with this finalized view, and this verdict on the parent; these nullifications are
 -- known, and it knows nothing of the start
@@ -40,7 +42,7 @@ pub record Nears {K L D : Type 0} (term_length epoch count me : ℕ) (elector : 
   pub untouched : is_tracked x start ≡ false
   pub judged : verdict_of (round_of x parent).certification ≡ verdict
   pub placed : (c : ProposalFacts D) → (round_of x parent).notarization ≡ Some c → c.proposal.round.view ≡ parent
-  pub known : (round : Round) → given round → (has_view x.nullified round.view ≡ true) × (next_term_start term_length round.view ≤ x.current)
+  pub known : (round : Round) → given round → (is_among round.view x.nullified ≡ true) × (next_term_start term_length round.view ≤ x.current)
 
 late_same : {K L D : Type 0} (x y : StateFacts K L D) → y.settings ≡ x.settings → y.terms ≡ x.terms → has_late_deadline y 0 ≡ has_late_deadline x 0
 late_same x y s t = λ j. is_past_u64 (0 + (s j).leader_timeout) || is_past_u64 (0 + (s j).certification_timeout) || option_map_or (λ time. is_past_u64 (0 + time)) (t j).stall_timeout false
@@ -99,7 +101,7 @@ module _ {K L D : Type 0} (same : D → D → Bool) (decides : (d e : D) → sam
           known = λ round h. (let old = nears.known round h in (follows.nullified round.view (none_left round.view) ∙ or_right (covers_from round.view e) _ old.0, omega (arith, old.1, goes.current)));
         }
 
-not_among : (count from v : ℕ) → from + count ≤ v → has_view (range_with_len from count) v ≡ false
+not_among : (count from v : ℕ) → from + count ≤ v → is_among v (range_with_len from count) ≡ false
 not_among zero from v above = refl
 not_among (suc count) from v above = rw (ne_eqb v from (λ at. absurd (omega (arith, at, above)))) (not_among count (from + 1) v (omega (arith, above)))
 
@@ -112,10 +114,10 @@ module _ {K L D : Type 0} where
       by_leader true r = refl
       by_leader false r = refl
 
-  not_opened : (x : StateFacts K L D) (u v : ℕ) → next_term_start x.terms.term_length u ≤ v → u < v → has_view (opened_views x u) v ≡ false
+  not_opened : (x : StateFacts K L D) (u v : ℕ) → next_term_start x.terms.term_length u ≤ v → u < v → is_among v (opened_views x u) ≡ false
   not_opened x u v behind below = by_test (x.terms.optimistic_views == 0)
     where
-      by_test : (b : Bool) → has_view (if b then [] else range_with_len (u + 1) (min (term_end x.terms.term_length u) (u + x.terms.optimistic_views + 1) - u)) v ≡ false
+      by_test : (b : Bool) → is_among v (if b then [] else range_with_len (u + 1) (min (term_end x.terms.term_length u) (u + x.terms.optimistic_views + 1) - u)) ≡ false
       by_test true = refl
       by_test false = not_among (min (term_end x.terms.term_length u) (u + x.terms.optimistic_views + 1) - u) (u + 1) v (omega (arith, behind, below))
 
@@ -123,9 +125,9 @@ module _ {K L D : Type 0} where
   no_window_there elect x c is_first v behind below =
       let u = c.proposal.round.view in
       let led : StateFacts K L D = with_elected_leader elect x (u + 1) (Some c.bytes) in
-      let shut : has_view (opened_views led u) v ≡ false = not_opened led u v (subst (λ t. next_term_start t.term_length u ≤ v) (sym (led_terms x (u + 1) _)) behind) (omega (arith, below)) in
+      let shut : is_among v (opened_views led u) ≡ false = not_opened led u v (subst (λ t. next_term_start t.term_length u ≤ v) (sym (led_terms x (u + 1) _)) behind) (omega (arith, below)) in
       let closed : opens elect x v c ≡ None = rw shut refl in
-      rw (ne_eqb v u (λ at. absurd (omega (arith, at, below))), ne_eqb v (u + 1) (λ at. absurd (omega (arith, at, below))), closed) (and_false is_first)
+      rw (ne_eqb v u (λ at. absurd (omega (arith, at, below))), ne_eqb v (u + 1) (λ at. absurd (omega (arith, at, below))), closed) (and-false is_first)
 
 -- what may be handed in
 
@@ -137,7 +139,7 @@ module _ {K L D : Type 0} (term_length epoch count me : ℕ) (elector : L) (pare
       (and_both (nat_le 1 round.view) (nat_le (min_active x) round.view) (le-leb 1 round.view some) (le-leb (min_active x) round.view (omega (arith, above, nears.passed))))
 
   pub not_late : (v : ℕ) → (nat_lt x.current v && has_late_deadline x 0) ≡ false
-  not_late v = rw nears.set.on_time (and_false (nat_lt x.current v))
+  not_late v = rw nears.set.on_time (and-false (nat_lt x.current v))
 
   pub given_less : (fewer : Round → Type 0) → ((r : Round) → fewer r → given r) → Nears term_length epoch count me elector parent view start finalized verdict fewer x
   given_less fewer within = record {
@@ -166,7 +168,7 @@ module _ {K L D : Type 0} (same : D → D → Bool) (decides : (d e : D) → sam
     untouched = after.untouched;
     judged = after.judged;
     placed = after.placed;
-    known = λ r h. elim h [ inl here ↦ subst (λ (q : Round). (has_view y.nullified q.view ≡ true) × (next_term_start term_length q.view ≤ y.current)) (sym here) known_now | inr old ↦ after.known r old ];
+    known = λ r h. elim h [ inl here ↦ subst (λ (q : Round). (is_among q.view y.nullified ≡ true) × (next_term_start term_length q.view ≤ y.current)) (sym here) known_now | inr old ↦ after.known r old ];
   }
     where
       e : Event K D
@@ -184,5 +186,5 @@ module _ {K L D : Type 0} (same : D → D → Bool) (decides : (d e : D) → sam
       follows : FollowsEvent same elect e x y
       follows = event_follows same decides elect x e takes
 
-      known_now : (has_view y.nullified c.round.view ≡ true) × (next_term_start term_length c.round.view ≤ y.current)
+      known_now : (is_among c.round.view y.nullified ≡ true) × (next_term_start term_length c.round.view ≤ y.current)
       known_now = (follows.nullified c.round.view (omega arith) ∙ rw (eq-eqb c.round.view c.round.view refl) refl, (let up = subst (λ n. next_term_start n c.round.view ≤ y.current) nears.terms (omega (arith, follows.current)) in up))

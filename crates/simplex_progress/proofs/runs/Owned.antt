@@ -4,8 +4,8 @@ use Rattle.simplex_types.specs.Config.{FloorFacts}
 use Rattle.simplex_round.specs.Round.{RoundFacts, new_round}
 use Rattle.simplex_voter.specs.Facts.{StateFacts, Elect, new_facts, round_of, round_number}
 use Rattle.simplex_voter.specs.Acceptance.{after_set_floor}
-use Rattle.simplex_laws.specs.Events as event
-use Rattle.simplex_laws.specs.Events.{Event, after_event}
+use Rattle.simplex_record.specs.Events as event
+use Rattle.simplex_record.specs.Events.{Event, after_event}
 use Rattle.simplex_laws.proofs.frames.EachRound.{rounds_or_gone}
 use Rattle.simplex_laws.proofs.frames.Fresh.{IsFresh}
 use Rattle.simplex_record.proofs.Paths.{event_path, asked_of_all}

@@ -1,6 +1,7 @@
 -- What each call makes of a state that stands at an untouched term start.
 use Rattle.std.proofs.Common.{◌≡◌, refl, ap, sym, ◌∙◌, subst, ℕ, ◌+◌, Bool, true, false, ◌&&◌, nat_lt, if◌then◌else◌, List, Option, Some, None, is_some, arith}
 use Rattle.std.specs.Option.{option_map_or}
+use Rattle.std.proofs.Math.Bool.{and-false}
 use Rattle.std.proofs.lemmas.Bool.{eq-eqb, lt-ltb, le-ltb, false≢true}
 use Rattle.simplex_types.specs.Certificates.{ProposalFacts, NotarizeVote, FinalizeVote}
 use Rattle.simplex_types.specs.declared.types.messages.Proposal.{Proposal}
@@ -79,9 +80,9 @@ not_nullified (decision.Pending _ _ _) is = refl
 not_nullified (decision.Nullify _) is = absurd (false≢true is)
 not_nullified decision.Finalize is = absurd (false≢true is)
 
-pub and_false : (b : Bool) → (b && false) ≡ false
-and_false true = refl
-and_false false = refl
+pub and-false : (b : Bool) → (b && false) ≡ false
+and-false true = refl
+and-false false = refl
 
 pub no_fault_due : (failed too_large late : Bool) → failed ≡ false → too_large ≡ false → late ≡ false → first_fault failed too_large late ≡ None
 no_fault_due failed too_large late alive small early = rw (alive, small, early) refl
@@ -188,7 +189,7 @@ module _ {K L D : Type 0} (same : D → D → Bool) (elect : Elect L) (reflexive
       let entered = next_entered l _ 0 (with_verdict y l.view true) judged in
       record {
         allowed = and_both (is_started x) _ (lt-ltb 0 x.current (omega (arith, s.below, s.current))) (rw s.here refl);
-        no_fault = no_fault_due x.failed false (is_tracked x l.view && (nat_lt x.current (l.view + 1) && has_late_deadline x 0)) s.alive refl (rw (tracked, s.on_time) (and_false (nat_lt x.current (l.view + 1))));
+        no_fault = no_fault_due x.failed false (is_tracked x l.view && (nat_lt x.current (l.view + 1) && has_late_deadline x 0)) s.alive refl (rw (tracked, s.on_time) (and-false (nat_lt x.current (l.view + 1))));
         leaves = rw tracked (woken l elect _ (l.view + 1) l.view _ entered);
       }
 

@@ -22,7 +22,7 @@ use Rattle.simplex_voter.proofs.Gaps.{and_both}
 use Rattle.simplex_voter.proofs.Walked.{find-changed, sorted-changed}
 use Rattle.simplex_member.specs.Calls.{TryVerify}
 use Rattle.simplex_member.specs.OutstandingWork.{OutstandingWork}
-use Rattle.simplex_laws.proofs.histories.UnchangedHistories.{from_T}
+use Rattle.simplex_histories.proofs.UnchangedHistories.{from_T}
 use Rattle.simplex_progress.proofs.states.Standing.{StandingMember, StandsAtView, remade}
 use Rattle.simplex_progress.proofs.states.Words.{built_on, spans_it, no_gap, admitted, payload_is}
 use Rattle.simplex_progress.proofs.states.Calls.{with_work, heard, being_verified, not_nullified, no_fault_due, Makes}

@@ -15,7 +15,7 @@ use Rattle.simplex_member.specs.CallSemantics.{answer, after_call, outstanding_w
 use Rattle.simplex_member.specs.OutstandingWork.{is_among, is_verifying}
 use Rattle.simplex_member.specs.Runs.{StepFacts, Calls, IsRun}
 use Rattle.simplex_laws.specs.Traces.{TraceEvent, Accepts, Signs, trace_of_call, trace_of_steps}
-use Rattle.simplex_laws.proofs.histories.Following.{among_noted}
+use Rattle.simplex_laws.proofs.votes.OutstandingWork.{among_noted}
 use Rattle.simplex_progress.proofs.states.Standing.{StandingMember, StandsAtView}
 use Rattle.simplex_progress.proofs.states.Words.{built_on}
 use Rattle.simplex_progress.proofs.states.Calls.{with_work, nothing_done, verified, sets_proposal, is_verified, votes, vote_told, is_notarized, notarization_told, is_certified, ends, end_told, takes_finalization, finalization_told}

@@ -3,6 +3,7 @@ use Rattle.std.proofs.Common.{◌≡◌, refl, ap, sym, ◌∙◌, subst, ℕ, �
 use Rattle.std.specs.Prelude.{◌==◌, if◌then◌else◌, option_map, option_and_then}
 use Rattle.std.specs.Ordering.{nat_cmp}
 use Rattle.std.specs.BTreeSet.{insert_key}
+use Rattle.std.proofs.Math.Bool.{and-false}
 use Rattle.std.proofs.lemmas.Bool.{eq-eqb, lt-ltb, le-leb}
 use Rattle.std.proofs.lemmas.Bool.Decides.{nat_tests}
 use Rattle.simplex_types.specs.Terms.{next_term_start}
@@ -25,7 +26,7 @@ use Rattle.simplex_member.specs.Calls.{Nullify, ConstructNullify, AddNullificati
 use Rattle.simplex_member.specs.CallSemantics.{answer, after_call}
 use Rattle.simplex_member.specs.OutstandingWork.{OutstandingWork}
 use Rattle.simplex_record.proofs.Rounds.{armed_finalize, round_put}
-use Rattle.simplex_progress.proofs.states.Calls.{and_false, no_fault_due}
+use Rattle.simplex_progress.proofs.states.Calls.{and-false, no_fault_due}
 use Rattle.simplex_progress.proofs.states.Standing.{StandingMember, round_kept, round_here}
 use Rattle.simplex_progress.proofs.states.Waiting.{Waits, unexplicit_round, put_waits, reached, covered_on, known_as, at_its_own, either_waits}
 
@@ -83,7 +84,7 @@ module _ {K L D : Type 0} (same : D → D → Bool) (elect : Elect L) (length : 
       (and_both (nat_le 1 c) (nat_le (min_active x) c) (le-leb 1 c (omega (arith, w.low))) (le-leb (min_active x) c (omega (arith, w.above, w.low))))
 
   pub no_fault_then : fault_of x (AddNullification cert 0) ≡ None
-  no_fault_then = no_fault_due x.failed (is_too_large c) (nat_lt x.current next && has_late_deadline x 0) w.alive (small_under c l.view w.high w.small) (ap (λ b. nat_lt x.current next && b) w.on_time ∙ and_false (nat_lt x.current next))
+  no_fault_then = no_fault_due x.failed (is_too_large c) (nat_lt x.current next && has_late_deadline x 0) w.alive (small_under c l.view w.high w.small) (ap (λ b. nat_lt x.current next && b) w.on_time ∙ and-false (nat_lt x.current next))
 
   abbrev a : StateFacts K L D
   a = at_moment x 0
