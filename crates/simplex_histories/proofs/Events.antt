@@ -14,7 +14,7 @@ use Rattle.simplex_record.specs.Events.{Event, IsEvent, after_event, SetFloor, A
 use Rattle.simplex_histories.specs.History.{History, with_event}
 use Rattle.simplex_histories.specs.HistoryFolds.{or_new, verdict_of_event, entered_by, moment_by, latest, sets_genesis, verdict_in, is_notarized_in, finalized_by_events, current_in, kept_in}
 use Rattle.simplex_histories.specs.OwnWork.{was_done, casts_nullify}
-use Rattle.simplex_histories.specs.Leading.{tracks}
+use Rattle.simplex_histories.specs.Leading.{comes_to_track}
 use Rattle.simplex_histories.specs.Requested.{names}
 use Rattle.simplex_histories.specs.Timing.{enters}
 use Rattle.simplex_histories.specs.Shows.{Shows, kept_of, comes_up}
@@ -154,7 +154,7 @@ module _ {K L D : Type 0} (same : D → D → Bool) (elect : Elect L) (history :
     elects_early = works.elects_early ∙ shows.elects_early;
     failed = works.failed ∙ shows.failed;
     named = λ v. works.named v ∙ known_further same elect history x shows.facts e (names elect v) false (is_among v x.named) (shows.named v);
-    tracked = λ v kept. ap (λ k. k.tracked) (works.work v (left v kept)) ∙ tracked_further (is_some (enters v x e)) (tracks same elect v x e) (is_tracked x v) ∙ done (comes_up same elect v) (is_tracked x v) (shows.tracked v (earlier v kept));
+    tracked = λ v kept. ap (λ k. k.tracked) (works.work v (left v kept)) ∙ tracked_further (is_some (enters v x e)) (comes_to_track same elect v x e) (is_tracked x v) ∙ done (comes_up same elect v) (is_tracked x v) (shows.tracked v (earlier v kept));
     rounds = λ v kept. round_further same elect history x shows.facts shows.settings shows.terms e (after_event same elect x e) v (shows.rounds v (earlier v kept)) (follows.rounds v (left v kept)) (works.work v (left v kept));
   }
     where

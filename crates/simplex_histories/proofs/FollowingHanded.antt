@@ -28,7 +28,7 @@ use Rattle.simplex_histories.specs.HistoryFolds.{entered_by}
 use Rattle.simplex_histories.specs.OwnWork.{contradicts}
 use Rattle.simplex_histories.specs.Shows.{verdict_of}
 use Rattle.simplex_record.proofs.Growing.{round_of-same}
-use Rattle.simplex_histories.proofs.UnchangedHistories.{Known, known_of, UnchangedKnown, UnchangedButNumbers, UnchangedHistory, quiet, then_quiet, both_quiet, leaves_joined, quiet_where, moment_leaves, entered_leaves, raised_leaves, named_quiet, slid_quiet, triggered_quiet, elected_quiet, woken_quiet}
+use Rattle.simplex_histories.proofs.UnchangedHistories.{Known, known_of_round, UnchangedKnown, UnchangedButNumbers, UnchangedHistory, quiet, then_quiet, both_quiet, leaves_joined, quiet_where, moment_leaves, entered_leaves, raised_leaves, named_quiet, slid_quiet, triggered_quiet, elected_quiet, woken_quiet}
 use Rattle.simplex_histories.proofs.Following.{adds, FollowsEvent, nothing_added, put_between, put_follows}
 use Rattle.simplex_laws.proofs.votes.OutstandingWork.{among_noted}
 use Rattle.simplex_laws.proofs.votes.HeldProposals.{settled_held}
@@ -50,39 +50,39 @@ module _ {D : Type 0} (same : D → D → Bool) (decides : (d e : D) → same d 
 -- the first of its kind is kept
 
 module _ {K L D : Type 0} (same : D → D → Bool) (decides : (d e : D) → same d e ≡ true → d ≡ e) (elect : Elect L) (x : StateFacts K L D) (c : ProposalFacts D) (r : RoundFacts K D) where
-  notarization_added : r.notarization ≡ (round_of x c.proposal.round.view).notarization → known_of (with_notarization (same_proposal same) r c) ≡ adds same elect x (AddNotarization c) c.proposal.round.view (known_of r)
+  notarization_added : r.notarization ≡ (round_of x c.proposal.round.view).notarization → known_of_round (with_notarization (same_proposal same) r c) ≡ adds same elect x (AddNotarization c) c.proposal.round.view (known_of_round r)
   notarization_added stands = first r.notarization refl
     where
       v : ℕ
       v = c.proposal.round.view
 
-      first : (o : Option (ProposalFacts D)) → r.notarization ≡ o → known_of (with_notarization (same_proposal same) r c) ≡ adds same elect x (AddNotarization c) v (known_of r)
+      first : (o : Option (ProposalFacts D)) → r.notarization ≡ o → known_of_round (with_notarization (same_proposal same) r c) ≡ adds same elect x (AddNotarization c) v (known_of_round r)
       first None is =
           let none : is_none (round_of x v).notarization ≡ true = ap is_none (sym stands ∙ is) in
-          rw (is, none, eq-eqb v v refl) (λ i. record (known_of r) { notarization = Some c; held = settled_held same decides r.slot c.proposal i; conflict = settled_conflict same decides r.slot c.proposal i })
+          rw (is, none, eq-eqb v v refl) (λ i. record (known_of_round r) { notarization = Some c; held = settled_held same decides r.slot c.proposal i; conflict = settled_conflict same decides r.slot c.proposal i })
       first (Some d) is =
           let some : is_none (round_of x v).notarization ≡ false = ap is_none (sym stands ∙ is) in
           rw (is, some, eq-eqb v v refl) refl
 
-  finalization_added : (now : ℕ) → r.finalization ≡ (round_of x c.proposal.round.view).finalization → known_of (with_finalization (same_proposal same) r c) ≡ adds same elect x (AddFinalization c now) c.proposal.round.view (known_of r)
+  finalization_added : (now : ℕ) → r.finalization ≡ (round_of x c.proposal.round.view).finalization → known_of_round (with_finalization (same_proposal same) r c) ≡ adds same elect x (AddFinalization c now) c.proposal.round.view (known_of_round r)
   finalization_added now stands = first r.finalization refl
     where
       v : ℕ
       v = c.proposal.round.view
 
-      first : (o : Option (ProposalFacts D)) → r.finalization ≡ o → known_of (with_finalization (same_proposal same) r c) ≡ adds same elect x (AddFinalization c now) v (known_of r)
+      first : (o : Option (ProposalFacts D)) → r.finalization ≡ o → known_of_round (with_finalization (same_proposal same) r c) ≡ adds same elect x (AddFinalization c now) v (known_of_round r)
       first None is =
           let none : is_none (round_of x v).finalization ≡ true = ap is_none (sym stands ∙ is) in
-          rw (is, none, eq-eqb v v refl) (λ i. record (known_of r) { finalization = Some c; held = settled_held same decides r.slot c.proposal i; conflict = settled_conflict same decides r.slot c.proposal i })
+          rw (is, none, eq-eqb v v refl) (λ i. record (known_of_round r) { finalization = Some c; held = settled_held same decides r.slot c.proposal i; conflict = settled_conflict same decides r.slot c.proposal i })
       first (Some d) is =
           let some : is_none (round_of x v).finalization ≡ false = ap is_none (sym stands ∙ is) in
           rw (is, some, eq-eqb v v refl) refl
 
 module _ {K L D : Type 0} (same : D → D → Bool) (elect : Elect L) (x : StateFacts K L D) (c : NullificationFacts) (now : ℕ) (r : RoundFacts K D) where
-  nullification_added : known_of (with_nullification r c) ≡ adds same elect x (AddNullification c now) c.round.view (known_of r)
+  nullification_added : known_of_round (with_nullification r c) ≡ adds same elect x (AddNullification c now) c.round.view (known_of_round r)
   nullification_added = first r.nullification refl
     where
-      first : (o : Option NullificationFacts) → r.nullification ≡ o → known_of (with_nullification r c) ≡ adds same elect x (AddNullification c now) c.round.view (known_of r)
+      first : (o : Option NullificationFacts) → r.nullification ≡ o → known_of_round (with_nullification r c) ≡ adds same elect x (AddNullification c now) c.round.view (known_of_round r)
       first None is = rw (is, eq-eqb c.round.view c.round.view refl) refl
       first (Some d) is = rw (is, eq-eqb c.round.view c.round.view refl) refl
 
@@ -149,17 +149,17 @@ module _ {K L D : Type 0} (same : D → D → Bool) (decides : (d e : D) → sam
       r : RoundFacts K D
       r = record (round_of z v) { finalization_broadcast = true }
 
-      handed : (w : ℕ) → ((w ≡ v) ⊎ (w ≡ v → ⊥)) → known_of (round_of (with_round z v r) w) ≡ adds same elect x (SetFloor (Finalized c) now) w (known_of (round_of x w))
+      handed : (w : ℕ) → ((w ≡ v) ⊎ (w ≡ v → ⊥)) → known_of_round (round_of (with_round z v r) w) ≡ adds same elect x (SetFloor (Finalized c) now) w (known_of_round (round_of x w))
       handed w (inl here) =
           let f : FollowsEvent same elect (AddFinalization c now) x z = finalization_follows now in
-          let k : Known D = known_of (round_of x v) in
+          let k : Known D = known_of_round (round_of x v) in
           let said : (record (adds same elect x (AddFinalization c now) v k) { finalization_broadcast = true }) ≡ adds same elect x (SetFloor (Finalized c) now) v k = rw (eq-eqb v v refl) refl in
           rw (here, round_of-same z v r) (ap (λ (k : Known D). record k { finalization_broadcast = true }) (f.rounds v (omega arith)) ∙ said)
       handed w (inr apart) =
           let f : FollowsEvent same elect (AddFinalization c now) x z = finalization_follows now in
-          let k : Known D = known_of (round_of x w) in
+          let k : Known D = known_of_round (round_of x w) in
           let said : adds same elect x (AddFinalization c now) w k ≡ adds same elect x (SetFloor (Finalized c) now) w k = rw (ne_eqb w v apart) refl in
-          ap known_of (round_of-with_round z w v apart r) ∙ f.rounds w (omega arith) ∙ said
+          ap known_of_round (round_of-with_round z w v apart r) ∙ f.rounds w (omega arith) ∙ said
 
 -- nullifications, and the floor at genesis
 
@@ -231,8 +231,8 @@ module _ {K L D : Type 0} (x : StateFacts K L D) where
           rw found (not_true _ (and_parts (is_some r.notarization) _ test).1)
 
 module _ {K L D : Type 0} (same : D → D → Bool) (elect : Elect L) (x : StateFacts K L D) (v now : ℕ) where
-  judged_rounds : (success : Bool) (y : StateFacts K L D) → takes_verdict x v success ≡ true → is_tracked x v ≡ true → ((w : ℕ) → UnchangedKnown (round_of (with_verdict x v success) w) (round_of y w)) → (w : ℕ) → known_of (round_of y w) ≡ adds same elect x (Certified v success now) w (known_of (round_of x w))
-  judged_rounds success y takes here after w = put_between same elect x (Certified v success now) x y v (certified_round (round_of x v) success) (λ s. refl) (rw (eq-eqb v v refl, here) (λ i. record (known_of (round_of x v)) { verdict = verdict_first (round_of x v).certification success (uncontradicted x v success takes here) i })) (λ u apart k. rw apart refl) after w
+  judged_rounds : (success : Bool) (y : StateFacts K L D) → takes_verdict x v success ≡ true → is_tracked x v ≡ true → ((w : ℕ) → UnchangedKnown (round_of (with_verdict x v success) w) (round_of y w)) → (w : ℕ) → known_of_round (round_of y w) ≡ adds same elect x (Certified v success now) w (known_of_round (round_of x w))
+  judged_rounds success y takes here after w = put_between same elect x (Certified v success now) x y v (certified_round (round_of x v) success) (λ s. refl) (rw (eq-eqb v v refl, here) (λ i. record (known_of_round (round_of x v)) { verdict = verdict_first (round_of x v).certification success (uncontradicted x v success takes here) i })) (λ u apart k. rw apart refl) after w
 
 module _ {K L D : Type 0} (same : D → D → Bool) (elect : Elect L) (x : StateFacts K L D) (v now : ℕ) where
   pub verdict_follows : (success : Bool) → takes_verdict x v success ≡ true → FollowsEvent same elect (Certified v success now) x (after_certified elect x v success now)

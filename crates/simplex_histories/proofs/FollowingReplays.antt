@@ -14,7 +14,7 @@ use Rattle.simplex_voter.specs.Replay.{TakesReplay, bound_again, restored_bindin
 use Rattle.simplex_record.specs.Recovery.{as_artifact, after_replaying}
 use Rattle.simplex_record.specs.Events.{Event, IsEvent, after_event, SetFloor, AddNotarization, AddNullification, AddFinalization, Certified, ConstructNotarize, ConstructNullify, ConstructFinalize, SetProposal, TryPropose, Proposed, Supersede, Release, TryVerify, Verified, VerificationFailed, CertifyCandidates, SetCertifyHandle, TriggerTimeout, NextTimeout, BroadcastNotarization, BroadcastNullification, BroadcastFinalization, Prune, Replay}
 use Rattle.simplex_histories.specs.HistoryFolds.{moment_by}
-use Rattle.simplex_histories.proofs.UnchangedHistories.{known_of, UnchangedButNumbers, quiet, prepared_quiet}
+use Rattle.simplex_histories.proofs.UnchangedHistories.{known_of_round, UnchangedButNumbers, quiet, prepared_quiet}
 use Rattle.simplex_histories.proofs.Following.{adds, IsElsewhere, IsOfRounds, FollowsEvent, put_alone, put_follows, round_follows, silent_follows}
 use Rattle.simplex_laws.proofs.votes.OutstandingWork.{among_noted}
 use Rattle.simplex_histories.proofs.FollowingHanded.{verdict_first, notarization_follows, finalization_follows, floor_finalization_follows, nullification_follows, genesis_follows, verdict_follows}
@@ -41,14 +41,14 @@ module _ {K L D : Type 0} (same : D → D → Bool) (decides : (d e : D) → sam
       z : StateFacts K L D
       z = with_round x v t
 
-      unbound : (binding : Option (Proposal D × D)) → known_of (bound_again s binding) ≡ known_of s
+      unbound : (binding : Option (Proposal D × D)) → known_of_round (bound_again s binding) ≡ known_of_round s
       unbound None = refl
       unbound (Some bound) = refl
 
-      said : known_of s ≡ adds same elect x (Replay (NotarizeVote p signer)) v (known_of r)
-      said = rw (eq-eqb v v refl) (λ i. record (known_of r) { notarize_decided = true; held = own_held same r.slot p decides i; conflict = own_conflict same r.slot p i })
+      said : known_of_round s ≡ adds same elect x (Replay (NotarizeVote p signer)) v (known_of_round r)
+      said = rw (eq-eqb v v refl) (λ i. record (known_of_round r) { notarize_decided = true; held = own_held same r.slot p decides i; conflict = own_conflict same r.slot p i })
 
-      voted : known_of t ≡ adds same elect x (Replay (NotarizeVote p signer)) v (known_of r)
+      voted : known_of_round t ≡ adds same elect x (Replay (NotarizeVote p signer)) v (known_of_round r)
       voted = unbound (restored_binding x p) ∙ said
 
   replay_follows : (e : ArtifactFacts D) → TakesReplay x (as_artifact {K = K} e) → FollowsEvent same elect (Replay e) x (after_replaying same elect x e)
@@ -65,16 +65,16 @@ module _ {K L D : Type 0} (same : D → D → Bool) (decides : (d e : D) → sam
         finalized = omega arith;
         nullified = λ w _. refl;
         nullify_votes = λ w _. among_noted v w x.nullify_votes;
-        rounds = λ w _. put_alone same elect x (Replay (NullifyVote round signer)) v r (rw (eq-eqb v v refl) (λ i. record (known_of (round_of x v)) { nullify_decided = true; finalize_decided = sym takes.taken.1 i })) (λ u apart k. rw apart refl) w;
+        rounds = λ w _. put_alone same elect x (Replay (NullifyVote round signer)) v r (rw (eq-eqb v v refl) (λ i. record (known_of_round (round_of x v)) { nullify_decided = true; finalize_decided = sym takes.taken.1 i })) (λ u apart k. rw apart refl) w;
       }
   replay_follows (FinalizeVote p signer) takes =
       let v = p.round.view in
       let r = round_of x v in
-      round_follows same elect x (Replay (FinalizeVote p signer)) refl v (record r { decision = decision.Finalize }) refl (rw (eq-eqb v v refl) (λ i. record (known_of r) { nullify_decided = sym takes.taken.1 i; finalize_decided = true })) (λ u apart k. rw apart refl)
+      round_follows same elect x (Replay (FinalizeVote p signer)) refl v (record r { decision = decision.Finalize }) refl (rw (eq-eqb v v refl) (λ i. record (known_of_round r) { nullify_decided = sym takes.taken.1 i; finalize_decided = true })) (λ u apart k. rw apart refl)
   replay_follows (Verdict round success) takes =
       let v = round.view in
       let r = round_of x v in
-      round_follows same elect x (Replay (Verdict round success)) refl v (certified_round r success) refl (rw (eq-eqb v v refl) (λ i. record (known_of r) { verdict = verdict_first r.certification success takes.taken i })) (λ u apart k. rw apart refl)
+      round_follows same elect x (Replay (Verdict round success)) refl v (certified_round r success) refl (rw (eq-eqb v v refl) (λ i. record (known_of_round r) { verdict = verdict_first r.certification success takes.taken i })) (λ u apart k. rw apart refl)
   replay_follows (Accepted (Notarized c)) takes =
       let v = c.proposal.round.view in
       let r = round_of x v in

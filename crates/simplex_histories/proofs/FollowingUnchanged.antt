@@ -24,7 +24,7 @@ use Rattle.simplex_voter.specs.Verifying.{round_left, standing, was_scanned, sca
 use Rattle.simplex_voter.proofs.Gaps.{and_parts}
 use Rattle.simplex_histories.specs.Shows.{verdict_of}
 use Rattle.simplex_record.proofs.Rounds.{round_changed}
-use Rattle.simplex_histories.proofs.UnchangedHistories.{known_of, decided_alike, UnchangedKnown, UnchangedButNumbers, UnchangedHistory, alike, latch_alike, alike_where, quiet, then_quiet, quiet_where, tracked_quiet, moment_leaves, triggered_quiet}
+use Rattle.simplex_histories.proofs.UnchangedHistories.{known_of_round, decided_alike, UnchangedKnown, UnchangedButNumbers, UnchangedHistory, alike, latch_alike, alike_where, quiet, then_quiet, quiet_where, tracked_quiet, moment_leaves, triggered_quiet}
 
 retry_nullify : (d : Decision) → has_no_retry d ≡ true → true ≡ is_nullify d
 retry_nullify (decision.Pending _ _ _) is = absurd (true≢false (sym is))
@@ -91,7 +91,7 @@ module _ {K L D : Type 0} (x : StateFacts K L D) where
   candidates_quiet = record { settings = refl; terms = refl; genesis = refl; nullified = refl; nullify_votes = refl; moment_is = refl; current_is = refl; finalized_is = refl; rounds = λ w. alike (round_of x w) }
 
   pub handle_quiet : (v token : ℕ) → takes_certify_handle x v ≡ true → UnchangedHistory x (after_set_certify_handle x v token)
-  handle_quiet v token takes = tracked_quiet x v (record (round_of x v) { certification = certification.Outstanding token }) (λ i. record (known_of (round_of x v)) { verdict = unjudged (round_of x v).certification (and_parts _ _ (and_parts _ _ takes).0).1 (and_parts _ _ takes).1 i })
+  handle_quiet v token takes = tracked_quiet x v (record (round_of x v) { certification = certification.Outstanding token }) (λ i. record (known_of_round (round_of x v)) { verdict = unjudged (round_of x v).certification (and_parts _ _ (and_parts _ _ takes).0).1 (and_parts _ _ takes).1 i })
     where
       unjudged : (c : Certification) → not (is_judged true c) ≡ true → not (is_judged false c) ≡ true → None ≡ verdict_of c
       unjudged certification.Ready f t = refl

@@ -28,7 +28,7 @@ use Rattle.simplex_member.specs.OutstandingWork.{is_among}
 use Rattle.simplex_record.specs.Events.{ConstructNotarize, ConstructNullify, ConstructFinalize, SetProposal, Proposed, BroadcastNotarization, BroadcastNullification, BroadcastFinalization, Prune}
 use Rattle.simplex_histories.specs.OwnWork.{contradicts}
 use Rattle.simplex_laws.proofs.votes.NullifyVotes.{tied}
-use Rattle.simplex_histories.proofs.UnchangedHistories.{known_of, UnchangedHistory, quiet, moment_leaves, prepared_quiet}
+use Rattle.simplex_histories.proofs.UnchangedHistories.{known_of_round, UnchangedHistory, quiet, moment_leaves, prepared_quiet}
 use Rattle.simplex_histories.proofs.Following.{adds, FollowsEvent, put_alone, put_follows, round_follows, silent_follows, handed_follows}
 use Rattle.simplex_laws.proofs.votes.OutstandingWork.{among_noted}
 use Rattle.simplex_laws.proofs.votes.HeldProposals.{heard_held, own_held}
@@ -89,10 +89,10 @@ module _ {K L D : Type 0} (same : D → D → Bool) (elect : Elect L) (x : State
       z : StateFacts K L D
       z = with_round x v (after_nullify r)
 
-      decided : may_nullify x v ≡ true → known_of (after_nullify r) ≡ adds same elect x (ConstructNullify v) v (known_of r)
+      decided : may_nullify x v ≡ true → known_of_round (after_nullify r) ≡ adds same elect x (ConstructNullify v) v (known_of_round r)
       decided may =
           let open_vote : is_finalize r.decision ≡ false = (nullify_parts x v may).no_finalize in
-          rw (may, open_vote, eq-eqb v v refl) (λ i. record (known_of r) { nullify_decided = true; finalize_decided = false })
+          rw (may, open_vote, eq-eqb v v refl) (λ i. record (known_of_round r) { nullify_decided = true; finalize_decided = false })
 
       noted : (b : Bool) → is_some x.me ≡ b → may_nullify x v ≡ true → (w : ℕ) → is_among w (if b then insert_key nat_cmp x.nullify_votes v else x.nullify_votes) ≡ ((may_nullify x v && is_some x.me && eqb w v) || is_among w x.nullify_votes)
       noted true keyed may w = rw (may, keyed) (among_noted v w x.nullify_votes)
@@ -112,8 +112,8 @@ module _ {K L D : Type 0} (same : D → D → Bool) (elect : Elect L) (x : State
       r : RoundFacts K D
       r = round_of x v
 
-      decided : may_finalize elect x v ≡ true → known_of (record r { decision = decision.Finalize }) ≡ adds same elect x (ConstructFinalize v) v (known_of r)
-      decided may = rw (may, eq-eqb v v refl) (λ i. record (known_of r) { nullify_decided = pending_nullify r.decision (finalize_parts elect x v may).undecided i; finalize_decided = true })
+      decided : may_finalize elect x v ≡ true → known_of_round (record r { decision = decision.Finalize }) ≡ adds same elect x (ConstructFinalize v) v (known_of_round r)
+      decided may = rw (may, eq-eqb v v refl) (λ i. record (known_of_round r) { nullify_decided = pending_nullify r.decision (finalize_parts elect x v may).undecided i; finalize_decided = true })
 
       by_rule : (b : Bool) → may_finalize elect x v ≡ b → FollowsEvent same elect (ConstructFinalize v) x (if b then finalize_cast x v else x)
       by_rule true may = round_follows same elect x (ConstructFinalize v) refl v (record r { decision = decision.Finalize }) refl (decided may) (λ u apart k. rw apart refl)
@@ -128,7 +128,7 @@ module _ {K L D : Type 0} (same : D → D → Bool) (elect : Elect L) (x : State
       z : StateFacts K L D
       z = with_round x v r
 
-      decided : may_notarize same elect x v ≡ true → known_of r ≡ adds same elect x (ConstructNotarize v) v (known_of (round_of x v))
+      decided : may_notarize same elect x v ≡ true → known_of_round r ≡ adds same elect x (ConstructNotarize v) v (known_of_round (round_of x v))
       decided may = rw (may, eq-eqb v v refl) refl
 
       by_rule : (b : Bool) → may_notarize same elect x v ≡ b → FollowsEvent same elect (ConstructNotarize v) x (if b then with_next_view_ready elect z v else x)
@@ -149,13 +149,13 @@ module _ {K L D : Type 0} (same : D → D → Bool) (elect : Elect L) (x : State
       r : RoundFacts K D
       r = round_of y v
 
-      heard : (b : Bool) → is_nullify r.decision ≡ b → known_of (if b then r else record r { slot = after_vote (same_proposal same) r.slot p }) ≡ adds same elect x (SetProposal v p) v (known_of r)
+      heard : (b : Bool) → is_nullify r.decision ≡ b → known_of_round (if b then r else record r { slot = after_vote (same_proposal same) r.slot p }) ≡ adds same elect x (SetProposal v p) v (known_of_round r)
       heard true is =
           let voted : is_nullify (round_of x v).decision ≡ true = sym (ap (λ k. k.nullify_decided) (before.rounds v)) ∙ is in
           rw (voted, eq-eqb v v refl) refl
       heard false is =
           let not_voted : is_nullify (round_of x v).decision ≡ false = sym (ap (λ k. k.nullify_decided) (before.rounds v)) ∙ is in
-          rw (not_voted, eq-eqb v v refl) (λ i. record (known_of r) { held = heard_held same r.slot p i; conflict = heard_conflict same r.slot p i })
+          rw (not_voted, eq-eqb v v refl) (λ i. record (known_of_round r) { held = heard_held same r.slot p i; conflict = heard_conflict same r.slot p i })
 
   pub proposed_follows : ((d e : D) → same d e ≡ true → d ≡ e) → (context : Context D K) (payload : D) (now : ℕ) → FollowsEvent same elect (Proposed context payload now) x (after_proposed same elect x context payload now)
   proposed_follows decides context payload now = by_answer (proposed_answer same elect x context payload) refl
@@ -172,8 +172,8 @@ module _ {K L D : Type 0} (same : D → D → Bool) (elect : Elect L) (x : State
       p : Proposal D
       p = proposal_of context payload
 
-      built : proposed_answer same elect x context payload ≡ true → known_of (proposed_round same r context payload now) ≡ adds same elect x (Proposed context payload now) v (known_of r)
-      built taken = rw (taken, eq-eqb v v refl) (λ i. record (known_of r) { held = own_held same r.slot p decides i; conflict = own_conflict same r.slot p i })
+      built : proposed_answer same elect x context payload ≡ true → known_of_round (proposed_round same r context payload now) ≡ adds same elect x (Proposed context payload now) v (known_of_round r)
+      built taken = rw (taken, eq-eqb v v refl) (λ i. record (known_of_round r) { held = own_held same r.slot p decides i; conflict = own_conflict same r.slot p i })
 
       by_answer : (b : Bool) → proposed_answer same elect x context payload ≡ b → FollowsEvent same elect (Proposed context payload now) x (if b then with_round a v (proposed_round same r context payload now) else a)
       by_answer true taken = put_follows same elect x (Proposed context payload now) refl a (with_round a v (proposed_round same r context payload now)) v (proposed_round same r context payload now) (moment_leaves x now) (built taken) (λ u apart k. rw apart refl) (quiet (with_round a v (proposed_round same r context payload now)))
@@ -185,7 +185,7 @@ module _ {K L D : Type 0} (same : D → D → Bool) (elect : Elect L) (x : State
   broadcast_notarization_follows v =
       let r = round_of x v in
       handed_follows same elect x (BroadcastNotarization v) refl v (record r { notarization_broadcast = r.notarization_broadcast || is_some r.notarization }) refl
-      (rw (eq-eqb v v refl) (λ i. record (known_of r) { notarization_broadcast = or_swap r.notarization_broadcast (is_some r.notarization) i }))
+      (rw (eq-eqb v v refl) (λ i. record (known_of_round r) { notarization_broadcast = or_swap r.notarization_broadcast (is_some r.notarization) i }))
       (λ u apart k. rw apart refl)
       (λ untracked w k. rw (ap (λ (s : RoundFacts K D). is_some s.notarization) untracked, and-false (eqb w v)) refl)
 
@@ -193,7 +193,7 @@ module _ {K L D : Type 0} (same : D → D → Bool) (elect : Elect L) (x : State
   broadcast_nullification_follows v =
       let r = round_of x v in
       handed_follows same elect x (BroadcastNullification v) refl v (record r { nullification_broadcast = r.nullification_broadcast || is_some r.nullification }) refl
-      (rw (eq-eqb v v refl) (λ i. record (known_of r) { nullification_broadcast = or_swap r.nullification_broadcast (is_some r.nullification) i }))
+      (rw (eq-eqb v v refl) (λ i. record (known_of_round r) { nullification_broadcast = or_swap r.nullification_broadcast (is_some r.nullification) i }))
       (λ u apart k. rw apart refl)
       (λ untracked w k. rw (ap (λ (s : RoundFacts K D). is_some s.nullification) untracked, and-false (eqb w v)) refl)
 
@@ -201,7 +201,7 @@ module _ {K L D : Type 0} (same : D → D → Bool) (elect : Elect L) (x : State
   broadcast_finalization_follows v =
       let r = round_of x v in
       handed_follows same elect x (BroadcastFinalization v) refl v (record r { finalization_broadcast = r.finalization_broadcast || is_some r.finalization }) refl
-      (rw (eq-eqb v v refl) (λ i. record (known_of r) { finalization_broadcast = or_swap r.finalization_broadcast (is_some r.finalization) i }))
+      (rw (eq-eqb v v refl) (λ i. record (known_of_round r) { finalization_broadcast = or_swap r.finalization_broadcast (is_some r.finalization) i }))
       (λ u apart k. rw apart refl)
       (λ untracked w k. rw (ap (λ (s : RoundFacts K D). is_some s.finalization) untracked, and-false (eqb w v)) refl)
 
@@ -215,5 +215,5 @@ module _ {K L D : Type 0} (same : D → D → Bool) (elect : Elect L) (x : State
     finalized = omega arith;
     nullified = λ v left. among_left x x.nullified v left;
     nullify_votes = λ v left. among_left x x.nullify_votes v left;
-    rounds = λ v left. ap known_of (left_by_prune x v left);
+    rounds = λ v left. ap known_of_round (left_by_prune x v left);
   }

@@ -19,7 +19,7 @@ use Rattle.simplex_laws.specs.Executions.{new_member}
 use Rattle.simplex_histories.specs.History.{History, with_event}
 use Rattle.simplex_record.specs.Events.{SetFloor, AddNotarization, AddNullification, AddFinalization, Certified, Replay}
 use Rattle.simplex_member.specs.Events.{events_of}
-use Rattle.simplex_histories.specs.Histories.{retaken_events, with_events, with_call_events, with_entry_taken, with_entries, recovery, IsShown, LeadsTo}
+use Rattle.simplex_histories.specs.Histories.{retaken_events, with_events, with_call_events, with_entry_taken, with_entries, recovery, ShowsMember, LeadsTo}
 use Rattle.simplex_member.specs.Lives.{MemberFacts, without_life, reply_of, left_of, AnswersAlive, IsCall}
 use Rattle.simplex_record.specs.Recovery.{as_artifact, after_replaying, after_entry, after_kept_entry, after_entries, recovered_state, recover_error, TakesEntry, TakesEntries}
 use Rattle.simplex_member.specs.Restarts.{RestartFacts, IsByView, IsRestart, IsRestartWhere, RecoversByView, new_life, cut_member, retention_grows}
@@ -36,7 +36,7 @@ use Rattle.simplex_record.proofs.Remaking.{set_takes}
 use Rattle.simplex_record.proofs.Start.{good_floor}
 
 -- an entry is the artifact whose certificates are their bytes
-entry_back : (K : Type 0) {D : Type 0} (e : ArtifactFacts D) → artifact_facts (λ b. b) (as_artifact {K = K} e) ≡ e
+pub entry_back : (K : Type 0) {D : Type 0} (e : ArtifactFacts D) → artifact_facts (λ b. b) (as_artifact {K = K} e) ≡ e
 entry_back K (NotarizeVote p signer) = refl
 entry_back K (NullifyVote round signer) = refl
 entry_back K (FinalizeVote p signer) = refl
@@ -45,7 +45,7 @@ entry_back K (Accepted (Notarized c)) = refl
 entry_back K (Accepted (Nullified c)) = refl
 entry_back K (Accepted (Finalized c)) = refl
 
-entries_back : (K : Type 0) {D : Type 0} (es : List (ArtifactFacts D)) → entries_of (λ b. b) (map (as_artifact {K = K}) es) ≡ es
+pub entries_back : (K : Type 0) {D : Type 0} (es : List (ArtifactFacts D)) → entries_of (λ b. b) (map (as_artifact {K = K}) es) ≡ es
 entries_back K [] = refl
 entries_back K (e ∷ es) = rw (entry_back K e, entries_back K es) refl
 
@@ -115,7 +115,7 @@ module _ {K L D : Type 0} (same : D → D → Bool) (decides : (d e : D) → sam
       by_view false above = rw (lowest_alike, above) (retaken_shown now e (takes above))
 
 -- the view of an entry's artifact
-view_back : (K : Type 0) {D : Type 0} (e : ArtifactFacts D) → artifact_view (as_artifact {K = K} e) ≡ entry_view e
+pub view_back : (K : Type 0) {D : Type 0} (e : ArtifactFacts D) → artifact_view (as_artifact {K = K} e) ≡ entry_view e
 view_back K (NotarizeVote p signer) = refl
 view_back K (NullifyVote round signer) = refl
 view_back K (FinalizeVote p signer) = refl
@@ -154,86 +154,86 @@ module _ {K L D : Type 0} (same : D → D → Bool) (decides : (d e : D) → sam
 module _ {K L D : Type 0} (same : D → D → Bool) (decides : (d e : D) → same d e ≡ true → d ≡ e) (elect : Elect L) (m : MemberFacts K L D) where
   -- a call
 
-  answered : (history : History K L D) (call : CallFacts D) (x : StateFacts K L D) → IsShown same elect history m → Shows same elect history x → IsShown same elect (with_call_events history m.outstanding_work call (reply_of same elect x m.outstanding_work call)) (left_of same elect x m call)
+  answered : (history : History K L D) (call : CallFacts D) (x : StateFacts K L D) → ShowsMember same elect history m → Shows same elect history x → ShowsMember same elect (with_call_events history m.outstanding_work call (reply_of same elect x m.outstanding_work call)) (left_of same elect x m call)
   answered history call x shown shows = by_allowed (is_allowed x m.outstanding_work call) refl
     where
-      by_fault : (o : Option Fault) → fault_of x call ≡ o → is_allowed x m.outstanding_work call ≡ true → IsShown same elect (with_call_events history m.outstanding_work call (reply_of same elect x m.outstanding_work call)) (left_of same elect x m call)
+      by_fault : (o : Option Fault) → fault_of x call ≡ o → is_allowed x m.outstanding_work call ≡ true → ShowsMember same elect (with_call_events history m.outstanding_work call (reply_of same elect x m.outstanding_work call)) (left_of same elect x m call)
       by_fault None no_fault allowed = rw (allowed, no_fault) (subst (λ h. Shows same elect h (after_call same elect x m.outstanding_work call)) (sym (told_events same elect history x m.outstanding_work call)) (call_shown same decides elect history x shows m.outstanding_work call allowed))
       by_fault (Some f) refused allowed = rw (allowed, refused) shown
 
-      by_allowed : (b : Bool) → is_allowed x m.outstanding_work call ≡ b → IsShown same elect (with_call_events history m.outstanding_work call (reply_of same elect x m.outstanding_work call)) (left_of same elect x m call)
+      by_allowed : (b : Bool) → is_allowed x m.outstanding_work call ≡ b → ShowsMember same elect (with_call_events history m.outstanding_work call (reply_of same elect x m.outstanding_work call)) (left_of same elect x m call)
       by_allowed true allowed = by_fault (fault_of x call) refl allowed
       by_allowed false not_allowed = rw not_allowed shown
 
-  pub called_shown : (history : History K L D) (left : MemberFacts K L D) (call : CallFacts D) (told : Told K D) → IsShown same elect history m → IsCall same elect m call told left → IsShown same elect (with_call_events history m.outstanding_work call told) left
+  pub called_shown : (history : History K L D) (left : MemberFacts K L D) (call : CallFacts D) (told : Told K D) → ShowsMember same elect history m → IsCall same elect m call told left → ShowsMember same elect (with_call_events history m.outstanding_work call told) left
   unfolding IsCall
   called_shown history left call told shown is_call = by_life m.life refl is_call
     where
-      by_life : (o : Option (StateFacts K L D)) → m.life ≡ o → AnswersAlive same elect o m call told left → IsShown same elect (with_call_events history m.outstanding_work call told) left
+      by_life : (o : Option (StateFacts K L D)) → m.life ≡ o → AnswersAlive same elect o m call told left → ShowsMember same elect (with_call_events history m.outstanding_work call told) left
       by_life None dead (tells, leaves) = rw (tells, leaves) shown
       by_life (Some x) alive (inl (tells, leaves)) = rw (tells, leaves) (answered history call x shown (subst (λ o. MatchOption o (Unit {0}) (Shows same elect history)) alive shown))
       by_life (Some x) alive (inr (_, tells, inl (_, leaves))) = rw (tells, leaves) shown
       by_life (Some x) alive (inr (_, tells, inr (_, _, leaves))) = rw (tells, leaves) tt
 
   -- a restart that is refused leaves a member that has failed, or the one that it was
-  refused_shown : (history : History K L D) (left : MemberFacts K L D) (r : RestartFacts K L D) (result : Result (Unit {0}) RecoverError) (found : RecoverError) → result ≡ Err found → IsShown same elect history m → IsRestart same elect m r result left → IsShown same elect history left
+  refused_shown : (history : History K L D) (left : MemberFacts K L D) (r : RestartFacts K L D) (result : Result (Unit {0}) RecoverError) (found : RecoverError) → result ≡ Err found → ShowsMember same elect history m → IsRestart same elect m r result left → ShowsMember same elect history left
   unfolding IsRestart
   refused_shown history left r result found refused shown restarts = by_test (retention_grows m r.prune r.start.setup.settings.view_retention) restarts
     where
-      by_error : (o : Option RecoverError) (copy : List (ArtifactFacts D)) → MatchOption o ((result ≡ Ok tt) × (left ≡ new_life same elect (cut_member m r.drop r.prune) r.start copy)) (λ e. (result ≡ Err e) × (left ≡ without_life (cut_member m r.drop r.prune))) → IsShown same elect history left
+      by_error : (o : Option RecoverError) (copy : List (ArtifactFacts D)) → MatchOption o ((result ≡ Ok tt) × (left ≡ new_life same elect (cut_member m r.drop r.prune) r.start copy)) (λ e. (result ≡ Err e) × (left ≡ without_life (cut_member m r.drop r.prune))) → ShowsMember same elect history left
       by_error None copy (is, leaves) = absurd (cc)
       by_error (Some e) copy (is, leaves) = rw leaves tt
 
-      by_going : RecoversByView same elect (cut_member m r.drop r.prune) r.start result left → IsShown same elect history left
+      by_going : RecoversByView same elect (cut_member m r.drop r.prune) r.start result left → ShowsMember same elect history left
       by_going (inl (is, leaves)) = rw leaves tt
       by_going (inr (copy, by_view, goes)) = by_error (recover_error same (new_state r.start.setup) r.start.floor r.start.now copy) copy goes
 
-      by_test : (b : Bool) → IsRestartWhere same elect b m r result left → IsShown same elect history left
+      by_test : (b : Bool) → IsRestartWhere same elect b m r result left → ShowsMember same elect history left
       by_test true (is, leaves) = rw leaves shown
       by_test false goes = by_going goes
 
   -- one that is not refused
 
-  from_copy : (n left : MemberFacts K L D) (start : StartFacts K L D) (result : Result (Unit {0}) RecoverError) (copy : List (ArtifactFacts D)) → result ≡ Ok tt → MatchOption (recover_error same (new_state start.setup) start.floor start.now copy) ((result ≡ Ok tt) × (left ≡ new_life same elect n start copy)) (λ e. (result ≡ Err e) × (left ≡ without_life n)) → IsShown same elect (recovery start copy) left
+  from_copy : (n left : MemberFacts K L D) (start : StartFacts K L D) (result : Result (Unit {0}) RecoverError) (copy : List (ArtifactFacts D)) → result ≡ Ok tt → MatchOption (recover_error same (new_state start.setup) start.floor start.now copy) ((result ≡ Ok tt) × (left ≡ new_life same elect n start copy)) (λ e. (result ≡ Err e) × (left ≡ without_life n)) → ShowsMember same elect (recovery start copy) left
   from_copy n left start result copy well goes = by_error (recover_error same (new_state start.setup) start.floor start.now copy) refl goes
     where
-      by_error : (o : Option RecoverError) → recover_error same (new_state start.setup) start.floor start.now copy ≡ o → MatchOption o ((result ≡ Ok tt) × (left ≡ new_life same elect n start copy)) (λ e. (result ≡ Err e) × (left ≡ without_life n)) → IsShown same elect (recovery start copy) left
+      by_error : (o : Option RecoverError) → recover_error same (new_state start.setup) start.floor start.now copy ≡ o → MatchOption o ((result ≡ Ok tt) × (left ≡ new_life same elect n start copy)) (λ e. (result ≡ Err e) × (left ≡ without_life n)) → ShowsMember same elect (recovery start copy) left
       by_error None none (_, leaves) = rw leaves (recovered_shown same decides elect start copy none)
       by_error (Some e) due (is, leaves) = absurd (cc)
 
-  pub restarted_shown : (left : MemberFacts K L D) (r : RestartFacts K L D) (result : Result (Unit {0}) RecoverError) → result ≡ Ok tt → IsRestart same elect m r result left → (copy : List (ArtifactFacts D)) × IsByView (cut_member m r.drop r.prune).entries copy × IsShown same elect (recovery r.start copy) left
+  pub restarted_shown : (left : MemberFacts K L D) (r : RestartFacts K L D) (result : Result (Unit {0}) RecoverError) → result ≡ Ok tt → IsRestart same elect m r result left → (copy : List (ArtifactFacts D)) × IsByView (cut_member m r.drop r.prune).entries copy × ShowsMember same elect (recovery r.start copy) left
   unfolding IsRestart
   restarted_shown left r result well restarts = by_test (retention_grows m r.prune r.start.setup.settings.view_retention) restarts
     where
-      by_going : RecoversByView same elect (cut_member m r.drop r.prune) r.start result left → (copy : List (ArtifactFacts D)) × IsByView (cut_member m r.drop r.prune).entries copy × IsShown same elect (recovery r.start copy) left
+      by_going : RecoversByView same elect (cut_member m r.drop r.prune) r.start result left → (copy : List (ArtifactFacts D)) × IsByView (cut_member m r.drop r.prune).entries copy × ShowsMember same elect (recovery r.start copy) left
       by_going (inl (is, leaves)) = absurd (cc)
       by_going (inr (copy, by_view, goes)) = (copy, by_view, from_copy (cut_member m r.drop r.prune) left r.start result copy well goes)
 
-      by_test : (b : Bool) → IsRestartWhere same elect b m r result left → (copy : List (ArtifactFacts D)) × IsByView (cut_member m r.drop r.prune).entries copy × IsShown same elect (recovery r.start copy) left
+      by_test : (b : Bool) → IsRestartWhere same elect b m r result left → (copy : List (ArtifactFacts D)) × IsByView (cut_member m r.drop r.prune).entries copy × ShowsMember same elect (recovery r.start copy) left
       by_test true (is, leaves) = absurd (cc)
       by_test false goes = by_going goes
 
 module _ {K L D : Type 0} (same : D → D → Bool) (decides : (d e : D) → same d e ≡ true → d ≡ e) (elect : Elect L) where
-  run_shown : (steps : List (StepFacts K L D)) (replies : List (Told K D)) (history : History K L D) (m end : MemberFacts K L D) → IsShown same elect history m → IsRun same elect m steps replies end → (last : History K L D) × LeadsTo same elect m history steps replies last end × IsShown same elect last end
-  run_shown [] [] history m end shown run = (history, (refl, run), subst (IsShown same elect history) run shown)
+  run_shown : (steps : List (StepFacts K L D)) (replies : List (Told K D)) (history : History K L D) (m end : MemberFacts K L D) → ShowsMember same elect history m → IsRun same elect m steps replies end → (last : History K L D) × LeadsTo same elect m history steps replies last end × ShowsMember same elect last end
+  run_shown [] [] history m end shown run = (history, (refl, run), subst (ShowsMember same elect history) run shown)
   run_shown [] (told ∷ replies) history m end shown run = absurd run
   run_shown (step ∷ steps) [] history m end shown run = absurd run
   run_shown (Calls call ∷ steps) (told ∷ replies) history m end shown (next, is_step, rest) =
       let later = run_shown steps replies (with_call_events history m.outstanding_work call told) next end (called_shown same decides elect m history next call told shown is_step) rest in
       (later.0, (next, is_step, later.1), later.2)
   run_shown (Prunes ∷ steps) (told ∷ replies) history m end shown (next, is_step, rest) =
-      let still : IsShown same elect history next = rw is_step.1 shown in
+      let still : ShowsMember same elect history next = rw is_step.1 shown in
       let later = run_shown steps replies history next end still rest in
       (later.0, (next, is_step, later.1), later.2)
   run_shown (Restarts r ∷ steps) (told ∷ replies) history m end shown (next, (result, is_restart, tells), rest) =
       by_result result refl is_restart (tells ∙ refl) (λ left_shown. run_shown steps replies history next end left_shown rest) (λ copy copy_shown. run_shown steps replies (recovery r.start copy) next end copy_shown rest)
     where
       After : Told K D → Type 0
-      After t = (last : History K L D) × LeadsTo same elect m history (Restarts r ∷ steps) (t ∷ replies) last end × IsShown same elect last end
+      After t = (last : History K L D) × LeadsTo same elect m history (Restarts r ∷ steps) (t ∷ replies) last end × ShowsMember same elect last end
 
       by_result : (found : Result (Unit {0}) RecoverError) → result ≡ found → IsRestart same elect m r result next → told ≡ restart_told result
-          → (IsShown same elect history next → (last : History K L D) × LeadsTo same elect next history steps replies last end × IsShown same elect last end)
-          → ((copy : List (ArtifactFacts D)) → IsShown same elect (recovery r.start copy) next → (last : History K L D) × LeadsTo same elect next (recovery r.start copy) steps replies last end × IsShown same elect last end)
+          → (ShowsMember same elect history next → (last : History K L D) × LeadsTo same elect next history steps replies last end × ShowsMember same elect last end)
+          → ((copy : List (ArtifactFacts D)) → ShowsMember same elect (recovery r.start copy) next → (last : History K L D) × LeadsTo same elect next (recovery r.start copy) steps replies last end × ShowsMember same elect last end)
           → After told
       by_result (Ok _) is restarts tells behind renewed =
           let found = restarted_shown same decides elect m next r result is restarts in
@@ -246,7 +246,7 @@ module _ {K L D : Type 0} (same : D → D → Bool) (decides : (d e : D) → sam
           subst After (sym so) (later.0, (next, (result, restarts, sym (ap restart_told is)), later.1), later.2)
 
   -- from the start on
-  pub ran_shown : (start : StartFacts K L D) (steps : List (StepFacts K L D)) (replies : List (Told K D)) (end : MemberFacts K L D) → recover_error same (new_state start.setup) start.floor start.now [] ≡ None → IsRun same elect (new_member same elect start) steps replies end → (last : History K L D) × LeadsTo same elect (new_member same elect start) (recovery start []) steps replies last end × IsShown same elect last end
+  pub ran_shown : (start : StartFacts K L D) (steps : List (StepFacts K L D)) (replies : List (Told K D)) (end : MemberFacts K L D) → recover_error same (new_state start.setup) start.floor start.now [] ≡ None → IsRun same elect (new_member same elect start) steps replies end → (last : History K L D) × LeadsTo same elect (new_member same elect start) (recovery start []) steps replies last end × ShowsMember same elect last end
   unfolding recovered_state
   ran_shown start steps replies end good run =
       run_shown steps replies (recovery start []) (new_member same elect start) end (recovered_shown same decides elect start [] good) run

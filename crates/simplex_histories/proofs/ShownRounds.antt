@@ -10,17 +10,17 @@ use Rattle.simplex_voter.specs.Facts.{StateFacts, Elect, round_of}
 use Rattle.simplex_record.specs.Events.{Event}
 use Rattle.simplex_histories.specs.History.{History, with_event}
 use Rattle.simplex_histories.specs.Leading.{leader_by_event}
-use Rattle.simplex_histories.specs.OwnWork.{facts_after, was_done, first_said, last_said, held_in, conflict_in, contradicts, first_certificate_by, hears, owns, hands_out_notarization, hands_out_nullification, hands_out_finalization, decides_notarize, decides_nullify, decides_finalize}
-use Rattle.simplex_histories.specs.Requested.{verifies, asks_to_build, asks_to_verify, asks_for, binds, certifies}
+use Rattle.simplex_histories.specs.OwnWork.{facts_after, was_done, first_said, last_said, held_in, conflict_in, contradicts, first_certificate_by, hears_of, owns, hands_out_notarization, hands_out_nullification, hands_out_finalization, decides_notarize, decides_nullify, decides_finalize}
+use Rattle.simplex_histories.specs.Requested.{sets_verified, asks_to_build, asks_to_verify, asks_for, binds, sets_certification}
 use Rattle.simplex_histories.specs.ShownRounds.{round_in}
-use Rattle.simplex_histories.specs.HistoryFolds.{or_new, notarizes, nullifies, finalizes}
+use Rattle.simplex_histories.specs.HistoryFolds.{or_new, brings_notarization, brings_nullification, brings_finalization}
 use Rattle.simplex_histories.specs.Timing.{enters, proposes, latches, retries, retry_in, decision_in}
 use Rattle.simplex_histories.proofs.Following.{adds}
-use Rattle.simplex_histories.proofs.UnchangedHistories.{known_of}
+use Rattle.simplex_histories.proofs.UnchangedHistories.{known_of_round}
 use Rattle.simplex_histories.proofs.ShownWork.{told_finalize, decided_further, stalled_further, done_further, first_further, last_further, known_further}
 use Rattle.simplex_histories.proofs.Worked.{work_of, timed, decides, adds_work}
 
-module _ {K L D : Type 0} (same : D → D → Bool) (elect : Elect L) (history : History K L D) (x : StateFacts K L D) (facts : x ≡ facts_after same elect history.fresh history.events) (settings : x.settings ≡ history.fresh.settings) (terms : x.terms ≡ history.fresh.terms) (e : Event K D) (y : StateFacts K L D) (v : ℕ) (earlier : round_of x v ≡ round_in same elect history v) (known : known_of (round_of y v) ≡ adds same elect x e v (known_of (round_of x v))) (work : work_of y v ≡ adds_work same elect x e v (work_of x v)) where
+module _ {K L D : Type 0} (same : D → D → Bool) (elect : Elect L) (history : History K L D) (x : StateFacts K L D) (facts : x ≡ facts_after same elect history.fresh history.events) (settings : x.settings ≡ history.fresh.settings) (terms : x.terms ≡ history.fresh.terms) (e : Event K D) (y : StateFacts K L D) (v : ℕ) (earlier : round_of x v ≡ round_in same elect history v) (known : known_of_round (round_of y v) ≡ adds same elect x e v (known_of_round (round_of x v))) (work : work_of y v ≡ adds_work same elect x e v (work_of x v)) where
   abbrev pub later : History K L D
   later = with_event history e
 
@@ -75,20 +75,20 @@ module _ {K L D : Type 0} (same : D → D → Bool) (elect : Elect L) (history :
         slot = record {
           held = held_further i;
           conflict = conflict_further i;
-          verified = (ap (λ k. k.verified) work ∙ known_further same elect history x facts e (verifies same elect v) false (round_of x v).slot.verified (ap (λ r. r.slot.verified) earlier)) i;
+          verified = (ap (λ k. k.verified) work ∙ known_further same elect history x facts e (sets_verified same elect v) false (round_of x v).slot.verified (ap (λ r. r.slot.verified) earlier)) i;
           build_requested = (ap (λ k. k.build_requested) work ∙ known_further same elect history x facts e (asks_to_build same elect v) false (round_of x v).slot.build_requested (ap (λ r. r.slot.build_requested) earlier)) i;
           verify_requested = (ap (λ k. k.verify_requested) work ∙ done_further same elect history x facts e (asks_to_verify same elect v) (round_of x v).slot.verify_requested (ap (λ r. r.slot.verify_requested) earlier)) i;
         };
         decision = decision_further i;
         stall_deadline = stall_further i;
         notarize_decided = (ap (λ k. k.notarize_decided) known ∙ done_further same elect history x facts e (decides_notarize same elect v) (round_of x v).notarize_decided (ap (λ r. r.notarize_decided) earlier)) i;
-        notarization = (ap (λ k. k.notarization) known ∙ ap (λ r. or_new r.notarization (notarizes v e)) earlier) i;
+        notarization = (ap (λ k. k.notarization) known ∙ ap (λ r. or_new r.notarization (brings_notarization v e)) earlier) i;
         notarization_broadcast = (ap (λ k. k.notarization_broadcast) known ∙ done_further same elect history x facts e (hands_out_notarization v) (round_of x v).notarization_broadcast (ap (λ r. r.notarization_broadcast) earlier)) i;
-        nullification = (ap (λ k. k.nullification) known ∙ ap (λ r. or_new r.nullification (nullifies v e)) earlier) i;
+        nullification = (ap (λ k. k.nullification) known ∙ ap (λ r. or_new r.nullification (brings_nullification v e)) earlier) i;
         nullification_broadcast = (ap (λ k. k.nullification_broadcast) known ∙ done_further same elect history x facts e (hands_out_nullification v) (round_of x v).nullification_broadcast (ap (λ r. r.nullification_broadcast) earlier)) i;
-        finalization = (ap (λ k. k.finalization) known ∙ ap (λ r. or_new r.finalization (finalizes v e)) earlier) i;
+        finalization = (ap (λ k. k.finalization) known ∙ ap (λ r. or_new r.finalization (brings_finalization v e)) earlier) i;
         finalization_broadcast = (ap (λ k. k.finalization_broadcast) known ∙ done_further same elect history x facts e (hands_out_finalization v) (round_of x v).finalization_broadcast (ap (λ r. r.finalization_broadcast) earlier)) i;
-        certification = (ap (λ k. k.certification) work ∙ known_further same elect history x facts e (certifies v) Ready (round_of x v).certification (ap (λ r. r.certification) earlier)) i;
+        certification = (ap (λ k. k.certification) work ∙ known_further same elect history x facts e (sets_certification v) Ready (round_of x v).certification (ap (λ r. r.certification) earlier)) i;
         last_request = (ap (λ k. k.last_request) work ∙ last_further same elect history x facts e (asks_for same elect v) (round_of x v).last_request (ap (λ r. r.last_request) earlier)) i;
         binding = (ap (λ k. k.binding) work ∙ known_further same elect history x facts e (binds same elect v) None (round_of x v).binding (ap (λ r. r.binding) earlier)) i;
       }
@@ -102,14 +102,14 @@ module _ {K L D : Type 0} (same : D → D → Bool) (elect : Elect L) (history :
       held_further : (round_of y v).slot.held ≡ held_in same elect v history.fresh later.events
       held_further =
           ap (λ k. k.held) known
-          ∙ ap (λ (r : RoundFacts K D). option_or (first_certificate_by v x e) (or_new r.slot.held (option_or (hears v x e) (owns same elect v x e)))) earlier
-          ∙ ap (λ (a : StateFacts K L D). option_or (first_certificate_by v a e) (or_new said_held (option_or (hears v a e) (owns same elect v a e)))) facts
+          ∙ ap (λ (r : RoundFacts K D). option_or (first_certificate_by v x e) (or_new r.slot.held (option_or (hears_of v x e) (owns same elect v x e)))) earlier
+          ∙ ap (λ (a : StateFacts K L D). option_or (first_certificate_by v a e) (or_new said_held (option_or (hears_of v a e) (owns same elect v a e)))) facts
 
       conflict_further : (round_of y v).slot.conflict ≡ conflict_in same elect v history.fresh later.events
       conflict_further =
           ap (λ k. k.conflict) known
-          ∙ ap (λ (r : RoundFacts K D). contradicts same r.slot.held (option_or (first_certificate_by v x e) (hears v x e)) || r.slot.conflict) earlier
-          ∙ ap (λ (a : StateFacts K L D). contradicts same said_held (option_or (first_certificate_by v a e) (hears v a e)) || conflict_in same elect v history.fresh history.events) facts
+          ∙ ap (λ (r : RoundFacts K D). contradicts same r.slot.held (option_or (first_certificate_by v x e) (hears_of v x e)) || r.slot.conflict) earlier
+          ∙ ap (λ (a : StateFacts K L D). contradicts same said_held (option_or (first_certificate_by v a e) (hears_of v a e)) || conflict_in same elect v history.fresh history.events) facts
 
       stall_further : (round_of y v).stall_deadline ≡ option_and_then (λ at. option_map (λ time. at + time) history.fresh.terms.stall_timeout) (last_said same elect (enters v) history.fresh later.events)
       stall_further =

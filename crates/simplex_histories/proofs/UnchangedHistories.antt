@@ -38,8 +38,8 @@ pub record Known (D : Type 0) : Type 0 where
   pub held : Option (Proposal D)
   pub conflict : Bool
 
-abbrev pub known_of : {K D : Type 0} → RoundFacts K D → Known D
-known_of r = record {
+abbrev pub known_of_round : {K D : Type 0} → RoundFacts K D → Known D
+known_of_round r = record {
   notarization = r.notarization;
   nullification = r.nullification;
   finalization = r.finalization;
@@ -56,7 +56,7 @@ known_of r = record {
 
 -- of another round the same is known
 abbrev pub UnchangedKnown : {K D : Type 0} → RoundFacts K D → RoundFacts K D → Type 0
-UnchangedKnown r s = known_of s ≡ known_of r
+UnchangedKnown r s = known_of_round s ≡ known_of_round r
 
 -- of each view the same is known, and the numbers are these
 pub record UnchangedButNumbers {K L D : Type 0} (moment current finalized : ℕ) (x y : StateFacts K L D) : Type 0 where
@@ -93,7 +93,7 @@ module _ {K D : Type 0} where
 
   -- another decision of the same kind
   pub decided_alike : (r : RoundFacts K D) (d : Decision) → is_nullify d ≡ is_nullify r.decision → is_finalize d ≡ is_finalize r.decision → UnchangedKnown r (record r { decision = d })
-  decided_alike r d nullify finalize = λ i. record (known_of r) { nullify_decided = nullify i; finalize_decided = finalize i }
+  decided_alike r d nullify finalize = λ i. record (known_of_round r) { nullify_decided = nullify i; finalize_decided = finalize i }
 
   pub alike_where : (r : RoundFacts K D) (b : Bool) (s t : RoundFacts K D) → UnchangedKnown r s → UnchangedKnown r t → UnchangedKnown r (if b then s else t)
   alike_where r true s t p q = p
@@ -102,7 +102,7 @@ module _ {K D : Type 0} where
   token_alike : (r : RoundFacts K D) → UnchangedKnown r (without_token r)
   token_alike r =
       alike_where r (is_some (token_of r.certification)) (record r { certification = after_abort r.certification }) r
-      (λ i. record (known_of r) { verdict = aborted_verdict r.certification i })
+      (λ i. record (known_of_round r) { verdict = aborted_verdict r.certification i })
       (alike r)
 
   pub latch_alike : (r : RoundFacts K D) (now : ℕ) (reason : TimeoutReason) → UnchangedKnown r (with_latch r now reason)

@@ -17,9 +17,9 @@ use Rattle.simplex_round.specs.Round.{RoundFacts}
 use Rattle.simplex_voter.specs.Facts.{Settings, StateFacts, Elect, round_of, is_tracked, with_round}
 use Rattle.simplex_member.specs.OutstandingWork.{is_among}
 use Rattle.simplex_record.specs.Events.{Event}
-use Rattle.simplex_histories.specs.Leading.{leader_by_event, tracks}
+use Rattle.simplex_histories.specs.Leading.{leader_by_event, comes_to_track}
 use Rattle.simplex_histories.specs.OwnWork.{decides_nullify, decides_finalize}
-use Rattle.simplex_histories.specs.Requested.{names, certifies, verifies, asks_to_build, asks_to_verify, asks_for, binds}
+use Rattle.simplex_histories.specs.Requested.{names, sets_certification, sets_verified, asks_to_build, asks_to_verify, asks_for, binds}
 use Rattle.simplex_histories.specs.HistoryFolds.{or_new}
 use Rattle.simplex_histories.specs.Timing.{enters, proposes, latches, retries}
 use Rattle.simplex_histories.proofs.Following.{left_from}
@@ -91,16 +91,16 @@ module _ {K L D : Type 0} (same : D → D → Bool) (elect : Elect L) where
   -- what is known of the work on a view, with what an event says of it
   abbrev pub adds_work : StateFacts K L D → Event K D → ℕ → Worked K D → Worked K D
   adds_work x e v k = record k {
-    tracked = is_some (enters v x e) || (tracks same elect v x e || k.tracked);
+    tracked = is_some (enters v x e) || (comes_to_track same elect v x e || k.tracked);
     entered_at = or_new k.entered_at (enters v x e);
     proposed_at = option_or (proposes same elect v x e) k.proposed_at;
     leader = or_new k.leader (leader_by_event same elect v x e);
-    verified = unwrap_or (verifies same elect v x e) k.verified;
+    verified = unwrap_or (sets_verified same elect v x e) k.verified;
     build_requested = unwrap_or (asks_to_build same elect v x e) k.build_requested;
     verify_requested = asks_to_verify same elect v x e || k.verify_requested;
     decision = decides x e v k.decision;
     stall_deadline = unwrap_or (option_map (λ at. option_map (λ time. at + time) x.terms.stall_timeout) (enters v x e)) k.stall_deadline;
-    certification = unwrap_or (certifies v x e) k.certification;
+    certification = unwrap_or (sets_certification v x e) k.certification;
     last_request = option_or (asks_for same elect v x e) k.last_request;
     binding = unwrap_or (binds same elect v x e) k.binding;
   }
@@ -116,8 +116,8 @@ module _ {K L D : Type 0} (same : D → D → Bool) (elect : Elect L) where
     pub work : (v : ℕ) → left_from x e ≤ v → work_of y v ≡ adds_work x e v (work_of x v)
 
   -- an event says nothing of the work on a view
-  abbrev pub IsIdle : StateFacts K L D → Event K D → ℕ → Type 0
-  IsIdle x e v = (k : Worked K D) → adds_work x e v k ≡ k
+  abbrev pub SaysNoWork : StateFacts K L D → Event K D → ℕ → Type 0
+  SaysNoWork x e v = (k : Worked K D) → adds_work x e v k ≡ k
 
 module _ {K L D : Type 0} where
   pub is_tracked-put : (x : StateFacts K L D) (v w : ℕ) (r : RoundFacts K D) → is_tracked (with_round x w r) v ≡ (eqb v w || is_tracked x v)

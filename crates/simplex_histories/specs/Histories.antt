@@ -55,8 +55,8 @@ module _ {K L D : Type 0} where
 
 module _ {K L D : Type 0} (same : D → D → Bool) (elect : Elect L) where
   -- while the member lives, its state knows what the history says
-  abbrev pub IsShown : History K L D → MemberFacts K L D → Type 0
-  IsShown history m = MatchOption m.life (Unit {0}) (Shows same elect history)
+  abbrev pub ShowsMember : History K L D → MemberFacts K L D → Type 0
+  ShowsMember history m = MatchOption m.life (Unit {0}) (Shows same elect history)
 
   -- how a member's run leads from one history to another: each call by what the member has open then; a pruning of its record
   -- says nothing of its state; a restart that is not refused takes again, in some order by view, what the cuts leave of its record
@@ -94,9 +94,9 @@ module _ (K : Type 0) {L D : Type 0} (same : D → D → Bool) (elect : Elect L)
   abbrev pub CallsAreShown : Type 0
   CallsAreShown =
       (history : History K L D) (m left : MemberFacts K L D) (call : CallFacts D) (told : Told K D)
-      → IsShown same elect history m
+      → ShowsMember same elect history m
       → IsCall same elect m call told left
-      → IsShown same elect (with_call_events history m.outstanding_work call told) left
+      → ShowsMember same elect (with_call_events history m.outstanding_work call told) left
 
   -- a recovery that is not refused is shown by the history that it begins
   abbrev pub RecoveriesAreShown : Type 0
@@ -110,7 +110,7 @@ module _ (K : Type 0) {L D : Type 0} (same : D → D → Bool) (elect : Elect L)
   RestartsAreShown =
       (m left : MemberFacts K L D) (r : RestartFacts K L D)
       → IsRestart same elect m r (Ok tt) left
-      → (copy : List (ArtifactFacts D)) × IsByView (cut_member m r.drop r.prune).entries copy × IsShown same elect (recovery r.start copy) left
+      → (copy : List (ArtifactFacts D)) × IsByView (cut_member m r.drop r.prune).entries copy × ShowsMember same elect (recovery r.start copy) left
 
   -- of the history that the run's steps lead to
   abbrev pub RunsAreShown : Type 0
@@ -120,4 +120,4 @@ module _ (K : Type 0) {L D : Type 0} (same : D → D → Bool) (elect : Elect L)
       → IsRun same elect (new_member same elect start) steps replies end
       → (last : History K L D)
       × LeadsTo same elect (new_member same elect start) (recovery start []) steps replies last end
-      × IsShown same elect last end
+      × ShowsMember same elect last end

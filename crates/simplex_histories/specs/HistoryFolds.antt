@@ -37,20 +37,20 @@ module _ {K D : Type 0} where
   -- of a view
 
   -- the notarization that an event hands in, of this view
-  abbrev pub notarizes : ℕ → Event K D → Option (ProposalFacts D)
-  notarizes v (AddNotarization c) = at v c.proposal.round.view c
-  notarizes v _ = None
+  abbrev pub brings_notarization : ℕ → Event K D → Option (ProposalFacts D)
+  brings_notarization v (AddNotarization c) = at v c.proposal.round.view c
+  brings_notarization v _ = None
 
   -- the nullification
-  abbrev pub nullifies : ℕ → Event K D → Option NullificationFacts
-  nullifies v (AddNullification c _) = at v c.round.view c
-  nullifies v _ = None
+  abbrev pub brings_nullification : ℕ → Event K D → Option NullificationFacts
+  brings_nullification v (AddNullification c _) = at v c.round.view c
+  brings_nullification v _ = None
 
   -- the finalization, a floor's as well
-  abbrev pub finalizes : ℕ → Event K D → Option (ProposalFacts D)
-  finalizes v (AddFinalization c _) = at v c.proposal.round.view c
-  finalizes v (SetFloor (Finalized c) _) = at v c.proposal.round.view c
-  finalizes v _ = None
+  abbrev pub brings_finalization : ℕ → Event K D → Option (ProposalFacts D)
+  brings_finalization v (AddFinalization c _) = at v c.proposal.round.view c
+  brings_finalization v (SetFloor (Finalized c) _) = at v c.proposal.round.view c
+  brings_finalization v _ = None
 
   -- a verdict, unless it is given for a view without a notarization
   abbrev pub verdict_of_event : (ℕ → Bool) → ℕ → Event K D → Option Bool
@@ -91,15 +91,15 @@ module _ {K D : Type 0} where
 module _ {K D : Type 0} where
   -- the first notarization of a view
   abbrev pub notarization_in : ℕ → List (Event K D) → Option (ProposalFacts D)
-  notarization_in v history = earliest (notarizes v) history
+  notarization_in v history = earliest (brings_notarization v) history
 
   -- the first nullification
   abbrev pub nullification_in : ℕ → List (Event K D) → Option NullificationFacts
-  nullification_in v history = earliest (nullifies v) history
+  nullification_in v history = earliest (brings_nullification v) history
 
   -- the first finalization
   abbrev pub finalization_in : ℕ → List (Event K D) → Option (ProposalFacts D)
-  finalization_in v history = earliest (finalizes v) history
+  finalization_in v history = earliest (brings_finalization v) history
 
   -- there is a notarization of the view
   abbrev pub is_notarized_in : List (Event K D) → ℕ → Bool

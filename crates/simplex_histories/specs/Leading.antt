@@ -54,20 +54,20 @@ module _ {K L D : Type 0} (elect : Elect L) where
       v == c.proposal.round.view || v == c.proposal.round.view + 1 || is_first && is_some (opens x v c)
 
   -- at a term's start a member that is elected early takes the view over, after its own vote for the view before
-  abbrev pub takes_over : StateFacts K L D → Bool → ℕ → Bool
-  takes_over x voted v = voted && is_elected_early elect x v
+  abbrev pub takes_view_over : StateFacts K L D → Bool → ℕ → Bool
+  takes_view_over x voted v = voted && is_elected_early elect x v
 
   -- the leader that a proposal or an own vote of w gives the view: in its window the next view takes the leader of w
   abbrev pub leads_after : StateFacts K L D → Bool → ℕ → ℕ → Option (Leader K)
   leads_after x voted w v =
       if in_issuance_window x (w + 1)
       then (if v == w + 1 then same_member x (round_of x w).leader else None)
-      else (if takes_over x voted (w + 1) then elected_leader x v (w + 1) None else None)
+      else (if takes_view_over x voted (w + 1) then elected_leader x v (w + 1) None else None)
 
   -- a proposal or an own vote of w has the next view tracked, where it gets a leader
   abbrev pub tracks_after : StateFacts K L D → Bool → ℕ → ℕ → Bool
   tracks_after x voted w v =
-      v == w + 1 && (if in_issuance_window x (w + 1) then is_some (round_of x w).leader else takes_over x voted (w + 1))
+      v == w + 1 && (if in_issuance_window x (w + 1) then is_some (round_of x w).leader else takes_view_over x voted (w + 1))
 
 module _ {K L D : Type 0} (same : D → D → Bool) (elect : Elect L) where
   -- the leader that an event gives a view that has none
@@ -83,16 +83,16 @@ module _ {K L D : Type 0} (same : D → D → Bool) (elect : Elect L) where
   leader_by_event v x _ = None
 
   -- an event speaks of a view: a certificate, a proposal, a vote, or one that stands in the record; or it readies or leads it
-  abbrev pub tracks : ℕ → StateFacts K L D → Event K D → Bool
-  tracks v x (SetFloor (Genesis _) _) = v == 1
-  tracks v x (SetFloor (Finalized c) _) = tracks_by elect x (is_none (round_of x c.proposal.round.view).finalization) v c
-  tracks v x (AddNotarization c) = tracks_by elect x (is_none (round_of x c.proposal.round.view).notarization) v c
-  tracks v x (AddNullification c _) = v == c.round.view || v == next_term_start x.terms.term_length c.round.view
-  tracks v x (AddFinalization c _) = tracks_by elect x (is_none (round_of x c.proposal.round.view).finalization) v c
-  tracks v x (ConstructNotarize w) = may_notarize same elect x w && (v == w || tracks_after elect x true w v)
-  tracks v x (ConstructNullify w) = v == w && may_nullify x w
-  tracks v x (ConstructFinalize w) = v == w && may_finalize elect x w
-  tracks v x (SetProposal w _) = v == w || tracks_after elect x (round_of x w).notarize_decided w v
-  tracks v x (Replay (NotarizeVote p _)) = v == p.round.view || tracks_after elect x true p.round.view v
-  tracks v x (Replay e) = v == entry_view e
-  tracks v x _ = false
+  abbrev pub comes_to_track : ℕ → StateFacts K L D → Event K D → Bool
+  comes_to_track v x (SetFloor (Genesis _) _) = v == 1
+  comes_to_track v x (SetFloor (Finalized c) _) = tracks_by elect x (is_none (round_of x c.proposal.round.view).finalization) v c
+  comes_to_track v x (AddNotarization c) = tracks_by elect x (is_none (round_of x c.proposal.round.view).notarization) v c
+  comes_to_track v x (AddNullification c _) = v == c.round.view || v == next_term_start x.terms.term_length c.round.view
+  comes_to_track v x (AddFinalization c _) = tracks_by elect x (is_none (round_of x c.proposal.round.view).finalization) v c
+  comes_to_track v x (ConstructNotarize w) = may_notarize same elect x w && (v == w || tracks_after elect x true w v)
+  comes_to_track v x (ConstructNullify w) = v == w && may_nullify x w
+  comes_to_track v x (ConstructFinalize w) = v == w && may_finalize elect x w
+  comes_to_track v x (SetProposal w _) = v == w || tracks_after elect x (round_of x w).notarize_decided w v
+  comes_to_track v x (Replay (NotarizeVote p _)) = v == p.round.view || tracks_after elect x true p.round.view v
+  comes_to_track v x (Replay e) = v == entry_view e
+  comes_to_track v x _ = false

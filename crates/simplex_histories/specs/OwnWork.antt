@@ -64,9 +64,9 @@ module _ {K L D : Type 0} where
   first_certificate_by v x _ = None
 
   -- a proposal that is heard of, unless the view is voted to nullify
-  abbrev pub hears : ℕ → StateFacts K L D → Event K D → Option (Proposal D)
-  hears v x (SetProposal w p) = if v == w && not (is_nullify (round_of x w).decision) then Some p else None
-  hears v x _ = None
+  abbrev pub hears_of : ℕ → StateFacts K L D → Event K D → Option (Proposal D)
+  hears_of v x (SetProposal w p) = if v == w && not (is_nullify (round_of x w).decision) then Some p else None
+  hears_of v x _ = None
 
 module _ {K L D : Type 0} (same : D → D → Bool) (elect : Elect L) where
   -- a vote to finalize the view is decided
@@ -113,11 +113,11 @@ module _ {K L D : Type 0} (same : D → D → Bool) (elect : Elect L) where
   held_in v fresh [] = None
   held_in v fresh (e ∷ before) =
       let x = facts_after fresh before in
-      option_or (first_certificate_by v x e) (or_new (held_in v fresh before) (option_or (hears v x e) (owns v x e)))
+      option_or (first_certificate_by v x e) (or_new (held_in v fresh before) (option_or (hears_of v x e) (owns v x e)))
 
   -- a certificate or a proposal that was heard of contradicted the one that was held
   abbrev pub conflict_in : ℕ → StateFacts K L D → List (Event K D) → Bool
   conflict_in v fresh [] = false
   conflict_in v fresh (e ∷ before) =
       let x = facts_after fresh before in
-      contradicts same (held_in v fresh before) (option_or (first_certificate_by v x e) (hears v x e)) || conflict_in v fresh before
+      contradicts same (held_in v fresh before) (option_or (first_certificate_by v x e) (hears_of v x e)) || conflict_in v fresh before

@@ -18,7 +18,7 @@ use Rattle.simplex_voter.specs.Verifying.{was_scanned, standing}
 use Rattle.simplex_voter.specs.declared.voter.verify.Standing.{Standing}
 use Rattle.simplex_voter.specs.declared.voter.verify.Standing.TheVariants.{NothingToDo, Ready}
 use Rattle.simplex_record.specs.Events.{Event, SetFloor, AddNotarization, AddFinalization, Certified, TryPropose, Proposed, Supersede, Release, TryVerify, Verified, VerificationFailed, CertifyCandidates, SetCertifyHandle, Replay}
-use Rattle.simplex_histories.specs.OwnWork.{contradicts, first_certificate_by, hears, owns}
+use Rattle.simplex_histories.specs.OwnWork.{contradicts, first_certificate_by, hears_of, owns}
 use Rattle.simplex_laws.specs.Standings.{is_given_out, lacked_view}
 
 -- the event is of this view, which is tracked
@@ -52,21 +52,21 @@ module _ {K L D : Type 0} (elect : Elect L) where
 
 module _ {K L D : Type 0} where
   -- a finalization ends the certifications that are under way at and below its view
-  abbrev pub ends : ℕ → StateFacts K L D → ℕ → Option Certification
-  ends v x u =
+  abbrev pub ends_certification : ℕ → StateFacts K L D → ℕ → Option Certification
+  ends_certification v x u =
       if nat_lt x.finalized u && nat_le v u && is_some (token_of (round_of x v).certification)
       then Some certification.Aborted
       else None
 
 module _ {K L D : Type 0} where
   -- the certification of the view from then on
-  abbrev pub certifies : ℕ → StateFacts K L D → Event K D → Option Certification
-  certifies v x (SetFloor (Finalized c) _) = ends v x c.proposal.round.view
-  certifies v x (AddFinalization c _) = ends v x c.proposal.round.view
-  certifies v x (Certified w success _) = if is_at x v w then Some (certification.Judged success) else None
-  certifies v x (SetCertifyHandle w token) = if is_at x v w then Some (certification.Outstanding token) else None
-  certifies v x (Replay (Verdict round success)) = if v == round.view then Some (certification.Judged success) else None
-  certifies v x _ = None
+  abbrev pub sets_certification : ℕ → StateFacts K L D → Event K D → Option Certification
+  sets_certification v x (SetFloor (Finalized c) _) = ends_certification v x c.proposal.round.view
+  sets_certification v x (AddFinalization c _) = ends_certification v x c.proposal.round.view
+  sets_certification v x (Certified w success _) = if is_at x v w then Some (certification.Judged success) else None
+  sets_certification v x (SetCertifyHandle w token) = if is_at x v w then Some (certification.Outstanding token) else None
+  sets_certification v x (Replay (Verdict round success)) = if v == round.view then Some (certification.Judged success) else None
+  sets_certification v x _ = None
 
 -- what a proposal is given out with
 abbrev pub bound_by : {D : Type 0} → Option (Proposal D) → Standing D → Option (Option (Proposal D × D))
@@ -97,9 +97,9 @@ module _ {K L D : Type 0} (same : D → D → Bool) (elect : Elect L) where
   marks v x _ = None
 
   -- whether the held proposal is verified from then on: not where another one was seen; one's own is
-  abbrev pub verifies : ℕ → StateFacts K L D → Event K D → Option Bool
-  verifies v x e =
-      if contradicts same (round_of x v).slot.held (option_or (first_certificate_by v x e) (hears v x e))
+  abbrev pub sets_verified : ℕ → StateFacts K L D → Event K D → Option Bool
+  sets_verified v x e =
+      if contradicts same (round_of x v).slot.held (option_or (first_certificate_by v x e) (hears_of v x e))
       then Some false
       else (if takes_own v x e then Some (not (round_of x v).slot.conflict) else marks v x e)
 

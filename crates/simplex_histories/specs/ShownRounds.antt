@@ -6,7 +6,7 @@ use Rattle.simplex_voter.specs.Facts.{Elect, round_number}
 use Rattle.simplex_histories.specs.History.{History}
 use Rattle.simplex_histories.specs.Leading.{leader_by_event}
 use Rattle.simplex_histories.specs.OwnWork.{was_done, first_said, last_said, held_in, conflict_in, hands_out_notarization, hands_out_nullification, hands_out_finalization, decides_notarize}
-use Rattle.simplex_histories.specs.Requested.{verifies, asks_to_build, asks_to_verify, asks_for, binds, certifies}
+use Rattle.simplex_histories.specs.Requested.{sets_verified, asks_to_build, asks_to_verify, asks_for, binds, sets_certification}
 use Rattle.simplex_histories.specs.HistoryFolds.{notarization_in, nullification_in, finalization_in}
 use Rattle.simplex_histories.specs.Timing.{enters, proposes, decision_in}
 
@@ -27,7 +27,7 @@ module _ {K L D : Type 0} (same : D → D → Bool) (elect : Elect L) where
         slot = record {
           held = held_in same elect v fresh events;
           conflict = conflict_in same elect v fresh events;
-          verified = unwrap_or (last_said same elect (verifies same elect v) fresh events) false;
+          verified = unwrap_or (last_said same elect (sets_verified same elect v) fresh events) false;
           build_requested = unwrap_or (last_said same elect (asks_to_build same elect v) fresh events) false;
           verify_requested = was_done same elect (asks_to_verify same elect v) fresh events;
         };
@@ -40,7 +40,7 @@ module _ {K L D : Type 0} (same : D → D → Bool) (elect : Elect L) where
         nullification_broadcast = was_done same elect (hands_out_nullification v) fresh events;
         finalization = finalization_in v events;
         finalization_broadcast = was_done same elect (hands_out_finalization v) fresh events;
-        certification = unwrap_or (last_said same elect (certifies v) fresh events) Ready;
+        certification = unwrap_or (last_said same elect (sets_certification v) fresh events) Ready;
         last_request = last_said same elect (asks_for same elect v) fresh events;
         binding = unwrap_or (last_said same elect (binds same elect v) fresh events) None;
       }

@@ -8,7 +8,7 @@ use Rattle.simplex_voter.specs.Facts.{StateFacts, Elect, round_of, is_tracked}
 use Rattle.simplex_member.specs.OutstandingWork.{is_among}
 use Rattle.simplex_record.specs.Events.{Event}
 use Rattle.simplex_histories.specs.History.{History}
-use Rattle.simplex_histories.specs.Leading.{tracks}
+use Rattle.simplex_histories.specs.Leading.{comes_to_track}
 use Rattle.simplex_histories.specs.OwnWork.{facts_after, was_done, last_said, casts_nullify}
 use Rattle.simplex_histories.specs.Requested.{names}
 use Rattle.simplex_histories.specs.ShownRounds.{round_in}
@@ -28,7 +28,7 @@ kept_of history = kept_in history.fresh.settings.view_retention history.events
 
 -- the view is tracked from an event on: it enters the view, or speaks of it
 abbrev pub comes_up : {K L D : Type 0} → (D → D → Bool) → Elect L → ℕ → StateFacts K L D → Event K D → Bool
-comes_up same elect v x e = is_some (enters v x e) || tracks same elect v x e
+comes_up same elect v x e = is_some (enters v x e) || comes_to_track same elect v x e
 
 -- what a state knows is what its history says: how it was set up, numbers, which views wait for certification, and of each
 -- view that no prune has dropped whether it is tracked and its whole round. A view that a prune dropped isn't known again.

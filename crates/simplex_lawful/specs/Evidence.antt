@@ -9,11 +9,11 @@ use Rattle.simplex_laws.specs.Traces.{TraceEvent}
 use Rattle.simplex_laws.specs.Lawful.{HasSigned, IsLawful}
 
 -- the vote that an artifact is, with the member that signed it
-abbrev pub vote_in : {S D K G C : Type 0} → Artifact S D K G C → Option (ℕ × Subject D)
-vote_in (artifact.Notarize vote) = Some (vote.signer, subject.Notarize vote.proposal)
-vote_in (artifact.Nullify vote) = Some (vote.signer, subject.Nullify vote.round)
-vote_in (artifact.Finalize vote) = Some (vote.signer, subject.Finalize vote.proposal)
-vote_in _ = None
+abbrev pub signed_vote_in : {S D K G C : Type 0} → Artifact S D K G C → Option (ℕ × Subject D)
+signed_vote_in (artifact.Notarize vote) = Some (vote.signer, subject.Notarize vote.proposal)
+signed_vote_in (artifact.Nullify vote) = Some (vote.signer, subject.Nullify vote.round)
+signed_vote_in (artifact.Finalize vote) = Some (vote.signer, subject.Finalize vote.proposal)
+signed_vote_in _ = None
 
 module _ {D : Type 0} where
   -- the epoch that a vote is of

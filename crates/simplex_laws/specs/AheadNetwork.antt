@@ -9,7 +9,7 @@ use Rattle.simplex_member.specs.Calls.{TryPropose, Proposed, ConstructNotarize, 
 use Rattle.simplex_member.specs.Runs.{StepFacts, Calls}
 use Rattle.simplex_laws.specs.Replicas.{Replica, Faulty, Honest}
 use Rattle.simplex_laws.specs.Executions.{Execution}
-use Rattle.simplex_laws.specs.ScenarioSteps.{proposal, certificate, notarize_vote, one, two, begin_at, execution_from, context_of, hears, verifies, certifies, votes_for, finalizes}
+use Rattle.simplex_laws.specs.ScenarioSteps.{proposal, certificate, notarize_reply, one, two, begin_at, execution_from, context_of, hears, verifies, certifies, votes_for, finalizes}
 
 -- a start at genesis, with one view ahead that is voted for
 abbrev pub ahead_start : ℕ → StartFacts ℕ ℕ ℕ
@@ -31,7 +31,7 @@ abbrev pub takes_over_early : List (StepFacts ℕ ℕ ℕ × Told ℕ ℕ)
 takes_over_early =
     (Calls TryPropose, Requested (Some (Prepare (context_of 0 three))))
     ∷ (Calls (Proposed 3 3 0), Answered true)
-    ∷ (Calls (ConstructNotarize 3), notarize_vote 0 three)
+    ∷ (Calls (ConstructNotarize 3), notarize_reply 0 three)
     ∷ []
 
 -- view 2 is certified, and it votes to finalize it

@@ -12,9 +12,9 @@ use Rattle.simplex_laws.specs.Traces.{TraceEvent, Signs, signed_in}
 use Rattle.simplex_laws.specs.Executions.{new_member, Execution}
 
 -- a call is refused for a fault
-abbrev pub is_refused : {K D : Type 0} → Told K D → Bool
-is_refused (Refused fault) = true
-is_refused _ = false
+abbrev pub ends_in_fault : {K D : Type 0} → Told K D → Bool
+ends_in_fault (Refused fault) = true
+ends_in_fault _ = false
 
 module _ {D : Type 0} where
   -- the vote on this, by the member that the scheme signs as
@@ -26,7 +26,7 @@ module _ {K D : Type 0} where
   -- the call is refused
   pub record IsExact (Rule : Type 0) (me : Option ℕ) (about : Option (Subject D)) (told : Told K D) : Type 0 where
     pub only : (d : TraceEvent D) → Contains (signed_in told) d → Rule × IsSignedFor me about d
-    pub due : (d : TraceEvent D) → is_refused told ≡ false → Rule → IsSignedFor me about d → signed_in told ≡ d ∷ []
+    pub due : (d : TraceEvent D) → ends_in_fault told ≡ false → Rule → IsSignedFor me about d → signed_in told ≡ d ∷ []
 
 -- the proposal that is held of a view
 abbrev pub proposal_at : {K L D : Type 0} → StateFacts K L D → ℕ → Option (Proposal D)

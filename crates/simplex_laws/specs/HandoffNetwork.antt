@@ -9,7 +9,7 @@ use Rattle.simplex_member.specs.Calls.{TryPropose, Proposed, ConstructNotarize, 
 use Rattle.simplex_member.specs.Runs.{StepFacts, Calls}
 use Rattle.simplex_laws.specs.Continuations.{and_then}
 use Rattle.simplex_laws.specs.Replicas.{Replica, Faulty, Honest}
-use Rattle.simplex_laws.specs.ScenarioSteps.{proposal, notarize_vote, two, begins_with, first_view, context_of, builds, hears, verifies, certifies, finalizes, gives_up, skips}
+use Rattle.simplex_laws.specs.ScenarioSteps.{proposal, notarize_reply, two, begins_with, first_view, context_of, builds, hears, verifies, certifies, finalizes, gives_up, skips}
 use Rattle.simplex_laws.specs.Executions.{Execution}
 
 -- view 3, which starts a term, is built on view 2 before that is certified
@@ -25,7 +25,7 @@ takes_over = begins_with 2 0 (
     ∷ verifies 0 3 two
     ++ (Calls TryPropose, Requested (Some (Prepare (context_of 0 handed_over))))
     ∷ (Calls (Proposed 3 3 0), Answered true)
-    ∷ (Calls (ConstructNotarize 3), notarize_vote 0 handed_over)
+    ∷ (Calls (ConstructNotarize 3), notarize_reply 0 handed_over)
     ∷ gives_up 0 2 2000 CertificationTimeout
     ++ skips 2
     ∷ [])

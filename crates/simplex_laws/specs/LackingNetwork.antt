@@ -47,8 +47,8 @@ member_without_notarization = begins_with 1 2 (
     ∷ [])
 
 -- four members, of which the first leader is faulty
-abbrev pub lacking : List (Replica ℕ ℕ ℕ)
-lacking = Honest lacks_nullification ∷ Honest skips_two ∷ Honest member_without_notarization ∷ Faulty ∷ []
+abbrev pub lacking_certificates : List (Replica ℕ ℕ ℕ)
+lacking_certificates = Honest lacks_nullification ∷ Honest skips_two ∷ Honest member_without_notarization ∷ Faulty ∷ []
 
 -- a member certifies view 3 and finalizes it
 abbrev pub finishes : ℕ → List (StepFacts ℕ ℕ ℕ × Told ℕ ℕ)

@@ -56,16 +56,16 @@ NotarizesGapless same elect x =
 
 module _ {K L D : Type 0} where
   -- a poll is told a moment to wait for and why; or its member has failed, or its next retry passes the numbers of 64 bits
-  abbrev pub IsPolled : StepFacts K L D → Told K D → Type 0
-  IsPolled (Calls (NextTimeout _)) told =
+  abbrev pub PollIsAnswered : StepFacts K L D → Told K D → Type 0
+  PollIsAnswered (Calls (NextTimeout _)) told =
       ((moment : ℕ × TimeoutReason) × (told ≡ TimesOut (Some moment)))
       ⊎ (told ≡ Refused Failed)
       ⊎ (told ≡ Refused TimeOverflow)
-  IsPolled _ told = Unit {0}
+  PollIsAnswered _ told = Unit {0}
 
   -- so is each poll among these steps
   abbrev pub PollsAreAnswered : List (StepFacts K L D) → List (Told K D) → Type 0
-  PollsAreAnswered (step ∷ steps) (told ∷ replies) = IsPolled step told × PollsAreAnswered steps replies
+  PollsAreAnswered (step ∷ steps) (told ∷ replies) = PollIsAnswered step told × PollsAreAnswered steps replies
   PollsAreAnswered _ _ = Unit {0}
 
 -- a proposal of the view was seen that contradicts another
@@ -73,31 +73,31 @@ abbrev pub has_conflict : {K L D : Type 0} → StateFacts K L D → ℕ → Bool
 has_conflict x v = (round_of x v).slot.conflict
 
 -- a call was told that it dropped the view
-abbrev pub IsDropped : {K D : Type 0} → List (Told K D) → ℕ → Type 0
-IsDropped replies v = (views : List ℕ) × Contains replies (Dropped views) × Contains views v
+abbrev pub WasDropped : {K D : Type 0} → List (Told K D) → ℕ → Type 0
+WasDropped replies v = (views : List ℕ) × Contains replies (Dropped views) × Contains views v
 
 -- the view was dropped, and lies below what is kept
-pub record IsPruned {K L D : Type 0} (replies : List (Told K D)) (last : StateFacts K L D) (v : ℕ) : Type 0 where
-  pub dropped : IsDropped replies v
+pub record WasPruned {K L D : Type 0} (replies : List (Told K D)) (last : StateFacts K L D) (v : ℕ) : Type 0 where
+  pub dropped : WasDropped replies v
   pub below : v < min_active last
 
 -- a conflict of a view stays until the view is pruned
 abbrev pub ConflictsStay : {K L D : Type 0} → List (Told K D) → StateFacts K L D → StateFacts K L D → Type 0
-ConflictsStay replies first last = (v : ℕ) → has_conflict first v ≡ true → (has_conflict last v ≡ true) ⊎ IsPruned replies last v
+ConflictsStay replies first last = (v : ℕ) → has_conflict first v ≡ true → (has_conflict last v ≡ true) ⊎ WasPruned replies last v
 
 -- what was dropped isn't tracked again
 abbrev pub DroppedForGood : {K L D : Type 0} → List (Told K D) → StateFacts K L D → StateFacts K L D → Type 0
-DroppedForGood replies first last = (v : ℕ) → IsDropped replies v → is_tracked last v ≡ false
+DroppedForGood replies first last = (v : ℕ) → WasDropped replies v → is_tracked last v ≡ false
 
 -- the kinds of certificates
-pub data Kind : Type 0 where
-  Notarization : Kind
-  Nullification : Kind
-  Finalization : Kind
+pub data KindOfCertificate : Type 0 where
+  Notarization : KindOfCertificate
+  Nullification : KindOfCertificate
+  Finalization : KindOfCertificate
 
 module _ {D : Type 0} where
   -- the view whose certificate of this kind a call asks for, to broadcast it
-  abbrev pub asked_by : Kind → CallFacts D → List ℕ
+  abbrev pub asked_by : KindOfCertificate → CallFacts D → List ℕ
   asked_by Notarization (BroadcastNotarization v) = v ∷ []
   asked_by Nullification (BroadcastNullification v) = v ∷ []
   asked_by Finalization (BroadcastFinalization v) = v ∷ []
@@ -105,32 +105,32 @@ module _ {D : Type 0} where
 
 module _ {K D : Type 0} where
   -- that view, where the call is told a certificate
-  abbrev pub handed_by : Kind → CallFacts D → Told K D → List ℕ
-  handed_by kind call (Handed (Some _)) = asked_by kind call
-  handed_by kind call _ = []
+  abbrev pub handed_out_by : KindOfCertificate → CallFacts D → Told K D → List ℕ
+  handed_out_by kind call (Handed (Some _)) = asked_by kind call
+  handed_out_by kind call _ = []
 
   -- the views whose certificates of this kind are handed out to broadcast, in turn
-  abbrev pub handed_in : Kind → List (CallFacts D) → List (Told K D) → List ℕ
-  handed_in kind (call ∷ calls) (told ∷ replies) = handed_by kind call told ++ handed_in kind calls replies
-  handed_in kind _ _ = []
+  abbrev pub handed_out_in : KindOfCertificate → List (CallFacts D) → List (Told K D) → List ℕ
+  handed_out_in kind (call ∷ calls) (told ∷ replies) = handed_out_by kind call told ++ handed_out_in kind calls replies
+  handed_out_in kind _ _ = []
 
   -- none is handed out twice
   abbrev pub HandedOnce : List (CallFacts D) → List (Told K D) → Type 0
-  HandedOnce calls replies = (kind : Kind) → IsDistinct nat_eq (handed_in kind calls replies)
+  HandedOnce calls replies = (kind : KindOfCertificate) → IsDistinct nat_eq (handed_out_in kind calls replies)
 
 module _ {D : Type 0} where
   -- which kind of certificate it is
-  abbrev pub kind_of : CertificateFacts D → Kind
-  kind_of (Notarized _) = Notarization
-  kind_of (Nullified _) = Nullification
-  kind_of (Finalized _) = Finalization
+  abbrev pub kind_of_certificate : CertificateFacts D → KindOfCertificate
+  kind_of_certificate (Notarized _) = Notarization
+  kind_of_certificate (Nullified _) = Nullification
+  kind_of_certificate (Finalized _) = Finalization
 
 module _ {K D : Type 0} where
   -- the certificate that a call is told is of the kind and the view that it asks for
   abbrev pub IsAsAsked : CallFacts D → Told K D → Type 0
   IsAsAsked call told =
-      (kind : Kind) (v : ℕ) (c : CertificateFacts D) → asked_by kind call ≡ v ∷ [] → told ≡ Handed (Some c)
-      → (kind_of c ≡ kind) × ((certificate_round c).view ≡ v)
+      (kind : KindOfCertificate) (v : ℕ) (c : CertificateFacts D) → asked_by kind call ≡ v ∷ [] → told ≡ Handed (Some c)
+      → (kind_of_certificate c ≡ kind) × ((certificate_round c).view ≡ v)
 
   -- so it is of each call
   abbrev pub HandedAsAsked : List (CallFacts D) → List (Told K D) → Type 0

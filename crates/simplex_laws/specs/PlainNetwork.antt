@@ -17,13 +17,17 @@ use Rattle.simplex_laws.specs.Replicas.{Replica, Faulty, Honest}
 use Rattle.simplex_laws.specs.Executions.{Execution}
 use Rattle.simplex_laws.specs.ScenarioSteps.{settings, round}
 
--- a step of a member of plain parts, with its reply
-abbrev pub PlainStep : Type 0
-PlainStep = StepFacts PlainKey PlainElector PlainDigest × Told PlainKey PlainDigest
+-- what a member of plain parts does
+abbrev pub PlainExecution : Type 0
+PlainExecution = Execution PlainKey PlainElector PlainDigest
+
+-- a step of it, with its reply
+abbrev pub PlainTurn : Type 0
+PlainTurn = StepFacts PlainKey PlainElector PlainDigest × Told PlainKey PlainDigest
 
 -- a member's start at genesis, among four
-abbrev pub plain_start : PlainElector → PlainDigest → ℕ → StartFacts PlainKey PlainElector PlainDigest
-plain_start elector payload me = record {
+abbrev pub plain_genesis_start : PlainElector → PlainDigest → ℕ → StartFacts PlainKey PlainElector PlainDigest
+plain_genesis_start elector payload me = record {
   setup = record {
     settings = settings;
     me = Some me;
@@ -49,11 +53,11 @@ abbrev pub plain_certificate : PlainDigest → ProposalFacts PlainDigest
 plain_certificate payload = record { proposal = plain_first payload; bytes = 1 ∷ [] }
 
 -- it builds the proposal
-abbrev pub plain_builds : PlainDigest → List PlainStep
+abbrev pub plain_builds : PlainDigest → List PlainTurn
 plain_builds payload = (Calls TryPropose, Requested (Some (Propose (plain_context payload)))) ∷ (Calls (Proposed 1 payload 0), Answered true) ∷ []
 
 -- another one verifies it
-abbrev pub plain_verifies : PlainDigest → List PlainStep
+abbrev pub plain_verifies : PlainDigest → List PlainTurn
 plain_verifies payload =
     (Calls (SetProposal 1 (plain_first payload)), Answered true)
     ∷ (Calls TryVerify, Standing (Ready (plain_context payload) (plain_first payload)))
@@ -61,7 +65,7 @@ plain_verifies payload =
     ∷ []
 
 -- it votes for the proposal to the end, and accepts its finalization
-abbrev pub plain_votes : PlainDigest → ℕ → List PlainStep
+abbrev pub plain_votes : PlainDigest → ℕ → List PlainTurn
 plain_votes payload me =
     (Calls (ConstructNotarize 1), Notarize (Some (NotarizeVote (plain_first payload) me)))
     ∷ (Calls (AddNotarization (plain_certificate payload)), Added true None)
@@ -71,21 +75,21 @@ plain_votes payload me =
     ∷ []
 
 -- a member's start, and its steps
-abbrev pub plain_execution : PlainElector → PlainDigest → ℕ → List PlainStep → Execution PlainKey PlainElector PlainDigest
-plain_execution elector payload me steps = record { start = plain_start elector payload me; steps = map (λ e. e.0) steps; replies = map (λ e. e.1) steps }
+abbrev pub plain_execution : PlainElector → PlainDigest → ℕ → List PlainTurn → PlainExecution
+plain_execution elector payload me steps = record { start = plain_genesis_start elector payload me; steps = map (λ e. e.0) steps; replies = map (λ e. e.1) steps }
 
 -- the leader
-abbrev pub plain_leader : PlainElector → PlainDigest → Execution PlainKey PlainElector PlainDigest
-plain_leader elector payload = plain_execution elector payload 0 (plain_builds payload ++ plain_votes payload 0)
+abbrev pub plain_proposer : PlainElector → PlainDigest → PlainExecution
+plain_proposer elector payload = plain_execution elector payload 0 (plain_builds payload ++ plain_votes payload 0)
 
 -- another member
-abbrev pub plain_follower : PlainElector → PlainDigest → ℕ → Execution PlainKey PlainElector PlainDigest
+abbrev pub plain_follower : PlainElector → PlainDigest → ℕ → PlainExecution
 plain_follower elector payload me = plain_execution elector payload me (plain_verifies payload ++ plain_votes payload me)
 
 -- four members, of which the last one is faulty
 abbrev pub plain_four : PlainElector → PlainDigest → List (Replica PlainKey PlainElector PlainDigest)
 plain_four elector payload =
-    Honest (plain_leader elector payload)
+    Honest (plain_proposer elector payload)
     ∷ Honest (plain_follower elector payload 1)
     ∷ Honest (plain_follower elector payload 2)
     ∷ Faulty

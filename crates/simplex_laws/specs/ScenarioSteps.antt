@@ -55,16 +55,16 @@ abbrev pub two : Proposal ℕ
 two = proposal 2 1
 
 -- the reply that has a vote to nullify, and says that it is the first
-abbrev pub nullify_vote : ℕ → ℕ → Told ℕ ℕ
-nullify_vote me view = Nullify (Some (false, NullifyVote (round view) me))
+abbrev pub nullify_reply : ℕ → ℕ → Told ℕ ℕ
+nullify_reply me view = Nullify (Some (false, NullifyVote (round view) me))
 
 -- the reply that has a vote to notarize
-abbrev pub notarize_vote : ℕ → Proposal ℕ → Told ℕ ℕ
-notarize_vote me p = Notarize (Some (NotarizeVote p me))
+abbrev pub notarize_reply : ℕ → Proposal ℕ → Told ℕ ℕ
+notarize_reply me p = Notarize (Some (NotarizeVote p me))
 
 -- the reply that has a vote to finalize
-abbrev pub finalize_vote : ℕ → Proposal ℕ → Told ℕ ℕ
-finalize_vote me p = Finalize (Some (FinalizeVote p me))
+abbrev pub finalize_reply : ℕ → Proposal ℕ → Told ℕ ℕ
+finalize_reply me p = Finalize (Some (FinalizeVote p me))
 
 -- member 3 leads the first term, then 0, 1, 2, 3 and so on; the elector is the length of terms
 abbrev pub in_turn : Elect ℕ
@@ -91,7 +91,7 @@ abbrev pub builds : ℕ → Proposal ℕ → List (StepFacts ℕ ℕ ℕ × Told
 builds me p =
     (Calls TryPropose, Requested (Some (Propose (context_of me p))))
     ∷ (Calls (Proposed p.round.view p.payload 0), Answered true)
-    ∷ (Calls (ConstructNotarize p.round.view), notarize_vote me p)
+    ∷ (Calls (ConstructNotarize p.round.view), notarize_reply me p)
     ∷ []
 
 -- it verifies the proposal of a leader and votes for it
@@ -99,7 +99,7 @@ abbrev pub verifies : ℕ → ℕ → Proposal ℕ → List (StepFacts ℕ ℕ �
 verifies me leader p =
     (Calls TryVerify, Standing (Ready (context_of leader p) p))
     ∷ (Calls (Verified p.round.view), Answered true)
-    ∷ (Calls (ConstructNotarize p.round.view), notarize_vote me p)
+    ∷ (Calls (ConstructNotarize p.round.view), notarize_reply me p)
     ∷ []
 
 -- a proposal is handed to it, and whether that is the first one of its view
@@ -127,7 +127,7 @@ certifies p =
 
 -- it votes to finalize the proposal
 abbrev pub votes_for : ℕ → Proposal ℕ → StepFacts ℕ ℕ ℕ × Told ℕ ℕ
-votes_for me p = (Calls (ConstructFinalize p.round.view), finalize_vote me p)
+votes_for me p = (Calls (ConstructFinalize p.round.view), finalize_reply me p)
 
 -- a vote to finalize the view is not allowed
 abbrev pub may_not_finalize : ℕ → StepFacts ℕ ℕ ℕ × Told ℕ ℕ
@@ -143,7 +143,7 @@ finalizes me p = votes_for me p ∷ accepts_finalization p ∷ []
 
 -- it votes to nullify a view
 abbrev pub votes_against : ℕ → ℕ → StepFacts ℕ ℕ ℕ × Told ℕ ℕ
-votes_against me view = (Calls (ConstructNullify view), nullify_vote me view)
+votes_against me view = (Calls (ConstructNullify view), nullify_reply me view)
 
 -- the view times out, and it votes to nullify it
 abbrev pub gives_up : ℕ → ℕ → ℕ → TimeoutReason → List (StepFacts ℕ ℕ ℕ × Told ℕ ℕ)

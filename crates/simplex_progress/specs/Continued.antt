@@ -17,8 +17,8 @@ module _ {K L D : Type 0} where
   abbrev pub IsAccepted : Subject D → List (Replica K L D) → Type 0
   IsAccepted c network = SomeHonest network (λ i s. Contains (trace_of s) (Accepts c))
 
-  abbrev pub IsHeard : ℕ → Proposal D → List (Replica K L D) → Type 0
-  IsHeard v p network = SomeHonest network (λ i s. Contains s.steps (Calls (SetProposal v p)))
+  abbrev pub IsHeardOf : ℕ → Proposal D → List (Replica K L D) → Type 0
+  IsHeardOf v p network = SomeHonest network (λ i s. Contains s.steps (Calls (SetProposal v p)))
 
   abbrev pub IsGiven : Proposal D → List (Replica K L D) → Type 0
   IsGiven p network = SomeHonest network (λ i s. (now : ℕ) × Contains s.steps (Calls (Proposed p.round.view p.payload now)))
@@ -33,7 +33,7 @@ module _ {K L D : Type 0} where
   -- what none had been handed before, and none of this network voted for, or none gave as built, none was handed later
   abbrev pub HearsNoForged : (before building later : List (Replica K L D)) → Type 0
   HearsNoForged before building later =
-      (v : ℕ) (p : Proposal D) → (IsHeard v p before → ⊥) → (IsVotedFor p building → ⊥) ⊎ (IsGiven p building → ⊥) → IsHeard v p later → ⊥
+      (v : ℕ) (p : Proposal D) → (IsHeardOf v p before → ⊥) → (IsVotedFor p building → ⊥) ⊎ (IsGiven p building → ⊥) → IsHeardOf v p later → ⊥
 
 module _ (K : Type 0) {L D : Type 0} (same : D → D → Bool) (elect : Elect L) where
   -- where a network goes on to finalize, the later one keeps the premises of agreement, its members are the same ones, and the

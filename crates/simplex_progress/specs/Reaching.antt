@@ -29,17 +29,17 @@ abbrev pub judged_of : {K L D : Type 0} → Execution K L D → List (Bool × Pr
 judged_of s = judged_in s.replies
 
 -- a view of this epoch
-abbrev pub IsIn : ℕ → ℕ → Round → Type 0
-IsIn epoch view round = (round.view ≡ view) × (round.epoch ≡ epoch)
+abbrev pub IsInEpoch : ℕ → ℕ → Round → Type 0
+IsInEpoch epoch view round = (round.view ≡ view) × (round.epoch ≡ epoch)
 
 module _ {D : Type 0} where
   -- a finalization of the view was accepted
   abbrev pub HasFinalized : ℕ → List (TraceEvent D) → ℕ → Type 0
-  HasFinalized epoch trace view = (p : Proposal D) × Contains trace (Accepts (subject.Finalize p)) × IsIn epoch view p.round
+  HasFinalized epoch trace view = (p : Proposal D) × Contains trace (Accepts (subject.Finalize p)) × IsInEpoch epoch view p.round
 
   -- this verdict was told on a proposal of the view
   abbrev pub HasJudged : Bool → ℕ → List (Bool × Proposal D) → ℕ → Type 0
-  HasJudged success epoch verdicts view = (p : Proposal D) × Contains verdicts (success, p) × IsIn epoch view p.round
+  HasJudged success epoch verdicts view = (p : Proposal D) × Contains verdicts (success, p) × IsInEpoch epoch view p.round
 
   -- a proposal of the view was certified
   abbrev pub HasCertified : ℕ → List (Bool × Proposal D) → ℕ → Type 0
@@ -47,7 +47,7 @@ module _ {D : Type 0} where
 
   -- a nullification of the view was accepted
   abbrev pub HasNullified : ℕ → List (TraceEvent D) → ℕ → Type 0
-  HasNullified epoch trace view = (round : Round) × Contains trace (Accepts (subject.Nullify round)) × IsIn epoch view round
+  HasNullified epoch trace view = (round : Round) × Contains trace (Accepts (subject.Nullify round)) × IsInEpoch epoch view round
 
 -- a view is the first one, or lies just above one that was finalized or certified, or begins the term after one that was nullified
 pub data IsLedTo {D : Type 0} (term_length epoch : ℕ) (trace : List (TraceEvent D)) (verdicts : List (Bool × Proposal D)) (view : ℕ) : Type 0 where

@@ -1,4 +1,3 @@
 -- Transcripts as executions of members, and as the calls of a resolver.
-pub mod Growing
 pub mod VoterExecutions
 pub mod ResolverFetches

@@ -19,8 +19,8 @@ use Rattle.simplex_program.specs.ResolverLine.{line_words}
 use Rattle.simplex_program.specs.ResolverText.{resolver_reply_text}
 use Rattle.simplex_program.specs.Transcript.{Asked, Member, Resolver, Point, AreAnswered, Replies, reply_line}
 use Rattle.simplex_program.specs.Words.{words_in}
+use Rattle.simplex_program.proofs.Serving.{nothing_appended, appended}
 use Rattle.simplex_transcripts.specs.ResolverFetches.{ResolverTurn, answered_by, made_in, made_by, AreResolverLines, resolver_replies, ResolverTranscriptsKeepFetches}
-use Rattle.simplex_transcripts.proofs.Growing.{nothing_appended, more_appended}
 
 abbrev of_parts : ResolverFacts → List ℕ → LawfulResolverFacts
 of_parts x fetching = record { state = x; open_fetches = fetching }
@@ -93,13 +93,13 @@ one_more : (t : ℕ) (calls : List Call) (line : List ℕ) (lines : List (List �
     → Appends p.held r.held (reply_line (resolver_reply_text turn.answer))
     → FetchesFrom t (made_in turn.line turn.answer ++ calls) lines r q
     → FetchesFrom t calls (line ∷ lines) p q
-one_more t calls line lines p r q turn words appended s = record {
+one_more t calls line lines p r q turn words extended s = record {
   turns = turn ∷ s.turns;
   end = s.end;
   fetching = s.fetching;
   left = s.left;
   spelled = (words, s.spelled);
-  written = more_appended p.held r.held q.held (reply_line (resolver_reply_text turn.answer)) (resolver_replies s.turns) appended s.written;
+  written = appended p.held r.held q.held (reply_line (resolver_reply_text turn.answer)) (resolver_replies s.turns) extended s.written;
   told = subst (λ (all : List Call). HasBeenTold t all (of_parts s.end s.fetching)) (sym (append_assoc (made_by s.turns) (made_in turn.line turn.answer) calls)) s.told;
 }
 
@@ -113,7 +113,7 @@ fetches_from t calls [] p q x fetching asked told same = record {
   written = subst (λ (r : Point). Appends p.held r.held []) same (nothing_appended p.held);
   told = told;
 }
-fetches_from t calls (line ∷ lines) p q x fetching asked told (r, (reply, (next, replied), appended), rest) = by_asked r.asked refl (λ more y left is told_so. fetches_from t more lines r q y left is told_so rest)
+fetches_from t calls (line ∷ lines) p q x fetching asked told (r, (reply, (next, replied), extended), rest) = by_asked r.asked refl (λ more y left is told_so. fetches_from t more lines r q y left is told_so rest)
   where
     given : (a : Asked) → r.asked ≡ a → Replies (Resolver x fetching) (without_feed line) reply a
     given a is = subst (λ b. Replies b (without_feed line) reply a) asked (subst (λ b. Replies p.asked (without_feed line) reply b) is replied)
@@ -121,7 +121,7 @@ fetches_from t calls (line ∷ lines) p q x fetching asked told (r, (reply, (nex
     by_parts : (y : ResolverFacts) (left : List ℕ) → r.asked ≡ Resolver y left → Replies (Resolver x fetching) (without_feed line) reply (Resolver y left) → ((more : List Call) (z : ResolverFacts) (views : List ℕ) → r.asked ≡ Resolver z views → HasBeenTold t more (of_parts z views) → FetchesFrom t more lines r q) → FetchesFrom t calls (line ∷ lines) p q
     by_parts y left is (rline, a, words, answers, text) later =
         one_more t calls line lines p r q (record { line = rline; answer = a }) words
-        (subst (λ bytes. Appends p.held r.held bytes) text appended)
+        (subst (λ bytes. Appends p.held r.held bytes) text extended)
         (later (made_in rline a ++ calls) y left is (of_line t calls x y fetching left told rline a answers))
 
     by_asked : (a : Asked) → r.asked ≡ a → ((more : List Call) (z : ResolverFacts) (views : List ℕ) → r.asked ≡ Resolver z views → HasBeenTold t more (of_parts z views) → FetchesFrom t more lines r q) → FetchesFrom t calls (line ∷ lines) p q

@@ -15,6 +15,7 @@ use Rattle.simplex_member.specs.Runs.{Calls, Restarts, restart_told, IsStep, IsR
 use Rattle.simplex_record.specs.Start.{StartFacts, new_state}
 use Rattle.simplex_laws.specs.Lawful.{IsLawful}
 use Rattle.simplex_laws.specs.Executions.{new_member, BeginsAs, IsExecution, trace_of}
+use Rattle.simplex_laws.specs.PlainNetwork.{PlainExecution}
 use Rattle.simplex_laws.proofs.records.RunsLawful.{execution_lawful}
 use Rattle.simplex_laws.proofs.lists.Splits.{Contains-cases}
 use Rattle.simplex_program.specs.declared.network.Network.{Network}
@@ -31,8 +32,8 @@ use Rattle.simplex_program.specs.Voter.{VoterAnswers, IsReplied, IsRestarted, Is
 use Rattle.simplex_program.specs.VoterLine.{voter_words}
 use Rattle.simplex_program.specs.VoterText.{voter_reply_words}
 use Rattle.simplex_program.specs.Words.{words_in}
-use Rattle.simplex_transcripts.specs.VoterExecutions.{PlainStep, PlainTold, PlainExecution, VoterTurn, IsStepOf, Tells, only_shows, AreSteps, AreVoterLines, voter_replies, IsTranscribed, IsLawfulOf, VoterTranscriptsAreLawful, restart_in}
-use Rattle.simplex_transcripts.proofs.Growing.{nothing_appended, more_appended}
+use Rattle.simplex_program.proofs.Serving.{nothing_appended, appended}
+use Rattle.simplex_transcripts.specs.VoterExecutions.{PlainStep, PlainTold, VoterTurn, IsStepOf, TellsAnswer, only_shows, AreSteps, AreVoterLines, voter_replies, IsTranscribed, IsLawfulOf, VoterTranscriptsAreLawful, restart_in}
 
 false≢true : false ≡ true → ⊥
 false≢true e = absurd (cc)
@@ -43,7 +44,7 @@ false≢true e = absurd (cc)
 abbrev IsTurnOf : Network → PlainMember → VoterTurn → PlainMember → Type 0
 IsTurnOf n m turn left =
     ((only_shows turn.line ≡ true) × (left ≡ m))
-    ⊎ ((step : PlainStep) × (t : PlainTold) × IsStepOf n turn.line step × Tells turn.answer t × IsStep same_payload plain_leader m step t left)
+    ⊎ ((step : PlainStep) × (t : PlainTold) × IsStepOf n turn.line step × TellsAnswer turn.answer t × IsStep same_payload plain_leader m step t left)
 
 module _ (n : Network) (m left : PlainMember) where
   called : (line : VoterLine) (call : PlainCall) (a : VoterAnswer) → StandsFor line call → IsReplied m call a left → IsTurnOf n m (record { line = line; answer = a }) left
@@ -110,23 +111,23 @@ record ExecutionFrom (n : Network) (m : PlainMember) (lines : List (List ℕ)) (
 
 module _ (n : Network) (m left : PlainMember) (line : List ℕ) (lines : List (List ℕ)) (p r q : Point) (turn : VoterTurn) where
   one_more : words_in (without_feed line) ≡ voter_words turn.line → Appends p.held r.held (reply_line (text_of (voter_reply_words turn.answer))) → IsTurnOf n m turn left → ExecutionFrom n left lines r q → ExecutionFrom n m (line ∷ lines) p q
-  one_more words appended (inl (shows, same)) s = record {
+  one_more words extended (inl (shows, same)) s = record {
     turns = turn ∷ s.turns;
     steps = s.steps;
     replies = s.replies;
     end = s.end;
     spelled = (words, s.spelled);
-    written = more_appended p.held r.held q.held (reply_line (text_of (voter_reply_words turn.answer))) (voter_replies s.turns) appended s.written;
+    written = appended p.held r.held q.held (reply_line (text_of (voter_reply_words turn.answer))) (voter_replies s.turns) extended s.written;
     taken = inl (shows, s.taken);
     run = subst (λ l. IsRun same_payload plain_leader l s.steps s.replies s.end) same s.run;
   }
-  one_more words appended (inr (step, t, is, tells, stepped)) s = record {
+  one_more words extended (inr (step, t, is, tells, stepped)) s = record {
     turns = turn ∷ s.turns;
     steps = step ∷ s.steps;
     replies = t ∷ s.replies;
     end = s.end;
     spelled = (words, s.spelled);
-    written = more_appended p.held r.held q.held (reply_line (text_of (voter_reply_words turn.answer))) (voter_replies s.turns) appended s.written;
+    written = appended p.held r.held q.held (reply_line (text_of (voter_reply_words turn.answer))) (voter_replies s.turns) extended s.written;
     taken = inr (step, t, s.steps, s.replies, refl, refl, is, tells, s.taken);
     run = (left, stepped, s.run);
   }
@@ -142,7 +143,7 @@ execution_from n [] p q m asked same = record {
   taken = (refl, refl);
   run = refl;
 }
-execution_from n (line ∷ lines) p q m asked (r, (reply, (next, replied), appended), rest) = by_asked r.asked refl (λ left is. execution_from n lines r q left is rest)
+execution_from n (line ∷ lines) p q m asked (r, (reply, (next, replied), extended), rest) = by_asked r.asked refl (λ left is. execution_from n lines r q left is rest)
   where
     given : (a : Asked) → r.asked ≡ a → Replies (Member n m) (without_feed line) reply a
     given a is = subst (λ b. Replies b (without_feed line) reply a) asked (subst (λ b. Replies p.asked (without_feed line) reply b) is replied)
@@ -150,7 +151,7 @@ execution_from n (line ∷ lines) p q m asked (r, (reply, (next, replied), appen
     by_parts : (o : Network) (left : PlainMember) → ExecutionFrom n left lines r q → Replies (Member n m) (without_feed line) reply (Member o left) → ExecutionFrom n m (line ∷ lines) p q
     by_parts o left later (vline, a, words, answers, same, text) =
         one_more n m left line lines p r q (record { line = vline; answer = a }) words
-        (subst (λ bytes. Appends p.held r.held bytes) text appended)
+        (subst (λ bytes. Appends p.held r.held bytes) text extended)
         (turn_of n m left vline a answers)
         later
 

@@ -65,7 +65,7 @@ pub record KeepsFetches (term_length : ℕ) (calls : List Call) (r : LawfulResol
   pub answers : AnswersTheTold r term_length calls
 
 -- the lines, and the replies that a writer holds besides, tell a resolver these calls, and leave it so
-pub record IsTranscribed (term_length : ℕ) (lines : List (List ℕ)) (old new : Option (List ℕ)) (r : LawfulResolverFacts) : Type 0 where
+pub record IsResolverTranscribed (term_length : ℕ) (lines : List (List ℕ)) (old new : Option (List ℕ)) (r : LawfulResolverFacts) : Type 0 where
   pub turns : List ResolverTurn
   pub spelled : AreResolverLines lines turns
   pub written : Appends old new (resolver_replies turns)
@@ -78,7 +78,7 @@ pub record IsServedBy (term_length : ℕ) (held : Option (List ℕ)) (r : Result
   pub lines : List (List ℕ)
   pub last : Point
   pub asked : last.asked ≡ Asks left.state left.open_fetches
-  pub transcribed : IsTranscribed term_length lines held last.held left
+  pub transcribed : IsResolverTranscribed term_length lines held last.held left
   pub ended : Ends last (length lines + 1) r after
 
 -- whatever a resolver's lines are, and however serving ends

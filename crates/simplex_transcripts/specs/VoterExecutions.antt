@@ -8,7 +8,8 @@ use Rattle.simplex_member.specs.Calls.{Told, told}
 use Rattle.simplex_member.specs.Restarts.{RestartFacts}
 use Rattle.simplex_member.specs.Runs.{StepFacts, Calls, Prunes, Restarts, restart_told}
 use Rattle.simplex_laws.specs.Lawful.{IsLawful}
-use Rattle.simplex_laws.specs.Executions.{Execution, trace_of, IsExecution}
+use Rattle.simplex_laws.specs.Executions.{trace_of, IsExecution}
+use Rattle.simplex_laws.specs.PlainNetwork.{PlainExecution}
 use Rattle.simplex_program.specs.declared.mode.Mode.TheVariants.{Voter}
 use Rattle.simplex_program.specs.declared.network.Network.{Network}
 use Rattle.simplex_program.specs.declared.serve_error.ServeError.{ServeError}
@@ -38,10 +39,6 @@ PlainStep = StepFacts PlainKey PlainElector PlainDigest
 abbrev pub PlainTold : Type 0
 PlainTold = Told PlainKey PlainDigest
 
--- its execution
-abbrev pub PlainExecution : Type 0
-PlainExecution = Execution PlainKey PlainElector PlainDigest
-
 -- a line with its answer
 pub record VoterTurn : Type 0 where
   pub line : VoterLine
@@ -54,21 +51,21 @@ restart_in (RestartPruned drop now) = Some (drop, now, true)
 restart_in _ = None
 
 -- a restart of the network's member at genesis, as a line asks for it
-abbrev pub IsRestartOf : Network → VoterLine → RestartFacts PlainKey PlainElector PlainDigest → Type 0
-IsRestartOf n line r =
+abbrev pub IsRestartAsked : Network → VoterLine → RestartFacts PlainKey PlainElector PlainDigest → Type 0
+IsRestartAsked n line r =
     MatchOption (restart_in line) ⊥ (λ asked. IsGenesisStart n asked.1 r.start × (r.drop ≡ asked.0) × (r.prune ≡ asked.2))
 
 -- the step that a line stands for; no line prunes the record within a life
 abbrev pub IsStepOf : Network → VoterLine → PlainStep → Type 0
 IsStepOf n line (Calls call) = StandsFor line call
 IsStepOf n line Prunes = ⊥
-IsStepOf n line (Restarts r) = IsRestartOf n line r
+IsStepOf n line (Restarts r) = IsRestartAsked n line r
 
 -- it is told what the line is answered
-abbrev pub Tells : VoterAnswer → PlainTold → Type 0
-Tells (answer.Reply reply) t = t ≡ told plain_bytes reply
-Tells (answer.Restarted result) t = t ≡ restart_told result
-Tells _ t = ⊥
+abbrev pub TellsAnswer : VoterAnswer → PlainTold → Type 0
+TellsAnswer (answer.Reply reply) t = t ≡ told plain_bytes reply
+TellsAnswer (answer.Restarted result) t = t ≡ restart_told result
+TellsAnswer _ t = ⊥
 
 -- a line that only shows something is no step
 abbrev pub only_shows : VoterLine → Bool
@@ -83,7 +80,7 @@ AreSteps n (turn ∷ turns) steps replies =
     ((only_shows turn.line ≡ true) × AreSteps n turns steps replies)
     ⊎ ((step : PlainStep) × (t : PlainTold) × (rest : List PlainStep) × (others : List PlainTold)
     × (steps ≡ step ∷ rest) × (replies ≡ t ∷ others)
-    × IsStepOf n turn.line step × Tells turn.answer t × AreSteps n turns rest others)
+    × IsStepOf n turn.line step × TellsAnswer turn.answer t × AreSteps n turns rest others)
 
 -- the bytes of each line have the words of its turn
 abbrev pub AreVoterLines : List (List ℕ) → List VoterTurn → Type 0

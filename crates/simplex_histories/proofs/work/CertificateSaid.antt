@@ -7,14 +7,14 @@ use Rattle.simplex_round.specs.declared.round.Certification.{Certification}
 use Rattle.simplex_voter.specs.Facts.{StateFacts, Elect}
 use Rattle.simplex_member.specs.OutstandingWork.{is_among}
 use Rattle.simplex_record.specs.Events.{Event}
-use Rattle.simplex_histories.specs.Leading.{leader_by_event, tracks}
+use Rattle.simplex_histories.specs.Leading.{leader_by_event, comes_to_track}
 use Rattle.simplex_histories.specs.OwnWork.{decides_nullify, decides_finalize}
-use Rattle.simplex_histories.specs.Requested.{names, certifies, verifies, asks_to_build, asks_to_verify, asks_for, binds}
+use Rattle.simplex_histories.specs.Requested.{names, sets_certification, sets_verified, asks_to_build, asks_to_verify, asks_for, binds}
 use Rattle.simplex_histories.specs.HistoryFolds.{or_new}
 use Rattle.simplex_histories.specs.Timing.{enters, proposes, latches, retries}
 use Rattle.simplex_histories.proofs.work.Certificates.{with_settled, with_certification}
 use Rattle.simplex_histories.proofs.work.SetUp.{UnchangedSetUp}
-use Rattle.simplex_histories.proofs.work.Leaders.{with_leader, with_entry}
+use Rattle.simplex_histories.proofs.work.Leaders.{with_leader, work_entered_at}
 use Rattle.simplex_histories.proofs.Worked.{Worked, work_of, timed, adds_work, WorkFollows}
 
 -- what a certificate says of a view
@@ -32,17 +32,17 @@ pub record SaidOfView (K : Type 0) : Type 0 where
   pub inherited : Option (Leader K)
 
 abbrev pub with_said : {K L D : Type 0} → StateFacts K L D → SaidOfView K → Worked K D → Worked K D
-with_said x s k = with_leader s.opened s.inherited (with_settled s.here s.overruled (with_leader s.next s.chosen (with_entry x s.entry (with_certification s.from k))))
+with_said x s k = with_leader s.opened s.inherited (with_settled s.here s.overruled (with_leader s.next s.chosen (work_entered_at x s.entry (with_certification s.from k))))
 
 -- this is what the event says of the view
 pub record Says {K L D : Type 0} (same : D → D → Bool) (elect : Elect L) (x : StateFacts K L D) (e : Event K D) (v : ℕ) (s : SaidOfView K) : Type 0 where
   pub entered : enters v x e ≡ s.entry
-  pub tracked : tracks same elect v x e ≡ (s.here || s.next || s.opened)
+  pub tracked : comes_to_track same elect v x e ≡ (s.here || s.next || s.opened)
   pub led : leader_by_event same elect v x e ≡ option_or s.chosen s.inherited
-  pub verified : verifies same elect v x e ≡ (if s.overruled then Some false else None)
+  pub verified : sets_verified same elect v x e ≡ (if s.overruled then Some false else None)
   pub build : asks_to_build same elect v x e ≡ (if s.overruled then Some true else None)
   pub verify : asks_to_verify same elect v x e ≡ s.overruled
-  pub certified : certifies v x e ≡ s.from
+  pub certified : sets_certification v x e ≡ s.from
   pub proposed : proposes same elect v x e ≡ None
   pub latched : latches same elect v x e ≡ None
   pub retried : retries v x e ≡ None

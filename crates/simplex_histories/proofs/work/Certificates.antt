@@ -17,7 +17,7 @@ use Rattle.simplex_voter.specs.Certification.{without_token, with_finalized_view
 use Rattle.simplex_voter.proofs.Walked.{find-changed}
 use Rattle.simplex_member.specs.OutstandingWork.{is_among}
 use Rattle.simplex_histories.specs.OwnWork.{contradicts}
-use Rattle.simplex_histories.specs.Requested.{ends}
+use Rattle.simplex_histories.specs.Requested.{ends_certification}
 use Rattle.simplex_histories.proofs.Worked.{Worked, work_in, work_of, work_put, work_elsewhere}
 
 -- with a certificate of the view, which overrules what was held or not
@@ -114,7 +114,7 @@ token_work tracked r = by_certification r.certification
     by_certification Aborted = refl
 
 module _ {K L D : Type 0} (x : StateFacts K L D) (u : ℕ) where
-  pub raised_work : (v : ℕ) → work_of (with_finalized_view x u) v ≡ with_certification (ends v x u) (work_of x v)
+  pub raised_work : (v : ℕ) → work_of (with_finalized_view x u) v ≡ with_certification (ends_certification v x u) (work_of x v)
   raised_work v = by_above (nat_lt x.finalized u) refl
     where
       -- what is found of a view, as if it were this
@@ -127,7 +127,7 @@ module _ {K L D : Type 0} (x : StateFacts K L D) (u : ℕ) where
       ended (Some r) true = token_work true r
       ended (Some r) false = refl
 
-      by_above : (b : Bool) → nat_lt x.finalized u ≡ b → work_of (with_finalized_view x u) v ≡ with_certification (ends v x u) (work_of x v)
+      by_above : (b : Bool) → nat_lt x.finalized u ≡ b → work_of (with_finalized_view x u) v ≡ with_certification (ends_certification v x u) (work_of x v)
       by_above true is = rw is (ap found (find-changed (λ w r. if nat_le w u then without_token r else r) v x.rounds) ∙ ended (round_at x v) (nat_le v u))
       by_above false is = rw is refl
 

@@ -16,11 +16,11 @@ use Rattle.simplex_histories.proofs.work.Certificates.{with_settled, with_certif
 use Rattle.simplex_histories.proofs.work.Windows.{SameLeaders, window_alike, slid_work}
 use Rattle.simplex_histories.proofs.work.CertificateSaid.{SaidOfView, with_said}
 use Rattle.simplex_histories.proofs.work.SetUp.{UnchangedSetUp, entered_steady, elected_steady}
-use Rattle.simplex_histories.proofs.work.Leaders.{with_leader, with_entry, entry_at, elected_work, entered_work}
+use Rattle.simplex_histories.proofs.work.Leaders.{with_leader, work_entered_at, entry_at, elected_work, entered_work}
 use Rattle.simplex_histories.proofs.Worked.{Worked, work_of, untimed}
 
 module _ {K L D : Type 0} where
-  pub without_entry : (x : StateFacts K L D) (k : Worked K D) → k ≡ with_entry x None k
+  pub without_entry : (x : StateFacts K L D) (k : Worked K D) → k ≡ work_entered_at x None k
   without_entry x k = λ i. record k { decision = sym (untimed x.settings k.decision) i }
 
   -- the first certificate of its kind opens windows; d is what the leaders were taken from
@@ -45,8 +45,8 @@ module _ {K L D : Type 0} where
       either false = refl
 
   -- an entry of the view w, where nothing that it depends on has changed
-  pub entered_said : (x b : StateFacts K L D) (w now v : ℕ) → UnchangedSetUp x b → b.current ≡ x.current → work_of (with_view_entered b w now) v ≡ with_entry x (entry_at x w now v) (work_of b v)
-  entered_said x b w now v steady current = entered_work b w now v ∙ (λ i. with_entry (steady i) (if eqb v w && nat_lt (current i) v then Some now else None) (work_of b v))
+  pub entered_said : (x b : StateFacts K L D) (w now v : ℕ) → UnchangedSetUp x b → b.current ≡ x.current → work_of (with_view_entered b w now) v ≡ work_entered_at x (entry_at x w now v) (work_of b v)
+  entered_said x b w now v steady current = entered_work b w now v ∙ (λ i. work_entered_at (steady i) (if eqb v w && nat_lt (current i) v then Some now else None) (work_of b v))
 
   pub entered_named : (x : StateFacts K L D) (w now : ℕ) → (with_view_entered x w now).named ≡ x.named
   entered_named x w now = either (nat_lt x.current w) _ refl
@@ -71,8 +71,8 @@ module _ {K L D : Type 0} (same : D → D → Bool) (elect : Elect L) (x : State
 
   -- e is what it makes of the facts before it elects
 
-  module _ (e : StateFacts K L D) (entry : ℕ → Option ℕ) (from : ℕ → Option Certification) (steady : UnchangedSetUp x e) (before : (v : ℕ) → work_of e v ≡ with_entry x (entry v) (with_certification (from v) (work_of x v))) where
-    elected_said : (v : ℕ) → work_of (with_elected_leader elect e (c.proposal.round.view + 1) (Some c.bytes)) v ≡ with_leader (eqb v (c.proposal.round.view + 1)) (elected_leader elect x v (c.proposal.round.view + 1) (Some c.bytes)) (with_entry x (entry v) (with_certification (from v) (work_of x v)))
+  module _ (e : StateFacts K L D) (entry : ℕ → Option ℕ) (from : ℕ → Option Certification) (steady : UnchangedSetUp x e) (before : (v : ℕ) → work_of e v ≡ work_entered_at x (entry v) (with_certification (from v) (work_of x v))) where
+    elected_said : (v : ℕ) → work_of (with_elected_leader elect e (c.proposal.round.view + 1) (Some c.bytes)) v ≡ with_leader (eqb v (c.proposal.round.view + 1)) (elected_leader elect x v (c.proposal.round.view + 1) (Some c.bytes)) (work_entered_at x (entry v) (with_certification (from v) (work_of x v)))
     elected_said v =
         let next = c.proposal.round.view + 1 in
         elected_work elect e next (Some c.bytes) v ∙ (λ i. with_leader (eqb v next) (elected_leader elect (steady i) v next (Some c.bytes)) (before v i))
@@ -121,4 +121,4 @@ module _ {K L D : Type 0} (elect : Elect L) (x : StateFacts K L D) where
       let e = with_view_entered a w now in
       let stays : UnchangedSetUp x e = entered_steady a w now ∙ steady in
       elected_work elect e w seed v
-      ∙ (λ i. with_leader (eqb v w) (elected_leader elect (stays i) v w seed) ((entered_said x a w now v steady current ∙ ap (with_entry x (entry_at x w now v)) same_work) i))
+      ∙ (λ i. with_leader (eqb v w) (elected_leader elect (stays i) v w seed) ((entered_said x a w now v steady current ∙ ap (work_entered_at x (entry_at x w now v)) same_work) i))

@@ -18,15 +18,15 @@ use Rattle.simplex_member.specs.OutstandingWork.{is_among}
 use Rattle.simplex_record.specs.Events.{SetFloor, AddNotarization, AddNullification, AddFinalization}
 use Rattle.simplex_histories.specs.Leading.{elected_leader}
 use Rattle.simplex_histories.specs.OwnWork.{contradicts}
-use Rattle.simplex_histories.specs.Requested.{names, ends, wakes}
-use Rattle.simplex_histories.proofs.UnchangedHistories.{known_of, UnchangedKnown, UnchangedButNumbers, UnchangedHistory, leaves_joined, then_quiet, moment_leaves, entered_leaves, raised_leaves, elected_quiet}
+use Rattle.simplex_histories.specs.Requested.{names, ends_certification, wakes}
+use Rattle.simplex_histories.proofs.UnchangedHistories.{known_of_round, UnchangedKnown, UnchangedButNumbers, UnchangedHistory, leaves_joined, then_quiet, moment_leaves, entered_leaves, raised_leaves, elected_quiet}
 use Rattle.simplex_record.proofs.Seen.{option_or_none}
 use Rattle.simplex_histories.proofs.work.Certificates.{with_settled, with_certification, settled_by, notarized_work, nullified_work, finalized_work, raised_work, raised_among}
 use Rattle.simplex_histories.proofs.work.Elections.{without_entry, named_work, woken_work, entered_said, entered_named, proposal_said, proposal_work, entry_said, entry_work}
 use Rattle.simplex_histories.proofs.work.Windows.{slid_only}
 use Rattle.simplex_histories.proofs.work.CertificateSaid.{Says, said_follows}
 use Rattle.simplex_histories.proofs.work.SetUp.{UnchangedSetUp, steady_where, entered_steady, elected_steady, raised_steady, named_steady, woken_steady, slid_steady, wakings_steady}
-use Rattle.simplex_histories.proofs.work.Leaders.{OnlyRounds, with_entry, entry_at, elected_only}
+use Rattle.simplex_histories.proofs.work.Leaders.{OnlyRounds, work_entered_at, entry_at, elected_only}
 use Rattle.simplex_histories.proofs.work.Wakings.{named_among, waits_alike, woken_among}
 use Rattle.simplex_histories.proofs.Worked.{Worked, work_of, work_put, work_elsewhere, WorkFollows}
 
@@ -178,7 +178,7 @@ named_later true dropped old = refl
 named_later false dropped old = refl
 
 module _ {K L D : Type 0} (same : D → D → Bool) (elect : Elect L) (x : StateFacts K L D) (c : ProposalFacts D) (now : ℕ) where
-  finalization_says : (v : ℕ) → Says same elect x (AddFinalization c now) v (proposal_said same elect x c (is_none (round_of x c.proposal.round.view).finalization) (entry_at x (c.proposal.round.view + 1) now v) (ends v x c.proposal.round.view) v)
+  finalization_says : (v : ℕ) → Says same elect x (AddFinalization c now) v (proposal_said same elect x c (is_none (round_of x c.proposal.round.view).finalization) (entry_at x (c.proposal.round.view + 1) now v) (ends_certification v x c.proposal.round.view) v)
   finalization_says v =
       let settled = settled_by c (is_none (round_of x c.proposal.round.view).finalization) v in
       record {
@@ -200,8 +200,8 @@ module _ {K L D : Type 0} (same : D → D → Bool) (elect : Elect L) (x : State
 
   pub finalization_works : WorkFollows same elect (AddFinalization c now) x (after_add_finalization same elect x c now)
   finalization_works =
-      said_follows same elect x (AddFinalization c now) (after_add_finalization same elect x c now) (λ v. proposal_said same elect x c (is_none standing) (entry_at x (u + 1) now v) (ends v x u) v) steady waiting finalization_says
-      (λ v. proposal_work same elect x c e (entry_at x (u + 1) now) (λ w. ends w x u) entering before standing z (with_waiting_candidate elect z u) (woken_steady elect z u ∙ kept) settled (λ w. woken_work elect z u w) v)
+      said_follows same elect x (AddFinalization c now) (after_add_finalization same elect x c now) (λ v. proposal_said same elect x c (is_none standing) (entry_at x (u + 1) now v) (ends_certification v x u) v) steady waiting finalization_says
+      (λ v. proposal_work same elect x c e (entry_at x (u + 1) now) (λ w. ends_certification w x u) entering before standing z (with_waiting_candidate elect z u) (woken_steady elect z u ∙ kept) settled (λ w. woken_work elect z u w) v)
     where
       u : ℕ
       u = c.proposal.round.view
@@ -241,8 +241,8 @@ module _ {K L D : Type 0} (same : D → D → Bool) (elect : Elect L) (x : State
           (leaves_joined now x.current (max x.finalized u) b.moment (max b.current (u + 1)) b.finalized x b e raising (entered_leaves b (u + 1) now))
           (elected_quiet elect e (u + 1) (Some c.bytes))
 
-      before : (v : ℕ) → work_of e v ≡ with_entry x (entry_at x (u + 1) now v) (with_certification (ends v x u) (work_of x v))
-      before v = entered_said x b (u + 1) now v (raised_steady a u) raising.current_is ∙ ap (with_entry x (entry_at x (u + 1) now v)) (raised_work a u v)
+      before : (v : ℕ) → work_of e v ≡ work_entered_at x (entry_at x (u + 1) now v) (with_certification (ends_certification v x u) (work_of x v))
+      before v = entered_said x b (u + 1) now v (raised_steady a u) raising.current_is ∙ ap (work_entered_at x (entry_at x (u + 1) now v)) (raised_work a u v)
 
       settled : (v : ℕ) → work_of z v ≡ with_settled (eqb v u) (contradicts same (round_of x v).slot.held (settled_by c (is_none standing) v)) (work_of d v)
       settled v =
@@ -259,7 +259,7 @@ module _ {K L D : Type 0} (same : D → D → Bool) (elect : Elect L) (x : State
           finalized = known.finalized_is ∙ raising.finalized_is
 
           untouched : UnchangedKnown (round_of x (u + 1)) (round_of z (u + 1))
-          untouched = ap known_of (round_of-with_round d (u + 1) u (λ same_view. omega (arith, same_view)) (with_finalization (same_proposal same) (round_of d u) c)) ∙ known.rounds (u + 1)
+          untouched = ap known_of_round (round_of-with_round d (u + 1) u (λ same_view. omega (arith, same_view)) (with_finalization (same_proposal same) (round_of d u) c)) ∙ known.rounds (u + 1)
 
           by_view : ((v ≡ u + 1) ⊎ (v ≡ u + 1 → ⊥)) → wakes elect z z.finalized u v ≡ wakes elect x (max x.finalized u) u v
           by_view (inl here) = rw here (λ i. eqb (u + 1) (u + 1) && nat_lt (finalized i) (u + 1) && waits_alike elect x z u (wakings_steady x z kept) untouched i)

@@ -29,8 +29,8 @@ abbrev pub with_leader : {K D : Type 0} → Bool → Option (Leader K) → Worke
 with_leader tracks leader k = record k { tracked = tracks || k.tracked; leader = or_new k.leader leader }
 
 -- with an entry at a moment
-abbrev pub with_entry : {K L D : Type 0} → StateFacts K L D → Option ℕ → Worked K D → Worked K D
-with_entry x entry k = record k {
+abbrev pub work_entered_at : {K L D : Type 0} → StateFacts K L D → Option ℕ → Worked K D → Worked K D
+work_entered_at x entry k = record k {
   tracked = is_some entry || k.tracked;
   entered_at = or_new k.entered_at entry;
   decision = timed x.settings entry None None k.decision;
@@ -116,27 +116,27 @@ module _ {K L D : Type 0} where
       by_leader (Some l) = led_work x to l.idx w ∙ with_own (eqb w to) l
 
   -- entries
-  pub entered_work : (x : StateFacts K L D) (v now w : ℕ) → work_of (with_view_entered x v now) w ≡ with_entry x (entry_at x v now w) (work_of x w)
+  pub entered_work : (x : StateFacts K L D) (v now w : ℕ) → work_of (with_view_entered x v now) w ≡ work_entered_at x (entry_at x v now w) (work_of x w)
   entered_work x v now w = by_view (cases_eq w v)
     where
       r : RoundFacts K D
       r = entered_round x (round_of x v) now
 
-      quiet : work_of x w ≡ with_entry x None (work_of x w)
+      quiet : work_of x w ≡ work_entered_at x None (work_of x w)
       quiet = λ i. record (work_of x w) { decision = sym (untimed x.settings (round_of x w).decision) i }
 
       elsewhere : eqb w v ≡ false → (b : Bool) → nat_lt x.current v ≡ b → work_of (with_view_entered x v now) w ≡ work_of x w
       elsewhere apart true is = rw is (work_elsewhere x v w r apart)
       elsewhere apart false is = rw is refl
 
-      at_view : (b : Bool) → nat_lt x.current v ≡ b → work_of (with_view_entered x v now) v ≡ with_entry x (if nat_lt x.current v then Some now else None) (work_of x v)
+      at_view : (b : Bool) → nat_lt x.current v ≡ b → work_of (with_view_entered x v now) v ≡ work_entered_at x (if nat_lt x.current v then Some now else None) (work_of x v)
       at_view true is = rw is (work_put x v r ∙ (λ i. record (work_in true r) {
         entered_at = first_or_new (round_of x v).entered_at now i;
         decision = armed_timed x.settings now (round_of x v).decision i;
       }))
       at_view false is = rw is (λ i. record (work_of x v) { decision = sym (untimed x.settings (round_of x v).decision) i })
 
-      by_view : ((w ≡ v) ⊎ (w ≡ v → ⊥)) → work_of (with_view_entered x v now) w ≡ with_entry x (entry_at x v now w) (work_of x w)
+      by_view : ((w ≡ v) ⊎ (w ≡ v → ⊥)) → work_of (with_view_entered x v now) w ≡ work_entered_at x (entry_at x v now w) (work_of x w)
       by_view (inl here) = rw (here, eq-eqb v v refl) (at_view (nat_lt x.current v) refl)
       by_view (inr apart) = rw (ne_eqb w v apart) (elsewhere (ne_eqb w v apart) (nat_lt x.current v) refl ∙ quiet)
 

@@ -12,7 +12,7 @@ use Rattle.simplex_histories.specs.Requested.{names, is_at}
 use Rattle.simplex_histories.specs.HistoryFolds.{entered_by}
 use Rattle.simplex_histories.specs.Timing.{enters}
 use Rattle.simplex_histories.proofs.Following.{left_from}
-use Rattle.simplex_histories.proofs.Worked.{work_in, work_of, adds_work, WorkFollows, IsIdle, work_put, work_elsewhere}
+use Rattle.simplex_histories.proofs.Worked.{work_in, work_of, adds_work, WorkFollows, SaysNoWork, work_put, work_elsewhere}
 
 -- what the work on all views shares
 pub record Shared (K L : Type 0) : Type 0 where
@@ -66,11 +66,11 @@ module _ {K L D : Type 0} (same : D → D → Bool) (elect : Elect L) (x : State
   }
 
   -- an event that says nothing of the work
-  pub idle_follows : (y : StateFacts K L D) → shared_of y ≡ shared_of x → ((v : ℕ) → left_from x e ≤ v → work_of y v ≡ work_of x v) → ((v : ℕ) → IsIdle same elect x e v) → WorkFollows same elect e x y
+  pub idle_follows : (y : StateFacts K L D) → shared_of y ≡ shared_of x → ((v : ℕ) → left_from x e ≤ v → work_of y v ≡ work_of x v) → ((v : ℕ) → SaysNoWork same elect x e v) → WorkFollows same elect e x y
   idle_follows y shared stays idle = shared_follows y shared (λ v left. stays v left ∙ sym (idle v (work_of x v)))
 
   -- an event of one view, which puts another round there where the view is tracked
-  pub tracked_follows : (now v : ℕ) (r : RoundFacts K D) → (is_tracked x v ≡ true → work_in true r ≡ adds_work same elect x e v (work_in true (round_of x v))) → ((w : ℕ) → is_at x w v ≡ false → IsIdle same elect x e w) → WorkFollows same elect e x (with_tracked (at_moment x now) v r)
+  pub tracked_follows : (now v : ℕ) (r : RoundFacts K D) → (is_tracked x v ≡ true → work_in true r ≡ adds_work same elect x e v (work_in true (round_of x v))) → ((w : ℕ) → is_at x w v ≡ false → SaysNoWork same elect x e w) → WorkFollows same elect e x (with_tracked (at_moment x now) v r)
   tracked_follows now v r said idle = shared_follows (with_tracked a v r) (shared_tracked a v r) (λ w _. work_tracked a v w r ∙ by_tracked w (is_tracked x v) refl)
     where
       a : StateFacts K L D

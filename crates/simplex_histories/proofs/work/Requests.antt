@@ -24,7 +24,7 @@ use Rattle.simplex_voter.proofs.Gaps.{and_parts}
 use Rattle.simplex_record.specs.Events.{Event, TryPropose, Proposed, Supersede, Release, Verified, CertifyCandidates, SetCertifyHandle, BroadcastNotarization, BroadcastNullification, BroadcastFinalization, Prune}
 use Rattle.simplex_histories.specs.Requested.{names, is_at}
 use Rattle.simplex_laws.proofs.votes.NullifyVotes.{tied}
-use Rattle.simplex_histories.proofs.Worked.{Worked, work_in, work_of, adds_work, WorkFollows, IsIdle, untimed}
+use Rattle.simplex_histories.proofs.Worked.{Worked, work_in, work_of, adds_work, WorkFollows, SaysNoWork, untimed}
 use Rattle.simplex_histories.proofs.work.Puts.{unentered, idle_follows, tracked_follows}
 
 -- requests for proposals
@@ -44,7 +44,7 @@ module _ {K L D : Type 0} (same : D → D → Bool) (elect : Elect L) (x : State
       said : is_tracked x v ≡ true → work_in true (record r { slot = build_requested requested r.slot }) ≡ adds_work same elect x e v (work_in true r)
       said tracked = rw (asks v (work_in true r), eq-eqb v v refl, tracked) refl
 
-      idle : (w : ℕ) → is_at x w v ≡ false → IsIdle same elect x e w
+      idle : (w : ℕ) → is_at x w v ≡ false → SaysNoWork same elect x e w
       idle w apart k = rw (asks w k, apart) refl
 
   pub release_works : (v : ℕ) → WorkFollows same elect (Release v) x (after_release x v)
@@ -119,7 +119,7 @@ module _ {K L D : Type 0} (same : D → D → Bool) (elect : Elect L) (x : State
           said : work_in true s ≡ adds_work same elect x e v (work_in true (round_of x v))
           said = rw (unentered x e v refl, untimed x.settings (round_of x v).decision, eq-eqb v v refl, is, held) refl
 
-          idle : (w : ℕ) → is_at x w v ≡ false → IsIdle same elect x e w
+          idle : (w : ℕ) → is_at x w v ≡ false → SaysNoWork same elect x e w
           idle w apart k =
               let other : eqb w v ≡ false = sym (and-true (eqb w v)) ∙ ap (λ b. eqb w v && b) (sym known) ∙ apart in
               rw (unentered x e w refl, untimed x.settings k.decision, other) refl
@@ -141,7 +141,7 @@ module _ {K L D : Type 0} (same : D → D → Bool) (elect : Elect L) (x : State
       r : RoundFacts K D
       r = round_of x v
 
-      idle : (w : ℕ) → is_at x w v ≡ false → IsIdle same elect x e w
+      idle : (w : ℕ) → is_at x w v ≡ false → SaysNoWork same elect x e w
       idle w apart k = rw (unentered x e w refl, untimed x.settings k.decision, apart) refl
 
       marked : verification_matches same elect x v ≡ true → is_tracked x v ≡ true → (b : Bool) → is_nullify r.decision ≡ b → work_in true (if b then r else record r { slot = after_mark r.slot }) ≡ adds_work same elect x e v (work_in true r)
@@ -169,7 +169,7 @@ module _ {K L D : Type 0} (same : D → D → Bool) (elect : Elect L) (x : State
       said : is_tracked x v ≡ true → work_in true s ≡ adds_work same elect x e v (work_in true (round_of x v))
       said tracked = rw (unentered x e v refl, untimed x.settings (round_of x v).decision, eq-eqb v v refl, tracked) refl
 
-      idle : (w : ℕ) → is_at x w v ≡ false → IsIdle same elect x e w
+      idle : (w : ℕ) → is_at x w v ≡ false → SaysNoWork same elect x e w
       idle w apart k = rw (unentered x e w refl, untimed x.settings k.decision, apart) refl
 
   -- no view waits for certification once the candidates were handed out
@@ -179,13 +179,13 @@ module _ {K L D : Type 0} (same : D → D → Bool) (elect : Elect L) (x : State
       e : Event K D
       e = CertifyCandidates
 
-      idle : (v : ℕ) → IsIdle same elect x e v
+      idle : (v : ℕ) → SaysNoWork same elect x e v
       idle v k = rw (unentered x e v refl, untimed x.settings k.decision) refl
 
   -- broadcasts
 
   -- an event that says nothing puts a round on which the work is the same
-  handed_works : (e : Event K D) (v : ℕ) (s : RoundFacts K D) → ((w : ℕ) → names elect w x e ≡ None) → work_in true s ≡ work_in true (round_of x v) → ((w : ℕ) → IsIdle same elect x e w) → WorkFollows same elect e x (with_tracked x v s)
+  handed_works : (e : Event K D) (v : ℕ) (s : RoundFacts K D) → ((w : ℕ) → names elect w x e ≡ None) → work_in true s ≡ work_in true (round_of x v) → ((w : ℕ) → SaysNoWork same elect x e w) → WorkFollows same elect e x (with_tracked x v s)
   handed_works e v s unnamed alike idle = tracked_follows same elect x e unnamed x.moment v s (λ tracked. alike ∙ sym (idle v (work_in true (round_of x v)))) (λ w apart. idle w)
 
   pub broadcast_notarization_works : (v : ℕ) → WorkFollows same elect (BroadcastNotarization v) x (after_broadcast_notarization x v)

@@ -10,12 +10,12 @@ use Rattle.simplex_histories.proofs.work.Wakings.{SetUpAlike}
 use Rattle.simplex_histories.proofs.work.Leaders.{OnlyRounds, elected_only}
 
 -- the facts without what certificates change
-abbrev pub set_up : {K L D : Type 0} → StateFacts K L D → StateFacts K L D
-set_up x = record x { genesis = None; current = 0; finalized = 0; moment = 0; named = []; nullified = []; rounds = [] }
+abbrev pub set_up_facts : {K L D : Type 0} → StateFacts K L D → StateFacts K L D
+set_up_facts x = record x { genesis = None; current = 0; finalized = 0; moment = 0; named = []; nullified = []; rounds = [] }
 
 -- these two were set up alike
 abbrev pub UnchangedSetUp : {K L D : Type 0} → StateFacts K L D → StateFacts K L D → Type 0
-UnchangedSetUp x y = set_up y ≡ set_up x
+UnchangedSetUp x y = set_up_facts y ≡ set_up_facts x
 
 module _ {K L D : Type 0} where
   pub steady_joined : (x y z : StateFacts K L D) → UnchangedSetUp x y → UnchangedSetUp y z → UnchangedSetUp x z
@@ -26,7 +26,7 @@ module _ {K L D : Type 0} where
   steady_where x false y z p q = q
 
   only_steady : (x y : StateFacts K L D) → OnlyRounds x y → UnchangedSetUp x y
-  only_steady x y only = ap set_up only
+  only_steady x y only = ap set_up_facts only
 
   pub entered_steady : (x : StateFacts K L D) (v now : ℕ) → UnchangedSetUp x (with_view_entered x v now)
   entered_steady x v now = steady_where x (nat_lt x.current v) _ x refl refl

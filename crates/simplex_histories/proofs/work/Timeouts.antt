@@ -15,7 +15,7 @@ use Rattle.simplex_voter.proofs.Gaps.{and_parts}
 use Rattle.simplex_record.specs.Events.{Event, VerificationFailed, TriggerTimeout, NextTimeout}
 use Rattle.simplex_histories.specs.Requested.{is_at}
 use Rattle.simplex_histories.specs.Timing.{triggers}
-use Rattle.simplex_histories.proofs.Worked.{work_in, work_of, timed, adds_work, WorkFollows, IsIdle, work_put, work_elsewhere, untimed}
+use Rattle.simplex_histories.proofs.Worked.{work_in, work_of, timed, adds_work, WorkFollows, SaysNoWork, work_put, work_elsewhere, untimed}
 use Rattle.simplex_histories.proofs.work.Puts.{unentered, shared_of, shared_follows, tracked_follows}
 
 -- an explicit timeout is latched where neither vote is decided
@@ -86,7 +86,7 @@ module _ {K L D : Type 0} (same : D → D → Bool) (elect : Elect L) (x : State
           unbound : is_tracked x v ≡ true → work_in true s ≡ adds_work same elect x e v (work_in true (round_of x v))
           unbound tracked = rw (unentered x e v refl, fails, eq-eqb v v refl, tracked, untimed x.settings (round_of x v).decision) refl
 
-          idle : (w : ℕ) → is_at x w v ≡ false → IsIdle same elect x e w
+          idle : (w : ℕ) → is_at x w v ≡ false → SaysNoWork same elect x e w
           idle w apart k = rw (unentered x e w refl, fails, apart, and-false (eqb w v), untimed x.settings k.decision) refl
 
   -- the first poll of the current view that finds a vote to nullify decided gives its repeat a moment
@@ -111,5 +111,5 @@ module _ {K L D : Type 0} (same : D → D → Bool) (elect : Elect L) (x : State
           rw (unentered x e x.current refl, eq-eqb x.current x.current refl, tracked, is) (ap (λ d. record (work_in true r) { decision = d }) (repeated x.settings r.decision again waits))
       by_retry tracked false is = rw (unentered x e x.current refl, eq-eqb x.current x.current refl, tracked, is, untimed x.settings r.decision) refl
 
-      idle : (w : ℕ) → is_at x w x.current ≡ false → IsIdle same elect x e w
+      idle : (w : ℕ) → is_at x w x.current ≡ false → SaysNoWork same elect x e w
       idle w apart k = rw (unentered x e w refl, apart, untimed x.settings k.decision) refl

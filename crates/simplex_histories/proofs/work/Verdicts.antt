@@ -14,14 +14,14 @@ use Rattle.simplex_record.specs.Events.{Event, Certified}
 use Rattle.simplex_histories.specs.Requested.{is_at, wakes, names}
 use Rattle.simplex_histories.specs.Timing.{triggers}
 use Rattle.simplex_record.proofs.Growing.{round_of-put}
-use Rattle.simplex_histories.proofs.UnchangedHistories.{known_of, UnchangedKnown, entered_leaves}
+use Rattle.simplex_histories.proofs.UnchangedHistories.{known_of_round, UnchangedKnown, entered_leaves}
 use Rattle.simplex_histories.proofs.work.Elections.{woken_work}
 use Rattle.simplex_histories.proofs.work.Puts.{unentered, shared_follows, idle_follows}
 use Rattle.simplex_histories.proofs.work.SetUp.{UnchangedSetUp, steady_joined, entered_steady, woken_steady, wakings_steady}
 use Rattle.simplex_histories.proofs.work.Timeouts.{work_triggered, shared_triggered}
 use Rattle.simplex_histories.proofs.work.Wakings.{waits_alike, woken_among}
-use Rattle.simplex_histories.proofs.work.Leaders.{with_entry, entry_at, entered_work}
-use Rattle.simplex_histories.proofs.Worked.{Worked, work_of, timed, adds_work, work_put, work_elsewhere, WorkFollows, IsIdle, is_tracked-put, untimed}
+use Rattle.simplex_histories.proofs.work.Leaders.{work_entered_at, entry_at, entered_work}
+use Rattle.simplex_histories.proofs.Worked.{Worked, work_of, timed, adds_work, work_put, work_elsewhere, WorkFollows, SaysNoWork, is_tracked-put, untimed}
 
 module _ {K L D : Type 0} (x : StateFacts K L D) (v : ℕ) (tracked : is_tracked x v ≡ true) where
   judged_work : (now : ℕ) (success : Bool) (w : ℕ) → work_of (with_verdict (at_moment x now) v success) w ≡ record (work_of x w) { certification = unwrap_or (if is_at x w v then Some (Judged success) else None) (work_of x w).certification }
@@ -44,7 +44,7 @@ module _ {K L D : Type 0} (same : D → D → Bool) (elect : Elect L) (x : State
     elects_early = ap (λ (z : StateFacts K L D). z.elects_early) steady;
     failed = ap (λ (z : StateFacts K L D). z.failed) steady;
     named = λ w. woken_among elect y v w ∙ rw tracked (names w (cases_eq w (v + 1)));
-    work = λ w _. woken_work elect y v w ∙ entered_work j (v + 1) now w ∙ ap (with_entry j (entry_at j (v + 1) now w)) (judged_work x v tracked now true w) ∙ sym (said w);
+    work = λ w _. woken_work elect y v w ∙ entered_work j (v + 1) now w ∙ ap (work_entered_at j (entry_at j (v + 1) now w)) (judged_work x v tracked now true w) ∙ sym (said w);
   }
     where
       j : StateFacts K L D
@@ -69,7 +69,7 @@ module _ {K L D : Type 0} (same : D → D → Bool) (elect : Elect L) (x : State
       next : UnchangedKnown (round_of x (v + 1)) (round_of y (v + 1))
       next =
           let unchanged : round_of j (v + 1) ≡ round_of x (v + 1) = round_of-put (at_moment x now) (v + 1) v (certified_round (round_of x v) true) ∙ rw above refl in
-          (entered_leaves j (v + 1) now).rounds (v + 1) ∙ ap known_of unchanged
+          (entered_leaves j (v + 1) now).rounds (v + 1) ∙ ap known_of_round unchanged
 
       Named : ℕ → Type 0
       Named w = unwrap_or (if wakes elect y y.finalized v w then Some true else None) (is_among w y.named) ≡ unwrap_or (if wakes elect x x.finalized v w then Some true else None) (is_among w x.named)
@@ -78,7 +78,7 @@ module _ {K L D : Type 0} (same : D → D → Bool) (elect : Elect L) (x : State
       names w (inl here) = subst Named (sym here) (λ i. unwrap_or (if eqb (v + 1) (v + 1) && nat_lt (entering.0 i) (v + 1) && waits_alike elect x y v (wakings_steady x y (entered_steady j (v + 1) now)) next i then Some true else None) (is_among (v + 1) (entering.1 i)))
       names w (inr apart) = rw (ne_eqb w (v + 1) apart) (ap (λ views. is_among w views) entering.1)
 
-      said : (w : ℕ) → adds_work same elect x (Certified v true now) w (work_of x w) ≡ with_entry j (entry_at j (v + 1) now w) (record (work_of x w) { certification = unwrap_or (if is_at x w v then Some (Judged true) else None) (work_of x w).certification })
+      said : (w : ℕ) → adds_work same elect x (Certified v true now) w (work_of x w) ≡ work_entered_at j (entry_at j (v + 1) now w) (record (work_of x w) { certification = unwrap_or (if is_at x w v then Some (Judged true) else None) (work_of x w).certification })
       said w = rw tracked refl
 
   -- a false one times the view out
@@ -127,6 +127,6 @@ module _ {K L D : Type 0} (same : D → D → Bool) (elect : Elect L) (x : State
           unnamed true w = rw untracked refl
           unnamed false w = refl
 
-          idle : (s : Bool) (w : ℕ) → IsIdle same elect x (Certified v s now) w
+          idle : (s : Bool) (w : ℕ) → SaysNoWork same elect x (Certified v s now) w
           idle true w k = rw (unentered x (e true) w (ap (λ b. if b then v + 1 else 0) untracked), untracked, and-false (eqb w v), untimed x.settings k.decision) refl
           idle false w k = rw (unentered x (e false) w refl, untracked, and-false (eqb w v), untimed x.settings k.decision) refl

@@ -5,9 +5,9 @@ use Rattle.simplex_round.specs.declared.round.Decision.TheVariants.{Nullify, Fin
 use Rattle.simplex_round.specs.Round.{RoundFacts}
 use Rattle.simplex_voter.specs.Facts.{StateFacts, Elect, is_tracked, with_round}
 use Rattle.simplex_record.specs.Events.{Event}
-use Rattle.simplex_histories.specs.Leading.{leader_by_event, tracks}
+use Rattle.simplex_histories.specs.Leading.{leader_by_event, comes_to_track}
 use Rattle.simplex_histories.specs.OwnWork.{decides_nullify, decides_finalize}
-use Rattle.simplex_histories.specs.Requested.{certifies, verifies, asks_to_build, asks_to_verify, asks_for, binds}
+use Rattle.simplex_histories.specs.Requested.{sets_certification, sets_verified, asks_to_build, asks_to_verify, asks_for, binds}
 use Rattle.simplex_histories.specs.HistoryFolds.{or_new, entered_by, moment_by}
 use Rattle.simplex_histories.specs.Timing.{enters, proposes, latches, retries}
 use Rattle.simplex_histories.proofs.Worked.{Worked, work_in, work_of, adds_work, work_put, work_elsewhere, untimed}
@@ -24,13 +24,13 @@ module _ {K L D : Type 0} (same : D → D → Bool) (elect : Elect L) (x : State
   -- what it adds then
   abbrev pub adds_unmoved : ℕ → Worked K D → Worked K D
   adds_unmoved v k = record k {
-    tracked = tracks same elect v x e || k.tracked;
+    tracked = comes_to_track same elect v x e || k.tracked;
     leader = or_new k.leader (leader_by_event same elect v x e);
-    verified = unwrap_or (verifies same elect v x e) k.verified;
+    verified = unwrap_or (sets_verified same elect v x e) k.verified;
     build_requested = unwrap_or (asks_to_build same elect v x e) k.build_requested;
     verify_requested = asks_to_verify same elect v x e || k.verify_requested;
     decision = if decides_finalize same elect v x e then Finalize else (if decides_nullify v x e then Nullify None else k.decision);
-    certification = unwrap_or (certifies v x e) k.certification;
+    certification = unwrap_or (sets_certification v x e) k.certification;
     binding = unwrap_or (binds same elect v x e) k.binding;
   }
 

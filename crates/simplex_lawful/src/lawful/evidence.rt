@@ -1,7 +1,7 @@
 //! Evidence against a member, for who makes it answer: two of its votes that alone show that it broke a rule.
 
 ghost use Rattle.std.specs.Prelude.{◌≡◌, ◌≢◌, ◌↔◌, true, IsTrue};
-ghost use Rattle.simplex_lawful.specs.Evidence.{vote_in, AreEvidence, ShowsABrokenRule};
+ghost use Rattle.simplex_lawful.specs.Evidence.{signed_vote_in, AreEvidence, ShowsABrokenRule};
 
 use simplex_types::types::{Artifact, CertificateScheme, Digest, Proposal};
 
@@ -14,8 +14,8 @@ pub fn is_evidence<S: CertificateScheme, D: Digest>(
     first: &Artifact<S, D>,
     second: &Artifact<S, D>,
 ) -> bool
-    ensures decided { IsTrue result ↔ AreEvidence (vote_in first.now) (vote_in second.now) }
-    ensures broken { IsTrue result → ShowsABrokenRule (vote_in first.now) (vote_in second.now) }
+    ensures decided { IsTrue result ↔ AreEvidence (signed_vote_in first.now) (signed_vote_in second.now) }
+    ensures broken { IsTrue result → ShowsABrokenRule (signed_vote_in first.now) (signed_vote_in second.now) }
 {
     contradict(first, second)
 }
@@ -25,7 +25,7 @@ fn contradict<S: CertificateScheme, D: Digest>(
     first: &Artifact<S, D>,
     second: &Artifact<S, D>,
 ) -> bool
-    ensures { IsTrue result ↔ AreEvidence (vote_in first.now) (vote_in second.now) }
+    ensures { IsTrue result ↔ AreEvidence (signed_vote_in first.now) (signed_vote_in second.now) }
 {
     match first {
         Artifact::Notarize(one) => match second {

@@ -17,18 +17,13 @@ use Rattle.simplex_laws.specs.Replicas.{Replica, Honest, Backed, IsNetworkOf}
 use Rattle.simplex_laws.specs.Executions.{Execution, trace_of}
 use Rattle.simplex_laws.proofs.agreement.Quorums.{shared_member}
 use Rattle.simplex_laws.proofs.records.RunsLawful.{execution_lawful}
-use Rattle.simplex_laws.proofs.lists.Splits.{Contains-cons_rest, Contains-cases}
+use Rattle.simplex_laws.proofs.lists.Splits.{Contains-cons_rest, Contains-cases, only_one}
 use Rattle.simplex_laws.proofs.agreement.TwoVotes.{covers_between, one_notarized}
 use Rattle.simplex_laws.proofs.agreement.VoteOrder.{Same, First, Second, in_order, voted, earlier}
 
 -- the rest holds it where the first one is in another view
 in_rest : {D : Type 0} (y : Proposal D) (xs : List (Proposal D)) (x : Proposal D) → Contains (y ∷ xs) x → y.round.view ≢ x.round.view → Contains xs x
 in_rest y xs x h apart = elim (Contains-cases y xs x h) [ inl same ↦ absurd (apart (ap (λ p. p.round.view) same)) | inr rest ↦ rest ]
-
--- the one element of a list
-is_only : {X : Type 0} (y x : X) → Contains (y ∷ []) x → y ≡ x
-is_only y x (zero, less, same) = same
-is_only y x (suc k, less, same) = absurd (omega arith)
 
 module _ {K L D : Type 0} (same : D → D → Bool) (decides : (d e : D) → same d e ≡ true → d ≡ e) (elect : Elect L) (term_length : ℕ) (network : List (Replica K L D)) (good : IsNetworkOf same elect term_length network) where
   lawful : (k : ℕ) (s : Execution K L D) → slice_get network k ≡ Some (Honest s) → IsLawful term_length (trace_of s)
@@ -118,8 +113,8 @@ module _ {K L D : Type 0} (same : D → D → Bool) (decides : (d e : D) → sam
   pub chain_holds_finalized : ChainHoldsFinalized network
   chain_holds_finalized final high low [] finalized chain has_high has_low above below = absurd (omega (arith, has_high.1))
   chain_holds_finalized final high low (p ∷ []) finalized chain has_high has_low above below =
-      let top = ap (λ x. x.round.view) (is_only p high has_high) in
-      let bottom = ap (λ x. x.round.view) (is_only p low has_low) in
+      let top = ap (λ x. x.round.view) (only_one p high has_high) in
+      let bottom = ap (λ x. x.round.view) (only_one p low has_low) in
       absurd (omega arith)
   chain_holds_finalized final high low (p ∷ (q ∷ rest)) finalized chain has_high has_low above below =
       let later = chain_head p q rest chain.2 in

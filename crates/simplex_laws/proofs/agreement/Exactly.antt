@@ -1,6 +1,6 @@
 -- For `agreement`.
 -- Each vote is told exactly where its rule holds.
-use Rattle.std.proofs.Common.{◌≡◌, refl, sym, subst, ℕ, zero, suc, inl, inr, Bool, true, false, ◌&&◌, List, [], ◌∷◌, Contains, Option, Some, None, Result, Ok, Err, arith}
+use Rattle.std.proofs.Common.{◌≡◌, refl, sym, subst, ℕ, inl, inr, Bool, true, false, ◌&&◌, List, [], ◌∷◌, Contains, Option, Some, None, Result, Ok, Err, arith}
 use Rattle.std.specs.Prelude.{is_some, if◌then◌else◌, option_map, option_and_then}
 use Rattle.std.proofs.lemmas.Bool.{false≢true}
 use Rattle.simplex_types.specs.Certificates.{NotarizeVote, NullifyVote, FinalizeVote}
@@ -23,13 +23,10 @@ use Rattle.simplex_member.specs.Lives.{MemberFacts, IsCall, AnswersAlive, reply_
 use Rattle.simplex_member.specs.OutstandingWork.{OutstandingWork}
 use Rattle.simplex_member.specs.Runs.{StepFacts, Calls, Prunes, Restarts, restart_told, IsStep, IsRun, IsRunFrom}
 use Rattle.simplex_member.specs.Restarts.{RestartFacts}
-use Rattle.simplex_laws.specs.Exactly.{is_refused, IsSignedFor, IsExact, proposal_at, ExactAt, RunsExactly, SignsExactly}
+use Rattle.simplex_laws.specs.Exactly.{ends_in_fault, IsSignedFor, IsExact, proposal_at, ExactAt, RunsExactly, SignsExactly}
 use Rattle.simplex_laws.specs.Traces.{TraceEvent, Signs, signed_in}
 use Rattle.simplex_laws.specs.Executions.{new_member, Execution}
-
-is_only : {X : Type 0} (y x : X) → Contains (y ∷ []) x → y ≡ x
-is_only y x (zero, less, same) = same
-is_only y x (suc k, less, same) = absurd (omega arith)
+use Rattle.simplex_laws.proofs.lists.Splits.{only_one}
 
 no_key : (i : ℕ) → None ≡ Some i → ⊥
 no_key i e = absurd (cc)
@@ -39,7 +36,7 @@ no_subject vote e = absurd (cc)
 
 module _ {K D : Type 0} where
   -- no vote is told, since there is no key, the rule doesn't hold, or the call is refused
-  untold : (Rule : Type 0) (me : Option ℕ) (about : Option (Subject D)) (told : Told K D) → signed_in told ≡ [] → ((d : TraceEvent D) → is_refused told ≡ false → Rule → IsSignedFor me about d → ⊥) → IsExact Rule me about told
+  untold : (Rule : Type 0) (me : Option ℕ) (about : Option (Subject D)) (told : Told K D) → signed_in told ≡ [] → ((d : TraceEvent D) → ends_in_fault told ≡ false → Rule → IsSignedFor me about d → ⊥) → IsExact Rule me about told
   untold Rule me about told none never = record {
     only = λ d h. absurd (let g : Contains [] d = subst (λ (ds : List (TraceEvent D)). Contains ds d) none h in omega (arith, g.1));
     due = λ d kept rule signed. absurd (never d kept rule signed);
@@ -51,7 +48,7 @@ module _ {K D : Type 0} where
   -- one is
   told_so : (Rule : Type 0) (m : ℕ) (about : Subject D) (told : Told K D) → Rule → signed_in told ≡ Signs m about ∷ [] → IsExact Rule (Some m) (Some about) told
   told_so Rule m about told holds is = record {
-    only = λ d h. (let e : Signs m about ≡ d = is_only _ d (subst (λ (ds : List (TraceEvent D)). Contains ds d) is h) in (holds, (m, about, refl, refl, sym e)));
+    only = λ d h. (let e : Signs m about ≡ d = only_one _ d (subst (λ (ds : List (TraceEvent D)). Contains ds d) is h) in (holds, (m, about, refl, refl, sym e)));
     due = λ d kept rule signed. (
         let key : Some m ≡ Some signed.0 = signed.2 in
         let on : Some about ≡ Some signed.1 = signed.3 in

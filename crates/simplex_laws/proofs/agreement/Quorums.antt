@@ -34,22 +34,22 @@ module _ {X : Type 0} where
   AtLeastFrom-map P Q i (suc count) (x ∷ xs) f (inr h) = inr (AtLeastFrom-map P Q (suc i) (suc count) xs f h)
 
 module _ {K L D : Type 0} where
-  one_more : (p : Replica K L D) (network : List (Replica K L D)) → faults (p ∷ network) ≡ cond (is_faulty p) 1 0 + faults network
-  one_more p network = sum_by-cons (λ (q : Replica K L D). cond (is_faulty q) 1 0) p network
+  pub faults-cons : (p : Replica K L D) (network : List (Replica K L D)) → faults (p ∷ network) ≡ cond (is_faulty p) 1 0 + faults network
+  faults-cons p network = sum_by-cons (λ (q : Replica K L D). cond (is_faulty q) 1 0) p network
 
   -- one of more members than are faulty is honest
   honest_one : (Q : ℕ → Replica K L D → Type 0) (i count : ℕ) (network : List (Replica K L D)) → AtLeastFrom i count Q network → faults network < count → (j k : ℕ) × (s : Execution K L D) × (slice_get network k ≡ Some (Honest s)) × Q j (Honest s)
   honest_one Q i zero network h less = absurd (omega arith)
   honest_one Q i (suc count) [] h less = absurd h
   honest_one Q i (suc count) (Faulty ∷ network) (inl h) less =
-      let found = honest_one Q (suc i) count network h.1 (omega (arith, one_more Faulty network)) in
+      let found = honest_one Q (suc i) count network h.1 (omega (arith, faults-cons Faulty network)) in
       (found.0, suc found.1, found.2, found.3, found.4)
   honest_one Q i (suc count) (Faulty ∷ network) (inr h) less =
-      let found = honest_one Q (suc i) (suc count) network h (omega (arith, one_more Faulty network)) in
+      let found = honest_one Q (suc i) (suc count) network h (omega (arith, faults-cons Faulty network)) in
       (found.0, suc found.1, found.2, found.3, found.4)
   honest_one Q i (suc count) (Honest s ∷ network) (inl h) less = (i, 0, s, refl, h.0)
   honest_one Q i (suc count) (Honest s ∷ network) (inr h) less =
-      let found = honest_one Q (suc i) (suc count) network h (omega (arith, one_more (Honest s) network)) in
+      let found = honest_one Q (suc i) (suc count) network h (omega (arith, faults-cons (Honest s) network)) in
       (found.0, suc found.1, found.2, found.3, found.4)
 
   -- two backed subjects share an honest member that signed both

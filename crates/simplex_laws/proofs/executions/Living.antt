@@ -1,5 +1,5 @@
 -- A member's execution goes on step by step.
-use Rattle.std.proofs.Common.{◌≡◌, refl, ap, sym, subst, ℕ, zero, suc, inl, inr, Bool, true, List, [], ◌∷◌, ◌++◌, append_assoc, ◌∙◌, Contains, None, Result, Ok, Err, arith}
+use Rattle.std.proofs.Common.{◌≡◌, refl, ap, sym, subst, ℕ, inl, inr, Bool, true, List, [], ◌∷◌, ◌++◌, append_assoc, ◌∙◌, None, Result, Ok, Err, arith}
 use Rattle.std.specs.Prelude.{IfOk}
 use Rattle.std.proofs.lemmas.List.Elements.{Contains-append_cases}
 use Rattle.simplex_voter.specs.Facts.{Elect}
@@ -17,6 +17,7 @@ use Rattle.simplex_laws.specs.Traces.{TraceEvent, of_floor, trace_at, trace_of_s
 use Rattle.simplex_laws.specs.Lawful.{IsLawful}
 use Rattle.simplex_laws.specs.Executions.{new_member, Execution, trace_of, BeginsAs, LivesAs, IsExecution}
 use Rattle.simplex_laws.proofs.records.RunsLawful.{execution_lawful}
+use Rattle.simplex_laws.proofs.lists.Splits.{only_one}
 
 module _ {K L D : Type 0} where
   same_restart : (q r : RestartFacts K L D) → Restarts q ≡ Restarts r → q ≡ r
@@ -25,10 +26,6 @@ module _ {K L D : Type 0} where
 pub if_ok_on : {X E : Type 0} (r : Result X E) {P Q : X → Type 0} → ((x : X) → P x → Q x) → IfOk r P → IfOk r Q
 if_ok_on (Ok x) on h = on x h
 if_ok_on (Err e) on h = tt
-
-is_last : {X : Type 0} (y x : X) → Contains (y ∷ []) x → y ≡ x
-is_last y x (zero, less, same) = same
-is_last y x (suc k, less, same) = absurd (omega arith)
 
 module _ {K L D : Type 0} (same : D → D → Bool) (elect : Elect L) where
   run_push : (m mid next : MemberFacts K L D) (steps : List (StepFacts K L D)) (replies : List (Told K D)) (step : StepFacts K L D) (told : Told K D) → IsRun same elect m steps replies mid → IsStep same elect mid step told next → IsRun same elect m (steps ++ step ∷ []) (replies ++ told ∷ []) next
@@ -41,7 +38,7 @@ module _ {K L D : Type 0} (same : D → D → Bool) (elect : Elect L) where
     lives_on : (start : StartFacts K L D) (steps : List (StepFacts K L D)) (step : StepFacts K L D) → LivesAs term_length i start steps → ((r : RestartFacts K L D) → step ≡ Restarts r → BeginsAs term_length i r.start.setup) → LivesAs term_length i start (steps ++ step ∷ [])
     lives_on start steps step lives begins = record {
       first = lives.first;
-      later = λ r h. elim (Contains-append_cases steps (step ∷ []) (Restarts r) h) [ inl old ↦ lives.later r old | inr new ↦ begins r (is_last step (Restarts r) new) ];
+      later = λ r h. elim (Contains-append_cases steps (step ∷ []) (Restarts r) h) [ inl old ↦ lives.later r old | inr new ↦ begins r (only_one step (Restarts r) new) ];
     }
 
     step_on : (s : Execution K L D) (m next : MemberFacts K L D) (step : StepFacts K L D) (told : Told K D) → ((r : RestartFacts K L D) → step ≡ Restarts r → BeginsAs term_length i r.start.setup) → HasExecution same elect term_length i s m → IsStep same elect m step told next → HasExecution same elect term_length i (with_step s step told) next

@@ -6,11 +6,11 @@ use Rattle.simplex_laws.specs.TermLengths.{HasTerms}
 
 module _ {K L D : Type 0} where
   -- a state that knows nothing but how it was set up, with terms of this length, which have views
-  pub record IsFresh (term_length : ℕ) (x : StateFacts K L D) : Type 0 where
+  pub record IsNewState (term_length : ℕ) (x : StateFacts K L D) : Type 0 where
     pub fresh : x ≡ new_facts x.settings x.me x.members x.elector x.terms x.elects_early
     pub terms : x.terms.term_length ≡ term_length
     pub some : 0 < term_length
 
   -- so is each that a start begins with
-  pub fresh_state : (term_length : ℕ) (setup : Setup K L) → HasTerms term_length setup → IsFresh term_length (new_state setup)
+  pub fresh_state : (term_length : ℕ) (setup : Setup K L) → HasTerms term_length setup → IsNewState term_length (new_state setup)
   fresh_state term_length setup has = record { fresh = refl; terms = has.terms; some = has.some }

@@ -14,7 +14,7 @@ use Rattle.simplex_member.specs.Restarts.{RestartFacts, cut_member, new_life, re
 use Rattle.simplex_member.specs.Runs.{StepFacts, Calls, Prunes, Restarts, IsRun}
 use Rattle.simplex_record.specs.Start.{StartFacts, new_state}
 use Rattle.simplex_laws.specs.TermLengths.{HasTerms, KeepTerms}
-use Rattle.simplex_laws.proofs.frames.Fresh.{IsFresh, fresh_state}
+use Rattle.simplex_laws.proofs.frames.Fresh.{IsNewState, fresh_state}
 use Rattle.simplex_member.proofs.EventsMake.{call_by_any}
 use Rattle.simplex_laws.proofs.frames.CallsMake.{floor_then_all_keep}
 use Rattle.simplex_laws.proofs.lives.WithinLives.{call_outcome}
@@ -25,7 +25,7 @@ HoldsIn P None = Unit {0}
 HoldsIn P (Some x) = P x
 
 module _ {K L D : Type 0} (same : D → D → Bool) (elect : Elect L) (term_length : ℕ) (P : StateFacts K L D → Type 0)
-    (begins : (x : StateFacts K L D) (floor : FloorFacts D) (now : ℕ) → IsFresh term_length x → P (after_set_floor same elect x floor now))
+    (begins : (x : StateFacts K L D) (floor : FloorFacts D) (now : ℕ) → IsNewState term_length x → P (after_set_floor same elect x floor now))
     (keeps : (x : StateFacts K L D) (e : Event K D) → P x → P (after_event same elect x e)) where
   -- one that goes on is made again, and another one has no state
   from_copy : (n : MemberFacts K L D) (start : StartFacts K L D) (result : Result (Unit {0}) RecoverError) (left : MemberFacts K L D) → HasTerms term_length start.setup → RecoversByView same elect n start result left → HoldsIn P left.life

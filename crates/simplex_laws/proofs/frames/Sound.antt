@@ -3,6 +3,7 @@
 use Rattle.std.proofs.Common.{◌≡◌, refl, ap, sym, ◌∙◌, subst, ℕ, ◌+◌, ◌<◌, ◌≤◌, ◌⊎◌, inl, inr, Bool, true, false, List, Option, Some, None, unwrap_or, nat_lt, arith}
 use Rattle.std.proofs.lemmas.Bool.{true≢false}
 use Rattle.std.proofs.lemmas.Bool.Decides.{nat_tests}
+use Rattle.simplex_types.specs.Certificates.{ProposalFacts}
 use Rattle.simplex_types.specs.Config.{FloorFacts, Genesis, Finalized as FinalizedFloor}
 use Rattle.simplex_round.specs.Round.{new_round}
 use Rattle.simplex_types.specs.declared.types.numbers.Round.{Round}
@@ -13,8 +14,8 @@ use Rattle.simplex_voter.specs.Certification.{with_finalized_view}
 use Rattle.simplex_voter.specs.Acceptance.{after_add_finalization, after_set_floor}
 use Rattle.simplex_record.specs.Events as event
 use Rattle.simplex_record.specs.Events.{Event, after_event, finalized_by_event, is_prune}
-use Rattle.simplex_laws.specs.LifeLaws.{Kind, Notarization, Nullification, Finalization}
-use Rattle.simplex_laws.proofs.frames.Fresh.{IsFresh}
+use Rattle.simplex_laws.specs.LifeLaws.{KindOfCertificate, Notarization, Nullification, Finalization}
+use Rattle.simplex_laws.proofs.frames.Fresh.{IsNewState}
 use Rattle.simplex_laws.proofs.frames.CallsMake.{is_floor}
 use Rattle.simplex_laws.proofs.frames.EachRound.{IsGone}
 use Rattle.simplex_record.proofs.Paths.{from_entry, from_first_entry}
@@ -28,7 +29,7 @@ IsAhead x = x.finalized < x.current
 
 -- each certificate stands at its own view
 pub record IsPlaced {K L D : Type 0} (x : StateFacts K L D) : Type 0 where
-  pub views : (kind : Kind) (v u : ℕ) → standing_view kind (round_of x v) ≡ Some u → u ≡ v
+  pub views : (kind : KindOfCertificate) (v u : ℕ) → standing_view kind (round_of x v) ≡ Some u → u ≡ v
 
 pub record IsSound {K L D : Type 0} (term_length : ℕ) (x : StateFacts K L D) : Type 0 where
   pub terms : x.terms.term_length ≡ term_length
@@ -43,16 +44,13 @@ entered_reaches x v now = enters (nat_lt x.current v) refl
     enters false is = rw is (grind (arith, nat_tests))
 
 module _ {K L D : Type 0} (same : D → D → Bool) (elect : Elect L) (x : StateFacts K L D) where
+  finalization_passes : (c : ProposalFacts D) (now : ℕ) (e : Event K D) → finalization_by e ≡ Some c → c.proposal.round.view < (after_add_finalization same elect x c now).current
+  finalization_passes c now e says = omega (arith, (goes_along same elect x e 0 _ _ (from_entry c now says (omega arith) Still)).current, entered_reaches (with_finalized_view (at_moment x now) c.proposal.round.view) (c.proposal.round.view + 1) now)
+
   -- a floor and a finalization enter a view above
   pub event_passes : (e : Event K D) → ((is_floor e ≡ false) × (finalized_by_event e ≡ 0)) ⊎ (finalized_by_event e < (after_event same elect x e).current)
-  event_passes (event.AddFinalization c now) = inr (passes (event.AddFinalization c now) refl)
-    where
-      passes : (e : Event K D) → finalization_by e ≡ Some c → c.proposal.round.view < (after_add_finalization same elect x c now).current
-      passes e says = omega (arith, (goes_along same elect x e 0 _ _ (from_entry c now says (omega arith) Still)).current, entered_reaches (with_finalized_view (at_moment x now) c.proposal.round.view) (c.proposal.round.view + 1) now)
-  event_passes (event.SetFloor (FinalizedFloor c) now) = inr (passes (event.SetFloor (FinalizedFloor c) now) refl)
-    where
-      passes : (e : Event K D) → finalization_by e ≡ Some c → c.proposal.round.view < (after_add_finalization same elect x c now).current
-      passes e says = omega (arith, (goes_along same elect x e 0 _ _ (from_entry c now says (omega arith) Still)).current, entered_reaches (with_finalized_view (at_moment x now) c.proposal.round.view) (c.proposal.round.view + 1) now)
+  event_passes (event.AddFinalization c now) = inr (finalization_passes c now (event.AddFinalization c now) refl)
+  event_passes (event.SetFloor (FinalizedFloor c) now) = inr (finalization_passes c now (event.SetFloor (FinalizedFloor c) now) refl)
   event_passes (event.SetFloor (Genesis payload) now) =
       inr (omega (arith, (goes_along same elect x (event.SetFloor (Genesis payload) now) 0 _ _ (from_first_entry payload now (omega arith) Still)).current, entered_reaches (record (at_moment x now) { genesis = Some payload }) 1 now))
   event_passes _ = inl (refl, refl)
@@ -68,14 +66,14 @@ module _ {K L D : Type 0} (same : D → D → Bool) (elect : Elect L) (x : State
 
 -- certificates
 
-none_at_first : {K : Type 0} (D : Type 0) (kind : Kind) (me : Option ℕ) (members : List K) (round : Round) → standing_view kind (new_round {D = D} me members round) ≡ None
+none_at_first : {K : Type 0} (D : Type 0) (kind : KindOfCertificate) (me : Option ℕ) (members : List K) (round : Round) → standing_view kind (new_round {D = D} me members round) ≡ None
 none_at_first D Notarization me members round = refl
 none_at_first D Nullification me members round = refl
 none_at_first D Finalization me members round = refl
 
 module _ {K L D : Type 0} where
   -- no certificate stands where the view isn't tracked
-  pub nothing_stands : (y : StateFacts K L D) (v : ℕ) → round_at y v ≡ None → (kind : Kind) → standing_view kind (round_of y v) ≡ None
+  pub nothing_stands : (y : StateFacts K L D) (v : ℕ) → round_at y v ≡ None → (kind : KindOfCertificate) → standing_view kind (round_of y v) ≡ None
   nothing_stands y v untracked kind = ap (λ o. standing_view kind (unwrap_or o (new_round y.me y.members (round_number y v)))) untracked ∙ none_at_first D kind y.me y.members (round_number y v)
 
 module _ {K L D : Type 0} (same : D → D → Bool) (elect : Elect L) (x : StateFacts K L D) where
@@ -85,7 +83,7 @@ module _ {K L D : Type 0} (same : D → D → Bool) (elect : Elect L) (x : State
       y : StateFacts K L D
       y = after_event same elect x e
 
-      stood : (kind : Kind) (v u : ℕ) → standing_view kind (round_of y v) ≡ Some u → RoundLasts 0 v (round_of x v) (round_of y v) ⊎ ((is_prune e ≡ true) × IsGone x y v) → u ≡ v
+      stood : (kind : KindOfCertificate) (v u : ℕ) → standing_view kind (round_of y v) ≡ Some u → RoundLasts 0 v (round_of x v) (round_of y v) ⊎ ((is_prune e ≡ true) × IsGone x y v) → u ≡ v
       stood kind v u is (inl lasts) = elim (certificates 0 v (round_of x v) (round_of y v) lasts kind) [
         | inl stays ↦ placed.views kind v u (sym stays ∙ is)
         | inr comes ↦ ap (λ o. unwrap_or o u) (sym is ∙ comes.1)
@@ -114,5 +112,5 @@ module _ {K L D : Type 0} (same : D → D → Bool) (elect : Elect L) (term_leng
       }
 
   -- a new state sets a floor
-  pub floor_sound : (x : StateFacts K L D) (floor : FloorFacts D) (now : ℕ) → IsFresh term_length x → IsSound term_length (after_set_floor same elect x floor now)
+  pub floor_sound : (x : StateFacts K L D) (floor : FloorFacts D) (now : ℕ) → IsNewState term_length x → IsSound term_length (after_set_floor same elect x floor now)
   floor_sound x floor now fresh = subst (λ y. IsSound term_length (after_set_floor same elect y floor now)) (sym fresh.fresh) (new_sound x.settings x.me x.members x.elector x.terms x.elects_early floor now fresh.terms)

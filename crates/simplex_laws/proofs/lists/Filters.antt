@@ -1,6 +1,10 @@
 -- Where an element stands in a filtered list.
-use Rattle.std.proofs.Common.{◌≡◌, refl, sym, ap, ◌∙◌, subst, inl, inr, Bool, true, false, cond, List, [], ◌∷◌, ◌++◌, Contains, filter, arith}
+use Rattle.std.proofs.Common.{◌≡◌, refl, sym, ap, ◌∙◌, subst, ℕ, inl, inr, Bool, true, false, cond, List, [], ◌∷◌, ◌++◌, Contains, filter, arith}
+use Rattle.std.specs.Prelude.{◌==◌}
+use Rattle.std.proofs.lemmas.Bool.{eq-eqb}
 use Rattle.std.proofs.lemmas.List.Elements.{filter-append}
+use Rattle.simplex_types.specs.Certificates.{ArtifactFacts}
+use Rattle.simplex_record.specs.Entries.{entry_view}
 use Rattle.simplex_laws.proofs.lists.Splits.{Contains-cases}
 use Rattle.simplex_laws.proofs.agreement.VoteOrder.{Contains-split, Contains-middle}
 
@@ -54,3 +58,9 @@ filtered_passes {X} test (y ∷ xs) x h = (elim (test y) as (λ b. test y ≡ b 
   ]
   | false ↦ λ is k. filtered_passes test xs x k
 ]) refl h
+
+-- entries of each view in the same order are the same entries
+pub same_entries : {D : Type 0} (copy entries : List (ArtifactFacts D)) → ((v : ℕ) → filter (λ e. entry_view e == v) copy ≡ filter (λ e. entry_view e == v) entries) → (e : ArtifactFacts D) → Contains copy e → Contains entries e
+same_entries {D} copy entries of_each_view e h =
+    let test : ArtifactFacts D → Bool = λ f. entry_view f == entry_view e in
+    Contains-filtered test entries e (subst (λ es. Contains es e) (of_each_view (entry_view e)) (Contains-filter test copy e h (eq-eqb (entry_view e) (entry_view e) refl)))

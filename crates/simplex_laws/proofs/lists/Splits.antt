@@ -26,3 +26,8 @@ Contains-cons_rest y xs x h = Contains-append_right (y ∷ []) xs x h
 pub Contains-cases : {X : Type 0} (y : X) (xs : List X) (x : X) → Contains (y ∷ xs) x → (y ≡ x) ⊎ Contains xs x
 Contains-cases y xs x (zero, less, same) = inl same
 Contains-cases y xs x (suc k, less, same) = inr (k, omega arith, same)
+
+-- the one element of a list
+pub only_one : {X : Type 0} (y x : X) → Contains (y ∷ []) x → y ≡ x
+only_one y x (zero, less, same) = same
+only_one y x (suc k, less, same) = absurd (omega arith)

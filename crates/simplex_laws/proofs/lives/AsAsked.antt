@@ -9,12 +9,12 @@ use Rattle.simplex_member.specs.Calls.{CallFacts, BroadcastNotarization, Broadca
 use Rattle.simplex_record.specs.Entries.{certificate_round}
 use Rattle.simplex_member.specs.CallSemantics.{answer}
 use Rattle.simplex_member.specs.OutstandingWork.{OutstandingWork}
-use Rattle.simplex_laws.specs.LifeLaws.{Kind, Notarization, Nullification, Finalization, kind_of, IsAsAsked}
+use Rattle.simplex_laws.specs.LifeLaws.{KindOfCertificate, Notarization, Nullification, Finalization, kind_of_certificate, IsAsAsked}
 use Rattle.simplex_laws.proofs.frames.Sound.{IsPlaced}
 use Rattle.simplex_laws.proofs.lives.HandedOut.{asked}
 
-abbrev AskedRight : {D : Type 0} → Kind → ℕ → CertificateFacts D → Type 0
-AskedRight kind v c = (kind_of c ≡ kind) × ((certificate_round c).view ≡ v)
+abbrev AskedRight : {D : Type 0} → KindOfCertificate → ℕ → CertificateFacts D → Type 0
+AskedRight kind v c = (kind_of_certificate c ≡ kind) × ((certificate_round c).view ≡ v)
 
 abbrev told_it : (K : Type 0) {D : Type 0} → Option (CertificateFacts D) → Told K D
 told_it K certificate = Handed certificate
@@ -23,7 +23,7 @@ same_view : (v w : ℕ) → v ∷ [] ≡ w ∷ [] → v ≡ w
 same_view v w is = cc
 
 module _ {K D : Type 0} where
-  told_right : (kind : Kind) (v : ℕ) (c d : CertificateFacts D) → AskedRight kind v d → told_it K (Some d) ≡ told_it K (Some c) → AskedRight kind v c
+  told_right : (kind : KindOfCertificate) (v : ℕ) (c d : CertificateFacts D) → AskedRight kind v d → told_it K (Some d) ≡ told_it K (Some c) → AskedRight kind v c
   told_right kind v c d right tells = let same : d ≡ c = cc in subst (AskedRight kind v) same right
 
 module _ {K L D : Type 0} (x : StateFacts K L D) (placed : IsPlaced x) (v : ℕ) where

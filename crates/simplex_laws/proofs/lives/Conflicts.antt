@@ -6,7 +6,7 @@ use Rattle.simplex_voter.specs.Facts.{StateFacts, Elect}
 use Rattle.simplex_voter.specs.Windows.{min_active}
 use Rattle.simplex_member.specs.Allowed.{is_allowed}
 use Rattle.simplex_member.specs.Calls.{CallFacts, Told, Refused, NotAllowed}
-use Rattle.simplex_laws.specs.LifeLaws.{IsLife, WhileAlive, IsDropped, ConflictsStay}
+use Rattle.simplex_laws.specs.LifeLaws.{IsLife, WhileAlive, WasDropped, ConflictsStay}
 use Rattle.simplex_member.specs.Lives.{MemberFacts, IsCall}
 use Rattle.simplex_member.specs.CallSemantics.{answer, after_call}
 use Rattle.simplex_member.specs.OutstandingWork.{OutstandingWork}
@@ -22,10 +22,10 @@ pub record ConflictsLast {K L D : Type 0} (replies : List (Told K D)) (x y : Sta
   pub conflicts : ConflictsStay replies x y
 
 module _ {K D : Type 0} where
-  more_dropped : (told : Told K D) (replies : List (Told K D)) (v : ℕ) → IsDropped replies v → IsDropped (told ∷ replies) v
+  more_dropped : (told : Told K D) (replies : List (Told K D)) (v : ℕ) → WasDropped replies v → WasDropped (told ∷ replies) v
   more_dropped told replies v (views, there, among) = (views, Contains-cons_rest told replies _ there, among)
 
-  first_dropped : (told : Told K D) (replies : List (Told K D)) (v : ℕ) → IsDropped (told ∷ []) v → IsDropped (told ∷ replies) v
+  first_dropped : (told : Told K D) (replies : List (Told K D)) (v : ℕ) → WasDropped (told ∷ []) v → WasDropped (told ∷ replies) v
   first_dropped told replies v (views, there, among) = (views, Contains-append_left (told ∷ []) replies _ there, among)
 
 module _ {K L D : Type 0} where

@@ -12,7 +12,7 @@ use Rattle.simplex_voter.specs.Serving.{prune_answer}
 use Rattle.simplex_member.specs.Allowed.{is_allowed}
 use Rattle.simplex_member.specs.Calls.{CallFacts, AddNotarization, AddNullification, AddFinalization, SetProposal, ReleaseProposalRequest, Verified, BroadcastNotarization, BroadcastFinalization, GetBestCertificate, Prune, Told}
 use Rattle.simplex_member.specs.CallSemantics.{answer, after_call}
-use Rattle.simplex_laws.specs.LifeLaws.{has_conflict, Kind, Notarization, Finalization, handed_in}
+use Rattle.simplex_laws.specs.LifeLaws.{has_conflict, KindOfCertificate, Notarization, Finalization, handed_out_in}
 use Rattle.simplex_member.specs.OutstandingWork.{no_outstanding_work}
 use Rattle.simplex_record.proofs.Examples.{proposal}
 use Rattle.simplex_record.proofs.RecoveryExamples.{in_turn, settings}
@@ -46,8 +46,8 @@ after calls = after_all (begun_in 1) calls
 abbrev certificate : ℕ → ℕ → ProposalFacts ℕ
 certificate v payload = record { proposal = proposal v 0 payload; bytes = [] }
 
-abbrev handed : Kind → List Call → List ℕ
-handed kind calls = handed_in kind calls (replies_from (begun_in 1) calls)
+abbrev handed : KindOfCertificate → List Call → List ℕ
+handed kind calls = handed_out_in kind calls (replies_from (begun_in 1) calls)
 
 abbrev asked_often : List Call
 asked_often =

@@ -12,7 +12,7 @@ use Rattle.simplex_voter.specs.Windows.{min_active}
 use Rattle.simplex_voter.specs.Serving.{broadcast_notarization_answer, after_broadcast_notarization, broadcast_nullification_answer, after_broadcast_nullification, broadcast_finalization_answer, after_broadcast_finalization, best_certificate}
 use Rattle.simplex_member.specs.Allowed.{is_allowed}
 use Rattle.simplex_member.specs.Calls.{CallFacts, BroadcastNotarization, BroadcastNullification, BroadcastFinalization, GetBestCertificate, Told, Handed, Refused}
-use Rattle.simplex_laws.specs.LifeLaws.{IsLife, Kind, Notarization, Nullification, Finalization, asked_by, handed_by, handed_in, HandedOnce}
+use Rattle.simplex_laws.specs.LifeLaws.{IsLife, KindOfCertificate, Notarization, Nullification, Finalization, asked_by, handed_out_by, handed_out_in, HandedOnce}
 use Rattle.simplex_member.specs.Lives.{MemberFacts, IsCall}
 use Rattle.simplex_member.specs.CallSemantics.{answer, after_call}
 use Rattle.simplex_member.specs.OutstandingWork.{OutstandingWork}
@@ -25,17 +25,17 @@ use Rattle.simplex_record.proofs.Rounds.{round_put}
 use Rattle.simplex_laws.proofs.lives.WithinLives.{call_outcome}
 
 -- the view's certificate is not to be handed out any more: it was, or none stands there and none comes
-abbrev pub IsSpent : {K L D : Type 0} → Kind → ℕ → StateFacts K L D → Type 0
+abbrev pub IsSpent : {K L D : Type 0} → KindOfCertificate → ℕ → StateFacts K L D → Type 0
 IsSpent kind v x =
     (is_handed kind (round_of x v) ≡ true) ⊎ ((v < min_active x) × (standing_view kind (round_of x v) ≡ None))
 
 -- no view's certificate is handed out, or one that was not spent, and is then
-abbrev pub Hands : {K L D : Type 0} → Kind → List ℕ → StateFacts K L D → StateFacts K L D → Type 0
+abbrev pub Hands : {K L D : Type 0} → KindOfCertificate → List ℕ → StateFacts K L D → StateFacts K L D → Type 0
 Hands kind views x y = (views ≡ []) ⊎ ((v : ℕ) × (views ≡ v ∷ []) × (IsSpent kind v x → ⊥) × IsSpent kind v y)
 
 pub record HandsOut {K L D : Type 0} (call : CallFacts D) (told : Told K D) (x y : StateFacts K L D) : Type 0 where
-  pub spent : (kind : Kind) (v : ℕ) → IsSpent kind v x → IsSpent kind v y
-  pub hands : (kind : Kind) → Hands kind (handed_by kind call told) x y
+  pub spent : (kind : KindOfCertificate) (v : ℕ) → IsSpent kind v x → IsSpent kind v y
+  pub hands : (kind : KindOfCertificate) → Hands kind (handed_out_by kind call told) x y
 
 module _ {K L D C : Type 0} (flag : RoundFacts K D → Bool) (certificate : RoundFacts K D → Option C) (x : StateFacts K L D) (v : ℕ) where
   -- what is answered stands there, and was not handed out
@@ -76,24 +76,24 @@ or_some false o c is = ap is_some is
 
 module _ {K L D : Type 0} where
   -- a view whose certificate stands there and was not handed out is not spent
-  unspent : (kind : Kind) (x : StateFacts K L D) (v : ℕ) → is_handed kind (round_of x v) ≡ false → is_some (standing_view kind (round_of x v)) ≡ true → IsSpent kind v x → ⊥
+  unspent : (kind : KindOfCertificate) (x : StateFacts K L D) (v : ℕ) → is_handed kind (round_of x v) ≡ false → is_some (standing_view kind (round_of x v)) ≡ true → IsSpent kind v x → ⊥
   unspent kind x v unsent stands (inl sent) = false≢true (sym unsent ∙ sent)
   unspent kind x v unsent stands (inr (below, none)) = false≢true (sym (ap is_some none) ∙ stands)
 
   -- a round that is put at a tracked view and was handed out
-  now_spent : (kind : Kind) (x : StateFacts K L D) (v : ℕ) (r : RoundFacts K D) → is_tracked x v ≡ true → is_handed kind r ≡ true → IsSpent kind v (if is_tracked x v then with_round x v r else x)
+  now_spent : (kind : KindOfCertificate) (x : StateFacts K L D) (v : ℕ) (r : RoundFacts K D) → is_tracked x v ≡ true → is_handed kind r ≡ true → IsSpent kind v (if is_tracked x v then with_round x v r else x)
   now_spent kind x v r tracked sent =
       subst (λ b. IsSpent kind v (if b then with_round x v r else x)) (sym tracked)
       (inl (ap (is_handed kind) (round_put x v r) ∙ sent))
 
 module _ {K L D : Type 0} where
-  hands_notarization : (x : StateFacts K L D) (v : ℕ) (kind : Kind) → Hands kind (handed_by {K = K} {D = D} kind (BroadcastNotarization v) (Handed (option_map Notarized (broadcast_notarization_answer x v)))) x (after_broadcast_notarization x v)
+  hands_notarization : (x : StateFacts K L D) (v : ℕ) (kind : KindOfCertificate) → Hands kind (handed_out_by {K = K} {D = D} kind (BroadcastNotarization v) (Handed (option_map Notarized (broadcast_notarization_answer x v)))) x (after_broadcast_notarization x v)
   hands_notarization x v kind = elim (asked (λ r. r.notarization_broadcast) (λ r. r.notarization) x v) [
-    | inl none ↦ inl (ap (λ o. handed_by {K = K} {D = D} kind (BroadcastNotarization v) (Handed (option_map Notarized o))) none)
+    | inl none ↦ inl (ap (λ o. handed_out_by {K = K} {D = D} kind (BroadcastNotarization v) (Handed (option_map Notarized o))) none)
     | inr (c, some, first) ↦ rw some (by_kind kind c first)
   ]
     where
-      by_kind : (k : Kind) (c : ProposalFacts D) → IsFirst (λ r. r.notarization_broadcast) (λ r. r.notarization) x v c → Hands k (asked_by {D = D} k (BroadcastNotarization v)) x (after_broadcast_notarization x v)
+      by_kind : (k : KindOfCertificate) (c : ProposalFacts D) → IsFirst (λ r. r.notarization_broadcast) (λ r. r.notarization) x v c → Hands k (asked_by {D = D} k (BroadcastNotarization v)) x (after_broadcast_notarization x v)
       by_kind Notarization c first = inr (
         v,
         refl,
@@ -103,13 +103,13 @@ module _ {K L D : Type 0} where
       by_kind Nullification c first = inl refl
       by_kind Finalization c first = inl refl
 
-  hands_nullification : (x : StateFacts K L D) (v : ℕ) (kind : Kind) → Hands kind (handed_by {K = K} {D = D} kind (BroadcastNullification v) (Handed (option_map Nullified (broadcast_nullification_answer x v)))) x (after_broadcast_nullification x v)
+  hands_nullification : (x : StateFacts K L D) (v : ℕ) (kind : KindOfCertificate) → Hands kind (handed_out_by {K = K} {D = D} kind (BroadcastNullification v) (Handed (option_map Nullified (broadcast_nullification_answer x v)))) x (after_broadcast_nullification x v)
   hands_nullification x v kind = elim (asked (λ r. r.nullification_broadcast) (λ r. r.nullification) x v) [
-    | inl none ↦ inl (ap (λ o. handed_by {K = K} {D = D} kind (BroadcastNullification v) (Handed (option_map Nullified o))) none)
+    | inl none ↦ inl (ap (λ o. handed_out_by {K = K} {D = D} kind (BroadcastNullification v) (Handed (option_map Nullified o))) none)
     | inr (c, some, first) ↦ rw some (by_kind kind c first)
   ]
     where
-      by_kind : (k : Kind) (c : NullificationFacts) → IsFirst (λ r. r.nullification_broadcast) (λ r. r.nullification) x v c → Hands k (asked_by {D = D} k (BroadcastNullification v)) x (after_broadcast_nullification x v)
+      by_kind : (k : KindOfCertificate) (c : NullificationFacts) → IsFirst (λ r. r.nullification_broadcast) (λ r. r.nullification) x v c → Hands k (asked_by {D = D} k (BroadcastNullification v)) x (after_broadcast_nullification x v)
       by_kind Notarization c first = inl refl
       by_kind Nullification c first = inr (
         v,
@@ -119,13 +119,13 @@ module _ {K L D : Type 0} where
       )
       by_kind Finalization c first = inl refl
 
-  hands_finalization : (x : StateFacts K L D) (v : ℕ) (kind : Kind) → Hands kind (handed_by {K = K} {D = D} kind (BroadcastFinalization v) (Handed (option_map Finalized (broadcast_finalization_answer x v)))) x (after_broadcast_finalization x v)
+  hands_finalization : (x : StateFacts K L D) (v : ℕ) (kind : KindOfCertificate) → Hands kind (handed_out_by {K = K} {D = D} kind (BroadcastFinalization v) (Handed (option_map Finalized (broadcast_finalization_answer x v)))) x (after_broadcast_finalization x v)
   hands_finalization x v kind = elim (asked (λ r. r.finalization_broadcast) (λ r. r.finalization) x v) [
-    | inl none ↦ inl (ap (λ o. handed_by {K = K} {D = D} kind (BroadcastFinalization v) (Handed (option_map Finalized o))) none)
+    | inl none ↦ inl (ap (λ o. handed_out_by {K = K} {D = D} kind (BroadcastFinalization v) (Handed (option_map Finalized o))) none)
     | inr (c, some, first) ↦ rw some (by_kind kind c first)
   ]
     where
-      by_kind : (k : Kind) (c : ProposalFacts D) → IsFirst (λ r. r.finalization_broadcast) (λ r. r.finalization) x v c → Hands k (asked_by {D = D} k (BroadcastFinalization v)) x (after_broadcast_finalization x v)
+      by_kind : (k : KindOfCertificate) (c : ProposalFacts D) → IsFirst (λ r. r.finalization_broadcast) (λ r. r.finalization) x v c → Hands k (asked_by {D = D} k (BroadcastFinalization v)) x (after_broadcast_finalization x v)
       by_kind Notarization c first = inl refl
       by_kind Nullification c first = inl refl
       by_kind Finalization c first = inr (
@@ -135,7 +135,7 @@ module _ {K L D : Type 0} where
         now_spent Finalization x v _ first.tracked (or_some (round_of x v).finalization_broadcast (round_of x v).finalization c first.stands),
       )
 
-best_unasked : (K : Type 0) {D : Type 0} (kind : Kind) (best : Option (CertificateFacts D)) → handed_by {K = K} {D = D} kind GetBestCertificate (Handed best) ≡ []
+best_unasked : (K : Type 0) {D : Type 0} (kind : KindOfCertificate) (best : Option (CertificateFacts D)) → handed_out_by {K = K} {D = D} kind GetBestCertificate (Handed best) ≡ []
 best_unasked K Notarization None = refl
 best_unasked K Nullification None = refl
 best_unasked K Finalization None = refl
@@ -144,7 +144,7 @@ best_unasked K Nullification (Some c) = refl
 best_unasked K Finalization (Some c) = refl
 
 module _ {K L D : Type 0} (same : D → D → Bool) (elect : Elect L) where
-  event_spends : (x : StateFacts K L D) → (e : Event K D) → IsEvent x e → is_floor e ≡ false → (kind : Kind) (v : ℕ) → IsSpent kind v x → IsSpent kind v (after_event same elect x e)
+  event_spends : (x : StateFacts K L D) → (e : Event K D) → IsEvent x e → is_floor e ≡ false → (kind : KindOfCertificate) (v : ℕ) → IsSpent kind v x → IsSpent kind v (after_event same elect x e)
   event_spends x e takes none kind v spent =
       let y = after_event same elect x e in
       let floor = floor_goes x y (event_goes same elect x e) in
@@ -156,10 +156,10 @@ module _ {K L D : Type 0} (same : D → D → Bool) (elect : Elect L) where
         ]
       ]
 
-  call_spends : (x : StateFacts K L D) → (o : OutstandingWork K D) (call : CallFacts D) → is_allowed x o call ≡ true → (kind : Kind) (v : ℕ) → IsSpent kind v x → IsSpent kind v (after_call same elect x o call)
-  call_spends x o call allowed = call_by_event same elect x o (λ es y. (kind : Kind) (v : ℕ) → IsSpent kind v x → IsSpent kind v y) (λ kind v spent. spent) (λ e. event_spends x e) call allowed
+  call_spends : (x : StateFacts K L D) → (o : OutstandingWork K D) (call : CallFacts D) → is_allowed x o call ≡ true → (kind : KindOfCertificate) (v : ℕ) → IsSpent kind v x → IsSpent kind v (after_call same elect x o call)
+  call_spends x o call allowed = call_by_event same elect x o (λ es y. (kind : KindOfCertificate) (v : ℕ) → IsSpent kind v x → IsSpent kind v y) (λ kind v spent. spent) (λ e. event_spends x e) call allowed
 
-  call_hands : (x : StateFacts K L D) (o : OutstandingWork K D) (call : CallFacts D) (kind : Kind) → Hands kind (handed_by kind call (answer same elect x o call)) x (after_call same elect x o call)
+  call_hands : (x : StateFacts K L D) (o : OutstandingWork K D) (call : CallFacts D) (kind : KindOfCertificate) → Hands kind (handed_out_by kind call (answer same elect x o call)) x (after_call same elect x o call)
   call_hands x o (BroadcastNotarization v) kind = hands_notarization x v kind
   call_hands x o (BroadcastNullification v) kind = hands_nullification x v kind
   call_hands x o (BroadcastFinalization v) kind = hands_finalization x v kind
@@ -174,13 +174,13 @@ module _ {K L D : Type 0} (same : D → D → Bool) (elect : Elect L) where
       (λ call x o allowed. record { spent = call_spends x o call allowed; hands = call_hands x o call })
 
 -- a member without a state hands nothing out
-abbrev pub IsSpentIn : {K L D : Type 0} → Kind → ℕ → Option (StateFacts K L D) → Type 0
+abbrev pub IsSpentIn : {K L D : Type 0} → KindOfCertificate → ℕ → Option (StateFacts K L D) → Type 0
 IsSpentIn kind v None = Unit {0}
 IsSpentIn kind v (Some x) = IsSpent kind v x
 
-module _ {K L D : Type 0} (same : D → D → Bool) (elect : Elect L) (kind : Kind) where
+module _ {K L D : Type 0} (same : D → D → Bool) (elect : Elect L) (kind : KindOfCertificate) where
   -- what is spent is not handed out any more
-  never_again : (v : ℕ) (m end : MemberFacts K L D) (calls : List (CallFacts D)) (replies : List (Told K D)) → IsSpentIn kind v m.life → IsLife same elect m calls replies end → AllByRecursion (λ w. nat_eq v w ≡ false) (handed_in kind calls replies)
+  never_again : (v : ℕ) (m end : MemberFacts K L D) (calls : List (CallFacts D)) (replies : List (Told K D)) → IsSpentIn kind v m.life → IsLife same elect m calls replies end → AllByRecursion (λ w. nat_eq v w ≡ false) (handed_out_in kind calls replies)
   never_again v m end [] [] spent life = tt
   never_again v m end [] (told ∷ replies) spent life = absurd life
   never_again v m end (call ∷ calls) [] spent life = absurd life
@@ -199,7 +199,7 @@ module _ {K L D : Type 0} (same : D → D → Bool) (elect : Elect L) (kind : Ki
         )
   ]
 
-  handed_once : (m end : MemberFacts K L D) (calls : List (CallFacts D)) (replies : List (Told K D)) → IsLife same elect m calls replies end → IsDistinct nat_eq (handed_in kind calls replies)
+  handed_once : (m end : MemberFacts K L D) (calls : List (CallFacts D)) (replies : List (Told K D)) → IsLife same elect m calls replies end → IsDistinct nat_eq (handed_out_in kind calls replies)
   unfolding IsDistinct
   handed_once m end [] [] life = tt
   handed_once m end [] (told ∷ replies) life = absurd life

@@ -25,7 +25,7 @@ use Rattle.std.specs.FinMap.Entries.{find}
 use Rattle.std.specs.Ordering.{nat_cmp}
 use Rattle.std.specs.List.{list_any}
 use Rattle.std.proofs.lemmas.Bool.Decides.{nat_tests}
-use Rattle.simplex_laws.specs.LifeLaws.{Kind, Notarization, Nullification, Finalization, IsDropped}
+use Rattle.simplex_laws.specs.LifeLaws.{KindOfCertificate, Notarization, Nullification, Finalization, WasDropped}
 use Rattle.simplex_laws.proofs.frames.CallsMake.{is_floor, call_by_event}
 use Rattle.simplex_laws.proofs.lists.Splits.{Contains-cons_rest}
 use Rattle.simplex_laws.proofs.frames.EachRound.{IsGone, rounds_or_gone}
@@ -36,13 +36,13 @@ use Rattle.simplex_laws.proofs.frames.Untracked.{kept_view}
 
 module _ {K D : Type 0} where
   -- the certificate of this kind was handed out, and stands there
-  abbrev pub is_handed : Kind → RoundFacts K D → Bool
+  abbrev pub is_handed : KindOfCertificate → RoundFacts K D → Bool
   is_handed Notarization r = r.notarization_broadcast
   is_handed Nullification r = r.nullification_broadcast
   is_handed Finalization r = r.finalization_broadcast
 
   -- the view of the one that stands there
-  abbrev pub standing_view : Kind → RoundFacts K D → Option ℕ
+  abbrev pub standing_view : KindOfCertificate → RoundFacts K D → Option ℕ
   standing_view Notarization r = option_map (λ c. c.proposal.round.view) r.notarization
   standing_view Nullification r = option_map (λ c. c.round.view) r.nullification
   standing_view Finalization r = option_map (λ c. c.proposal.round.view) r.finalization
@@ -67,18 +67,18 @@ pub record RoundLasts {K D : Type 0} (low v : ℕ) (r s : RoundFacts K D) : Type
   pub finalization : UnchangedOrOwnView low v (standing_view Finalization r) (standing_view Finalization s)
 
 module _ {K D : Type 0} (low v : ℕ) where
-  pub handed : (r s : RoundFacts K D) → RoundLasts low v r s → (kind : Kind) → is_handed kind r ≡ true → is_handed kind s ≡ true
+  pub handed : (r s : RoundFacts K D) → RoundLasts low v r s → (kind : KindOfCertificate) → is_handed kind r ≡ true → is_handed kind s ≡ true
   handed r s lasts Notarization h = lasts.notarization_handed h
   handed r s lasts Nullification h = lasts.nullification_handed h
   handed r s lasts Finalization h = lasts.finalization_handed h
 
-  pub certificates : (r s : RoundFacts K D) → RoundLasts low v r s → (kind : Kind) → UnchangedOrOwnView low v (standing_view kind r) (standing_view kind s)
+  pub certificates : (r s : RoundFacts K D) → RoundLasts low v r s → (kind : KindOfCertificate) → UnchangedOrOwnView low v (standing_view kind r) (standing_view kind s)
   certificates r s lasts Notarization = lasts.notarization
   certificates r s lasts Nullification = lasts.nullification
   certificates r s lasts Finalization = lasts.finalization
 
   -- none comes below the views that are kept
-  pub none_comes : (r s : RoundFacts K D) → RoundLasts low v r s → (kind : Kind) → v < low → standing_view kind r ≡ None → standing_view kind s ≡ None
+  pub none_comes : (r s : RoundFacts K D) → RoundLasts low v r s → (kind : KindOfCertificate) → v < low → standing_view kind r ≡ None → standing_view kind s ≡ None
   none_comes r s lasts kind below none = elim (certificates r s lasts kind) [ inl same ↦ same ∙ none | inr (kept, comes) ↦ absurd (omega arith) ]
 
   still : (r : RoundFacts K D) → RoundLasts low v r r
@@ -204,7 +204,7 @@ found_key test v (e ∷ es) there passes = elim (cases_eq v e.0) [
 -- a view below those that were kept isn't tracked from a call on, which is told that it was dropped
 pub record Drops {K L D : Type 0} (x y : StateFacts K L D) (told : Told K D) (v : ℕ) : Type 0 where
   pub gone : IsGone x y v
-  pub dropped : is_tracked x v ≡ true → IsDropped (told ∷ []) v
+  pub dropped : is_tracked x v ≡ true → WasDropped (told ∷ []) v
 
 -- of the events of a call
 abbrev pub AllLast : {K L D : Type 0} → StateFacts K L D → List (Event K D) → StateFacts K L D → Type 0
@@ -227,7 +227,7 @@ module _ {K L D : Type 0} (same : D → D → Bool) (elect : Elect L) (x : State
     | inr (prunes, gone) ↦ inr (record { gone = gone; dropped = λ tracked. told call prunes gone.below tracked })
   ]
     where
-      told : (call : CallFacts D) → list_any is_prune (events_of o call) ≡ true → v < min_active x → is_tracked x v ≡ true → IsDropped (answer same elect x o call ∷ []) v
+      told : (call : CallFacts D) → list_any is_prune (events_of o call) ≡ true → v < min_active x → is_tracked x v ≡ true → WasDropped (answer same elect x o call ∷ []) v
       told Prune prunes below tracked = (let under : nat_lt v (min_active x) ≡ true = grind (arith, nat_tests) in (prune_answer x, (0, omega arith, refl), found_key (λ u. nat_lt u (min_active x)) v x.rounds tracked under))
       told (Proposed w payload now) prunes below tracked = absurd (true≢false (sym prunes ∙ in_context_prunes (λ c. event.Proposed c payload now) (λ c. refl) (context_at o w)))
       told (SupersedeProposalRequest w) prunes below tracked = absurd (true≢false (sym prunes ∙ in_context_prunes event.Supersede (λ c. refl) (context_at o w)))

@@ -20,7 +20,7 @@ use Rattle.simplex_member.specs.Runs.{StepFacts, Calls, Prunes, Restarts, IsStep
 use Rattle.simplex_record.specs.Start.{StartFacts, new_state}
 use Rattle.simplex_laws.specs.Executions.{new_member}
 use Rattle.simplex_laws.specs.Traces.{TraceEvent, of_floor, trace_at, trace_of_steps}
-use Rattle.simplex_laws.specs.LifeLaws.{CurrentTimesOut, IsPolled, PollsAreAnswered}
+use Rattle.simplex_laws.specs.LifeLaws.{CurrentTimesOut, PollIsAnswered, PollsAreAnswered}
 use Rattle.simplex_laws.specs.TermLengths.{HasTerms, KeepTerms}
 use Rattle.simplex_laws.proofs.frames.Fresh.{fresh_state}
 use Rattle.simplex_laws.proofs.frames.RunsKeep.{HoldsIn, told_keeps, restart_keeps, run_induction}
@@ -65,11 +65,11 @@ module _ {K L D : Type 0} (x : StateFacts K L D) (now : ℕ) where
           (some_mapped (or_stalled (stall_deadline x) now) (round_timeout (with_retry r now x.settings.timeout_retry) (has_skip_budget x)) (retried r now x.settings.timeout_retry (has_skip_budget x) some))
 
 module _ {K L D : Type 0} (same : D → D → Bool) (elect : Elect L) where
-  poll_answered : (m next : MemberFacts K L D) (now : ℕ) (told : Told K D) → ((x : StateFacts K L D) → m.life ≡ Some x → has_timeout x ≡ true) → IsCall same elect m (NextTimeout now) told next → IsPolled {L = L} (Calls (NextTimeout now)) told
+  poll_answered : (m next : MemberFacts K L D) (now : ℕ) (told : Told K D) → ((x : StateFacts K L D) → m.life ≡ Some x → has_timeout x ≡ true) → IsCall same elect m (NextTimeout now) told next → PollIsAnswered {L = L} (Calls (NextTimeout now)) told
   unfolding IsCall
   poll_answered m next now told has is_call = by_life m.life refl is_call
     where
-      by_life : (o : Option (StateFacts K L D)) → m.life ≡ o → AnswersAlive same elect o m (NextTimeout now) told next → IsPolled {L = L} (Calls (NextTimeout now)) told
+      by_life : (o : Option (StateFacts K L D)) → m.life ≡ o → AnswersAlive same elect o m (NextTimeout now) told next → PollIsAnswered {L = L} (Calls (NextTimeout now)) told
       by_life None dead (tells, leaves) = inr (inl tells)
       by_life (Some x) alive (inr (_, _, inl (needs, _))) = absurd (false≢true needs)
       by_life (Some x) alive (inr (_, _, inr (_, falls, _))) = absurd (false≢true falls)
@@ -78,7 +78,7 @@ module _ {K L D : Type 0} (same : D → D → Bool) (elect : Elect L) where
           due : has_timeout x ≡ true
           due = has x alive
 
-          by_fault : (failed late : Bool) → told ≡ unless_refused (first_fault failed false late) (TimesOut (next_timeout_answer x now)) → IsPolled {L = L} (Calls (NextTimeout now)) told
+          by_fault : (failed late : Bool) → told ≡ unless_refused (first_fault failed false late) (TimesOut (next_timeout_answer x now)) → PollIsAnswered {L = L} (Calls (NextTimeout now)) told
           by_fault true late is = inr (inl is)
           by_fault false true is = inr (inr is)
           by_fault false false is = let answer = polled x now due in inl (answer.0, is ∙ ap TimesOut answer.1)
@@ -105,7 +105,7 @@ module _ {K L D : Type 0} (same : D → D → Bool) (decides : (d e : D) → sam
   step_times_out Prunes steps told m next keep timed is_step = rw is_step.1 timed
   step_times_out (Restarts r) steps told m next keep timed is_step = restart_keeps same elect term_length Timed (floor_times_out same elect term_length) (event_times_out same elect) m r is_step.0 next keep.0 timed is_step.1
 
-  step_answered : (step : StepFacts K L D) (told : Told K D) (trace : List (TraceEvent D)) (m next : MemberFacts K L D) → HoldsIn Timed m.life → MemberLives term_length trace m → IsStep same elect m step told next → IsPolled step told
+  step_answered : (step : StepFacts K L D) (told : Told K D) (trace : List (TraceEvent D)) (m next : MemberFacts K L D) → HoldsIn Timed m.life → MemberLives term_length trace m → IsStep same elect m step told next → PollIsAnswered step told
   step_answered (Calls (NextTimeout now)) told trace m next timed lives is_step =
       poll_answered same elect m next now told (λ x alive. has_its_timeout term_length trace m.closed lives.0 m.entries m.outstanding_work x (subst (HoldsIn Timed) alive timed) (subst (LivesOn term_length trace m.closed lives.0 m.entries m.outstanding_work) alive lives.1)) is_step
   step_answered _ told trace m next timed lives is_step = tt

@@ -7,7 +7,6 @@ use Rattle.std.specs.Ordering.{nat_cmp}
 use Rattle.std.specs.BTreeSet.{insert_key}
 use Rattle.std.proofs.Math.Bool.{and-false}
 use Rattle.std.proofs.lemmas.Bool.{lt-ltb, le-leb, eq-eqb, false≢true}
-use Rattle.std.proofs.lemmas.Bool.Decides.{nat_tests}
 use Rattle.simplex_types.specs.Certificates.{ProposalFacts, NullificationFacts}
 use Rattle.simplex_types.specs.Config.{FloorFacts}
 use Rattle.simplex_types.specs.Terms.{next_term_start}
@@ -31,13 +30,13 @@ use Rattle.simplex_record.specs.Events as event
 use Rattle.simplex_record.specs.Events.{Event, after_event}
 use Rattle.simplex_laws.specs.Progress.{GoesPast, CanBeLeft}
 use Rattle.simplex_laws.specs.TermLengths.{HasTerms, KeepTerms}
-use Rattle.simplex_laws.proofs.frames.Fresh.{IsFresh}
+use Rattle.simplex_laws.proofs.frames.Fresh.{IsNewState}
 use Rattle.simplex_laws.proofs.frames.Rising.{event_goes}
 use Rattle.simplex_laws.proofs.frames.RunsKeep.{HoldsIn, run_induction}
-use Rattle.simplex_laws.proofs.frames.Sound.{IsSound, event_passes, event_sound, floor_sound}
+use Rattle.simplex_laws.proofs.frames.Sound.{IsSound, entered_reaches, event_passes, event_sound, floor_sound}
 
 -- no fault is due where none of its reasons holds
-no_fault_due : (failed too_large late : Bool) → failed ≡ false → too_large ≡ false → late ≡ false → first_fault failed too_large late ≡ None
+pub no_fault_due : (failed too_large late : Bool) → failed ≡ false → too_large ≡ false → late ≡ false → first_fault failed too_large late ≡ None
 no_fault_due failed too_large late alive small early = rw (alive, small, early) refl
 
 -- a moment without a late deadline is never late
@@ -53,13 +52,6 @@ module _ {K L D : Type 0} (v : ℕ) where
   either_reaches : (b : Bool) (y z : StateFacts K L D) → v ≤ y.current → v ≤ z.current → v ≤ (if b then y else z).current
   either_reaches true y z reached other = reached
   either_reaches false y z reached other = other
-
-  entered_reaches : (x : StateFacts K L D) (now : ℕ) → v ≤ (with_view_entered x v now).current
-  entered_reaches x now = by_test (nat_lt x.current v) refl
-    where
-      by_test : (b : Bool) → nat_lt x.current v ≡ b → v ≤ (with_view_entered x v now).current
-      by_test true is = rw is (omega arith)
-      by_test false is = rw is (grind (arith, nat_tests))
 
   led_reaches : (elect : Elect L) (x : StateFacts K L D) (w : ℕ) (seed : Option (List ℕ)) → v ≤ x.current → v ≤ (with_elected_leader elect x w seed).current
   led_reaches elect x w seed reached = either_reaches (has_leader x w) x (with_round x w (record (round_of x w) { leader = leader_at x.members (elect x.elector (round_number x w) seed) })) reached reached
@@ -96,7 +88,7 @@ module _ {K L D : Type 0} (same : D → D → Bool) (elect : Elect L) (term_leng
         let view = ap (λ (r : Round). r.view) at in
         let above : x.current < next = subst (λ v. x.current < next_term_start x.terms.term_length v) (sym view) next_term_above in
         let e = with_view_entered (at_moment x now) next now in
-        let reaches : next ≤ (after_event same elect x (event.AddNullification c now)).current = led_reaches next elect e next (Some c.bytes) (entered_reaches next (at_moment x now) now) in
+        let reaches : next ≤ (after_event same elect x (event.AddNullification c now)).current = led_reaches next elect e next (Some c.bytes) (entered_reaches (at_moment x now) next now) in
         record {
           allowed = ap (takes_round x) at ∙ takes_current;
           no_fault = no_fault_due x.failed (is_too_large c.round.view) (nat_lt x.current next && has_late_deadline x now) goes.alive (ap is_too_large view ∙ small) (never_late (nat_lt x.current next) (has_late_deadline x now) early);
@@ -143,7 +135,7 @@ module _ {K L D : Type 0} (same : D → D → Bool) (elect : Elect L) (term_leng
         let e = with_view_entered (with_verdict a x.current true) (x.current + 1) now in
         let reaches : x.current + 1 ≤ (after_event same elect x (event.Certified x.current true now)).current =
         subst (λ b. x.current + 1 ≤ (if b then verdict_taken elect a x.current true now else a).current) (sym tracked)
-        (woken_reaches (x.current + 1) elect e x.current (entered_reaches (x.current + 1) (with_verdict a x.current true) now)) in
+        (woken_reaches (x.current + 1) elect e x.current (entered_reaches (with_verdict a x.current true) (x.current + 1) now)) in
         record {
           allowed = takes;
           no_fault = no_fault_due x.failed false (is_tracked x x.current && late) goes.alive refl (never_late (is_tracked x x.current) late (never_late (nat_lt x.current (x.current + 1)) (has_late_deadline x now) early));
@@ -166,7 +158,7 @@ module _ {K L D : Type 0} (same : D → D → Bool) (elect : Elect L) where
     alive = (event_goes same elect x e).failed ∙ goes.alive;
   }
 
-  floor_goes_on : (term_length : ℕ) (x : StateFacts K L D) (floor : FloorFacts D) (now : ℕ) → IsFresh term_length x → IsSoundAndAlive term_length (after_set_floor same elect x floor now)
+  floor_goes_on : (term_length : ℕ) (x : StateFacts K L D) (floor : FloorFacts D) (now : ℕ) → IsNewState term_length x → IsSoundAndAlive term_length (after_set_floor same elect x floor now)
   floor_goes_on term_length x floor now fresh = record {
     sound = floor_sound same elect term_length x floor now fresh;
     alive = (event_goes same elect x (event.SetFloor floor now)).failed ∙ ap (λ (y : StateFacts K L D). y.failed) fresh.fresh;

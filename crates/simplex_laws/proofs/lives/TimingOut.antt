@@ -18,7 +18,7 @@ use Rattle.simplex_voter.specs.Serving.{after_prune}
 use Rattle.simplex_voter.specs.Acceptance.{after_set_floor}
 use Rattle.simplex_record.specs.Events as event
 use Rattle.simplex_record.specs.Events.{Event, after_event, finalized_by_event, is_prune}
-use Rattle.simplex_laws.proofs.frames.Fresh.{IsFresh}
+use Rattle.simplex_laws.proofs.frames.Fresh.{IsNewState}
 use Rattle.simplex_laws.proofs.frames.EachRound.{IsGone, step_round, rounds_or_gone, pruned_round, prune_alone}
 use Rattle.simplex_record.proofs.Paths.{event_path, asked_of_all, armed_timed}
 use Rattle.simplex_laws.proofs.frames.Rising.{event_goes}
@@ -143,7 +143,7 @@ module _ {K L D : Type 0} (same : D → D → Bool) (elect : Elect L) where
         timed = reached_timed same elect x e refl (omega (arith, ahead));
       }
 
-  pub floor_times_out : (term_length : ℕ) (x : StateFacts K L D) (floor : FloorFacts D) (now : ℕ) → IsFresh term_length x → TimesOut (after_set_floor same elect x floor now)
+  pub floor_times_out : (term_length : ℕ) (x : StateFacts K L D) (floor : FloorFacts D) (now : ℕ) → IsNewState term_length x → TimesOut (after_set_floor same elect x floor now)
   floor_times_out term_length x floor now fresh =
       subst (λ y. TimesOut (after_set_floor same elect y floor now)) (sym fresh.fresh) (new_times_out x.settings x.me x.members x.elector x.terms x.elects_early floor now)
 

@@ -8,7 +8,7 @@ use Rattle.simplex_voter.specs.Windows.{min_active}
 use Rattle.simplex_member.specs.Allowed.{is_allowed}
 use Rattle.simplex_member.specs.Calls.{CallFacts, Told, Dropped, Refused, NotAllowed}
 use Rattle.simplex_laws.specs.Executions.{new_member}
-use Rattle.simplex_laws.specs.LifeLaws.{IsLife, IsLifeOfRun, WhileAlive, IsDropped, ConflictsStay, DroppedForGood, HandedOnce, IsAsAsked, HandedAsAsked}
+use Rattle.simplex_laws.specs.LifeLaws.{IsLife, IsLifeOfRun, WhileAlive, WasDropped, ConflictsStay, DroppedForGood, HandedOnce, IsAsAsked, HandedAsAsked}
 use Rattle.simplex_member.specs.Lives.{MemberFacts, IsCall}
 use Rattle.simplex_member.specs.CallSemantics.{answer, after_call}
 use Rattle.simplex_member.specs.OutstandingWork.{OutstandingWork}
@@ -18,8 +18,7 @@ use Rattle.simplex_laws.specs.TermLengths.{HasTerms, KeepTerms}
 use Rattle.simplex_laws.proofs.lives.Conflicts.{ConflictsLast, life_keeps}
 use Rattle.simplex_laws.proofs.lives.HandedOut.{life_hands_once}
 use Rattle.simplex_laws.proofs.lives.AsAsked.{call_as_asked}
-use Rattle.simplex_laws.proofs.records.TracesShown.{only_one}
-use Rattle.simplex_laws.proofs.lists.Splits.{Contains-cases}
+use Rattle.simplex_laws.proofs.lists.Splits.{Contains-cases, only_one}
 use Rattle.simplex_laws.proofs.frames.Untracked.{IsClear, call_clear, call_drops}
 use Rattle.simplex_member.proofs.EventsMake.{call_by_any}
 use Rattle.simplex_laws.proofs.frames.Rising.{floor_goes, call_goes}
@@ -31,7 +30,7 @@ use Rattle.simplex_laws.proofs.lives.WithinLives.{alive_still, alive_joined, eac
 pub record Away {K L D : Type 0} (replies : List (Told K D)) (x y : StateFacts K L D) : Type 0 where
   pub floor : min_active x ≤ min_active y
   pub clear : (low : ℕ) → low ≤ min_active x → IsClear low x → IsClear low y
-  pub dropped : (v : ℕ) → IsDropped replies v → (low : ℕ) × (v < low) × (low ≤ min_active y) × IsClear low y
+  pub dropped : (v : ℕ) → WasDropped replies v → (low : ℕ) × (v < low) × (low ≤ min_active y) × IsClear low y
 
 -- from a sound state on
 abbrev pub SoundlyAway : {K L D : Type 0} → ℕ → List (Told K D) → StateFacts K L D → StateFacts K L D → Type 0
@@ -55,7 +54,7 @@ module _ {K L D : Type 0} where
     dropped = dropped;
   }
     where
-      dropped : (v : ℕ) → IsDropped (told ∷ replies) v → (low : ℕ) × (v < low) × (low ≤ min_active z) × IsClear low z
+      dropped : (v : ℕ) → WasDropped (told ∷ replies) v → (low : ℕ) × (v < low) × (low ≤ min_active z) × IsClear low z
       dropped v (views, there, among) = elim (Contains-cases told replies (Dropped views) there) [
         | inl here ↦ (let gone = p.dropped v (views, (0, omega arith, here), among) in (gone.0, gone.1, omega (arith, gone.2, q.floor), q.clear gone.0 gone.2 gone.3))
         | inr later ↦ q.dropped v (views, later, among)

@@ -8,7 +8,6 @@ use Rattle.simplex_voter.specs.Payloads.{explicit_ancestry_payload, optimistic_a
 use Rattle.simplex_voter.specs.Rules.{may_notarize, may_nullify, may_finalize, has_conflicting_nullify, required_certification_parent}
 use Rattle.simplex_voter.specs.Verifying.{standing}
 use Rattle.simplex_voter.specs.Windows.{is_admitted, in_issuance_window}
-use Rattle.simplex_member.specs.Calls.{Told}
 use Rattle.simplex_record.specs.Check.{first_recover_error}
 use Rattle.simplex_record.specs.Cuts.{may_drop, pruned_entries}
 use Rattle.simplex_record.specs.Entries.{entry_view}
@@ -20,16 +19,13 @@ use Rattle.simplex_laws.specs.Executions.{new_member, Execution, BeginsAs, IsExe
 use Rattle.simplex_laws.specs.ScenarioSteps.{round, certificate, nullification, one, two}
 use Rattle.simplex_laws.proofs.networks.Continuations.{network_of}
 use Rattle.simplex_laws.proofs.networks.Scripts.{patient_ran}
-use Rattle.simplex_laws.proofs.networks.ComputedRuns.{replies_from, FindsRisingRecords, fits_run_from, rises, each_begins}
+use Rattle.simplex_laws.proofs.networks.ComputedRuns.{FindsRisingRecords, fits_run_from, rises, each_begins, told_from}
 
 -- what the steps are told, and that the record rises at each restart
-abbrev told_from : Execution ℕ ℕ ℕ → List (Told ℕ ℕ)
-told_from s = replies_from nat_eq leader (new_member nat_eq leader s.start) s.steps
-
 abbrev FitsFrom : Execution ℕ ℕ ℕ → Type 0
 FitsFrom s = FindsRisingRecords nat_eq leader (new_member nat_eq leader s.start) s.steps
 
-refusing_told : told_from refusing ≡ refusing.replies
+refusing_told : told_from nat_eq leader refusing ≡ refusing.replies
 unfolding first_recover_error recovered_state after_kept_entry may_drop pruned_entries has_valid_parent_span ancestry_payload_for_child first_unnullified_view explicit_ancestry_payload in_issuance_window is_admitted verification_matches parent_payload_for may_notarize may_nullify may_finalize has_conflicting_nullify required_certification_parent
 refusing_told = refl
 
@@ -57,7 +53,7 @@ refusing_ran =
       run = fits_run_from nat_eq leader refusing refl refusing_fits refusing_told;
     }
 
-changing_told : told_from changing ≡ changing.replies
+changing_told : told_from nat_eq leader changing ≡ changing.replies
 unfolding first_recover_error recovered_state after_kept_entry may_drop pruned_entries standing has_valid_parent_span ancestry_payload_for_child first_unnullified_view explicit_ancestry_payload in_issuance_window is_admitted verification_matches parent_payload_for may_notarize may_nullify may_finalize has_conflicting_nullify required_certification_parent optimistic_ancestry_payload is_handoff_parent is_voted_ancestor can_chain_on
 changing_told = refl
 
@@ -92,15 +88,15 @@ changing_ran =
 
 -- the networks that they are members of
 
-patient_told_0 : told_from (patient 0) ≡ (patient 0).replies
+patient_told_0 : told_from nat_eq leader (patient 0) ≡ (patient 0).replies
 unfolding standing has_valid_parent_span ancestry_payload_for_child first_unnullified_view explicit_ancestry_payload in_issuance_window is_admitted verification_matches parent_payload_for may_notarize may_nullify may_finalize has_conflicting_nullify required_certification_parent
 patient_told_0 = refl
 
-patient_told_2 : told_from (patient 2) ≡ (patient 2).replies
+patient_told_2 : told_from nat_eq leader (patient 2) ≡ (patient 2).replies
 unfolding standing has_valid_parent_span ancestry_payload_for_child first_unnullified_view explicit_ancestry_payload in_issuance_window is_admitted verification_matches parent_payload_for may_notarize may_nullify may_finalize has_conflicting_nullify required_certification_parent
 patient_told_2 = refl
 
-giving_up_told : told_from giving_up ≡ giving_up.replies
+giving_up_told : told_from nat_eq leader giving_up ≡ giving_up.replies
 unfolding standing has_valid_parent_span ancestry_payload_for_child first_unnullified_view explicit_ancestry_payload in_issuance_window is_admitted verification_matches parent_payload_for may_notarize may_nullify may_finalize has_conflicting_nullify required_certification_parent
 giving_up_told = refl
 

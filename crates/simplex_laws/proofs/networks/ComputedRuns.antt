@@ -109,6 +109,10 @@ module _ {K L D : Type 0} (same : D → D → Bool) (elect : Elect L) where
       let due = due_error m r in
       (next_then m.life m (Restarts r), (result_then grows due, restart_made m r fits.0, told_so grows due), fits_run (next_then m.life m (Restarts r)) steps fits.1)
 
+  -- what the steps of an execution are told, from its start on
+  abbrev pub told_from : Execution K L D → List (Told K D)
+  told_from s = replies_from (new_member same elect s.start) s.steps
+
   pub fits_run_from : (s : Execution K L D) → recover_error same (new_state s.start.setup) s.start.floor s.start.now [] ≡ None → FindsRisingRecords (new_member same elect s.start) s.steps → replies_from (new_member same elect s.start) s.steps ≡ s.replies → IsRunFrom same elect s.start s.steps s.replies
   unfolding IsRunFrom
   fits_run_from s none fits is = (none, end_from (new_member same elect s.start) s.steps, subst (λ (told : List (Told K D)). IsRun same elect (new_member same elect s.start) s.steps told (end_from (new_member same elect s.start) s.steps)) is (fits_run (new_member same elect s.start) s.steps fits))

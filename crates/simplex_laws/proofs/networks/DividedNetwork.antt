@@ -24,8 +24,8 @@ use Rattle.simplex_laws.specs.ScenarioSteps.{one, in_turn}
 use Rattle.simplex_laws.specs.Executions.{Execution, trace_of, IsExecution}
 use Rattle.simplex_laws.proofs.networks.ComputedRuns.{rises}
 use Rattle.simplex_laws.proofs.networks.Continuations.{AreExecutions, all_ran_before, network_of, goes_on_so}
-use Rattle.simplex_laws.proofs.records.TracesShown.{only_one}
 use Rattle.simplex_laws.proofs.networks.ScenarioSteps.{begins, told_in, FitsIn, ran_as_told}
+use Rattle.simplex_laws.proofs.lists.Splits.{only_one}
 
 abbrev leading : Execution ℕ ℕ ℕ
 leading = and_then (deceived 0 one rival) (leads_past_conflict 0 2000 CertificationTimeout)

@@ -12,7 +12,6 @@ use Rattle.simplex_voter.specs.Rules.{may_notarize, may_nullify, may_finalize, h
 use Rattle.simplex_voter.specs.Verifying.{standing}
 use Rattle.simplex_voter.specs.Windows.{is_admitted, in_issuance_window}
 use Rattle.simplex_voter.proofs.Gaps.{and_parts}
-use Rattle.simplex_member.specs.Calls.{Told}
 use Rattle.simplex_record.specs.Check.{first_recover_error}
 use Rattle.simplex_laws.specs.Accountability.{AcceptCertified, MayBeCertified, MayHaveVoted, HasAcceptedNearer, IsBackedNetwork}
 use Rattle.simplex_laws.specs.Traces.{TraceEvent, Accepts, Signs}
@@ -20,9 +19,9 @@ use Rattle.simplex_laws.specs.DividedNetwork.{rival}
 use Rattle.simplex_laws.specs.Replicas.{quorum, Backed}
 use Rattle.simplex_laws.specs.Rivals.{voting_for, two_proposals, known_of_two_proposals, past_two, misled, skipped_over, known_of_skipped}
 use Rattle.simplex_laws.specs.Scripts.{leader}
-use Rattle.simplex_laws.specs.Executions.{new_member, Execution, trace_of, IsExecution}
+use Rattle.simplex_laws.specs.Executions.{trace_of, IsExecution}
 use Rattle.simplex_laws.specs.ScenarioSteps.{round, one, two}
-use Rattle.simplex_laws.proofs.networks.ComputedRuns.{replies_from, fits_run_from, each_begins}
+use Rattle.simplex_laws.proofs.networks.ComputedRuns.{fits_run_from, each_begins, told_from}
 use Rattle.simplex_laws.proofs.networks.Continuations.{same_trace_event, same_trace_event-true, each_one, each_one-true, enough, enough-true, passes, backed_network_of, backed_so}
 use Rattle.simplex_laws.proofs.networks.Scripts.{begins, skipping_ran_1}
 
@@ -61,18 +60,15 @@ accept_so members is i trace c at h = certified_so members c (known_so (may_be_c
 
 -- the members ran
 
-abbrev told_from : Execution ℕ ℕ ℕ → List (Told ℕ ℕ)
-told_from s = replies_from nat_eq leader (new_member nat_eq leader s.start) s.steps
-
-first_told : told_from (voting_for one 0) ≡ (voting_for one 0).replies
+first_told : told_from nat_eq leader (voting_for one 0) ≡ (voting_for one 0).replies
 unfolding standing has_valid_parent_span ancestry_payload_for_child first_unnullified_view explicit_ancestry_payload in_issuance_window is_admitted verification_matches parent_payload_for may_notarize may_nullify may_finalize has_conflicting_nullify required_certification_parent
 first_told = refl
 
-second_told : told_from (voting_for rival 1) ≡ (voting_for rival 1).replies
+second_told : told_from nat_eq leader (voting_for rival 1) ≡ (voting_for rival 1).replies
 unfolding standing has_valid_parent_span ancestry_payload_for_child first_unnullified_view explicit_ancestry_payload in_issuance_window is_admitted verification_matches parent_payload_for may_notarize may_nullify may_finalize has_conflicting_nullify required_certification_parent
 second_told = refl
 
-misled_told : told_from misled ≡ misled.replies
+misled_told : told_from nat_eq leader misled ≡ misled.replies
 unfolding standing has_valid_parent_span ancestry_payload_for_child first_unnullified_view explicit_ancestry_payload in_issuance_window is_admitted verification_matches parent_payload_for may_notarize may_nullify may_finalize has_conflicting_nullify required_certification_parent
 misled_told = refl
 

@@ -11,7 +11,6 @@ use Rattle.simplex_voter.specs.Payloads.{explicit_ancestry_payload}
 use Rattle.simplex_voter.specs.Parents.{has_valid_parent_span, ancestry_payload_for_child, parent_payload_for, verification_matches}
 use Rattle.simplex_voter.specs.Rules.{may_notarize, may_nullify, may_finalize, has_conflicting_nullify, required_certification_parent}
 use Rattle.simplex_voter.specs.Verifying.{standing}
-use Rattle.simplex_member.specs.Calls.{Told}
 use Rattle.simplex_record.specs.Check.{first_recover_error}
 use Rattle.simplex_record.specs.Cuts.{may_drop, pruned_entries}
 use Rattle.simplex_record.specs.Entries.{entry_view}
@@ -22,20 +21,17 @@ use Rattle.simplex_laws.specs.Scripts.{leader, start_at, impatient, patient, for
 use Rattle.simplex_laws.specs.ScenarioSteps.{round, proposal, certificate, one, two}
 use Rattle.simplex_laws.specs.Traces.{Accepts, Signs}
 use Rattle.simplex_laws.specs.Executions.{new_member, Execution, trace_of, BeginsAs, IsExecution}
-use Rattle.simplex_laws.proofs.networks.ComputedRuns.{replies_from, FindsRisingRecords, fits_run_from, rises, each_begins}
+use Rattle.simplex_laws.proofs.networks.ComputedRuns.{FindsRisingRecords, fits_run_from, rises, each_begins, told_from}
 
 pub begins : (term_length me : ℕ) (floor : FloorFacts ℕ) → 0 < term_length → BeginsAs term_length me (start_at term_length floor me).setup
 begins term_length me floor some = record { terms = record { terms = refl; some = some }; signs_as = inl refl }
 
 module _ where
-  abbrev from_start : Execution ℕ ℕ ℕ → List (Told ℕ ℕ)
-  from_start s = replies_from nat_eq leader (new_member nat_eq leader s.start) s.steps
-
-  impatient_told : from_start impatient ≡ impatient.replies
+  impatient_told : told_from nat_eq leader impatient ≡ impatient.replies
   unfolding has_valid_parent_span ancestry_payload_for_child first_unnullified_view explicit_ancestry_payload in_issuance_window is_admitted verification_matches parent_payload_for may_notarize may_nullify may_finalize has_conflicting_nullify required_certification_parent
   impatient_told = refl
 
-  patient_told_1 : from_start (patient 1) ≡ (patient 1).replies
+  patient_told_1 : told_from nat_eq leader (patient 1) ≡ (patient 1).replies
   unfolding standing has_valid_parent_span ancestry_payload_for_child first_unnullified_view explicit_ancestry_payload in_issuance_window is_admitted verification_matches parent_payload_for may_notarize may_nullify may_finalize has_conflicting_nullify required_certification_parent
   patient_told_1 = refl
 
@@ -43,7 +39,7 @@ module _ where
   abbrev kept : List (ArtifactFacts ℕ)
   kept = NotarizeVote one 2 ∷ Accepted (Notarized (certificate one)) ∷ Verdict (round 1) true ∷ FinalizeVote one 2 ∷ []
 
-  forgetful_told : from_start (forgetful) ≡ (forgetful).replies
+  forgetful_told : told_from nat_eq leader (forgetful) ≡ (forgetful).replies
   unfolding first_recover_error recovered_state after_kept_entry may_drop pruned_entries standing has_valid_parent_span ancestry_payload_for_child first_unnullified_view explicit_ancestry_payload in_issuance_window is_admitted verification_matches parent_payload_for may_notarize may_nullify may_finalize has_conflicting_nullify required_certification_parent
   forgetful_told = refl
 
@@ -58,15 +54,15 @@ module _ where
     run = fits_run_from nat_eq leader (forgetful) refl forgetful_fits forgetful_told;
   }
 
-  skipping_told_0 : from_start (skipping 0) ≡ (skipping 0).replies
+  skipping_told_0 : told_from nat_eq leader (skipping 0) ≡ (skipping 0).replies
   unfolding standing has_valid_parent_span ancestry_payload_for_child first_unnullified_view explicit_ancestry_payload in_issuance_window is_admitted verification_matches parent_payload_for may_notarize may_nullify may_finalize has_conflicting_nullify required_certification_parent
   skipping_told_0 = refl
 
-  skipping_told_1 : from_start (skipping 1) ≡ (skipping 1).replies
+  skipping_told_1 : told_from nat_eq leader (skipping 1) ≡ (skipping 1).replies
   unfolding standing has_valid_parent_span ancestry_payload_for_child first_unnullified_view explicit_ancestry_payload in_issuance_window is_admitted verification_matches parent_payload_for may_notarize may_nullify may_finalize has_conflicting_nullify required_certification_parent
   skipping_told_1 = refl
 
-  skipping_told_2 : from_start (skipping 2) ≡ (skipping 2).replies
+  skipping_told_2 : told_from nat_eq leader (skipping 2) ≡ (skipping 2).replies
   unfolding standing has_valid_parent_span ancestry_payload_for_child first_unnullified_view explicit_ancestry_payload in_issuance_window is_admitted verification_matches parent_payload_for may_notarize may_nullify may_finalize has_conflicting_nullify required_certification_parent
   skipping_told_2 = refl
 
@@ -77,7 +73,7 @@ module _ where
   abbrev twice : List (ArtifactFacts ℕ)
   twice = Accepted (Notarized (certificate two)) ∷ Verdict (round 2) true ∷ FinalizeVote two 1 ∷ Accepted (CertifiedFinal (certificate (proposal 3 2))) ∷ []
 
-  restarting_told : from_start restarting ≡ restarting.replies
+  restarting_told : told_from nat_eq leader restarting ≡ restarting.replies
   unfolding first_recover_error recovered_state after_kept_entry may_drop pruned_entries standing has_valid_parent_span ancestry_payload_for_child first_unnullified_view explicit_ancestry_payload in_issuance_window is_admitted verification_matches parent_payload_for may_notarize may_nullify may_finalize has_conflicting_nullify required_certification_parent
   restarting_told = refl
 
@@ -92,14 +88,14 @@ module _ where
     run = fits_run_from nat_eq leader impatient refl tt impatient_told;
   }
 
-  pub patient_ran : (me : ℕ) → from_start (patient me) ≡ (patient me).replies → IsExecution nat_eq leader 5 me (patient me)
+  pub patient_ran : (me : ℕ) → told_from nat_eq leader (patient me) ≡ (patient me).replies → IsExecution nat_eq leader 5 me (patient me)
   unfolding first_recover_error
   patient_ran me told = record {
     lives = record { first = begins 5 me (Genesis 0) (omega arith); later = each_begins 5 me (patient me).steps tt };
     run = fits_run_from nat_eq leader (patient me) refl tt told;
   }
 
-  skipping_ran : (me : ℕ) → from_start (skipping me) ≡ (skipping me).replies → IsExecution nat_eq leader 1 me (skipping me)
+  skipping_ran : (me : ℕ) → told_from nat_eq leader (skipping me) ≡ (skipping me).replies → IsExecution nat_eq leader 1 me (skipping me)
   unfolding first_recover_error
   skipping_ran me told = record {
     lives = record { first = begins 1 me (Genesis 0) (omega arith); later = each_begins 1 me (skipping me).steps tt };

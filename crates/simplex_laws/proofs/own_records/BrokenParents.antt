@@ -15,8 +15,7 @@ use Rattle.simplex_laws.specs.Traces.{TraceEvent, Accepts}
 use Rattle.simplex_laws.specs.Lawful.{IsLawful, HasSigned}
 use Rattle.simplex_laws.specs.Outside.{AcceptedParentAbove}
 use Rattle.simplex_laws.proofs.own_records.BrokenRules.{OfBroken, first_broken, broken_joined, from_either}
-use Rattle.simplex_laws.proofs.records.TracesShown.{only_one}
-use Rattle.simplex_laws.proofs.lists.Splits.{Contains-cons_rest}
+use Rattle.simplex_laws.proofs.lists.Splits.{Contains-cons_rest, only_one}
 use Rattle.simplex_laws.proofs.agreement.VoteOrder.{voted, earlier}
 
 -- a vote of the entries for this proposal

@@ -36,13 +36,13 @@ use Rattle.simplex_record.proofs.Steps.{notarization_by, finalization_by, propos
 
 module _ {K L D : Type 0} where
   -- where its view is too large, the proposal was built in these steps
-  abbrev pub IsBuilt : List (StepFacts K L D) → Proposal D → Type 0
-  IsBuilt steps p = is_too_large p.round.view ≡ true → HasBuiltIn steps p
+  abbrev pub WasBuilt : List (StepFacts K L D) → Proposal D → Type 0
+  WasBuilt steps p = is_too_large p.round.view ≡ true → HasBuiltIn steps p
 
-  pub built_still : (steps more : List (StepFacts K L D)) (p : Proposal D) → IsBuilt steps p → IsBuilt (steps ++ more) p
+  pub built_still : (steps more : List (StepFacts K L D)) (p : Proposal D) → WasBuilt steps p → WasBuilt (steps ++ more) p
   built_still steps more p built large = let was = built large in (was.0, Contains-append_left steps more (Calls (calls.Proposed p.round.view p.payload was.0)) was.1)
 
-  small_view : (steps : List (StepFacts K L D)) (p : Proposal D) → names_too_large p ≡ false → IsBuilt steps p
+  small_view : (steps : List (StepFacts K L D)) (p : Proposal D) → names_too_large p ≡ false → WasBuilt steps p
   small_view steps p small large = absurd (false≢true (sym (or_parts (is_too_large p.round.view) (is_too_large p.parent) small).0 ∙ large))
 
 module _ {K D : Type 0} (Q : Proposal D → Type 0) where
@@ -67,7 +67,7 @@ module _ {K L D : Type 0} (past : List (StepFacts K L D)) (x : StateFacts K L D)
   abbrev now_past : CallFacts D → List (StepFacts K L D)
   now_past call = past ++ Calls call ∷ []
 
-  brings_proposed : (v : ℕ) (payload : D) (now : ℕ) (context : Option (Context D K)) → context_at o v ≡ context → AllBringProposals (IsBuilt (now_past (calls.Proposed v payload now))) (in_context (λ c. Proposed c payload now) context)
+  brings_proposed : (v : ℕ) (payload : D) (now : ℕ) (context : Option (Context D K)) → context_at o v ≡ context → AllBringProposals (WasBuilt (now_past (calls.Proposed v payload now))) (in_context (λ c. Proposed c payload now) context)
   brings_proposed v payload now None is = tt
   brings_proposed v payload now (Some c) is = (
     record {
@@ -89,10 +89,10 @@ module _ {K L D : Type 0} (past : List (StepFacts K L D)) (x : StateFacts K L D)
   brings_superseded Q None = tt
   brings_superseded Q (Some c) = (brings_nothing Q refl refl refl refl (λ d other moment says. absurd (cc)), tt)
 
-  call_brings : (call : CallFacts D) → fault_of x call ≡ None → AllBringProposals (IsBuilt (now_past call)) (events_of o call)
+  call_brings : (call : CallFacts D) → fault_of x call ≡ None → AllBringProposals (WasBuilt (now_past call)) (events_of o call)
   call_brings (calls.AddNotarization c) none = (
     record {
-      notarized = λ d says. (let same : c ≡ d = cc in subst (λ (k : ProposalFacts D). IsBuilt (now_past (calls.AddNotarization c)) k.proposal) same (small_view (now_past (calls.AddNotarization c)) c.proposal (no_fault x.failed (names_too_large c.proposal) false none)));
+      notarized = λ d says. (let same : c ≡ d = cc in subst (λ (k : ProposalFacts D). WasBuilt (now_past (calls.AddNotarization c)) k.proposal) same (small_view (now_past (calls.AddNotarization c)) c.proposal (no_fault x.failed (names_too_large c.proposal) false none)));
       finalized = λ d says. absurd (cc);
       heard = λ w p says. absurd (cc);
       noted = λ p says. absurd (cc);
@@ -103,7 +103,7 @@ module _ {K L D : Type 0} (past : List (StepFacts K L D)) (x : StateFacts K L D)
   call_brings (calls.AddFinalization c now) none = (
     record {
       notarized = λ d says. absurd (cc);
-      finalized = λ d says. (let same : c ≡ d = cc in subst (λ (k : ProposalFacts D). IsBuilt (now_past (calls.AddFinalization c now)) k.proposal) same (small_view (now_past (calls.AddFinalization c now)) c.proposal (no_fault x.failed (names_too_large c.proposal) _ none)));
+      finalized = λ d says. (let same : c ≡ d = cc in subst (λ (k : ProposalFacts D). WasBuilt (now_past (calls.AddFinalization c now)) k.proposal) same (small_view (now_past (calls.AddFinalization c now)) c.proposal (no_fault x.failed (names_too_large c.proposal) _ none)));
       heard = λ w p says. absurd (cc);
       noted = λ p says. absurd (cc);
       built = λ d other moment says. absurd (cc);
@@ -114,22 +114,22 @@ module _ {K L D : Type 0} (past : List (StepFacts K L D)) (x : StateFacts K L D)
     record {
       notarized = λ d says. absurd (cc);
       finalized = λ d says. absurd (cc);
-      heard = λ w q says. (let pair : ◌≡◌ {A = ℕ × Proposal D} (v, p) (w, q) = cc in let same : p ≡ q = ap (λ t. t.1) pair in subst (IsBuilt (now_past (calls.SetProposal v p))) same (small_view (now_past (calls.SetProposal v p)) p (no_fault x.failed (names_too_large p) false none)));
+      heard = λ w q says. (let pair : ◌≡◌ {A = ℕ × Proposal D} (v, p) (w, q) = cc in let same : p ≡ q = ap (λ t. t.1) pair in subst (WasBuilt (now_past (calls.SetProposal v p))) same (small_view (now_past (calls.SetProposal v p)) p (no_fault x.failed (names_too_large p) false none)));
       noted = λ q says. absurd (cc);
       built = λ d other moment says. absurd (cc);
     },
     tt,
   )
   call_brings (calls.Proposed v payload now) none = brings_proposed v payload now (context_at o v) refl
-  call_brings (calls.SupersedeProposalRequest v) none = brings_superseded (IsBuilt (now_past (calls.SupersedeProposalRequest v))) (context_at o v)
+  call_brings (calls.SupersedeProposalRequest v) none = brings_superseded (WasBuilt (now_past (calls.SupersedeProposalRequest v))) (context_at o v)
   call_brings (calls.PendingHandoffAbandonment v) none = tt
   call_brings calls.GetBestCertificate none = tt
-  call_brings _ none = (brings_nothing (IsBuilt (now_past _)) refl refl refl refl (λ d other moment says. absurd (cc)), tt)
+  call_brings _ none = (brings_nothing (WasBuilt (now_past _)) refl refl refl refl (λ d other moment says. absurd (cc)), tt)
 
 module _ {K L D : Type 0} (same : D → D → Bool) (decides : (d e : D) → same d e ≡ true → d ≡ e) (elect : Elect L) where
-  pub call_held : (past : List (StepFacts K L D)) (x : StateFacts K L D) (o : OutstandingWork K D) (call : CallFacts D) → ArePlaced o → is_allowed x o call ≡ true → fault_of x call ≡ None → AllHeld (IsBuilt past) x → AllHeld (IsBuilt (past ++ Calls call ∷ [])) (after_call same elect x o call)
+  pub call_held : (past : List (StepFacts K L D)) (x : StateFacts K L D) (o : OutstandingWork K D) (call : CallFacts D) → ArePlaced o → is_allowed x o call ≡ true → fault_of x call ≡ None → AllHeld (WasBuilt past) x → AllHeld (WasBuilt (past ++ Calls call ∷ [])) (after_call same elect x o call)
   call_held past x o call placed allowed none all =
-      let Q : Proposal D → Type 0 = IsBuilt (past ++ Calls call ∷ []) in
+      let Q : Proposal D → Type 0 = WasBuilt (past ++ Calls call ∷ []) in
       let before : AllHeld Q x = λ v p is. built_still past (Calls call ∷ []) p (all v p is) in
       call_by_event same elect x o (λ events y. AllBringProposals Q events → AllHeld Q y) (λ brings. before) (λ e takes ordinary brings. event_held same decides elect Q x e brings.0 before) call allowed (call_brings past x o placed call none)
 
@@ -187,7 +187,7 @@ module _ {K L D : Type 0} (same : D → D → Bool) where
 
 module _ {K L D : Type 0} (same : D → D → Bool) (decides : (d e : D) → same d e ≡ true → d ≡ e) (elect : Elect L) (past : List (StepFacts K L D)) (now : ℕ) where
   abbrev Q : Proposal D → Type 0
-  Q = IsBuilt past
+  Q = WasBuilt past
 
   by_event : (x : StateFacts K L D) (e : Event K D) → BringsProposals Q e → AllHeld Q x → AllHeld Q (after_event same elect x e)
   by_event x e brings all = event_held same decides elect Q x e brings all

@@ -8,6 +8,7 @@ use Rattle.simplex_types.specs.Config.{FloorFacts, Genesis, Finalized as Finaliz
 use Rattle.simplex_types.specs.declared.types.messages.Subject.TheVariants as subject
 use Rattle.simplex_types.specs.declared.types.messages.Proposal.{Proposal}
 use Rattle.simplex_types.specs.declared.types.numbers.Round.{Round}
+use Rattle.simplex_types.specs.Encoding.{certificate_subject}
 use Rattle.simplex_voter.specs.Facts.{StateFacts}
 use Rattle.simplex_voter.specs.Refusals.{is_too_large, names_too_large, has_late_deadline}
 use Rattle.simplex_record.specs.declared.record.error.RecoverError.{RecoverError}
@@ -20,7 +21,6 @@ use Rattle.simplex_laws.specs.Outside.{is_floor_too_large}
 use Rattle.simplex_laws.proofs.own_records.BrokenRules.{OfBroken, first_broken, broken_joined, from_either}
 use Rattle.simplex_laws.proofs.own_records.Recorded.{OwnRecord}
 use Rattle.simplex_laws.proofs.records.TracesShown.{Remembers}
-use Rattle.simplex_laws.proofs.records.EntryTraces.{subject_of}
 use Rattle.simplex_laws.proofs.own_records.SmallViews.{subject_too_large, AreSmall}
 use Rattle.simplex_laws.proofs.lists.Splits.{Contains-cons_rest}
 use Rattle.simplex_laws.proofs.agreement.VoteOrder.{voted, earlier, Contains-split}
@@ -37,7 +37,7 @@ entry_too_large (NotarizeVote p m) = names_too_large p
 entry_too_large (NullifyVote round m) = is_too_large round.view
 entry_too_large (FinalizeVote p m) = names_too_large p
 entry_too_large (Verdict round success) = is_too_large round.view
-entry_too_large (Accepted c) = subject_too_large (subject_of c)
+entry_too_large (Accepted c) = subject_too_large (certificate_subject c)
 
 late_elsewhere : (b : Bool) → (if b then Some error.TimeOverflow else None) ≡ Some error.ViewTooLarge → ⊥
 late_elsewhere true is = absurd (cc)
@@ -78,8 +78,8 @@ module _ {D : Type 0} (term_length : ℕ) (trace : List (TraceEvent D)) (lawful 
   fine : (b : Bool) → b ≡ false → b ≡ true → HasHighVote trace
   fine b kept_small large = absurd (false≢true (sym kept_small ∙ large))
 
-  certificate_small : (c : CertificateFacts D) → Contains entries (Accepted c) → subject_too_large (subject_of c) ≡ false
-  certificate_small c h = small (subject_of c) (remembers.accepted c h)
+  certificate_small : (c : CertificateFacts D) → Contains entries (Accepted c) → subject_too_large (certificate_subject c) ≡ false
+  certificate_small c h = small (certificate_subject c) (remembers.accepted c h)
 
   -- what is too large is a vote to nullify or to notarize: a certificate was accepted, behind a verdict and a vote to finalize
   -- stands the notarization
@@ -104,7 +104,7 @@ module _ {D : Type 0} (term_length : ℕ) (trace : List (TraceEvent D)) (lawful 
       let none = certificate_small (Notarized c.0) accepted in
       let parts = or_parts (is_too_large c.0.proposal.round.view) (is_too_large c.0.proposal.parent) none in
       fine (is_too_large round.view) (subst (λ v. is_too_large v ≡ false) c.2 parts.0) large
-  too_large_voted (Accepted c) h large = fine (subject_too_large (subject_of c)) (certificate_small c h) large
+  too_large_voted (Accepted c) h large = fine (subject_too_large (certificate_subject c)) (certificate_small c h) large
 
   pub view_voted : {K L : Type 0} (same : D → D → Bool) (x : StateFacts K L D) (floor : FloorFacts D) (now : ℕ) → recover_error same x floor now entries ≡ Some error.ViewTooLarge → (is_floor_too_large floor ≡ true) ⊎ HasHighVote trace
   unfolding first_recover_error

@@ -28,24 +28,24 @@ use Rattle.simplex_laws.specs.Exactly.{ExactAt, proposal_at}
 use Rattle.simplex_laws.specs.Lawful.{HasSigned}
 use Rattle.simplex_laws.specs.Outside.{VotedTooHigh, is_floor_too_large}
 use Rattle.simplex_laws.specs.TermLengths.{HasTerms, KeepTerms}
-use Rattle.simplex_laws.proofs.own_records.BuiltHigh.{IsBuilt, built_still, call_held, taken_small, recovered_held}
+use Rattle.simplex_laws.proofs.own_records.BuiltHigh.{WasBuilt, built_still, call_held, taken_small, recovered_held}
 use Rattle.simplex_laws.proofs.frames.BuiltProposals.{AllHeld}
 use Rattle.simplex_laws.proofs.agreement.Exactly.{call_exact}
 use Rattle.simplex_laws.proofs.own_records.Runs.{LivesAndTells, called, pruned, restarted, run_own, start_own, copy_high}
-use Rattle.simplex_laws.proofs.records.TracesShown.{only_one}
 use Rattle.simplex_laws.proofs.records.RunsLawful.{LivesOn}
 use Rattle.simplex_laws.proofs.lists.Signed.{signed_cases}
 use Rattle.simplex_laws.proofs.own_records.SmallViews.{small_both, floor_small, steps_small}
+use Rattle.simplex_laws.proofs.lists.Splits.{only_one}
 
 -- while the member lives, what its state holds of such a view was built in these steps
 abbrev HoldsBuilt : {K L D : Type 0} → List (StepFacts K L D) → Option (StateFacts K L D) → Type 0
 HoldsBuilt past None = Unit {0}
-HoldsBuilt past (Some x) = AllHeld (IsBuilt past) x
+HoldsBuilt past (Some x) = AllHeld (WasBuilt past) x
 
 -- and so was what it voted to notarize
 pub record VotesBuilt {K L D : Type 0} (past : List (StepFacts K L D)) (trace : List (TraceEvent D)) (m : MemberFacts K L D) : Type 0 where
   pub holds : HoldsBuilt past m.life
-  pub voted : (p : Proposal D) → HasSigned trace (subject.Notarize p) → IsBuilt past p
+  pub voted : (p : Proposal D) → HasSigned trace (subject.Notarize p) → WasBuilt past p
 
 -- what is accepted is no vote
 
@@ -121,7 +121,7 @@ module _ {K L D : Type 0} (same : D → D → Bool) (decides : (d e : D) → sam
       by_life (Some x) alive (inr (allowed, tells, inl (_, leaves))) = rw leaves (holds_still past (Calls call ∷ []) m.life votes.holds)
       by_life (Some x) alive (inr (allowed, tells, inr (no_fault, falls, leaves))) = rw leaves tt
 
-  new_vote : (call : CallFacts D) (told : Told K D) (i : ℕ) (p : Proposal D) (o : Option (StateFacts K L D)) → HoldsBuilt past o → ExactAt same elect o (Calls call) told → Contains (signed_in told) (Signs i (subject.Notarize p)) → IsBuilt past p
+  new_vote : (call : CallFacts D) (told : Told K D) (i : ℕ) (p : Proposal D) (o : Option (StateFacts K L D)) → HoldsBuilt past o → ExactAt same elect o (Calls call) told → Contains (signed_in told) (Signs i (subject.Notarize p)) → WasBuilt past p
   new_vote call told i p None holds exact h = absurd (let none = subst (λ ds. Contains ds (Signs i (subject.Notarize p))) exact h in omega (arith, none.1))
   new_vote call told i p (Some x) holds exact h = let found = noted_held same elect x call told i p exact h in holds found.0 p found.1
 

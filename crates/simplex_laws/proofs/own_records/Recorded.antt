@@ -16,11 +16,12 @@ use Rattle.simplex_record.specs.Recovery.{is_finalization, with_floor}
 use Rattle.simplex_laws.specs.Traces.{TraceEvent}
 use Rattle.simplex_laws.specs.Lawful.{HasSigned, SignsAfter, IsLawful}
 use Rattle.simplex_laws.proofs.lists.Signed.{signed_left}
-use Rattle.simplex_laws.proofs.lists.Filters.{filter_split, filter_middle, Contains-filter, Contains-filtered, filtered_passes}
-use Rattle.simplex_laws.proofs.records.TracesShown.{Remembers, only_one}
+use Rattle.simplex_laws.proofs.lists.Filters.{filter_split, filter_middle, Contains-filter, Contains-filtered, filtered_passes, same_entries}
+use Rattle.simplex_laws.proofs.records.TracesShown.{Remembers}
 use Rattle.simplex_laws.proofs.records.Remembering.{append_split, none_split}
 use Rattle.simplex_laws.proofs.own_records.EntriesFit.{HoldTogether}
 use Rattle.simplex_laws.proofs.agreement.VoteOrder.{Order, Same, First, Second, in_order, Contains-middle}
+use Rattle.simplex_laws.proofs.lists.Splits.{only_one}
 
 -- each verdict stands behind a notarization of its view, a view's verdicts agree, and each vote to notarize was cast
 pub record OwnRecord {D : Type 0} (trace : List (TraceEvent D)) (entries : List (ArtifactFacts D)) : Type 0 where
@@ -78,12 +79,6 @@ HasNoVerdict new = (round : Round) (success : Bool) → Contains new (Verdict ro
 
 pub no_verdict : {D : Type 0} (new : List (ArtifactFacts D)) → AreQuiet new → HasNoVerdict new
 no_verdict new quiet round success h = none_weighed new (Verdict round success) quiet refl h
-
--- entries of each view in the same order are the same entries
-pub same_entries : {D : Type 0} (copy entries : List (ArtifactFacts D)) → ((v : ℕ) → filter (λ e. entry_view e == v) copy ≡ filter (λ e. entry_view e == v) entries) → (e : ArtifactFacts D) → Contains copy e → Contains entries e
-same_entries {D} copy entries of_each_view e h =
-    let test : ArtifactFacts D → Bool = λ f. entry_view f == entry_view e in
-    Contains-filtered test entries e (subst (λ es. Contains es e) (of_each_view (entry_view e)) (Contains-filter test copy e h (eq-eqb (entry_view e) (entry_view e) refl)))
 
 -- nothing was done and nothing is recorded
 pub own_nothing : {D : Type 0} → OwnRecord {D = D} [] []

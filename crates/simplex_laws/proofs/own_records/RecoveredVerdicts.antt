@@ -16,9 +16,8 @@ use Rattle.simplex_voter.specs.Acceptance.{after_add_notarization, after_add_nul
 use Rattle.simplex_record.specs.Entries.{entry_view}
 use Rattle.simplex_record.specs.Recovery.{after_replaying, after_entry, after_kept_entry, after_entries, recovered_state}
 use Rattle.simplex_laws.proofs.lists.Filters.{Contains-filter, Contains-filtered, filtered_passes}
-use Rattle.simplex_laws.proofs.records.TracesShown.{only_one}
 use Rattle.simplex_laws.proofs.own_records.Recorded.{HasNoVerdict}
-use Rattle.simplex_laws.proofs.lists.Splits.{Contains-cons_rest}
+use Rattle.simplex_laws.proofs.lists.Splits.{Contains-cons_rest, only_one}
 use Rattle.simplex_laws.proofs.own_records.EntriesFit.{RisesFrom, rises_from}
 use Rattle.simplex_record.specs.Events as event
 use Rattle.simplex_record.specs.Events.{Event, IsEvent, after_event, finalized_by_event}
@@ -120,8 +119,8 @@ module _ {K L D : Type 0} (same : D → D → Bool) (elect : Elect L) (now base 
       still_recovers same elect base v (done ++ a ∷ []) (after_add_finalization same elect x c now) first (event.Replay a) v (omega arith) (omega arith) (λ w token is. absurd (cc)) refl refl
 
 -- the views of a record from the base on
-abbrev pub above : {D : Type 0} → ℕ → List (ArtifactFacts D) → List (ArtifactFacts D)
-above base entries = filter (λ e. nat_le base (entry_view e)) entries
+abbrev pub entries_not_below : {D : Type 0} → ℕ → List (ArtifactFacts D) → List (ArtifactFacts D)
+entries_not_below base entries = filter (λ e. nat_le base (entry_view e)) entries
 
 -- where a recovery ends: the state shows the entries, and what it keeps begins no lower than the base
 pub record Recovered {K L D : Type 0} (base : ℕ) (entries : List (ArtifactFacts D)) (x : StateFacts K L D) : Type 0 where
@@ -138,7 +137,7 @@ module _ {K L D : Type 0} (same : D → D → Bool) (elect : Elect L) (now base 
   taken_again x e is = rw is refl
 
   -- the rest of a record by rising views
-  all_recover : (rest done : List (ArtifactFacts D)) (top : ℕ) (x : StateFacts K L D) → Recovers base top done x → RisesFrom top rest → ((e : ArtifactFacts D) → Contains done e → Contains copy e) → ((e : ArtifactFacts D) → Contains rest e → Contains copy e) → Recovered base (done ++ above base rest) (after_entries same elect x now rest)
+  all_recover : (rest done : List (ArtifactFacts D)) (top : ℕ) (x : StateFacts K L D) → Recovers base top done x → RisesFrom top rest → ((e : ArtifactFacts D) → Contains done e → Contains copy e) → ((e : ArtifactFacts D) → Contains rest e → Contains copy e) → Recovered base (done ++ entries_not_below base rest) (after_entries same elect x now rest)
   all_recover [] done top x recovers rises known coming = record { shows = subst (λ es. ShowsVerdicts es x) (sym (append-nil done)) recovers.shows; reached = recovers.reached }
   all_recover (e ∷ rest) done top x recovers rises known coming = elim (cases_Bool (nat_lt (entry_view e) (min_active x))) [
     | inl passed ↦
@@ -153,12 +152,12 @@ module _ {K L D : Type 0} (same : D → D → Bool) (elect : Elect L) (now base 
         let ends = all_recover rest (done ++ e ∷ []) (entry_view e) (after_entry same elect x now e) next rises.1
         (λ f h. elim (Contains-push_cases done e f h) [ inl old ↦ known f old | inr new ↦ subst (λ g. Contains copy g) new here ])
         (λ f h. coming f (Contains-cons_rest e rest f h)) in
-        rw (taken_again x e kept, stays) (subst (λ es. Recovered base es (after_entries same elect (after_entry same elect x now e) now rest)) (append_assoc done (e ∷ []) (above base rest)) ends))
+        rw (taken_again x e kept, stays) (subst (λ es. Recovered base es (after_entries same elect (after_entry same elect x now e) now rest)) (append_assoc done (e ∷ []) (entries_not_below base rest)) ends))
   ]
 
 module _ {K L D : Type 0} (base : ℕ) (copy : List (ArtifactFacts D)) (x : StateFacts K L D) where
   -- what stands below the base is neither kept nor held notarized
-  whole_shown : Recovered base (above base copy) x → ShowsVerdicts copy x
+  whole_shown : Recovered base (entries_not_below base copy) x → ShowsVerdicts copy x
   whole_shown ends = record {
     notarized = λ v is. (let c = ends.shows.notarized v is in (c.0, Contains-filtered (λ e. nat_le base (entry_view e)) copy (Accepted (Notarized c.0)) c.1, c.2));
     judged = λ round success h known. elim (cases_Bool (nat_le base round.view)) [

@@ -28,18 +28,18 @@ use Rattle.simplex_laws.proofs.own_records.BrokenParents.{parent_accepted}
 use Rattle.simplex_laws.proofs.records.CutsRemembered.{copy_remembers}
 use Rattle.simplex_laws.proofs.own_records.HighViews.{HasHighVote, view_voted}
 use Rattle.simplex_laws.proofs.own_records.Outside.{Fit, error_outside}
-use Rattle.simplex_laws.proofs.own_records.Recorded.{OwnRecord, own_together, own_nothing, HasNoVerdict, own_floor, own_left, own_bounded, own_copy, same_entries}
-use Rattle.simplex_laws.proofs.records.TracesShown.{only_one}
+use Rattle.simplex_laws.proofs.own_records.Recorded.{OwnRecord, own_together, own_nothing, HasNoVerdict, own_floor, own_left, own_bounded, own_copy}
 use Rattle.simplex_laws.proofs.own_records.RecoveredVerdicts.{recovered_shows}
 use Rattle.simplex_laws.proofs.records.RunsLawful.{MemberLives, between_of, cut_between, call_lives_on, prune_lives_on, restart_lives_on, start_lives}
 use Rattle.simplex_laws.proofs.records.PrunedRecords.{shown_tracked, tracked_stays}
-use Rattle.simplex_laws.proofs.lists.Filters.{Contains-filtered}
+use Rattle.simplex_laws.proofs.lists.Filters.{Contains-filtered, same_entries}
 use Rattle.simplex_member.specs.Pruning.{stays_within, pruned_member}
 use Rattle.simplex_laws.proofs.own_records.VerdictsByCalls.{call_told}
 use Rattle.simplex_laws.proofs.own_records.ShownVerdicts.{TellsVerdicts, shows_more}
 use Rattle.simplex_laws.proofs.own_records.SmallViews.{AreSmall}
 use Rattle.simplex_laws.proofs.own_records.Verdicts.{ShowsVerdicts}
 use Rattle.simplex_laws.proofs.own_records.EntriesFit.{record_fits}
+use Rattle.simplex_laws.proofs.lists.Splits.{only_one}
 
 -- a member's record keeps its verdicts in order, and while it lives its state shows them
 abbrev pub TellsOn : {K L D : Type 0} → List (TraceEvent D) → List (ArtifactFacts D) → Option (StateFacts K L D) → Type 0

@@ -21,13 +21,13 @@ use Rattle.simplex_member.specs.CallSemantics.{nullify_vote, finalize_vote, if_n
 use Rattle.simplex_member.specs.OutstandingWork.{OutstandingWork}
 use Rattle.simplex_laws.specs.Traces.{TraceEvent, trace_of_call}
 use Rattle.simplex_laws.proofs.own_records.Recorded.{OwnRecord, AreQuiet, quiet_none, quiet_newly, HasNoVerdict, no_verdict, own_quiet, own_verdict}
-use Rattle.simplex_laws.proofs.records.TracesShown.{only_one}
 use Rattle.simplex_laws.proofs.frames.CallsOnWork.{is_work}
 use Rattle.simplex_record.specs.Events as event
 use Rattle.simplex_record.specs.Events.{Event, IsEvent, after_event}
 use Rattle.simplex_laws.proofs.lives.Lasting.{brings_kept}
 use Rattle.simplex_record.proofs.Steps.{notarization_by, verdict_by}
 use Rattle.simplex_laws.proofs.own_records.Verdicts.{ShowsVerdicts, given_so, event_shows, verdict_stands}
+use Rattle.simplex_laws.proofs.lists.Splits.{only_one}
 
 module _ {K L D : Type 0} (entries : List (ArtifactFacts D)) where
   pub shows_more : (new : List (ArtifactFacts D)) (x : StateFacts K L D) → HasNoVerdict new → ShowsVerdicts entries x → ShowsVerdicts (entries ++ new) x

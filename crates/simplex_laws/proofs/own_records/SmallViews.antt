@@ -23,7 +23,7 @@ use Rattle.simplex_member.specs.Runs.{StepFacts, Calls, Prunes, Restarts, restar
 use Rattle.simplex_record.specs.Start.{new_state}
 use Rattle.simplex_laws.specs.Traces.{TraceEvent, Accepts, handed_in, of_floor, of_vote, signed_in, accepted_by, trace_of_call, trace_at, trace_of_steps}
 use Rattle.simplex_laws.proofs.records.NewLives.{first_none}
-use Rattle.simplex_laws.proofs.records.TracesShown.{only_one}
+use Rattle.simplex_laws.proofs.lists.Splits.{only_one}
 
 -- a certificate names a view that is too large
 abbrev pub subject_too_large : {D : Type 0} → Subject D → Bool

@@ -17,11 +17,11 @@ use Rattle.simplex_laws.specs.Lawful.{HasSigned}
 use Rattle.simplex_laws.proofs.lists.Signed.{signed_last}
 use Rattle.simplex_laws.proofs.frames.CallsOnWork.{is_work, is_silent}
 use Rattle.simplex_laws.proofs.records.CallsKeepRules.{silent_trace, silent_record}
-use Rattle.simplex_laws.proofs.records.TracesShown.{only_one}
 use Rattle.simplex_laws.proofs.own_records.Recorded.{HasNoVerdict, quiet_none, no_verdict, own_quiet, own_silent}
 use Rattle.simplex_laws.proofs.frames.CallsMake.{AreSilent, work_silent, call_by_event}
 use Rattle.simplex_laws.proofs.own_records.ShownVerdicts.{TellsVerdicts, shows_more, quiet_shows, plain_told}
 use Rattle.simplex_laws.proofs.own_records.Verdicts.{ShowsVerdicts}
+use Rattle.simplex_laws.proofs.lists.Splits.{only_one}
 
 module _ {K L D : Type 0} (same : D → D → Bool) (elect : Elect L) (trace : List (TraceEvent D)) (entries : List (ArtifactFacts D)) (x : StateFacts K L D) (o : OutstandingWork K D) (tells : TellsVerdicts trace entries x) where
   -- what is shown after a call, whatever it records but a verdict

@@ -24,7 +24,6 @@ use Rattle.simplex_laws.proofs.records.RecordedVotes.{Marked, marked_more, quiet
 use Rattle.simplex_laws.proofs.frames.CallsMake.{AreSilent, work_silent, call_by_event}
 use Rattle.simplex_laws.proofs.votes.ShownVotes.{ShowsVotesInLife}
 use Rattle.simplex_laws.proofs.votes.ShownVotesBySteps.{silent_suits, stays_on}
-use Rattle.simplex_laws.proofs.records.TracesShown.{only_one}
 use Rattle.simplex_laws.proofs.records.Remembering.{RecordGrows, remembers_more, single_split}
 use Rattle.simplex_laws.proofs.records.EntryTraces.{notarize_cast_stays}
 use Rattle.simplex_laws.proofs.frames.InOrder.{order_call}
@@ -34,6 +33,7 @@ use Rattle.simplex_laws.proofs.votes.NotarizeVotesByWork.{work_notes, decided_no
 use Rattle.simplex_laws.proofs.frames.CallsOnWork.{is_work, is_silent, silent_work}
 use Rattle.simplex_laws.proofs.votes.NotarizeVotes.{notarize_silent, notarize_told, notarize_allowed, notarize_noted, voted_tracked}
 use Rattle.simplex_laws.proofs.records.NewLives.{Living, high_more, within_more, plain_lives}
+use Rattle.simplex_laws.proofs.lists.Splits.{only_one}
 
 -- a vote to notarize is recorded
 grows_notarize : {D : Type 0} (trace : List (TraceEvent D)) (entries : List (ArtifactFacts D)) (p : Proposal D) (m : ℕ) → RecordGrows trace (Signs m (subject.Notarize p) ∷ []) entries (NotarizeVote p m ∷ [])

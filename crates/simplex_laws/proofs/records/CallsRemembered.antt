@@ -8,6 +8,7 @@ use Rattle.simplex_types.specs.Certificates.{CertificateFacts, Notarized, Nullif
 use Rattle.simplex_types.specs.declared.types.messages.Proposal.{Proposal}
 use Rattle.simplex_types.specs.declared.types.messages.Subject.TheVariants as subject
 use Rattle.simplex_types.specs.declared.types.numbers.Round.{Round}
+use Rattle.simplex_types.specs.Encoding.{certificate_subject}
 use Rattle.simplex_round.specs.Round.{RoundFacts, new_round, is_judged, is_certified, is_nullify}
 use Rattle.simplex_voter.specs.Facts.{StateFacts, Elect, round_at, round_of, round_number, is_tracked}
 use Rattle.simplex_voter.specs.Refusals.{is_started}
@@ -29,7 +30,6 @@ use Rattle.simplex_laws.proofs.votes.ShownVotesByVotes.{held_notarized}
 use Rattle.simplex_laws.proofs.votes.LifeCalls.{nullify_silent, nullify_told, finalize_silent, finalize_told, no_key, no_rule}
 use Rattle.simplex_laws.proofs.records.TracesShown.{Remembers}
 use Rattle.simplex_laws.proofs.records.RecordedVotes.{Marked, marked_more, event_marked, quiet_marked}
-use Rattle.simplex_laws.proofs.records.EntryTraces.{subject_of}
 use Rattle.simplex_record.proofs.Steps.{verdict_by, nullify_by}
 use Rattle.simplex_record.specs.Events as event
 use Rattle.simplex_record.specs.Events.{Event, after_event}
@@ -66,9 +66,9 @@ module _ {K L D : Type 0} (same : D → D → Bool) (elect : Elect L) (term_leng
   quiet_follows : (e : Event K D) → verdict_by e ≡ None → nullify_by e ≡ None → RemembersAndShows (trace ++ []) kept (entries ++ []) (after_event same elect x e)
   quiet_follows e verdict nullify = nothing_follows (after_event same elect x e) (quiet_on e verdict nullify)
 
-  certificate_follows : (is_new : Bool) (c : CertificateFacts D) (e : Event K D) → verdict_by e ≡ None → nullify_by e ≡ None → RemembersAndShows (trace ++ Accepts (subject_of c) ∷ []) kept (entries ++ if_new is_new (Accepted c)) (after_event same elect x e)
+  certificate_follows : (is_new : Bool) (c : CertificateFacts D) (e : Event K D) → verdict_by e ≡ None → nullify_by e ≡ None → RemembersAndShows (trace ++ Accepts (certificate_subject c) ∷ []) kept (entries ++ if_new is_new (Accepted c)) (after_event same elect x e)
   certificate_follows is_new c e verdict nullify = record {
-    remembers = remembers_more trace entries kept (Accepts (subject_of c) ∷ []) (if_new is_new (Accepted c)) (grows_certificate trace entries is_new c) follows.remembers;
+    remembers = remembers_more trace entries kept (Accepts (certificate_subject c) ∷ []) (if_new is_new (Accepted c)) (grows_certificate trace entries is_new c) follows.remembers;
     marked = marked_more entries (if_new is_new (Accepted c)) (after_event same elect x e) (quiet_on e verdict nullify);
   }
 

@@ -16,7 +16,7 @@ use Rattle.simplex_record.specs.Entries.{entry_view}
 use Rattle.simplex_record.specs.Recovery.{is_finalization, with_floor}
 use Rattle.simplex_laws.specs.Traces.{TraceEvent, Accepts, of_floor}
 use Rattle.simplex_laws.proofs.agreement.VoteOrder.{Contains-middle}
-use Rattle.simplex_laws.proofs.lists.Filters.{filter_split, filter_middle, Contains-filter, Contains-filtered, filtered_passes}
+use Rattle.simplex_laws.proofs.lists.Filters.{filter_split, filter_middle, Contains-filter, Contains-filtered, filtered_passes, same_entries}
 use Rattle.simplex_laws.proofs.records.TracesShown.{Remembers}
 use Rattle.simplex_laws.proofs.records.Remembering.{remembers_more, grows_certificate}
 
@@ -31,16 +31,6 @@ module _ {D : Type 0} (trace : List (TraceEvent D)) (kept : ℕ) (entries : List
   -- entries of each view in the same order
 
   module _ (copy : List (ArtifactFacts D)) (of_each_view : (v : ℕ) → filter (λ e. entry_view e == v) copy ≡ filter (λ e. entry_view e == v) entries) where
-    pub in_record : (e : ArtifactFacts D) → Contains copy e → Contains entries e
-    in_record e h =
-        let test : ArtifactFacts D → Bool = λ f. entry_view f == entry_view e in
-        Contains-filtered test entries e (subst (λ es. Contains es e) (of_each_view (entry_view e)) (Contains-filter test copy e h (eq-eqb (entry_view e) (entry_view e) refl)))
-
-    pub in_copy : (e : ArtifactFacts D) → Contains entries e → Contains copy e
-    in_copy e h =
-        let test : ArtifactFacts D → Bool = λ f. entry_view f == entry_view e in
-        Contains-filtered test copy e (subst (λ es. Contains es e) (sym (of_each_view (entry_view e))) (Contains-filter test entries e h (eq-eqb (entry_view e) (entry_view e) refl)))
-
     copy_judged : (before after : List (ArtifactFacts D)) (p : Proposal D) (m : ℕ) → copy ≡ before ++ FinalizeVote p m ∷ after → (round : Round) × Contains before (Verdict round true) × (round.view ≡ p.round.view)
     copy_judged before after p m split =
         let v = p.round.view in
@@ -54,11 +44,11 @@ module _ {D : Type 0} (trace : List (TraceEvent D)) (kept : ℕ) (entries : List
 
     pub copy_remembers : Remembers trace kept copy
     copy_remembers = record {
-      accepted = λ c h. remembers.accepted c (in_record (Accepted c) h);
-      nullify_cast = λ round m h. remembers.nullify_cast round m (in_record (NullifyVote round m) h);
-      finalize_cast = λ p m h. remembers.finalize_cast p m (in_record (FinalizeVote p m) h);
-      nullify_kept = λ round h. elim (remembers.nullify_kept round h) [ inl e ↦ inl (e.0, in_copy (NullifyVote round e.0) e.1) | inr below ↦ inr below ];
-      finalize_kept = λ p h. elim (remembers.finalize_kept p h) [ inl e ↦ inl (e.0, in_copy (FinalizeVote p e.0) e.1) | inr below ↦ inr below ];
+      accepted = λ c h. remembers.accepted c (same_entries copy entries of_each_view (Accepted c) h);
+      nullify_cast = λ round m h. remembers.nullify_cast round m (same_entries copy entries of_each_view (NullifyVote round m) h);
+      finalize_cast = λ p m h. remembers.finalize_cast p m (same_entries copy entries of_each_view (FinalizeVote p m) h);
+      nullify_kept = λ round h. elim (remembers.nullify_kept round h) [ inl e ↦ inl (e.0, same_entries entries copy (λ v. sym (of_each_view v)) (NullifyVote round e.0) e.1) | inr below ↦ inr below ];
+      finalize_kept = λ p h. elim (remembers.finalize_kept p h) [ inl e ↦ inl (e.0, same_entries entries copy (λ v. sym (of_each_view v)) (FinalizeVote p e.0) e.1) | inr below ↦ inr below ];
       above_genesis = remembers.above_genesis;
       judged = copy_judged;
     }

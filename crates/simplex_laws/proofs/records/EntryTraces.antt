@@ -3,11 +3,11 @@
 use Rattle.std.proofs.Common.{◌≡◌, ◌≢◌, sym, subst, ℕ, ◌<◌, ◌≤◌, ◌⊎◌, inl, inr, true, List, [], ◌∷◌, ◌++◌, Contains, arith}
 use Rattle.std.specs.Prelude.{⊤}
 use Rattle.std.proofs.lemmas.List.{append-nil}
-use Rattle.simplex_types.specs.Certificates.{CertificateFacts, Notarized, Nullified, Finalized, ArtifactFacts, NotarizeVote, NullifyVote, FinalizeVote, Verdict, Accepted}
+use Rattle.simplex_types.specs.Certificates.{Notarized, Nullified, Finalized, ArtifactFacts, NotarizeVote, NullifyVote, FinalizeVote, Verdict, Accepted}
 use Rattle.simplex_types.specs.declared.types.messages.Proposal.{Proposal}
-use Rattle.simplex_types.specs.declared.types.messages.Subject.{Subject}
 use Rattle.simplex_types.specs.declared.types.messages.Subject.TheVariants as subject
 use Rattle.simplex_types.specs.declared.types.numbers.Round.{Round}
+use Rattle.simplex_types.specs.Encoding.{certificate_subject}
 use Rattle.simplex_round.specs.Round.{is_nullify, is_finalize}
 use Rattle.simplex_voter.specs.Facts.{StateFacts, round_of}
 use Rattle.simplex_record.specs.Entries.{entry_view}
@@ -17,19 +17,13 @@ use Rattle.simplex_laws.proofs.lists.Signed.{signed_push}
 use Rattle.simplex_laws.proofs.votes.ShownVotes.{ShowsVotesInLife, still, final_still, stays_accepted}
 use Rattle.simplex_laws.proofs.votes.ShownVotesByVotes.{nullify_cast_stands, finalize_cast_stands}
 
--- what a certificate is about
-abbrev pub subject_of : {D : Type 0} → CertificateFacts D → Subject D
-subject_of (Notarized c) = subject.Notarize c.proposal
-subject_of (Nullified c) = subject.Nullify c.round
-subject_of (Finalized c) = subject.Finalize c.proposal
-
 -- the event that an entry records
 abbrev pub entry_trace : {D : Type 0} → ArtifactFacts D → List (TraceEvent D)
 entry_trace (NotarizeVote p m) = Signs m (subject.Notarize p) ∷ []
 entry_trace (NullifyVote round m) = Signs m (subject.Nullify round) ∷ []
 entry_trace (FinalizeVote p m) = Signs m (subject.Finalize p) ∷ []
 entry_trace (Verdict _ _) = []
-entry_trace (Accepted c) = Accepts (subject_of c) ∷ []
+entry_trace (Accepted c) = Accepts (certificate_subject c) ∷ []
 
 -- a vote may be taken again: no other vote of its view was, and a finalize vote's view is passed
 abbrev pub MayRetake : {D : Type 0} → List (TraceEvent D) → ℕ → ArtifactFacts D → Type 0

@@ -28,7 +28,7 @@ use Rattle.simplex_laws.proofs.records.RecoveredVotes.{recovered_stays}
 use Rattle.simplex_laws.proofs.records.RecoveredRecords.{recovered_marked}
 use Rattle.simplex_laws.proofs.records.RecordedVotes.{Marked}
 use Rattle.simplex_laws.proofs.records.CallsRemembered.{RemembersAndShows, call_follows}
-use Rattle.simplex_laws.proofs.records.CutsRemembered.{in_copy, in_record, copy_remembers, floor_remembers}
+use Rattle.simplex_laws.proofs.records.CutsRemembered.{copy_remembers, floor_remembers}
 use Rattle.simplex_laws.proofs.frames.InOrder.{InOrder, order_call, order_recovered}
 use Rattle.simplex_member.specs.OutstandingWork.{OutstandingWork, no_outstanding_work}
 use Rattle.simplex_laws.proofs.votes.NotarizeVotesShown.{NotesStand, RemembersNotes, notes_acted}
@@ -36,6 +36,7 @@ use Rattle.simplex_laws.proofs.records.NotarizeVotesRemembered.{notes_copied, no
 use Rattle.simplex_laws.proofs.records.RecoveredNotarizeVotes.{recovered_notes}
 use Rattle.simplex_laws.proofs.votes.NotarizeVotesByCalls.{call_notes}
 use Rattle.simplex_laws.proofs.records.Lifetimes.{IsHigh, Between, high_known}
+use Rattle.simplex_laws.proofs.lists.Filters.{same_entries}
 
 -- a living member: its state keeps the rules, and its record follows them
 pub record Living {K L D : Type 0} (term_length : ℕ) (trace : List (TraceEvent D)) (closed kept : ℕ) (entries : List (ArtifactFacts D)) (o : OutstandingWork K D) (x : StateFacts K L D) : Type 0 where
@@ -126,8 +127,8 @@ module _ {K L D : Type 0} (same : D → D → Bool) (decides : (d e : D) → sam
       let t = terms.term_length in
       let x = recovered_state same elect (new_facts settings me members elector terms early) floor now copy in
       let remembers = copy_remembers trace kept entries between.remembers copy by_view in
-      let into_copy = in_copy trace kept entries between.remembers copy by_view in
-      let into_record = in_record trace kept entries between.remembers copy by_view in
+      let into_copy = same_entries entries copy (λ v. sym (by_view v)) in
+      let into_record = same_entries copy entries by_view in
       let final : (kept ≡ 0) ⊎ ((c : ProposalFacts D) × Contains copy (Accepted (Finalized c)) × (kept ≤ c.proposal.round.view)) = elim (high_known closed kept entries between.high) [ inl none ↦ inl none | inr c ↦ inr (c.0, into_copy (Accepted (Finalized c.0)) c.1, c.2) ] in
       let stays = recovered_stays same decides elect settings me members elector terms early trace kept copy floor now between.lawful remembers final in
       let copied = notes_copied trace kept entries between.notes copy by_view in

@@ -2,7 +2,7 @@
 -- What a record remembers of the votes to notarize is kept: by each event, by a copy of the record, and where it is cut.
 use Rattle.std.proofs.Common.{◌≡◌, refl, sym, subst, ℕ, ◌≤◌, inl, inr, Bool, true, false, max, if◌then◌else◌, List, [], ◌∷◌, ◌++◌, Contains, filter, Option, Some, None, arith}
 use Rattle.std.specs.Prelude.{◌==◌, option_map, option_and_then}
-use Rattle.std.proofs.lemmas.Bool.{cases_Bool, false≢true, true≢false, eq-eqb}
+use Rattle.std.proofs.lemmas.Bool.{cases_Bool, false≢true, true≢false}
 use Rattle.std.proofs.lemmas.List.{append-nil}
 use Rattle.std.proofs.lemmas.List.Elements.{Contains-append_left, Contains-append_right, Contains-append_cases}
 use Rattle.simplex_types.specs.Certificates.{Notarized, Nullified, Finalized, ArtifactFacts, NotarizeVote, NullifyVote, FinalizeVote, Verdict, Accepted}
@@ -25,11 +25,11 @@ use Rattle.simplex_record.specs.Recovery.{is_finalization, with_floor}
 use Rattle.simplex_laws.specs.Traces.{TraceEvent, Accepts, Signs, of_floor, trace_of_call}
 use Rattle.simplex_laws.specs.Lawful.{HasSigned}
 use Rattle.simplex_laws.proofs.lists.Signed.{signed_none, signed_left, signed_cases, signed_last, only_signed}
-use Rattle.simplex_laws.proofs.lists.Filters.{Contains-filter, Contains-filtered}
-use Rattle.simplex_laws.proofs.records.TracesShown.{only_one}
+use Rattle.simplex_laws.proofs.lists.Filters.{Contains-filter, Contains-filtered, same_entries}
 use Rattle.simplex_laws.proofs.votes.NotarizeVotesShown.{RemembersNotes, CastsNone}
 use Rattle.simplex_laws.proofs.frames.CallsOnWork.{is_work}
 use Rattle.simplex_laws.proofs.records.CutsRemembered.{falls_below}
+use Rattle.simplex_laws.proofs.lists.Splits.{only_one}
 
 -- no entry of them is a vote to notarize
 abbrev pub NotesNone : {D : Type 0} → List (ArtifactFacts D) → Type 0
@@ -81,19 +81,9 @@ module _ {D : Type 0} (trace : List (TraceEvent D)) (kept : ℕ) (entries : List
   -- entries of each view in the same order
   pub notes_copied : (copy : List (ArtifactFacts D)) → ((v : ℕ) → filter (λ e. entry_view e == v) copy ≡ filter (λ e. entry_view e == v) entries) → RemembersNotes trace kept copy
   notes_copied copy of_each_view = record {
-    cast = λ p m h. remembers.cast p m (in_record (NotarizeVote p m) h);
-    noted = λ p h. elim (remembers.noted p h) [ inl e ↦ inl (e.0, in_copy (NotarizeVote p e.0) e.1) | inr below ↦ inr below ];
+    cast = λ p m h. remembers.cast p m (same_entries copy entries of_each_view (NotarizeVote p m) h);
+    noted = λ p h. elim (remembers.noted p h) [ inl e ↦ inl (e.0, same_entries entries copy (λ v. sym (of_each_view v)) (NotarizeVote p e.0) e.1) | inr below ↦ inr below ];
   }
-    where
-      in_record : (e : ArtifactFacts D) → Contains copy e → Contains entries e
-      in_record e h =
-          let test : ArtifactFacts D → Bool = λ f. entry_view f == entry_view e in
-          Contains-filtered test entries e (subst (λ es. Contains es e) (of_each_view (entry_view e)) (Contains-filter test copy e h (eq-eqb (entry_view e) (entry_view e) refl)))
-
-      in_copy : (e : ArtifactFacts D) → Contains entries e → Contains copy e
-      in_copy e h =
-          let test : ArtifactFacts D → Bool = λ f. entry_view f == entry_view e in
-          Contains-filtered test copy e (subst (λ es. Contains es e) (sym (of_each_view (entry_view e))) (Contains-filter test entries e h (eq-eqb (entry_view e) (entry_view e) refl)))
 
   -- without last entries that are no votes
   pub notes_left : (left tail : List (ArtifactFacts D)) → entries ≡ left ++ tail → ((e : ArtifactFacts D) → Contains tail e → is_vote e ≡ false) → RemembersNotes trace kept left

@@ -55,17 +55,17 @@ module _ {D : Type 0} (same : D → D → Bool) (s : SlotFacts D) (p : Proposal 
   abbrev own_slot : SlotFacts D
   own_slot = after_own (same_proposal same) s p
 
-  abbrev taken_over : Bool → SlotFacts D
-  taken_over b = if b then record { held = Some p; conflict = s.conflict; verified = not s.conflict; build_requested = true; verify_requested = true } else s
+  abbrev slot_taken_over : Bool → SlotFacts D
+  slot_taken_over b = if b then record { held = Some p; conflict = s.conflict; verified = not s.conflict; build_requested = true; verify_requested = true } else s
 
   own_requested : (s.verified ≡ true → s.verify_requested ≡ true) → own_slot.verified ≡ true → own_slot.verify_requested ≡ true
-  own_requested old = elim (holds_or_empty (same_proposal same) s p) as (λ b. (taken_over b).verified ≡ true → (taken_over b).verify_requested ≡ true) [ true ↦ λ is. refl | false ↦ old ]
+  own_requested old = elim (holds_or_empty (same_proposal same) s p) as (λ b. (slot_taken_over b).verified ≡ true → (slot_taken_over b).verify_requested ≡ true) [ true ↦ λ is. refl | false ↦ old ]
 
   own_held : (s.held ≡ None → s.verified ≡ false) → own_slot.held ≡ None → own_slot.verified ≡ false
-  own_held old = elim (holds_or_empty (same_proposal same) s p) as (λ b. (taken_over b).held ≡ None → (taken_over b).verified ≡ false) [ true ↦ λ none. absurd (cc) | false ↦ old ]
+  own_held old = elim (holds_or_empty (same_proposal same) s p) as (λ b. (slot_taken_over b).held ≡ None → (slot_taken_over b).verified ≡ false) [ true ↦ λ none. absurd (cc) | false ↦ old ]
 
   own_placed : (q : Proposal D) → own_slot.held ≡ Some q → (s.held ≡ Some q) ⊎ (p ≡ q)
-  own_placed q = elim (holds_or_empty (same_proposal same) s p) as (λ b. (taken_over b).held ≡ Some q → (s.held ≡ Some q) ⊎ (p ≡ q)) [ true ↦ λ is. inr (cc) | false ↦ λ is. inl is ]
+  own_placed q = elim (holds_or_empty (same_proposal same) s p) as (λ b. (slot_taken_over b).held ≡ Some q → (s.held ≡ Some q) ⊎ (p ≡ q)) [ true ↦ λ is. inr (cc) | false ↦ λ is. inl is ]
 
 module _ {K D : Type 0} where
   -- what is voted for rests on nothing but its slot

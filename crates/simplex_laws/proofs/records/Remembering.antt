@@ -6,12 +6,13 @@ use Rattle.simplex_types.specs.Certificates.{CertificateFacts, ArtifactFacts, Nu
 use Rattle.simplex_types.specs.declared.types.messages.Proposal.{Proposal}
 use Rattle.simplex_types.specs.declared.types.messages.Subject.TheVariants as subject
 use Rattle.simplex_types.specs.declared.types.numbers.Round.{Round}
+use Rattle.simplex_types.specs.Encoding.{certificate_subject}
 use Rattle.simplex_member.specs.CallSemantics.{if_new}
 use Rattle.simplex_laws.specs.Traces.{TraceEvent, Accepts, Signs}
 use Rattle.simplex_laws.specs.Lawful.{HasSigned}
 use Rattle.simplex_laws.proofs.lists.Signed.{signed_none, signed_left, signed_cases, signed_last, only_signed}
-use Rattle.simplex_laws.proofs.records.EntryTraces.{subject_of}
-use Rattle.simplex_laws.proofs.records.TracesShown.{Remembers, only_one}
+use Rattle.simplex_laws.proofs.records.TracesShown.{Remembers}
+use Rattle.simplex_laws.proofs.lists.Splits.{only_one}
 
 -- an element of two lists joined stands in the first one or behind it
 pub append_split : {X : Type 0} (xs ys before after : List X) (x : X) → xs ++ ys ≡ before ++ x ∷ after → ((rest : List X) × (xs ≡ before ++ x ∷ rest)) ⊎ ((front : List X) × (before ≡ xs ++ front) × (ys ≡ front ++ x ∷ after))
@@ -38,7 +39,7 @@ single_split (b ∷ (c ∷ before)) after y x e = absurd (cc)
 
 -- what has to be known of new entries and events
 pub record RecordGrows {D : Type 0} (trace more : List (TraceEvent D)) (entries new : List (ArtifactFacts D)) : Type 0 where
-  pub accepted : (c : CertificateFacts D) → Contains new (Accepted c) → Contains (trace ++ more) (Accepts (subject_of c))
+  pub accepted : (c : CertificateFacts D) → Contains new (Accepted c) → Contains (trace ++ more) (Accepts (certificate_subject c))
   pub nullify_cast : (round : Round) (m : ℕ) → Contains new (NullifyVote round m) → HasSigned (trace ++ more) (subject.Nullify round)
   pub finalize_cast : (p : Proposal D) (m : ℕ) → Contains new (FinalizeVote p m) → HasSigned (trace ++ more) (subject.Finalize p)
   pub nullify_kept : (round : Round) → HasSigned more (subject.Nullify round) → (1 ≤ round.view) × ((m : ℕ) × Contains (entries ++ new) (NullifyVote round m))
@@ -49,7 +50,7 @@ module _ {D : Type 0} (trace : List (TraceEvent D)) (entries : List (ArtifactFac
   pub remembers_more : (kept : ℕ) (more : List (TraceEvent D)) (new : List (ArtifactFacts D)) → RecordGrows trace more entries new → Remembers trace kept entries → Remembers (trace ++ more) kept (entries ++ new)
   remembers_more kept more new grows remembers = record {
     accepted = λ c h. elim (Contains-append_cases entries new (Accepted c) h) [
-      | inl old ↦ Contains-append_left trace more (Accepts (subject_of c)) (remembers.accepted c old)
+      | inl old ↦ Contains-append_left trace more (Accepts (certificate_subject c)) (remembers.accepted c old)
       | inr late ↦ grows.accepted c late
     ];
     nullify_cast = λ round m h. elim (Contains-append_cases entries new (NullifyVote round m) h) [
@@ -110,24 +111,24 @@ module _ {D : Type 0} (trace : List (TraceEvent D)) (entries : List (ArtifactFac
   }
 
   -- a certificate is accepted, whether it is recorded or not
-  pub grows_certificate : (is_new : Bool) (c : CertificateFacts D) → RecordGrows trace (Accepts (subject_of c) ∷ []) entries (if_new is_new (Accepted c))
+  pub grows_certificate : (is_new : Bool) (c : CertificateFacts D) → RecordGrows trace (Accepts (certificate_subject c) ∷ []) entries (if_new is_new (Accepted c))
   grows_certificate false c = record {
     accepted = λ d h. absurd (omega (arith, h.1));
     nullify_cast = λ round m h. absurd (omega (arith, h.1));
     finalize_cast = λ p m h. absurd (omega (arith, h.1));
-    nullify_kept = λ round h. absurd (let e = only_signed (Accepts (subject_of c)) (subject.Nullify round) h in cc);
-    finalize_kept = λ p h. absurd (let e = only_signed (Accepts (subject_of c)) (subject.Finalize p) h in cc);
+    nullify_kept = λ round h. absurd (let e = only_signed (Accepts (certificate_subject c)) (subject.Nullify round) h in cc);
+    finalize_kept = λ p h. absurd (let e = only_signed (Accepts (certificate_subject c)) (subject.Finalize p) h in cc);
     judged = λ before after p m split. absurd (none_split before after (FinalizeVote p m) split);
   }
   grows_certificate true c = record {
     accepted = λ d h.
         (let e = only_one (Accepted c) (Accepted d) h in
         let same : c ≡ d = cc in
-        subst (λ (b : CertificateFacts D). Contains (trace ++ Accepts (subject_of c) ∷ []) (Accepts (subject_of b))) same (Contains-append_right trace (Accepts (subject_of c) ∷ []) (Accepts (subject_of c)) (0, omega arith, refl)));
+        subst (λ (b : CertificateFacts D). Contains (trace ++ Accepts (certificate_subject c) ∷ []) (Accepts (certificate_subject b))) same (Contains-append_right trace (Accepts (certificate_subject c) ∷ []) (Accepts (certificate_subject c)) (0, omega arith, refl)));
     nullify_cast = λ round m h. absurd (let e = only_one (Accepted c) (NullifyVote round m) h in cc);
     finalize_cast = λ p m h. absurd (let e = only_one (Accepted c) (FinalizeVote p m) h in cc);
-    nullify_kept = λ round h. absurd (let e = only_signed (Accepts (subject_of c)) (subject.Nullify round) h in cc);
-    finalize_kept = λ p h. absurd (let e = only_signed (Accepts (subject_of c)) (subject.Finalize p) h in cc);
+    nullify_kept = λ round h. absurd (let e = only_signed (Accepts (certificate_subject c)) (subject.Nullify round) h in cc);
+    finalize_kept = λ p h. absurd (let e = only_signed (Accepts (certificate_subject c)) (subject.Finalize p) h in cc);
     judged = λ before after p m split. absurd (let e = single_split before after (Accepted c) (FinalizeVote p m) split in cc);
   }
 

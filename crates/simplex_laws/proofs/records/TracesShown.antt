@@ -1,6 +1,6 @@
 -- For `votes_are_lawful`.
 -- A state that is made again from a member's record shows the trace of all lives before.
-use Rattle.std.proofs.Common.{◌≡◌, refl, ap, sym, ◌∙◌, subst, ℕ, zero, suc, ◌<◌, ◌≤◌, ◌⊎◌, inl, inr, Bool, true, List, [], ◌∷◌, ◌++◌, append_assoc, Contains, arith}
+use Rattle.std.proofs.Common.{◌≡◌, refl, ap, sym, ◌∙◌, subst, ℕ, ◌<◌, ◌≤◌, ◌⊎◌, inl, inr, Bool, true, List, [], ◌∷◌, ◌++◌, append_assoc, Contains, arith}
 use Rattle.std.proofs.lemmas.List.{append-nil}
 use Rattle.std.proofs.lemmas.List.Elements.{Contains-append_left, Contains-append_right, Contains-append_cases, Contains-push_cases}
 use Rattle.simplex_types.specs.Certificates.{CertificateFacts, ArtifactFacts, NotarizeVote, NullifyVote, FinalizeVote, Verdict, Accepted}
@@ -8,20 +8,21 @@ use Rattle.simplex_types.specs.declared.types.messages.Proposal.{Proposal}
 use Rattle.simplex_types.specs.declared.types.messages.Subject.{Subject}
 use Rattle.simplex_types.specs.declared.types.messages.Subject.TheVariants as subject
 use Rattle.simplex_types.specs.declared.types.numbers.Round.{Round}
+use Rattle.simplex_types.specs.Encoding.{certificate_subject}
 use Rattle.simplex_voter.specs.Facts.{StateFacts, Elect}
 use Rattle.simplex_record.specs.Recovery.{after_kept_entry, after_entries}
 use Rattle.simplex_laws.specs.Traces.{TraceEvent, Accepts, Signs}
 use Rattle.simplex_laws.specs.Lawful.{HasSigned, IsLawful}
 use Rattle.simplex_laws.proofs.lists.Signed.{signed_none, signed_cases, only_signed}
-use Rattle.simplex_laws.proofs.lists.Splits.{Contains-cases, Contains-cons_rest}
+use Rattle.simplex_laws.proofs.lists.Splits.{Contains-cases, Contains-cons_rest, only_one}
 use Rattle.simplex_laws.proofs.votes.ShownVotes.{ShowsVotesInLife}
-use Rattle.simplex_laws.proofs.records.EntryTraces.{subject_of, entry_trace, MayRetake}
+use Rattle.simplex_laws.proofs.records.EntryTraces.{entry_trace, MayRetake}
 use Rattle.simplex_laws.proofs.records.ShownVotesByEntries.{taken_stays, taken_rises, taken_passes}
 
 -- what a record holds of a member's trace; it may lack votes of views below `kept`
 pub record Remembers {D : Type 0} (trace : List (TraceEvent D)) (kept : ℕ) (entries : List (ArtifactFacts D)) : Type 0 where
   -- each certificate was accepted, and each vote was cast
-  pub accepted : (c : CertificateFacts D) → Contains entries (Accepted c) → Contains trace (Accepts (subject_of c))
+  pub accepted : (c : CertificateFacts D) → Contains entries (Accepted c) → Contains trace (Accepts (certificate_subject c))
   pub nullify_cast : (round : Round) (m : ℕ) → Contains entries (NullifyVote round m) → HasSigned trace (subject.Nullify round)
   pub finalize_cast : (p : Proposal D) (m : ℕ) → Contains entries (FinalizeVote p m) → HasSigned trace (subject.Finalize p)
   -- each vote that was cast is recorded, or stands below what is kept
@@ -37,10 +38,6 @@ abbrev pub entries_trace : {D : Type 0} → List (ArtifactFacts D) → List (Tra
 entries_trace [] = []
 entries_trace (e ∷ rest) = entry_trace e ++ entries_trace rest
 
-pub only_one : {X : Type 0} (y x : X) → Contains (y ∷ []) x → y ≡ x
-only_one y x (zero, less, same) = same
-only_one y x (suc k, less, same) = absurd (omega arith)
-
 module _ {D : Type 0} where
   -- an entry's event shows the entry
 
@@ -52,7 +49,7 @@ module _ {D : Type 0} where
       (m, ap (λ (s : Round). NullifyVote s m) same)
   of_nullify (FinalizeVote p m) round h = absurd (let e = only_signed (Signs m (subject.Finalize p)) (subject.Nullify round) h in cc)
   of_nullify (Verdict _ _) round h = absurd (signed_none (subject.Nullify round) h)
-  of_nullify (Accepted c) round h = absurd (let e = only_signed (Accepts (subject_of c)) (subject.Nullify round) h in cc)
+  of_nullify (Accepted c) round h = absurd (let e = only_signed (Accepts (certificate_subject c)) (subject.Nullify round) h in cc)
 
   of_finalize : (e : ArtifactFacts D) (p : Proposal D) → HasSigned (entry_trace e) (subject.Finalize p) → (m : ℕ) × (e ≡ FinalizeVote p m)
   of_finalize (NotarizeVote q m) p h = absurd (let e = only_signed (Signs m (subject.Notarize q)) (subject.Finalize p) h in cc)
@@ -62,14 +59,14 @@ module _ {D : Type 0} where
       let same : q ≡ p = cc in
       (m, ap (λ (s : Proposal D). FinalizeVote s m) same)
   of_finalize (Verdict _ _) p h = absurd (signed_none (subject.Finalize p) h)
-  of_finalize (Accepted c) p h = absurd (let e = only_signed (Accepts (subject_of c)) (subject.Finalize p) h in cc)
+  of_finalize (Accepted c) p h = absurd (let e = only_signed (Accepts (certificate_subject c)) (subject.Finalize p) h in cc)
 
-  pub of_accept : (e : ArtifactFacts D) (s : Subject D) → Contains (entry_trace e) (Accepts s) → (c : CertificateFacts D) × (e ≡ Accepted c) × (subject_of c ≡ s)
+  pub of_accept : (e : ArtifactFacts D) (s : Subject D) → Contains (entry_trace e) (Accepts s) → (c : CertificateFacts D) × (e ≡ Accepted c) × (certificate_subject c ≡ s)
   of_accept (NotarizeVote p _) s h = absurd (let e = only_one _ _ h in cc)
   of_accept (NullifyVote _ _) s h = absurd (let e = only_one _ _ h in cc)
   of_accept (FinalizeVote p _) s h = absurd (let e = only_one _ _ h in cc)
   of_accept (Verdict _ _) s h = absurd (omega (arith, h.1))
-  of_accept (Accepted c) s h = (c, refl, (let e = only_one (Accepts (subject_of c)) (Accepts s) h in cc))
+  of_accept (Accepted c) s h = (c, refl, (let e = only_one (Accepts (certificate_subject c)) (Accepts s) h in cc))
 
   -- the trace of a list's entries has the events of the entries in it
 

@@ -426,15 +426,15 @@ module _ {K L D : Type 0} (same : D → D → Bool) (elect : Elect L) (x : State
       by_standing s None (inr found) = absurd (false≢true (ap is_some found.1))
 
 -- a view whose proposal is given out by a scan
-record IsGiven {K L D : Type 0} (same : D → D → Bool) (elect : Elect L) (x : StateFacts K L D) (v : ℕ) : Type 0 where
+record ScanGivesOut {K L D : Type 0} (same : D → D → Bool) (elect : Elect L) (x : StateFacts K L D) (v : ℕ) : Type 0 where
   pub ahead : x.current ≤ v
   pub scanned : was_scanned same elect x v ≡ true
   pub ready : is_given_out (standing same elect x (v, round_of x v)) ≡ true
 
 module _ {K L D : Type 0} (same : D → D → Bool) (elect : Elect L) (base low : ℕ) (trace : List (TraceEvent D)) (o : OutstandingWork K D) (x : StateFacts K L D) (ordered : InOrder x) (notes : NotesStand base low trace o x) where
   -- what is now being verified was so before, or is given out
-  now_given : (answer : Option (Verify D K)) → slice_get (filter_map (answer_in same elect x) (views_ahead x)) 0 ≡ answer → (w : ℕ) → is_verifying (with_verification o (option_map_or (λ found. found) answer verify.Wait)) w ≡ true → IsGiven same elect x w ⊎ (is_verifying o w ≡ true)
-  now_given (Some (verify.Ready context p)) first w is = elim (now_among p.round.view w o.verifying is) [ inr before ↦ inr before | inl at ↦ inl (subst (IsGiven same elect x) (here ∙ sym at) given) ]
+  now_given : (answer : Option (Verify D K)) → slice_get (filter_map (answer_in same elect x) (views_ahead x)) 0 ≡ answer → (w : ℕ) → is_verifying (with_verification o (option_map_or (λ found. found) answer verify.Wait)) w ≡ true → ScanGivesOut same elect x w ⊎ (is_verifying o w ≡ true)
+  now_given (Some (verify.Ready context p)) first w is = elim (now_among p.round.view w o.verifying is) [ inr before ↦ inr before | inl at ↦ inl (subst (ScanGivesOut same elect x) (here ∙ sym at) given) ]
     where
       found : (e : ℕ × RoundFacts K D) × Contains (through (λ f. is_answered (standing same elect x f)) (views_ahead x)) e × (answer_in same elect x e ≡ Some (verify.Ready context p))
       found = first_through (answer_in same elect x) (λ f. is_answered (standing same elect x f)) (answered_there same elect x) (views_ahead x) (verify.Ready context p) first
@@ -454,7 +454,7 @@ module _ {K L D : Type 0} (same : D → D → Bool) (elect : Elect L) (base low 
       here : e.0 ≡ p.round.view
       here = sym (notes.placed e.0 p (ap (λ (r : RoundFacts K D). r.slot.held) there ∙ (pending_parts e.1 ready.1.0 ready.1.1).3 ∙ ap Some ready.1.2))
 
-      given : IsGiven same elect x e.0
+      given : ScanGivesOut same elect x e.0
       given = record {
         ahead = ahead_now x e among;
         scanned = any_there (λ f. e.0 == f.0) (through (λ f. is_answered (standing same elect x f)) (views_ahead x)) e found.1 (eq-eqb e.0 e.0 refl);
@@ -467,7 +467,7 @@ module _ {K L D : Type 0} (same : D → D → Bool) (elect : Elect L) (base low 
   abbrev opened : OutstandingWork K D
   opened = with_verification o (verify_answer same elect x)
 
-  now_verifying : (w : ℕ) → is_verifying opened w ≡ true → IsGiven same elect x w ⊎ (is_verifying o w ≡ true)
+  now_verifying : (w : ℕ) → is_verifying opened w ≡ true → ScanGivesOut same elect x w ⊎ (is_verifying o w ≡ true)
   now_verifying w is = now_given (slice_get (filter_map (answer_in same elect x) (views_ahead x)) 0) refl w is
 
   context_kept : NoMoreContexts o opened
@@ -490,7 +490,7 @@ module _ {K L D : Type 0} (same : D → D → Bool) (elect : Elect L) (base low 
       r : RoundFacts K D
       r = round_of x w
 
-      calm_kept : (s : RoundFacts K D) → UnchangedProposal w r s → (IsGiven same elect x w → ⊥) → IsLeft w s
+      calm_kept : (s : RoundFacts K D) → UnchangedProposal w r s → (ScanGivesOut same elect x w → ⊥) → IsLeft w s
       calm_kept s same_work silent = (
         same_work.grown,
         same_work.verified,

@@ -20,7 +20,7 @@ use Rattle.simplex_record.proofs.Rounds.{armed_nullify, armed_finalize, latched_
 use Rattle.simplex_laws.proofs.votes.NullifyVotes.{noted_old, noted_kept}
 use Rattle.simplex_record.proofs.Paths.{event_path, asked_of_all}
 use Rattle.simplex_laws.proofs.votes.ShownVotes.{RoundShowsVotes, ShowsVotes, HasFinal, ShowsVotesInLife, round_later, stands_later, stands_put}
-use Rattle.simplex_laws.proofs.votes.ShownVotesInRounds.{Holds, holds_new, holds_old, holds_own, holds_voted, fresh_stands}
+use Rattle.simplex_laws.proofs.votes.ShownVotesInRounds.{HoldsUncontested, holds_new, holds_old, holds_own, holds_voted, fresh_stands}
 use Rattle.simplex_laws.proofs.frames.CallsMake.{is_floor}
 use Rattle.simplex_laws.proofs.frames.Rising.{event_goes}
 use Rattle.simplex_laws.proofs.frames.Sound.{IsAhead, event_ahead}
@@ -65,7 +65,7 @@ module _ {K L D : Type 0} (same : D → D → Bool) (decides : (d e : D) → sam
   change_stands : (finalized : ℕ) (y : StateFacts K L D) (v : ℕ) (r s : RoundFacts K D) → RoundStep same elect x e y v r s → RoundShowsVotes trace reached finalized v r → RoundShowsVotes trace reached finalized v s
   change_stands finalized y v r s (step.Notarized c says at none) p = record {
     notarized = λ d is. (let alike : c ≡ d = cc in subst (λ (f : ProposalFacts D). (f.proposal.round.view ≡ v) × Contains trace (Accepts (subject.Notarize f.proposal))) alike (at, suits.notarized c says));
-    held = λ d is. (let alike : c ≡ d = cc in subst (λ (f : ProposalFacts D). Holds (after_certificate (same_proposal same) r.slot c.proposal) f.proposal) alike (holds_new same decides r.slot c.proposal));
+    held = λ d is. (let alike : c ≡ d = cc in subst (λ (f : ProposalFacts D). HoldsUncontested (after_certificate (same_proposal same) r.slot c.proposal) f.proposal) alike (holds_new same decides r.slot c.proposal));
     entered = p.entered;
     left = p.left;
     nullify_decided = p.nullify_decided;

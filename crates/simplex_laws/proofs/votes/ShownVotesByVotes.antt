@@ -23,7 +23,7 @@ use Rattle.simplex_record.proofs.Rounds.{round_put}
 use Rattle.simplex_laws.proofs.votes.ShownVotes.{RoundShowsVotes, ShowsVotes, ShowsVotesInLife, still, final_still, stands_put}
 use Rattle.simplex_laws.proofs.votes.NullifyVotes.{noted_old, noted_new, gate_passed}
 
-not_nullified : (d : Decision) → is_pending d ≡ true → is_nullify d ≡ false
+pub not_nullified : (d : Decision) → is_pending d ≡ true → is_nullify d ≡ false
 not_nullified (decision.Pending _ _ _) is = refl
 not_nullified (decision.Nullify _) is = absurd (false≢true is)
 not_nullified decision.Finalize is = refl

@@ -12,15 +12,15 @@ use Rattle.simplex_laws.specs.Traces.{TraceEvent}
 use Rattle.simplex_laws.proofs.votes.ShownVotes.{RoundShowsVotes}
 
 -- a slot holds the proposal, unless another was seen
-abbrev pub Holds : {D : Type 0} → SlotFacts D → Proposal D → Type 0
-Holds s p = (s.conflict ≡ true) ⊎ (s.held ≡ Some p)
+abbrev pub HoldsUncontested : {D : Type 0} → SlotFacts D → Proposal D → Type 0
+HoldsUncontested s p = (s.conflict ≡ true) ⊎ (s.held ≡ Some p)
 
 module _ {D : Type 0} (same : D → D → Bool) (decides : (d e : D) → same d e ≡ true → d ≡ e) where
   -- a certificate's proposal is held, unless another was seen
-  pub holds_new : (s : SlotFacts D) (p : Proposal D) → Holds (after_certificate (same_proposal same) s p) p
+  pub holds_new : (s : SlotFacts D) (p : Proposal D) → HoldsUncontested (after_certificate (same_proposal same) s p) p
   holds_new s p = by_held s.held refl
     where
-      by_held : (o : Option (Proposal D)) → s.held ≡ o → Holds (after_certificate (same_proposal same) s p) p
+      by_held : (o : Option (Proposal D)) → s.held ≡ o → HoldsUncontested (after_certificate (same_proposal same) s p) p
       by_held None is = rw is (inr refl)
       by_held (Some h) is = elim (cases_Bool (same_proposal same h p)) [
         | inl alike ↦ rw (is, alike) (inr (ap Some (same_proposal-true same decides h p alike)))
@@ -28,10 +28,10 @@ module _ {D : Type 0} (same : D → D → Bool) (decides : (d e : D) → same d 
       ]
 
   -- what is held stays held, unless another is seen
-  pub holds_old : (s : SlotFacts D) (p q : Proposal D) → Holds s q → Holds (after_certificate (same_proposal same) s p) q
+  pub holds_old : (s : SlotFacts D) (p q : Proposal D) → HoldsUncontested s q → HoldsUncontested (after_certificate (same_proposal same) s p) q
   holds_old s p q holds = by_held s.held refl
     where
-      by_held : (o : Option (Proposal D)) → s.held ≡ o → Holds (after_certificate (same_proposal same) s p) q
+      by_held : (o : Option (Proposal D)) → s.held ≡ o → HoldsUncontested (after_certificate (same_proposal same) s p) q
       by_held None is = elim holds [
         | inl seen ↦ rw is (inl seen)
         | inr here ↦ absurd (let e = sym is ∙ here in cc)
@@ -42,13 +42,13 @@ module _ {D : Type 0} (same : D → D → Bool) (decides : (d e : D) → same d 
       ]
 
   -- a proposal of one's own takes no other one's place
-  pub holds_own : (s : SlotFacts D) (p q : Proposal D) → Holds s q → Holds (after_own (same_proposal same) s p) q
+  pub holds_own : (s : SlotFacts D) (p q : Proposal D) → HoldsUncontested s q → HoldsUncontested (after_own (same_proposal same) s p) q
   holds_own s p q holds = by_test (holds_or_empty (same_proposal same) s p) refl
     where
       taken_over : s.held ≡ Some q → holds_or_empty (same_proposal same) s p ≡ true → Some p ≡ Some q
       taken_over here fits = ap Some (sym (same_proposal-true same decides q p (ap (λ o. option_map_or (λ h. same_proposal same h p) o true) (sym here) ∙ fits)))
 
-      by_test : (b : Bool) → holds_or_empty (same_proposal same) s p ≡ b → Holds (after_own (same_proposal same) s p) q
+      by_test : (b : Bool) → holds_or_empty (same_proposal same) s p ≡ b → HoldsUncontested (after_own (same_proposal same) s p) q
       by_test false is = rw is holds
       by_test true is = elim holds [
         | inl seen ↦ rw is (inl seen)
@@ -57,10 +57,10 @@ module _ {D : Type 0} (same : D → D → Bool) (decides : (d e : D) → same d 
 
 module _ {D : Type 0} (same : D → D → Bool) where
   -- nor does one that is heard of
-  pub holds_voted : (s : SlotFacts D) (p q : Proposal D) → Holds s q → Holds (after_vote (same_proposal same) s p) q
+  pub holds_voted : (s : SlotFacts D) (p q : Proposal D) → HoldsUncontested s q → HoldsUncontested (after_vote (same_proposal same) s p) q
   holds_voted s p q holds = by_held s.held refl
     where
-      by_held : (o : Option (Proposal D)) → s.held ≡ o → Holds (after_vote (same_proposal same) s p) q
+      by_held : (o : Option (Proposal D)) → s.held ≡ o → HoldsUncontested (after_vote (same_proposal same) s p) q
       by_held None is = elim holds [
         | inl seen ↦ rw is (inl seen)
         | inr here ↦ absurd (let e = sym is ∙ here in cc)

@@ -6,7 +6,7 @@ ghost use Rattle.simplex_types.specs.declared.types.messages.Subject.TheVariants
 ghost use Rattle.simplex_laws.specs.Continuations.{HasAccepted, HasSignedAs, GoesOnToFinalize};
 ghost use Rattle.simplex_laws.specs.DividedNetwork.{divided, united, after_conflict};
 ghost use Rattle.simplex_laws.specs.HandoffNetwork.{handed_over, takes_over, taken_over, gone_on, after_handoff};
-ghost use Rattle.simplex_laws.specs.LackingNetwork.{lacks_nullification, member_without_notarization, lacking, supplied, over_two};
+ghost use Rattle.simplex_laws.specs.LackingNetwork.{lacks_nullification, member_without_notarization, lacking_certificates, supplied, over_two};
 ghost use Rattle.simplex_laws.specs.Replicas.{faults, Backed, IsNetworkOf};
 ghost use Rattle.simplex_laws.specs.ScenarioSteps.{round, one, in_turn};
 
@@ -32,10 +32,10 @@ pub fn conflicts_are_left()
 /// - `lacks`: what the two members have not accepted.
 /// - `goes_on`: it may go on as `supplied`, by what its honest members do alone, and view 3 is finalized there.
 pub fn gaps_are_closed()
-    ensures network { IsNetworkOf nat_eq in_turn 1 lacking }
-    ensures few { (length lacking ≡ 4) × (faults lacking ≡ 1) }
+    ensures network { IsNetworkOf nat_eq in_turn 1 lacking_certificates }
+    ensures few { (length lacking_certificates ≡ 4) × (faults lacking_certificates ≡ 1) }
     ensures lacks { (HasAccepted (Nullify (round 2)) 0 lacks_nullification → ⊥) × (HasAccepted (Notarize one) 2 member_without_notarization → ⊥) }
-    ensures goes_on { GoesOnToFinalize nat_eq in_turn 1 lacking supplied over_two }
+    ensures goes_on { GoesOnToFinalize nat_eq in_turn 1 lacking_certificates supplied over_two }
 {}
 
 /// A network of four in terms of two views. The leader of the second term takes it over early: it builds view 3 on view 2 and

@@ -7,7 +7,7 @@ ghost use Rattle.simplex_types.specs.declared.types.plain.PlainDigest.{PlainDige
 ghost use Rattle.simplex_types.specs.declared.types.plain.PlainElector.{PlainElector};
 ghost use Rattle.simplex_laws.specs.Traces.{Accepts, Signs};
 ghost use Rattle.simplex_laws.specs.Replicas.{IsNetworkOf, Backed};
-ghost use Rattle.simplex_laws.specs.PlainNetwork.{plain_first, plain_leader, plain_follower, plain_four};
+ghost use Rattle.simplex_laws.specs.PlainNetwork.{plain_first, plain_proposer, plain_follower, plain_four};
 ghost use Rattle.simplex_laws.specs.Executions.{trace_of};
 
 use simplex_types::types::Elector;
@@ -22,7 +22,7 @@ pub fn plain_members_agree()
     ensures network { (elector : PlainElector) × (payload : PlainDigest) × (members_of elector ≡ 4)
         × IsNetworkOf ⟦<Payload as PartialEq>⟧.eq ⟦<InTurn as Elector<PlainScheme>>⟧.elect 5 (plain_four elector payload)
         × Backed (plain_four elector payload) (Finalize (plain_first payload)) }
-    ensures leads { (elector : PlainElector) (payload : PlainDigest) → trace_of (plain_leader elector payload) ≡
+    ensures leads { (elector : PlainElector) (payload : PlainDigest) → trace_of (plain_proposer elector payload) ≡
         Signs 0 (Notarize (plain_first payload)) ∷ Accepts (Notarize (plain_first payload))
         ∷ Signs 0 (Finalize (plain_first payload)) ∷ Accepts (Finalize (plain_first payload)) ∷ [] }
     ensures follows { (elector : PlainElector) (payload : PlainDigest) (me : ℕ) → trace_of (plain_follower elector payload me) ≡

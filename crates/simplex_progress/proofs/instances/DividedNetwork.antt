@@ -1,5 +1,5 @@
 -- The network whose first leader proposes twice, and whose members restart.
-use Rattle.std.proofs.Common.{◌≡◌, refl, ℕ, ◌<◌, true, false, nat_lt, [], ◌∷◌, is_some, nat_eq, eq-eqb, arith}
+use Rattle.std.proofs.Common.{◌≡◌, refl, ℕ, ◌<◌, false, [], ◌∷◌, nat_eq, eq-eqb, arith}
 use Rattle.std.proofs.lemmas.Bool.{eqb-true}
 use Rattle.simplex_types.specs.Certificates.{NotarizeVote}
 use Rattle.simplex_voter.specs.Facts.{StateFacts, is_tracked}
@@ -14,14 +14,13 @@ use Rattle.simplex_record.specs.Cuts.{may_drop, pruned_entries}
 use Rattle.simplex_record.specs.Entries.{entry_view}
 use Rattle.simplex_record.specs.Recovery.{recovered_state, after_kept_entry}
 use Rattle.simplex_laws.specs.DividedNetwork.{rival, deceived, warned, divided}
-use Rattle.simplex_laws.specs.Executions.{new_member, Execution}
+use Rattle.simplex_laws.specs.Executions.{Execution}
 use Rattle.simplex_laws.specs.ScenarioSteps.{one, in_turn}
-use Rattle.simplex_laws.proofs.networks.ComputedRuns.{end_from, rises}
+use Rattle.simplex_laws.proofs.networks.ComputedRuns.{rises}
 use Rattle.simplex_laws.proofs.networks.DividedNetwork.{divided_network}
-use Rattle.simplex_laws.proofs.networks.ScenarioSteps.{told_in}
 use Rattle.simplex_progress.specs.Living.{IsSetUpAs, LivesWith}
 use Rattle.simplex_progress.specs.Worked.{MayReach, Reaches}
-use Rattle.simplex_progress.proofs.instances.Worked.{state_of, lives_by, each_lives_so, agree}
+use Rattle.simplex_progress.proofs.instances.Worked.{IsWorked, lives_by, each_lives_so, agree}
 use Rattle.simplex_progress.proofs.networks.Going.{no_network_is_stuck}
 
 abbrev Alive : ℕ → StateFacts ℕ ℕ ℕ → Type 0
@@ -30,83 +29,53 @@ Alive i x = IsSetUpAs 1 4 1 i x × (is_tracked x 6 ≡ false) × (x.current < 6)
 abbrev pub first : Execution ℕ ℕ ℕ
 first = deceived 0 one rival
 
-pub first_told : told_in first ≡ (first).replies
+pub first_worked : IsWorked 1 6 0 first
 unfolding first_recover_error recovered_state after_kept_entry may_drop pruned_entries standing has_valid_parent_span ancestry_payload_for_child first_unnullified_view explicit_ancestry_payload in_issuance_window is_admitted verification_matches parent_payload_for may_notarize
-first_told = refl
-
-pub first_alive : is_some (end_from nat_eq in_turn (new_member nat_eq in_turn (first).start) (first).steps).life ≡ true
-unfolding first_recover_error recovered_state after_kept_entry may_drop pruned_entries standing has_valid_parent_span ancestry_payload_for_child first_unnullified_view explicit_ancestry_payload in_issuance_window is_admitted verification_matches parent_payload_for may_notarize
-first_alive = refl
-
-pub first_set : IsSetUpAs 1 4 1 0 (state_of first)
-unfolding first_recover_error recovered_state after_kept_entry may_drop pruned_entries standing has_valid_parent_span ancestry_payload_for_child first_unnullified_view explicit_ancestry_payload in_issuance_window is_admitted verification_matches parent_payload_for may_notarize
-first_set = record { signs = refl; of_epoch = refl; elects_by = refl; members = refl; on_time = refl }
-
-first_unknown : is_tracked (state_of first) 6 ≡ false
-unfolding first_recover_error recovered_state after_kept_entry may_drop pruned_entries standing has_valid_parent_span ancestry_payload_for_child first_unnullified_view explicit_ancestry_payload in_issuance_window is_admitted verification_matches parent_payload_for may_notarize
-first_unknown = refl
-
-first_below : nat_lt (state_of first).current 6 ≡ true
-unfolding first_recover_error recovered_state after_kept_entry may_drop pruned_entries standing has_valid_parent_span ancestry_payload_for_child first_unnullified_view explicit_ancestry_payload in_issuance_window is_admitted verification_matches parent_payload_for may_notarize
-first_below = refl
+first_worked = record {
+  told = refl;
+  alive = refl;
+  set_up = record { signs = refl; of_epoch = refl; elects_by = refl; members = refl; on_time = refl };
+  unknown = refl;
+  below = refl;
+}
 
 first_lives : (x : StateFacts ℕ ℕ ℕ) × LivesWith nat_eq in_turn first x × Alive 0 x
 unfolding first_recover_error recovered_state after_kept_entry may_drop pruned_entries standing has_valid_parent_span ancestry_payload_for_child first_unnullified_view explicit_ancestry_payload in_issuance_window is_admitted verification_matches parent_payload_for may_notarize
-first_lives = lives_by 1 6 0 first (rises entry_view 0 (NotarizeVote one 0 ∷ []) refl, tt) first_told first_alive first_set first_unknown first_below
+first_lives = lives_by 1 6 0 first (rises entry_view 0 (NotarizeVote one 0 ∷ []) refl, tt) first_worked
 
 abbrev pub second : Execution ℕ ℕ ℕ
 second = deceived 1 rival one
 
-pub second_told : told_in second ≡ (second).replies
+pub second_worked : IsWorked 1 6 1 second
 unfolding first_recover_error recovered_state after_kept_entry may_drop pruned_entries standing has_valid_parent_span ancestry_payload_for_child first_unnullified_view explicit_ancestry_payload in_issuance_window is_admitted verification_matches parent_payload_for may_notarize
-second_told = refl
-
-pub second_alive : is_some (end_from nat_eq in_turn (new_member nat_eq in_turn (second).start) (second).steps).life ≡ true
-unfolding first_recover_error recovered_state after_kept_entry may_drop pruned_entries standing has_valid_parent_span ancestry_payload_for_child first_unnullified_view explicit_ancestry_payload in_issuance_window is_admitted verification_matches parent_payload_for may_notarize
-second_alive = refl
-
-pub second_set : IsSetUpAs 1 4 1 1 (state_of second)
-unfolding first_recover_error recovered_state after_kept_entry may_drop pruned_entries standing has_valid_parent_span ancestry_payload_for_child first_unnullified_view explicit_ancestry_payload in_issuance_window is_admitted verification_matches parent_payload_for may_notarize
-second_set = record { signs = refl; of_epoch = refl; elects_by = refl; members = refl; on_time = refl }
-
-second_unknown : is_tracked (state_of second) 6 ≡ false
-unfolding first_recover_error recovered_state after_kept_entry may_drop pruned_entries standing has_valid_parent_span ancestry_payload_for_child first_unnullified_view explicit_ancestry_payload in_issuance_window is_admitted verification_matches parent_payload_for may_notarize
-second_unknown = refl
-
-second_below : nat_lt (state_of second).current 6 ≡ true
-unfolding first_recover_error recovered_state after_kept_entry may_drop pruned_entries standing has_valid_parent_span ancestry_payload_for_child first_unnullified_view explicit_ancestry_payload in_issuance_window is_admitted verification_matches parent_payload_for may_notarize
-second_below = refl
+second_worked = record {
+  told = refl;
+  alive = refl;
+  set_up = record { signs = refl; of_epoch = refl; elects_by = refl; members = refl; on_time = refl };
+  unknown = refl;
+  below = refl;
+}
 
 second_lives : (x : StateFacts ℕ ℕ ℕ) × LivesWith nat_eq in_turn second x × Alive 1 x
 unfolding first_recover_error recovered_state after_kept_entry may_drop pruned_entries standing has_valid_parent_span ancestry_payload_for_child first_unnullified_view explicit_ancestry_payload in_issuance_window is_admitted verification_matches parent_payload_for may_notarize
-second_lives = lives_by 1 6 1 second (rises entry_view 0 (NotarizeVote rival 1 ∷ []) refl, tt) second_told second_alive second_set second_unknown second_below
+second_lives = lives_by 1 6 1 second (rises entry_view 0 (NotarizeVote rival 1 ∷ []) refl, tt) second_worked
 
 abbrev pub third : Execution ℕ ℕ ℕ
 third = warned 2
 
-pub third_told : told_in third ≡ (third).replies
+pub third_worked : IsWorked 1 6 2 third
 unfolding first_recover_error recovered_state after_kept_entry may_drop pruned_entries standing has_valid_parent_span ancestry_payload_for_child first_unnullified_view explicit_ancestry_payload in_issuance_window is_admitted verification_matches parent_payload_for may_notarize
-third_told = refl
-
-pub third_alive : is_some (end_from nat_eq in_turn (new_member nat_eq in_turn (third).start) (third).steps).life ≡ true
-unfolding first_recover_error recovered_state after_kept_entry may_drop pruned_entries standing has_valid_parent_span ancestry_payload_for_child first_unnullified_view explicit_ancestry_payload in_issuance_window is_admitted verification_matches parent_payload_for may_notarize
-third_alive = refl
-
-pub third_set : IsSetUpAs 1 4 1 2 (state_of third)
-unfolding first_recover_error recovered_state after_kept_entry may_drop pruned_entries standing has_valid_parent_span ancestry_payload_for_child first_unnullified_view explicit_ancestry_payload in_issuance_window is_admitted verification_matches parent_payload_for may_notarize
-third_set = record { signs = refl; of_epoch = refl; elects_by = refl; members = refl; on_time = refl }
-
-third_unknown : is_tracked (state_of third) 6 ≡ false
-unfolding first_recover_error recovered_state after_kept_entry may_drop pruned_entries standing has_valid_parent_span ancestry_payload_for_child first_unnullified_view explicit_ancestry_payload in_issuance_window is_admitted verification_matches parent_payload_for may_notarize
-third_unknown = refl
-
-third_below : nat_lt (state_of third).current 6 ≡ true
-unfolding first_recover_error recovered_state after_kept_entry may_drop pruned_entries standing has_valid_parent_span ancestry_payload_for_child first_unnullified_view explicit_ancestry_payload in_issuance_window is_admitted verification_matches parent_payload_for may_notarize
-third_below = refl
+third_worked = record {
+  told = refl;
+  alive = refl;
+  set_up = record { signs = refl; of_epoch = refl; elects_by = refl; members = refl; on_time = refl };
+  unknown = refl;
+  below = refl;
+}
 
 third_lives : (x : StateFacts ℕ ℕ ℕ) × LivesWith nat_eq in_turn third x × Alive 2 x
 unfolding first_recover_error recovered_state after_kept_entry may_drop pruned_entries standing has_valid_parent_span ancestry_payload_for_child first_unnullified_view explicit_ancestry_payload in_issuance_window is_admitted verification_matches parent_payload_for may_notarize
-third_lives = lives_by 1 6 2 third (rises entry_view 0 [] refl, tt) third_told third_alive third_set third_unknown third_below
+third_lives = lives_by 1 6 2 third (rises entry_view 0 [] refl, tt) third_worked
 
 pub divided_may_go_on : MayReach 1 divided 6
 divided_may_go_on = record {

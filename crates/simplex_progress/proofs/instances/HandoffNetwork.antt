@@ -1,5 +1,5 @@
 -- The network whose leader took a term over early, on a view that was nullified.
-use Rattle.std.proofs.Common.{◌≡◌, refl, ℕ, ◌<◌, true, false, nat_lt, is_some, nat_eq, eq-eqb, arith}
+use Rattle.std.proofs.Common.{◌≡◌, refl, ℕ, ◌<◌, false, nat_eq, eq-eqb, arith}
 use Rattle.std.proofs.lemmas.Bool.{eqb-true}
 use Rattle.simplex_voter.specs.Facts.{StateFacts, is_tracked}
 use Rattle.simplex_voter.specs.Gaps.{first_unnullified_view}
@@ -10,14 +10,12 @@ use Rattle.simplex_voter.specs.Rules.{may_notarize, may_nullify, may_finalize, h
 use Rattle.simplex_voter.specs.Verifying.{standing}
 use Rattle.simplex_voter.specs.Windows.{is_admitted, in_issuance_window}
 use Rattle.simplex_laws.specs.HandoffNetwork.{takes_over, can_not_verify, taken_over}
-use Rattle.simplex_laws.specs.Executions.{new_member, Execution}
+use Rattle.simplex_laws.specs.Executions.{Execution}
 use Rattle.simplex_laws.specs.ScenarioSteps.{in_turn}
-use Rattle.simplex_laws.proofs.networks.ComputedRuns.{end_from}
 use Rattle.simplex_laws.proofs.networks.HandoffNetwork.{taken_over_network}
-use Rattle.simplex_laws.proofs.networks.ScenarioSteps.{told_in}
 use Rattle.simplex_progress.specs.Living.{IsSetUpAs, LivesWith}
 use Rattle.simplex_progress.specs.Worked.{MayReach, Reaches}
-use Rattle.simplex_progress.proofs.instances.Worked.{state_of, lives_by, each_lives_so, agree}
+use Rattle.simplex_progress.proofs.instances.Worked.{IsWorked, lives_by, each_lives_so, agree}
 use Rattle.simplex_progress.proofs.networks.Going.{no_network_is_stuck}
 
 abbrev Alive : ℕ → StateFacts ℕ ℕ ℕ → Type 0
@@ -26,80 +24,50 @@ Alive i x = IsSetUpAs 1 4 2 i x × (is_tracked x 11 ≡ false) × (x.current < 1
 abbrev first : Execution ℕ ℕ ℕ
 first = takes_over
 
-first_told : told_in first ≡ (first).replies
+first_worked : IsWorked 2 11 0 first
 unfolding standing propose_answer proposed_answer find_parent captured_parent_valid has_valid_parent_span ancestry_payload_for_child first_unnullified_view explicit_ancestry_payload optimistic_ancestry_payload is_handoff_parent is_voted_ancestor can_chain_on in_issuance_window is_admitted verification_matches parent_payload_for may_notarize may_nullify may_finalize has_conflicting_nullify required_certification_parent
-first_told = refl
-
-first_alive : is_some (end_from nat_eq in_turn (new_member nat_eq in_turn (first).start) (first).steps).life ≡ true
-unfolding standing propose_answer proposed_answer find_parent captured_parent_valid has_valid_parent_span ancestry_payload_for_child first_unnullified_view explicit_ancestry_payload optimistic_ancestry_payload is_handoff_parent is_voted_ancestor can_chain_on in_issuance_window is_admitted verification_matches parent_payload_for may_notarize may_nullify may_finalize has_conflicting_nullify required_certification_parent
-first_alive = refl
-
-first_set : IsSetUpAs 1 4 2 0 (state_of first)
-unfolding standing propose_answer proposed_answer find_parent captured_parent_valid has_valid_parent_span ancestry_payload_for_child first_unnullified_view explicit_ancestry_payload optimistic_ancestry_payload is_handoff_parent is_voted_ancestor can_chain_on in_issuance_window is_admitted verification_matches parent_payload_for may_notarize may_nullify may_finalize has_conflicting_nullify required_certification_parent
-first_set = record { signs = refl; of_epoch = refl; elects_by = refl; members = refl; on_time = refl }
-
-first_unknown : is_tracked (state_of first) 11 ≡ false
-unfolding standing propose_answer proposed_answer find_parent captured_parent_valid has_valid_parent_span ancestry_payload_for_child first_unnullified_view explicit_ancestry_payload optimistic_ancestry_payload is_handoff_parent is_voted_ancestor can_chain_on in_issuance_window is_admitted verification_matches parent_payload_for may_notarize may_nullify may_finalize has_conflicting_nullify required_certification_parent
-first_unknown = refl
-
-first_below : nat_lt (state_of first).current 11 ≡ true
-unfolding standing propose_answer proposed_answer find_parent captured_parent_valid has_valid_parent_span ancestry_payload_for_child first_unnullified_view explicit_ancestry_payload optimistic_ancestry_payload is_handoff_parent is_voted_ancestor can_chain_on in_issuance_window is_admitted verification_matches parent_payload_for may_notarize may_nullify may_finalize has_conflicting_nullify required_certification_parent
-first_below = refl
+first_worked = record {
+  told = refl;
+  alive = refl;
+  set_up = record { signs = refl; of_epoch = refl; elects_by = refl; members = refl; on_time = refl };
+  unknown = refl;
+  below = refl;
+}
 
 first_lives : (x : StateFacts ℕ ℕ ℕ) × LivesWith nat_eq in_turn first x × Alive 0 x
-first_lives = lives_by 2 11 0 first tt first_told first_alive first_set first_unknown first_below
+first_lives = lives_by 2 11 0 first tt first_worked
 
 abbrev second : Execution ℕ ℕ ℕ
 second = can_not_verify 1
 
-second_told : told_in second ≡ (second).replies
+second_worked : IsWorked 2 11 1 second
 unfolding standing propose_answer proposed_answer find_parent captured_parent_valid has_valid_parent_span ancestry_payload_for_child first_unnullified_view explicit_ancestry_payload optimistic_ancestry_payload is_handoff_parent is_voted_ancestor can_chain_on in_issuance_window is_admitted verification_matches parent_payload_for may_notarize may_nullify may_finalize has_conflicting_nullify required_certification_parent
-second_told = refl
-
-second_alive : is_some (end_from nat_eq in_turn (new_member nat_eq in_turn (second).start) (second).steps).life ≡ true
-unfolding standing propose_answer proposed_answer find_parent captured_parent_valid has_valid_parent_span ancestry_payload_for_child first_unnullified_view explicit_ancestry_payload optimistic_ancestry_payload is_handoff_parent is_voted_ancestor can_chain_on in_issuance_window is_admitted verification_matches parent_payload_for may_notarize may_nullify may_finalize has_conflicting_nullify required_certification_parent
-second_alive = refl
-
-second_set : IsSetUpAs 1 4 2 1 (state_of second)
-unfolding standing propose_answer proposed_answer find_parent captured_parent_valid has_valid_parent_span ancestry_payload_for_child first_unnullified_view explicit_ancestry_payload optimistic_ancestry_payload is_handoff_parent is_voted_ancestor can_chain_on in_issuance_window is_admitted verification_matches parent_payload_for may_notarize may_nullify may_finalize has_conflicting_nullify required_certification_parent
-second_set = record { signs = refl; of_epoch = refl; elects_by = refl; members = refl; on_time = refl }
-
-second_unknown : is_tracked (state_of second) 11 ≡ false
-unfolding standing propose_answer proposed_answer find_parent captured_parent_valid has_valid_parent_span ancestry_payload_for_child first_unnullified_view explicit_ancestry_payload optimistic_ancestry_payload is_handoff_parent is_voted_ancestor can_chain_on in_issuance_window is_admitted verification_matches parent_payload_for may_notarize may_nullify may_finalize has_conflicting_nullify required_certification_parent
-second_unknown = refl
-
-second_below : nat_lt (state_of second).current 11 ≡ true
-unfolding standing propose_answer proposed_answer find_parent captured_parent_valid has_valid_parent_span ancestry_payload_for_child first_unnullified_view explicit_ancestry_payload optimistic_ancestry_payload is_handoff_parent is_voted_ancestor can_chain_on in_issuance_window is_admitted verification_matches parent_payload_for may_notarize may_nullify may_finalize has_conflicting_nullify required_certification_parent
-second_below = refl
+second_worked = record {
+  told = refl;
+  alive = refl;
+  set_up = record { signs = refl; of_epoch = refl; elects_by = refl; members = refl; on_time = refl };
+  unknown = refl;
+  below = refl;
+}
 
 second_lives : (x : StateFacts ℕ ℕ ℕ) × LivesWith nat_eq in_turn second x × Alive 1 x
-second_lives = lives_by 2 11 1 second tt second_told second_alive second_set second_unknown second_below
+second_lives = lives_by 2 11 1 second tt second_worked
 
 abbrev third : Execution ℕ ℕ ℕ
 third = can_not_verify 2
 
-third_told : told_in third ≡ (third).replies
+third_worked : IsWorked 2 11 2 third
 unfolding standing propose_answer proposed_answer find_parent captured_parent_valid has_valid_parent_span ancestry_payload_for_child first_unnullified_view explicit_ancestry_payload optimistic_ancestry_payload is_handoff_parent is_voted_ancestor can_chain_on in_issuance_window is_admitted verification_matches parent_payload_for may_notarize may_nullify may_finalize has_conflicting_nullify required_certification_parent
-third_told = refl
-
-third_alive : is_some (end_from nat_eq in_turn (new_member nat_eq in_turn (third).start) (third).steps).life ≡ true
-unfolding standing propose_answer proposed_answer find_parent captured_parent_valid has_valid_parent_span ancestry_payload_for_child first_unnullified_view explicit_ancestry_payload optimistic_ancestry_payload is_handoff_parent is_voted_ancestor can_chain_on in_issuance_window is_admitted verification_matches parent_payload_for may_notarize may_nullify may_finalize has_conflicting_nullify required_certification_parent
-third_alive = refl
-
-third_set : IsSetUpAs 1 4 2 2 (state_of third)
-unfolding standing propose_answer proposed_answer find_parent captured_parent_valid has_valid_parent_span ancestry_payload_for_child first_unnullified_view explicit_ancestry_payload optimistic_ancestry_payload is_handoff_parent is_voted_ancestor can_chain_on in_issuance_window is_admitted verification_matches parent_payload_for may_notarize may_nullify may_finalize has_conflicting_nullify required_certification_parent
-third_set = record { signs = refl; of_epoch = refl; elects_by = refl; members = refl; on_time = refl }
-
-third_unknown : is_tracked (state_of third) 11 ≡ false
-unfolding standing propose_answer proposed_answer find_parent captured_parent_valid has_valid_parent_span ancestry_payload_for_child first_unnullified_view explicit_ancestry_payload optimistic_ancestry_payload is_handoff_parent is_voted_ancestor can_chain_on in_issuance_window is_admitted verification_matches parent_payload_for may_notarize may_nullify may_finalize has_conflicting_nullify required_certification_parent
-third_unknown = refl
-
-third_below : nat_lt (state_of third).current 11 ≡ true
-unfolding standing propose_answer proposed_answer find_parent captured_parent_valid has_valid_parent_span ancestry_payload_for_child first_unnullified_view explicit_ancestry_payload optimistic_ancestry_payload is_handoff_parent is_voted_ancestor can_chain_on in_issuance_window is_admitted verification_matches parent_payload_for may_notarize may_nullify may_finalize has_conflicting_nullify required_certification_parent
-third_below = refl
+third_worked = record {
+  told = refl;
+  alive = refl;
+  set_up = record { signs = refl; of_epoch = refl; elects_by = refl; members = refl; on_time = refl };
+  unknown = refl;
+  below = refl;
+}
 
 third_lives : (x : StateFacts ℕ ℕ ℕ) × LivesWith nat_eq in_turn third x × Alive 2 x
-third_lives = lives_by 2 11 2 third tt third_told third_alive third_set third_unknown third_below
+third_lives = lives_by 2 11 2 third tt third_worked
 
 pub taken_over_may_go_on : MayReach 2 taken_over 11
 taken_over_may_go_on = record {

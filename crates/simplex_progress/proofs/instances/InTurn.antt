@@ -20,8 +20,8 @@ use Rattle.simplex_laws.proofs.networks.DividedNetwork.{divided_network}
 use Rattle.simplex_progress.specs.Living.{IsSetUpAs, LivesWith}
 use Rattle.simplex_progress.specs.Together.{terms_on}
 use Rattle.simplex_progress.specs.Worked.{ReachesWithin}
-use Rattle.simplex_progress.proofs.instances.DividedNetwork.{first, first_told, first_alive, first_set, second, second_told, second_alive, second_set, third, third_told, third_alive, third_set}
-use Rattle.simplex_progress.proofs.instances.Worked.{state_of, lives_there, each_lives_so, agree}
+use Rattle.simplex_progress.proofs.instances.DividedNetwork.{first, first_worked, second, second_worked, third, third_worked}
+use Rattle.simplex_progress.proofs.instances.Worked.{state_at_end, lives_there, each_lives_so, agree}
 use Rattle.simplex_progress.proofs.networks.InTurn.{finalized_in_turn}
 use Rattle.simplex_progress.proofs.runs.Ends.{end_shown}
 
@@ -34,62 +34,62 @@ two_unknown x third fourth zero up = third
 two_unknown x third fourth (suc zero) up = fourth
 two_unknown x third fourth (suc (suc count)) up = absurd (omega (arith, up))
 
-first_low : nat_lt (state_of first).current 2 ≡ true
+first_low : nat_lt (state_at_end first).current 2 ≡ true
 unfolding first_recover_error recovered_state after_kept_entry may_drop pruned_entries standing has_valid_parent_span ancestry_payload_for_child first_unnullified_view explicit_ancestry_payload in_issuance_window is_admitted verification_matches parent_payload_for may_notarize
 first_low = refl
 
-first_not_three : is_tracked (state_of first) 3 ≡ false
+first_not_three : is_tracked (state_at_end first) 3 ≡ false
 unfolding first_recover_error recovered_state after_kept_entry may_drop pruned_entries standing has_valid_parent_span ancestry_payload_for_child first_unnullified_view explicit_ancestry_payload in_issuance_window is_admitted verification_matches parent_payload_for may_notarize
 first_not_three = refl
 
-first_not_four : is_tracked (state_of first) 4 ≡ false
+first_not_four : is_tracked (state_at_end first) 4 ≡ false
 unfolding first_recover_error recovered_state after_kept_entry may_drop pruned_entries standing has_valid_parent_span ancestry_payload_for_child first_unnullified_view explicit_ancestry_payload in_issuance_window is_admitted verification_matches parent_payload_for may_notarize
 first_not_four = refl
 
-first_there : LivesWith nat_eq in_turn first (state_of first)
+first_there : LivesWith nat_eq in_turn first (state_at_end first)
 unfolding first_recover_error recovered_state after_kept_entry may_drop pruned_entries standing has_valid_parent_span ancestry_payload_for_child first_unnullified_view explicit_ancestry_payload in_issuance_window is_admitted verification_matches parent_payload_for may_notarize
-first_there = lives_there first (rises entry_view 0 (NotarizeVote one 0 ∷ []) refl, tt) first_told first_alive
+first_there = lives_there first (rises entry_view 0 (NotarizeVote one 0 ∷ []) refl, tt) first_worked.told first_worked.alive
 
 first_ahead : (x : StateFacts ℕ ℕ ℕ) × LivesWith nat_eq in_turn first x × Ahead 0 x
-first_ahead = (state_of first, first_there, (first_set, (let low = ltb-true (state_of first).current 2 first_low in omega (arith, low)), two_unknown (state_of first) first_not_three first_not_four))
+first_ahead = (state_at_end first, first_there, (first_worked.set_up, (let low = ltb-true (state_at_end first).current 2 first_low in omega (arith, low)), two_unknown (state_at_end first) first_not_three first_not_four))
 
-second_low : nat_lt (state_of second).current 2 ≡ true
+second_low : nat_lt (state_at_end second).current 2 ≡ true
 unfolding first_recover_error recovered_state after_kept_entry may_drop pruned_entries standing has_valid_parent_span ancestry_payload_for_child first_unnullified_view explicit_ancestry_payload in_issuance_window is_admitted verification_matches parent_payload_for may_notarize
 second_low = refl
 
-second_not_three : is_tracked (state_of second) 3 ≡ false
+second_not_three : is_tracked (state_at_end second) 3 ≡ false
 unfolding first_recover_error recovered_state after_kept_entry may_drop pruned_entries standing has_valid_parent_span ancestry_payload_for_child first_unnullified_view explicit_ancestry_payload in_issuance_window is_admitted verification_matches parent_payload_for may_notarize
 second_not_three = refl
 
-second_not_four : is_tracked (state_of second) 4 ≡ false
+second_not_four : is_tracked (state_at_end second) 4 ≡ false
 unfolding first_recover_error recovered_state after_kept_entry may_drop pruned_entries standing has_valid_parent_span ancestry_payload_for_child first_unnullified_view explicit_ancestry_payload in_issuance_window is_admitted verification_matches parent_payload_for may_notarize
 second_not_four = refl
 
-second_there : LivesWith nat_eq in_turn second (state_of second)
+second_there : LivesWith nat_eq in_turn second (state_at_end second)
 unfolding first_recover_error recovered_state after_kept_entry may_drop pruned_entries standing has_valid_parent_span ancestry_payload_for_child first_unnullified_view explicit_ancestry_payload in_issuance_window is_admitted verification_matches parent_payload_for may_notarize
-second_there = lives_there second (rises entry_view 0 (NotarizeVote rival 1 ∷ []) refl, tt) second_told second_alive
+second_there = lives_there second (rises entry_view 0 (NotarizeVote rival 1 ∷ []) refl, tt) second_worked.told second_worked.alive
 
 second_ahead : (x : StateFacts ℕ ℕ ℕ) × LivesWith nat_eq in_turn second x × Ahead 1 x
-second_ahead = (state_of second, second_there, (second_set, (let low = ltb-true (state_of second).current 2 second_low in omega (arith, low)), two_unknown (state_of second) second_not_three second_not_four))
+second_ahead = (state_at_end second, second_there, (second_worked.set_up, (let low = ltb-true (state_at_end second).current 2 second_low in omega (arith, low)), two_unknown (state_at_end second) second_not_three second_not_four))
 
-third_low : nat_lt (state_of third).current 2 ≡ true
+third_low : nat_lt (state_at_end third).current 2 ≡ true
 unfolding first_recover_error recovered_state after_kept_entry may_drop pruned_entries standing has_valid_parent_span ancestry_payload_for_child first_unnullified_view explicit_ancestry_payload in_issuance_window is_admitted verification_matches parent_payload_for may_notarize
 third_low = refl
 
-third_not_three : is_tracked (state_of third) 3 ≡ false
+third_not_three : is_tracked (state_at_end third) 3 ≡ false
 unfolding first_recover_error recovered_state after_kept_entry may_drop pruned_entries standing has_valid_parent_span ancestry_payload_for_child first_unnullified_view explicit_ancestry_payload in_issuance_window is_admitted verification_matches parent_payload_for may_notarize
 third_not_three = refl
 
-third_not_four : is_tracked (state_of third) 4 ≡ false
+third_not_four : is_tracked (state_at_end third) 4 ≡ false
 unfolding first_recover_error recovered_state after_kept_entry may_drop pruned_entries standing has_valid_parent_span ancestry_payload_for_child first_unnullified_view explicit_ancestry_payload in_issuance_window is_admitted verification_matches parent_payload_for may_notarize
 third_not_four = refl
 
-third_there : LivesWith nat_eq in_turn third (state_of third)
+third_there : LivesWith nat_eq in_turn third (state_at_end third)
 unfolding first_recover_error recovered_state after_kept_entry may_drop pruned_entries standing has_valid_parent_span ancestry_payload_for_child first_unnullified_view explicit_ancestry_payload in_issuance_window is_admitted verification_matches parent_payload_for may_notarize
-third_there = lives_there third (rises entry_view 0 ([]) refl, tt) third_told third_alive
+third_there = lives_there third (rises entry_view 0 ([]) refl, tt) third_worked.told third_worked.alive
 
 third_ahead : (x : StateFacts ℕ ℕ ℕ) × LivesWith nat_eq in_turn third x × Ahead 2 x
-third_ahead = (state_of third, third_there, (third_set, (let low = ltb-true (state_of third).current 2 third_low in omega (arith, low)), two_unknown (state_of third) third_not_three third_not_four))
+third_ahead = (state_at_end third, third_there, (third_worked.set_up, (let low = ltb-true (state_at_end third).current 2 third_low in omega (arith, low)), two_unknown (state_at_end third) third_not_three third_not_four))
 
 pub divided_in_turn : ReachesWithin 7 1 divided
 divided_in_turn = finalized_in_turn ℕ nat_eq eqb-true (λ d. eq-eqb d d refl) in_turn 1 1 1 3 1 1 divided 7 divided_network (omega arith) (omega arith)

@@ -1,5 +1,5 @@
 -- The network whose members lack a nullification and a notarization.
-use Rattle.std.proofs.Common.{◌≡◌, refl, ℕ, ◌<◌, true, false, nat_lt, is_some, nat_eq, eq-eqb, arith}
+use Rattle.std.proofs.Common.{◌≡◌, refl, ℕ, ◌<◌, false, nat_eq, eq-eqb, arith}
 use Rattle.std.proofs.lemmas.Bool.{eqb-true}
 use Rattle.simplex_voter.specs.Facts.{StateFacts, is_tracked}
 use Rattle.simplex_voter.specs.Gaps.{first_unnullified_view}
@@ -9,15 +9,13 @@ use Rattle.simplex_voter.specs.Proposing.{propose_answer, proposed_answer}
 use Rattle.simplex_voter.specs.Rules.{may_notarize, may_nullify, may_finalize, has_conflicting_nullify, required_certification_parent}
 use Rattle.simplex_voter.specs.Verifying.{standing}
 use Rattle.simplex_voter.specs.Windows.{is_admitted, in_issuance_window}
-use Rattle.simplex_laws.specs.LackingNetwork.{lacks_nullification, skips_two, member_without_notarization, lacking}
-use Rattle.simplex_laws.specs.Executions.{new_member, Execution}
+use Rattle.simplex_laws.specs.LackingNetwork.{lacks_nullification, skips_two, member_without_notarization, lacking_certificates}
+use Rattle.simplex_laws.specs.Executions.{Execution}
 use Rattle.simplex_laws.specs.ScenarioSteps.{in_turn}
-use Rattle.simplex_laws.proofs.networks.ComputedRuns.{end_from}
 use Rattle.simplex_laws.proofs.networks.LackingNetwork.{lacking_network}
-use Rattle.simplex_laws.proofs.networks.ScenarioSteps.{told_in}
 use Rattle.simplex_progress.specs.Living.{IsSetUpAs, LivesWith}
 use Rattle.simplex_progress.specs.Worked.{MayReach, Reaches}
-use Rattle.simplex_progress.proofs.instances.Worked.{state_of, lives_by, each_lives_so, agree}
+use Rattle.simplex_progress.proofs.instances.Worked.{IsWorked, lives_by, each_lives_so, agree}
 use Rattle.simplex_progress.proofs.networks.Going.{no_network_is_stuck}
 
 abbrev Alive : ℕ → StateFacts ℕ ℕ ℕ → Type 0
@@ -26,91 +24,61 @@ Alive i x = IsSetUpAs 1 4 1 i x × (is_tracked x 6 ≡ false) × (x.current < 6)
 abbrev first : Execution ℕ ℕ ℕ
 first = lacks_nullification
 
-first_told : told_in first ≡ (first).replies
+first_worked : IsWorked 1 6 0 first
 unfolding standing propose_answer proposed_answer find_parent captured_parent_valid has_valid_parent_span ancestry_payload_for_child first_unnullified_view explicit_ancestry_payload optimistic_ancestry_payload is_handoff_parent is_voted_ancestor can_chain_on in_issuance_window is_admitted verification_matches parent_payload_for may_notarize may_nullify may_finalize has_conflicting_nullify required_certification_parent
-first_told = refl
-
-first_alive : is_some (end_from nat_eq in_turn (new_member nat_eq in_turn (first).start) (first).steps).life ≡ true
-unfolding standing propose_answer proposed_answer find_parent captured_parent_valid has_valid_parent_span ancestry_payload_for_child first_unnullified_view explicit_ancestry_payload optimistic_ancestry_payload is_handoff_parent is_voted_ancestor can_chain_on in_issuance_window is_admitted verification_matches parent_payload_for may_notarize may_nullify may_finalize has_conflicting_nullify required_certification_parent
-first_alive = refl
-
-first_set : IsSetUpAs 1 4 1 0 (state_of first)
-unfolding standing propose_answer proposed_answer find_parent captured_parent_valid has_valid_parent_span ancestry_payload_for_child first_unnullified_view explicit_ancestry_payload optimistic_ancestry_payload is_handoff_parent is_voted_ancestor can_chain_on in_issuance_window is_admitted verification_matches parent_payload_for may_notarize may_nullify may_finalize has_conflicting_nullify required_certification_parent
-first_set = record { signs = refl; of_epoch = refl; elects_by = refl; members = refl; on_time = refl }
-
-first_unknown : is_tracked (state_of first) 6 ≡ false
-unfolding standing propose_answer proposed_answer find_parent captured_parent_valid has_valid_parent_span ancestry_payload_for_child first_unnullified_view explicit_ancestry_payload optimistic_ancestry_payload is_handoff_parent is_voted_ancestor can_chain_on in_issuance_window is_admitted verification_matches parent_payload_for may_notarize may_nullify may_finalize has_conflicting_nullify required_certification_parent
-first_unknown = refl
-
-first_below : nat_lt (state_of first).current 6 ≡ true
-unfolding standing propose_answer proposed_answer find_parent captured_parent_valid has_valid_parent_span ancestry_payload_for_child first_unnullified_view explicit_ancestry_payload optimistic_ancestry_payload is_handoff_parent is_voted_ancestor can_chain_on in_issuance_window is_admitted verification_matches parent_payload_for may_notarize may_nullify may_finalize has_conflicting_nullify required_certification_parent
-first_below = refl
+first_worked = record {
+  told = refl;
+  alive = refl;
+  set_up = record { signs = refl; of_epoch = refl; elects_by = refl; members = refl; on_time = refl };
+  unknown = refl;
+  below = refl;
+}
 
 first_lives : (x : StateFacts ℕ ℕ ℕ) × LivesWith nat_eq in_turn first x × Alive 0 x
-first_lives = lives_by 1 6 0 first tt first_told first_alive first_set first_unknown first_below
+first_lives = lives_by 1 6 0 first tt first_worked
 
 abbrev second : Execution ℕ ℕ ℕ
 second = skips_two
 
-second_told : told_in second ≡ (second).replies
+second_worked : IsWorked 1 6 1 second
 unfolding standing propose_answer proposed_answer find_parent captured_parent_valid has_valid_parent_span ancestry_payload_for_child first_unnullified_view explicit_ancestry_payload optimistic_ancestry_payload is_handoff_parent is_voted_ancestor can_chain_on in_issuance_window is_admitted verification_matches parent_payload_for may_notarize may_nullify may_finalize has_conflicting_nullify required_certification_parent
-second_told = refl
-
-second_alive : is_some (end_from nat_eq in_turn (new_member nat_eq in_turn (second).start) (second).steps).life ≡ true
-unfolding standing propose_answer proposed_answer find_parent captured_parent_valid has_valid_parent_span ancestry_payload_for_child first_unnullified_view explicit_ancestry_payload optimistic_ancestry_payload is_handoff_parent is_voted_ancestor can_chain_on in_issuance_window is_admitted verification_matches parent_payload_for may_notarize may_nullify may_finalize has_conflicting_nullify required_certification_parent
-second_alive = refl
-
-second_set : IsSetUpAs 1 4 1 1 (state_of second)
-unfolding standing propose_answer proposed_answer find_parent captured_parent_valid has_valid_parent_span ancestry_payload_for_child first_unnullified_view explicit_ancestry_payload optimistic_ancestry_payload is_handoff_parent is_voted_ancestor can_chain_on in_issuance_window is_admitted verification_matches parent_payload_for may_notarize may_nullify may_finalize has_conflicting_nullify required_certification_parent
-second_set = record { signs = refl; of_epoch = refl; elects_by = refl; members = refl; on_time = refl }
-
-second_unknown : is_tracked (state_of second) 6 ≡ false
-unfolding standing propose_answer proposed_answer find_parent captured_parent_valid has_valid_parent_span ancestry_payload_for_child first_unnullified_view explicit_ancestry_payload optimistic_ancestry_payload is_handoff_parent is_voted_ancestor can_chain_on in_issuance_window is_admitted verification_matches parent_payload_for may_notarize may_nullify may_finalize has_conflicting_nullify required_certification_parent
-second_unknown = refl
-
-second_below : nat_lt (state_of second).current 6 ≡ true
-unfolding standing propose_answer proposed_answer find_parent captured_parent_valid has_valid_parent_span ancestry_payload_for_child first_unnullified_view explicit_ancestry_payload optimistic_ancestry_payload is_handoff_parent is_voted_ancestor can_chain_on in_issuance_window is_admitted verification_matches parent_payload_for may_notarize may_nullify may_finalize has_conflicting_nullify required_certification_parent
-second_below = refl
+second_worked = record {
+  told = refl;
+  alive = refl;
+  set_up = record { signs = refl; of_epoch = refl; elects_by = refl; members = refl; on_time = refl };
+  unknown = refl;
+  below = refl;
+}
 
 second_lives : (x : StateFacts ℕ ℕ ℕ) × LivesWith nat_eq in_turn second x × Alive 1 x
-second_lives = lives_by 1 6 1 second tt second_told second_alive second_set second_unknown second_below
+second_lives = lives_by 1 6 1 second tt second_worked
 
 abbrev third : Execution ℕ ℕ ℕ
 third = member_without_notarization
 
-third_told : told_in third ≡ (third).replies
+third_worked : IsWorked 1 6 2 third
 unfolding standing propose_answer proposed_answer find_parent captured_parent_valid has_valid_parent_span ancestry_payload_for_child first_unnullified_view explicit_ancestry_payload optimistic_ancestry_payload is_handoff_parent is_voted_ancestor can_chain_on in_issuance_window is_admitted verification_matches parent_payload_for may_notarize may_nullify may_finalize has_conflicting_nullify required_certification_parent
-third_told = refl
-
-third_alive : is_some (end_from nat_eq in_turn (new_member nat_eq in_turn (third).start) (third).steps).life ≡ true
-unfolding standing propose_answer proposed_answer find_parent captured_parent_valid has_valid_parent_span ancestry_payload_for_child first_unnullified_view explicit_ancestry_payload optimistic_ancestry_payload is_handoff_parent is_voted_ancestor can_chain_on in_issuance_window is_admitted verification_matches parent_payload_for may_notarize may_nullify may_finalize has_conflicting_nullify required_certification_parent
-third_alive = refl
-
-third_set : IsSetUpAs 1 4 1 2 (state_of third)
-unfolding standing propose_answer proposed_answer find_parent captured_parent_valid has_valid_parent_span ancestry_payload_for_child first_unnullified_view explicit_ancestry_payload optimistic_ancestry_payload is_handoff_parent is_voted_ancestor can_chain_on in_issuance_window is_admitted verification_matches parent_payload_for may_notarize may_nullify may_finalize has_conflicting_nullify required_certification_parent
-third_set = record { signs = refl; of_epoch = refl; elects_by = refl; members = refl; on_time = refl }
-
-third_unknown : is_tracked (state_of third) 6 ≡ false
-unfolding standing propose_answer proposed_answer find_parent captured_parent_valid has_valid_parent_span ancestry_payload_for_child first_unnullified_view explicit_ancestry_payload optimistic_ancestry_payload is_handoff_parent is_voted_ancestor can_chain_on in_issuance_window is_admitted verification_matches parent_payload_for may_notarize may_nullify may_finalize has_conflicting_nullify required_certification_parent
-third_unknown = refl
-
-third_below : nat_lt (state_of third).current 6 ≡ true
-unfolding standing propose_answer proposed_answer find_parent captured_parent_valid has_valid_parent_span ancestry_payload_for_child first_unnullified_view explicit_ancestry_payload optimistic_ancestry_payload is_handoff_parent is_voted_ancestor can_chain_on in_issuance_window is_admitted verification_matches parent_payload_for may_notarize may_nullify may_finalize has_conflicting_nullify required_certification_parent
-third_below = refl
+third_worked = record {
+  told = refl;
+  alive = refl;
+  set_up = record { signs = refl; of_epoch = refl; elects_by = refl; members = refl; on_time = refl };
+  unknown = refl;
+  below = refl;
+}
 
 third_lives : (x : StateFacts ℕ ℕ ℕ) × LivesWith nat_eq in_turn third x × Alive 2 x
-third_lives = lives_by 1 6 2 third tt third_told third_alive third_set third_unknown third_below
+third_lives = lives_by 1 6 2 third tt third_worked
 
-pub lacking_may_go_on : MayReach 1 lacking 6
+pub lacking_may_go_on : MayReach 1 lacking_certificates 6
 lacking_may_go_on = record {
   few_faulty = omega arith;
-  alive = each_lives_so Alive lacking (first_lives, (second_lives, (third_lives, tt)));
-  consistent = agree 1 lacking lacking_network (refl, (refl, (refl, tt)));
+  alive = each_lives_so Alive lacking_certificates (first_lives, (second_lives, (third_lives, tt)));
+  consistent = agree 1 lacking_certificates lacking_network (refl, (refl, (refl, tt)));
   is_term_start = refl;
   small = refl;
   elected = λ bytes. refl;
   honest_leader = (first, refl);
 }
 
-pub lacking_reaches : Reaches 1 lacking 6
-lacking_reaches = no_network_is_stuck ℕ nat_eq eqb-true (λ d. eq-eqb d d refl) in_turn 1 1 0 6 1 lacking 7 lacking_network lacking_may_go_on
+pub lacking_reaches : Reaches 1 lacking_certificates 6
+lacking_reaches = no_network_is_stuck ℕ nat_eq eqb-true (λ d. eq-eqb d d refl) in_turn 1 1 0 6 1 lacking_certificates 7 lacking_network lacking_may_go_on

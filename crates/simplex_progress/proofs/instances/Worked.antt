@@ -21,15 +21,15 @@ use Rattle.simplex_progress.proofs.runs.Explicit.{verdict_led}
 use Rattle.simplex_progress.proofs.runs.LedLives.{state_led}
 
 -- what a member knows at the end of an execution whose replies are computed
-abbrev pub state_of : Execution ℕ ℕ ℕ → StateFacts ℕ ℕ ℕ
-state_of s = unwrap_or (end_from nat_eq in_turn (new_member nat_eq in_turn s.start) s.steps).life (new_state s.start.setup)
+abbrev pub state_at_end : Execution ℕ ℕ ℕ → StateFacts ℕ ℕ ℕ
+state_at_end s = unwrap_or (end_from nat_eq in_turn (new_member nat_eq in_turn s.start) s.steps).life (new_state s.start.setup)
 
 some_is : {A : Type 0} (o : Option A) (a : A) → is_some o ≡ true → o ≡ Some (unwrap_or o a)
 some_is None a is = absurd (false≢true is)
 some_is (Some b) a is = refl
 
 -- where it lives
-pub lives_there : (s : Execution ℕ ℕ ℕ) → FitsIn s → told_in s ≡ s.replies → is_some (end_from nat_eq in_turn (new_member nat_eq in_turn s.start) s.steps).life ≡ true → LivesWith nat_eq in_turn s (state_of s)
+pub lives_there : (s : Execution ℕ ℕ ℕ) → FitsIn s → told_in s ≡ s.replies → is_some (end_from nat_eq in_turn (new_member nat_eq in_turn s.start) s.steps).life ≡ true → LivesWith nat_eq in_turn s (state_at_end s)
 lives_there s fits told alive =
     let m = new_member nat_eq in_turn s.start in (
       end_from nat_eq in_turn m s.steps,
@@ -37,10 +37,18 @@ lives_there s fits told alive =
       some_is (end_from nat_eq in_turn m s.steps).life (new_state s.start.setup) alive,
     )
 
--- and was set up so, and its view lies below the start, which it doesn't know
-pub lives_by : (term_length start i : ℕ) (s : Execution ℕ ℕ ℕ) → FitsIn s → told_in s ≡ s.replies → is_some (end_from nat_eq in_turn (new_member nat_eq in_turn s.start) s.steps).life ≡ true → IsSetUpAs 1 4 term_length i (state_of s) → is_tracked (state_of s) start ≡ false → nat_lt (state_of s).current start ≡ true
-    → (x : StateFacts ℕ ℕ ℕ) × LivesWith nat_eq in_turn s x × (IsSetUpAs 1 4 term_length i x × (is_tracked x start ≡ false) × (x.current < start))
-lives_by term_length start i s fits told alive set unknown below = (state_of s, lives_there s fits told alive, (set, unknown, ltb-true (state_of s).current start below))
+-- what is computed of a member: it is told what its execution says, lives at the end, was set up so, and its view lies below the
+-- start, which it doesn't know
+pub record IsWorked (term_length start i : ℕ) (s : Execution ℕ ℕ ℕ) : Type 0 where
+  pub told : told_in s ≡ s.replies
+  pub alive : is_some (end_from nat_eq in_turn (new_member nat_eq in_turn s.start) s.steps).life ≡ true
+  pub set_up : IsSetUpAs 1 4 term_length i (state_at_end s)
+  pub unknown : is_tracked (state_at_end s) start ≡ false
+  pub below : nat_lt (state_at_end s).current start ≡ true
+
+-- so it lives
+pub lives_by : (term_length start i : ℕ) (s : Execution ℕ ℕ ℕ) → FitsIn s → IsWorked term_length start i s → (x : StateFacts ℕ ℕ ℕ) × LivesWith nat_eq in_turn s x × (IsSetUpAs 1 4 term_length i x × (is_tracked x start ≡ false) × (x.current < start))
+lives_by term_length start i s fits worked = (state_at_end s, lives_there s fits worked.told worked.alive, (worked.set_up, worked.unknown, ltb-true (state_at_end s).current start worked.below))
 
 -- each honest member lives so, one after another
 abbrev pub AllLive : (ℕ → StateFacts ℕ ℕ ℕ → Type 0) → List (Replica ℕ ℕ ℕ) → Type 0

@@ -1,26 +1,23 @@
 -- A network whose honest members all go on.
-use Rattle.std.proofs.Common.{◌≡◌, refl, sym, subst, inl, inr, ℕ, zero, suc, ◌+◌, ◌≤◌, cond, List, [], ◌∷◌, length, slice_get, Contains, Some, arith}
+use Rattle.std.proofs.Common.{◌≡◌, refl, sym, subst, inl, inr, ℕ, zero, suc, ◌+◌, ◌≤◌, List, [], ◌∷◌, length, slice_get, Contains, Some, arith}
 use Rattle.std.specs.Prelude.{⊤}
-use Rattle.std.proofs.lemmas.List.Sums.{sum_by-cons}
 use Rattle.simplex_types.specs.declared.types.messages.Subject.{Subject}
 use Rattle.simplex_laws.specs.Continuations.{ExecutionGoesOn, ReplicasGoOn}
 use Rattle.simplex_laws.specs.Traces.{TraceEvent}
-use Rattle.simplex_laws.specs.Replicas.{Replica, Faulty, Honest, is_faulty, faults, max_faults, quorum, AtLeastFrom, MayHaveSigned}
+use Rattle.simplex_laws.specs.Replicas.{Replica, Faulty, Honest, faults, max_faults, quorum, AtLeastFrom, MayHaveSigned}
 use Rattle.simplex_laws.specs.Executions.{Execution, trace_of}
+use Rattle.simplex_laws.proofs.agreement.Quorums.{faults-cons}
 
 pub quorum_fits : (n f : ℕ) → f ≤ max_faults n → quorum n + f ≤ n
 quorum_fits n f few = omega arith
 
 module _ {K L D : Type 0} where
-  pub one_more : (p : Replica K L D) (network : List (Replica K L D)) → faults (p ∷ network) ≡ cond (is_faulty p) 1 0 + faults network
-  one_more p network = sum_by-cons (λ (q : Replica K L D). cond (is_faulty q) 1 0) p network
-
   -- what all honest members have, so many have
   pub honest_enough : (P : ℕ → Replica K L D → Type 0) (k count : ℕ) (network : List (Replica K L D)) → ((i j : ℕ) (s : Execution K L D) → slice_get network i ≡ Some (Honest s) → j ≡ k + i → P j (Honest s)) → count + faults network ≤ length network → AtLeastFrom k count P network
   honest_enough P k zero network each fits = tt
   honest_enough P k (suc count) [] each fits = absurd (omega arith)
-  honest_enough P k (suc count) (Faulty ∷ network) each fits = inr (honest_enough P (suc k) (suc count) network (λ i j s at is. each (suc i) j s at (omega arith)) (omega (arith, one_more Faulty network)))
-  honest_enough P k (suc count) (Honest s ∷ network) each fits = inl (each 0 k s refl (omega arith), honest_enough P (suc k) count network (λ i j t at is. each (suc i) j t at (omega arith)) (omega (arith, one_more (Honest s) network)))
+  honest_enough P k (suc count) (Faulty ∷ network) each fits = inr (honest_enough P (suc k) (suc count) network (λ i j s at is. each (suc i) j s at (omega arith)) (omega (arith, faults-cons Faulty network)))
+  honest_enough P k (suc count) (Honest s ∷ network) each fits = inl (each 0 k s refl (omega arith), honest_enough P (suc k) count network (λ i j t at is. each (suc i) j t at (omega arith)) (omega (arith, faults-cons (Honest s) network)))
 
 module _ {K L D : Type 0} (Q : ℕ → Execution K L D → Execution K L D → Type 0) where
   -- each replica is the same member, and each honest one goes on so
@@ -57,13 +54,13 @@ module _ {K L D : Type 0} (Q : ℕ → Execution K L D → Execution K L D → T
   same_many k (Faulty ∷ network) [] f = absurd f
   same_many k (Faulty ∷ network) (Faulty ∷ later) f =
       let rest = same_many (suc k) network later f in
-      (omega (arith, rest.0), omega (arith, rest.1, one_more Faulty network, one_more Faulty later))
+      (omega (arith, rest.0), omega (arith, rest.1, faults-cons Faulty network, faults-cons Faulty later))
   same_many k (Faulty ∷ network) (Honest t ∷ later) f = absurd f
   same_many k (Honest s ∷ network) [] f = absurd f
   same_many k (Honest s ∷ network) (Faulty ∷ later) f = absurd f
   same_many k (Honest s ∷ network) (Honest t ∷ later) f =
       let rest = same_many (suc k) network later f.1 in
-      (omega (arith, rest.0), omega (arith, rest.1, one_more (Honest s) network, one_more (Honest t) later))
+      (omega (arith, rest.0), omega (arith, rest.1, faults-cons (Honest s) network, faults-cons (Honest t) later))
 
   -- each honest member was there before
   pub was_there : (k : ℕ) (network later : List (Replica K L D)) → ReplicasFollow k network later → (i j : ℕ) (t : Execution K L D) → slice_get later i ≡ Some (Honest t) → j ≡ k + i → (s : Execution K L D) × (slice_get network i ≡ Some (Honest s)) × Q j s t

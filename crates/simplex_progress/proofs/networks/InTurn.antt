@@ -1,22 +1,21 @@
 -- Of f leaders in turn and one more, one is honest.
-use Rattle.std.proofs.Common.{◌≡◌, ap, sym, ◌∙◌, subst, ◌⊎◌, inl, inr, ℕ, zero, suc, ◌+◌, ◌-◌, ◌%◌, ◌<◌, ◌≤◌, Bool, true, false, List, [], ◌∷◌, length, slice_get, Some, arith}
+use Rattle.std.proofs.Common.{◌≡◌, ap, sym, ◌∙◌, subst, ◌⊎◌, inl, inr, ℕ, zero, suc, ◌+◌, ◌-◌, ◌%◌, ◌<◌, ◌≤◌, Bool, true, List, [], ◌∷◌, length, slice_get, Some, arith}
 use Rattle.std.proofs.Math.Nat.{mod-lt, mod-add-mod, mod-eq_of_lt, add-mod_right}
 use Rattle.std.proofs.lemmas.Bool.{cases_eq, cases_lt}
-use Rattle.std.proofs.lemmas.Bool.Decides.{nat_tests}
 use Rattle.simplex_types.specs.Terms.{term_index, term_start, next_term_start}
 use Rattle.simplex_sorted.proofs.Gaps.{next_above, next_start}
 use Rattle.simplex_voter.specs.Facts.{Elect}
-use Rattle.simplex_voter.specs.Refusals.{is_too_large}
 use Rattle.simplex_laws.specs.Replicas.{Replica, Faulty, Honest, faults, max_faults}
 use Rattle.simplex_laws.specs.Executions.{Execution}
+use Rattle.simplex_laws.proofs.agreement.Quorums.{faults-cons}
 use Rattle.simplex_progress.specs.Going.{MayGoOn}
 use Rattle.simplex_progress.specs.Soon.{Exchanges, IsFinalizedInTurn}
 use Rattle.simplex_progress.specs.Together.{terms_on}
-use Rattle.simplex_progress.proofs.networks.Followed.{one_more}
 use Rattle.simplex_progress.proofs.networks.Passed.{there}
 use Rattle.simplex_progress.proofs.networks.Soon.{index_on, index_up, starts_are_finalized_soon}
 use Rattle.simplex_progress.proofs.runs.Ends.{end_shown}
 use Rattle.simplex_progress.proofs.states.Passing.{on_from}
+use Rattle.simplex_progress.proofs.states.Skipping.{small_under}
 
 module _ {K L D : Type 0} where
   abbrev AreFaulty : List (Replica K L D) → ℕ → ℕ → Type 0
@@ -29,10 +28,10 @@ module _ {K L D : Type 0} where
   a_row (Honest s ∷ network) zero (suc len) fits all = absurd (let first = all 0 (omega arith) (omega arith) in cc)
   a_row (Faulty ∷ network) zero (suc len) fits all =
       let rest = a_row network 0 len (omega (arith, fits)) (λ i low high. all (suc i) (omega arith) (omega (arith, high))) in
-      omega (arith, rest, one_more Faulty network)
+      omega (arith, rest, faults-cons Faulty network)
   a_row (p ∷ network) (suc from) (suc len) fits all =
       let rest = a_row network from (suc len) (omega (arith, fits)) (λ i low high. all (suc i) (omega (arith, low)) (omega (arith, high))) in
-      omega (arith, rest, one_more p network)
+      omega (arith, rest, faults-cons p network)
 
   -- some first ones, and all from a later one on
   both_ends : (network : List (Replica K L D)) (low from : ℕ) → low ≤ from → from ≤ length network → AreFaulty network 0 low → AreFaulty network from (length network) → low + (length network - from) ≤ faults network
@@ -42,7 +41,7 @@ module _ {K L D : Type 0} where
   both_ends (Honest s ∷ network) (suc low) (suc from) up fits first last = absurd (let here = first 0 (omega arith) (omega arith) in cc)
   both_ends (Faulty ∷ network) (suc low) (suc from) up fits first last =
       let rest = both_ends network low from (omega (arith, up)) (omega (arith, fits)) (λ i up down. first (suc i) (omega arith) (omega (arith, down))) (λ i up down. last (suc i) (omega (arith, up)) (omega (arith, down))) in
-      omega (arith, rest, one_more Faulty network)
+      omega (arith, rest, faults-cons Faulty network)
 
   module _ (network : List (Replica K L D)) (some : 0 < length network) (b : ℕ) where
     abbrev HonestTurn : ℕ → Type 0
@@ -99,9 +98,6 @@ module _ (length : ℕ) (some : 0 < length) where
   no_lower (suc count) zero view up one = absurd (omega (arith, up))
   no_lower (suc count) (suc total) view up one = (let above = next_above length view some one in no_lower count total (next_term_start length view) (omega (arith, up)) (omega (arith, above)))
 
-small_below : (low high : ℕ) → low ≤ high → is_too_large high ≡ false → is_too_large low ≡ false
-small_below low high up small = grind (arith, nat_tests)
-
 pub finalized_in_turn : {L D : Type 0} (K : Type 0) (same : D → D → Bool) (decides : (d e : D) → same d e ≡ true → d ≡ e) (reflexive : (d : D) → same d d ≡ true) (elect : Elect L) → IsFinalizedInTurn K same elect
 finalized_in_turn K same decides reflexive elect term_length epoch view turn skipped elector network q good members few (i, s, at, high) each agree leads small =
     let alive = each i s at in
@@ -121,7 +117,7 @@ finalized_in_turn K same decides reflexive elect term_length epoch view turn ski
       alive = λ j t is. (let a = each j t is in (a.0, a.1, (a.2.0, a.2.2 k (omega (arith, found.1)), omega (arith, a.2.1, next, from_next))));
       consistent = agree;
       is_term_start = start_on term_length length_some (skipped + k) view one;
-      small = small_below start (terms_on term_length (suc (skipped + max_faults (length network))) view) (no_lower term_length length_some (suc (skipped + k)) (suc (skipped + max_faults (length network))) view (omega (arith, found.1)) one) small;
+      small = small_under start (terms_on term_length (suc (skipped + max_faults (length network))) view) (no_lower term_length length_some (suc (skipped + k)) (suc (skipped + max_faults (length network))) view (omega (arith, found.1)) one) small;
       elected = λ bytes. leads start bytes ∙ ap (λ n. n % length network) (omega (arith, index));
       honest_leader = (found.2, found.3);
     } in

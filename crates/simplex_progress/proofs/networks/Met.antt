@@ -26,13 +26,13 @@ use Rattle.simplex_laws.proofs.agreement.Claims.{finalized_uncovered, parent_bef
 use Rattle.simplex_progress.specs.Going.{MayGoOn, NetworksMeet}
 use Rattle.simplex_progress.specs.Living.{IsSetUpAs, LivesWith, EachLives}
 use Rattle.simplex_progress.specs.Meeting.{Meets}
-use Rattle.simplex_progress.specs.Reaching.{IsIn, HasFinalized, HasCertified, IsLedTo, First, PastFinalized, PastCertified, PastNullified, judged_in, judged_of}
+use Rattle.simplex_progress.specs.Reaching.{IsInEpoch, HasFinalized, HasCertified, IsLedTo, First, PastFinalized, PastCertified, PastNullified, judged_in, judged_of}
 use Rattle.simplex_progress.specs.Standing.{StandsBefore}
 use Rattle.simplex_progress.proofs.networks.Chosen.{HighestCurrent, highest_current}
 use Rattle.simplex_progress.proofs.networks.Covers.{Skips, Covered, covered}
 use Rattle.simplex_progress.proofs.networks.Followed.{ReplicasFollow, all_follow, replicas_follow, same_many, was_there, backed_still}
 use Rattle.simplex_progress.proofs.networks.Tops.{Highest, either_highest, over_honest, finalized_highest, certified_highest}
-use Rattle.simplex_progress.proofs.runs.Coming.{Comes, Came, SkipsUpTo, hand_all, stays_there, takes_final, takes_certified}
+use Rattle.simplex_progress.proofs.runs.Coming.{ComesTo, Came, SkipsUpTo, hand_all, stays_there, takes_final, takes_certified}
 use Rattle.simplex_progress.proofs.runs.Ends.{Shown, end_shown}
 use Rattle.simplex_progress.proofs.runs.Explicit.{came_stands, explicit_passed}
 use Rattle.simplex_progress.proofs.runs.Led.{Led}
@@ -187,13 +187,13 @@ module _ {K L D : Type 0} (same : D → D → Bool) (decides : (d e : D) → sam
     epoch_is = alive.0.of_epoch
 
     -- its last finalized view, and that no nullification on the road covers it
-    own_final : (x.finalized ≡ 0) ⊎ ((p : Proposal D) × HasAccepted (subject.Finalize p) i s × IsIn epoch x.finalized p.round)
+    own_final : (x.finalized ≡ 0) ⊎ ((p : Proposal D) × HasAccepted (subject.Finalize p) i s × IsInEpoch epoch x.finalized p.round)
     own_final = elim led.final [
       | inl none ↦ inl none
       | inr there ↦ inr (by_certificate (round_of x x.finalized).finalization refl there)
     ]
       where
-        by_certificate : (o : Option (ProposalFacts D)) → (round_of x x.finalized).finalization ≡ o → is_some o ≡ true → (p : Proposal D) × HasAccepted (subject.Finalize p) i s × IsIn epoch x.finalized p.round
+        by_certificate : (o : Option (ProposalFacts D)) → (round_of x x.finalized).finalization ≡ o → is_some o ≡ true → (p : Proposal D) × HasAccepted (subject.Finalize p) i s × IsInEpoch epoch x.finalized p.round
         by_certificate None is some = absurd (false≢true some)
         by_certificate (Some c) is some = (let known = led.rounds.finalized x.finalized c is in (c.proposal, known.1, (known.0.0, known.0.1 ∙ epoch_is)))
 
@@ -244,7 +244,7 @@ module _ {K L D : Type 0} (same : D → D → Bool) (decides : (d e : D) → sam
     Arrived y = Came term_length epoch (length network) i elector parent view start given y
 
     -- once the nullifications are known
-    finishes : (m : MemberFacts K L D) (y : StateFacts K L D) → m.life ≡ Some y → Nears term_length epoch (length network) i elector parent view start x.finalized verdict given y → Comes same elect Q R Arrived m
+    finishes : (m : MemberFacts K L D) (y : StateFacts K L D) → m.life ≡ Some y → Nears term_length epoch (length network) i elector parent view start x.finalized verdict given y → ComesTo same elect Q R Arrived m
     finishes m y there close = elim (cases_eq x.finalized parent) [
       | inl final ↦ stays_there same decides elect Q R term_length epoch (length network) i elector parent view start view_far may.small x.finalized verdict given final m y there close
       | inr apart ↦ elim parents.has [
@@ -260,7 +260,7 @@ module _ {K L D : Type 0} (same : D → D → Bool) (decides : (d e : D) → sam
       ]
     ]
 
-    comes : Comes same elect Q R Arrived lives.0
+    comes : ComesTo same elect Q R Arrived lives.0
     comes = hand_all same decides elect Q R term_length epoch (length network) i elector parent view start view_far may.small Arrived x.finalized verdict road.rounds (λ r. ⊥) fits lives.0 x lives.2 near finishes
 
     abbrev t : Execution K L D

@@ -9,8 +9,7 @@ use Rattle.simplex_types.specs.declared.types.messages.Subject.{Subject}
 use Rattle.simplex_types.specs.declared.types.messages.Subject.TheVariants.{Notarize, Nullify, Finalize}
 use Rattle.simplex_member.specs.Calls.{CallFacts, SetProposal, Proposed}
 use Rattle.simplex_laws.specs.Traces.{TraceEvent, Accepts, Signs}
-use Rattle.simplex_laws.proofs.lists.Splits.{Contains-cases}
-use Rattle.simplex_laws.proofs.records.TracesShown.{only_one}
+use Rattle.simplex_laws.proofs.lists.Splits.{Contains-cases, only_one}
 use Rattle.simplex_progress.proofs.networks.Parts.{Part, at_member, parts_of, PartFits, IsPlan}
 use Rattle.simplex_progress.specs.Standing.{proposal_in}
 use Rattle.simplex_progress.proofs.runs.Members.{one_has}

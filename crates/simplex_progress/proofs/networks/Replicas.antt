@@ -10,8 +10,7 @@ use Rattle.simplex_laws.specs.Continuations.{and_then, ExecutionGoesOn, Replicas
 use Rattle.simplex_laws.specs.Traces.{TraceEvent, of_floor, trace_of_steps}
 use Rattle.simplex_laws.specs.Replicas.{Replica, Faulty, Honest, faults, quorum, AtLeastFrom, MayHaveSigned, Backed}
 use Rattle.simplex_laws.specs.Executions.{new_member, Execution, trace_of}
-use Rattle.simplex_laws.proofs.agreement.Quorums.{AtLeastFrom-map}
-use Rattle.simplex_progress.proofs.networks.Followed.{one_more}
+use Rattle.simplex_laws.proofs.agreement.Quorums.{AtLeastFrom-map, faults-cons}
 use Rattle.simplex_progress.proofs.runs.Onward.{traces_joined}
 
 pub map_joined : {X Y : Type 0} (f : X → Y) (xs ys : List X) → map f (xs ++ ys) ≡ map f xs ++ map f ys
@@ -54,11 +53,11 @@ module _ {K L D : Type 0} where
   same_faults [] [] f = refl
   same_faults [] (p ∷ b) f = absurd f
   same_faults (Faulty ∷ a) [] f = absurd f
-  same_faults (Faulty ∷ a) (Faulty ∷ b) f = let rest = same_faults a b f in omega (arith, rest, one_more Faulty a, one_more Faulty b)
+  same_faults (Faulty ∷ a) (Faulty ∷ b) f = let rest = same_faults a b f in omega (arith, rest, faults-cons Faulty a, faults-cons Faulty b)
   same_faults (Faulty ∷ a) (Honest t ∷ b) f = absurd f
   same_faults (Honest s ∷ a) [] f = absurd f
   same_faults (Honest s ∷ a) (Faulty ∷ b) f = absurd f
-  same_faults (Honest s ∷ a) (Honest t ∷ b) f = let rest = same_faults a b f.1 in omega (arith, rest, one_more (Honest s) a, one_more (Honest t) b)
+  same_faults (Honest s ∷ a) (Honest t ∷ b) f = let rest = same_faults a b f.1 in omega (arith, rest, faults-cons (Honest s) a, faults-cons (Honest t) b)
 
   -- who was honest is so still, and its execution goes on
   pub still_there : (a b : List (Replica K L D)) (i : ℕ) (s : Execution K L D) → ReplicasGoOn a b → slice_get a i ≡ Some (Honest s) → (t : Execution K L D) × (slice_get b i ≡ Some (Honest t)) × ExecutionGoesOn s t
@@ -87,13 +86,13 @@ module _ {K L D : Type 0} where
   -- no more sign than are honest
   pub honest_fit : (vote : Subject D) (k count : ℕ) (network : List (Replica K L D)) → AtLeastFrom k count (IsHonestlySigned vote) network → count + faults network ≤ length network
   honest_fit vote k zero [] h = omega arith
-  honest_fit vote k zero (Faulty ∷ network) h = let rest = honest_fit vote (suc k) zero network tt in omega (arith, rest, one_more Faulty network)
-  honest_fit vote k zero (Honest s ∷ network) h = let rest = honest_fit vote (suc k) zero network tt in omega (arith, rest, one_more (Honest s) network)
+  honest_fit vote k zero (Faulty ∷ network) h = let rest = honest_fit vote (suc k) zero network tt in omega (arith, rest, faults-cons Faulty network)
+  honest_fit vote k zero (Honest s ∷ network) h = let rest = honest_fit vote (suc k) zero network tt in omega (arith, rest, faults-cons (Honest s) network)
   honest_fit vote k (suc count) [] h = absurd h
   honest_fit vote k (suc count) (Faulty ∷ network) (inl h) = absurd h.0
-  honest_fit vote k (suc count) (Faulty ∷ network) (inr h) = let rest = honest_fit vote (suc k) (suc count) network h in omega (arith, rest, one_more Faulty network)
-  honest_fit vote k (suc count) (Honest s ∷ network) (inl h) = let rest = honest_fit vote (suc k) count network h.1 in omega (arith, rest, one_more (Honest s) network)
-  honest_fit vote k (suc count) (Honest s ∷ network) (inr h) = let rest = honest_fit vote (suc k) (suc count) network h in omega (arith, rest, one_more (Honest s) network)
+  honest_fit vote k (suc count) (Faulty ∷ network) (inr h) = let rest = honest_fit vote (suc k) (suc count) network h in omega (arith, rest, faults-cons Faulty network)
+  honest_fit vote k (suc count) (Honest s ∷ network) (inl h) = let rest = honest_fit vote (suc k) count network h.1 in omega (arith, rest, faults-cons (Honest s) network)
+  honest_fit vote k (suc count) (Honest s ∷ network) (inr h) = let rest = honest_fit vote (suc k) (suc count) network h in omega (arith, rest, faults-cons (Honest s) network)
 
   -- what honest votes alone make is backed
   pub alone_backed : (vote : Subject D) (network : List (Replica K L D)) → HonestlyBacked network vote → Backed network vote

@@ -18,13 +18,13 @@ use Rattle.simplex_record.proofs.Steps.{notarization_by, nullification_by, final
 use Rattle.simplex_laws.specs.Traces.{TraceEvent, Accepts}
 use Rattle.simplex_record.specs.Events as event
 use Rattle.simplex_record.specs.Events.{Event, IsEvent, after_event, finalized_by_event, is_prune}
-use Rattle.simplex_histories.specs.OwnWork.{first_certificate_by, hears, owns}
+use Rattle.simplex_histories.specs.OwnWork.{first_certificate_by, hears_of, owns}
 use Rattle.simplex_histories.specs.Shows.{verdict_of}
-use Rattle.simplex_histories.specs.HistoryFolds.{or_new, notarizes, finalizes, verdict_of_event, entered_by, sets_genesis}
+use Rattle.simplex_histories.specs.HistoryFolds.{or_new, brings_notarization, brings_finalization, verdict_of_event, entered_by, sets_genesis}
 use Rattle.simplex_laws.proofs.frames.EachRound.{pruned_view, prune_alone}
 use Rattle.simplex_histories.proofs.Following.{FollowsEvent, left_from}
 use Rattle.simplex_histories.proofs.FollowingReplays.{event_follows}
-use Rattle.simplex_progress.specs.Reaching.{IsIn, IsLedTo, First, PastFinalized, PastCertified, PastNullified, HasJudged}
+use Rattle.simplex_progress.specs.Reaching.{IsInEpoch, IsLedTo, First, PastFinalized, PastCertified, PastNullified, HasJudged}
 
 module _ {K L D : Type 0} (epoch : ℕ) (trace : List (TraceEvent D)) (verdicts : List (Bool × Proposal D)) (x : StateFacts K L D) where
   -- what an event brings was accepted or certified
@@ -36,8 +36,8 @@ module _ {K L D : Type 0} (epoch : ℕ) (trace : List (TraceEvent D)) (verdicts 
 
   -- what the rounds hold was, and each with a certificate holds a proposal
   pub record RoundsLed : Type 0 where
-    pub notarized : (v : ℕ) (c : ProposalFacts D) → (round_of x v).notarization ≡ Some c → IsIn epoch v c.proposal.round × Contains trace (Accepts (subject.Notarize c.proposal))
-    pub finalized : (v : ℕ) (c : ProposalFacts D) → (round_of x v).finalization ≡ Some c → IsIn epoch v c.proposal.round × Contains trace (Accepts (subject.Finalize c.proposal))
+    pub notarized : (v : ℕ) (c : ProposalFacts D) → (round_of x v).notarization ≡ Some c → IsInEpoch epoch v c.proposal.round × Contains trace (Accepts (subject.Notarize c.proposal))
+    pub finalized : (v : ℕ) (c : ProposalFacts D) → (round_of x v).finalization ≡ Some c → IsInEpoch epoch v c.proposal.round × Contains trace (Accepts (subject.Finalize c.proposal))
     pub judged : (v : ℕ) (success : Bool) → verdict_of (round_of x v).certification ≡ Some success → HasJudged success epoch verdicts v
     pub held : (v : ℕ) → (is_some (round_of x v).notarization || is_some (round_of x v).finalization) ≡ true → is_some (round_of x v).slot.held ≡ true
 
@@ -89,11 +89,11 @@ at_its_view {D} v d c true at is = let one : d ≡ c = cc in (is, ap (λ (f : Pr
 at_its_view v d c false at is = absurd (cc)
 
 module _ {K D : Type 0} (v : ℕ) where
-  pub notarizes_by : (e : Event K D) (c : ProposalFacts D) → notarizes v e ≡ Some c → (notarization_by e ≡ Some c) × (c.proposal.round.view ≡ v)
+  pub notarizes_by : (e : Event K D) (c : ProposalFacts D) → brings_notarization v e ≡ Some c → (notarization_by e ≡ Some c) × (c.proposal.round.view ≡ v)
   notarizes_by (event.AddNotarization d) c is = at_its_view v d c (v == d.proposal.round.view) refl is
   notarizes_by _ c is = absurd (false≢true (ap is_some is))
 
-  pub finalizes_by : (e : Event K D) (c : ProposalFacts D) → finalizes v e ≡ Some c → (finalization_by e ≡ Some c) × (c.proposal.round.view ≡ v)
+  pub finalizes_by : (e : Event K D) (c : ProposalFacts D) → brings_finalization v e ≡ Some c → (finalization_by e ≡ Some c) × (c.proposal.round.view ≡ v)
   finalizes_by (event.AddFinalization d now) c is = at_its_view v d c (v == d.proposal.round.view) refl is
   finalizes_by (event.SetFloor (Finalized d) now) c is = at_its_view v d c (v == d.proposal.round.view) refl is
   finalizes_by _ c is = absurd (false≢true (ap is_some is))
@@ -121,7 +121,7 @@ module _ {K L D : Type 0} (x : StateFacts K L D) where
   settles v c no_finalization false at is = absurd (false≢true is)
 
   -- the first certificate of a view settles what it holds
-  first_held : (v : ℕ) (e : Event K D) → (round_of x v).notarization ≡ None → (round_of x v).finalization ≡ None → (is_some (notarizes v e) || is_some (finalizes v e)) ≡ true → is_some (first_certificate_by v x e) ≡ true
+  first_held : (v : ℕ) (e : Event K D) → (round_of x v).notarization ≡ None → (round_of x v).finalization ≡ None → (is_some (brings_notarization v e) || is_some (brings_finalization v e)) ≡ true → is_some (first_certificate_by v x e) ≡ true
   first_held v (event.AddNotarization c) no_notarization no_finalization is = by_test (v == c.proposal.round.view) refl is
     where
       by_test : (b : Bool) → (v == c.proposal.round.view) ≡ b → (is_some (if b then Some c else None) || false) ≡ true → is_some (if b && is_none (round_of x c.proposal.round.view).notarization then Some c.proposal else None) ≡ true
@@ -153,19 +153,19 @@ module _ {K L D : Type 0} (same : D → D → Bool) (decides : (d e : D) → sam
   fresh_there v below = ap (λ o. unwrap_or o (new_round y.me y.members (round_number y v))) (gone v below)
 
   module _ (led : RoundsLed x.settings.epoch trace verdicts x) where
-    notarized_after : (v : ℕ) (c : ProposalFacts D) → (round_of y v).notarization ≡ Some c → IsIn x.settings.epoch v c.proposal.round × Contains trace (Accepts (subject.Notarize c.proposal))
+    notarized_after : (v : ℕ) (c : ProposalFacts D) → (round_of y v).notarization ≡ Some c → IsInEpoch x.settings.epoch v c.proposal.round × Contains trace (Accepts (subject.Notarize c.proposal))
     notarized_after v c is = elim (cases_lt v (left_from x e)) [
       | inl below ↦ absurd (false≢true (ap is_some (sym (ap (λ (r : RoundFacts K D). r.notarization) (fresh_there v below)) ∙ is)))
-      | inr kept ↦ elim (new_or_old (round_of x v).notarization (notarizes v e) c (sym (ap (λ k. k.notarization) (follows.rounds v kept)) ∙ is)) [
+      | inr kept ↦ elim (new_or_old (round_of x v).notarization (brings_notarization v e) c (sym (ap (λ k. k.notarization) (follows.rounds v kept)) ∙ is)) [
         | inl old ↦ led.notarized v c old
         | inr new ↦ (let by = notarizes_by v e c new in ((by.1, notarized_in_epoch x e c allowed by.0), brings.notarized c by.0))
       ]
     ]
 
-    finalized_after : (v : ℕ) (c : ProposalFacts D) → (round_of y v).finalization ≡ Some c → IsIn x.settings.epoch v c.proposal.round × Contains trace (Accepts (subject.Finalize c.proposal))
+    finalized_after : (v : ℕ) (c : ProposalFacts D) → (round_of y v).finalization ≡ Some c → IsInEpoch x.settings.epoch v c.proposal.round × Contains trace (Accepts (subject.Finalize c.proposal))
     finalized_after v c is = elim (cases_lt v (left_from x e)) [
       | inl below ↦ absurd (false≢true (ap is_some (sym (ap (λ (r : RoundFacts K D). r.finalization) (fresh_there v below)) ∙ is)))
-      | inr kept ↦ elim (new_or_old (round_of x v).finalization (finalizes v e) c (sym (ap (λ k. k.finalization) (follows.rounds v kept)) ∙ is)) [
+      | inr kept ↦ elim (new_or_old (round_of x v).finalization (brings_finalization v e) c (sym (ap (λ k. k.finalization) (follows.rounds v kept)) ∙ is)) [
         | inl old ↦ led.finalized v c old
         | inr new ↦ (let by = finalizes_by v e c new in ((by.1, finalized_in_epoch x e c allowed by.0), brings.finalized c by.0))
       ]
@@ -183,15 +183,15 @@ module _ {K L D : Type 0} (same : D → D → Bool) (decides : (d e : D) → sam
     held_kept : (v : ℕ) → left_from x e ≤ v → (is_some (round_of y v).notarization || is_some (round_of y v).finalization) ≡ true → is_some (round_of y v).slot.held ≡ true
     held_kept v kept is = by_old (is_some (round_of x v).notarization || is_some (round_of x v).finalization) refl
       where
-        now_held : is_some (option_or (first_certificate_by v x e) (or_new (round_of x v).slot.held (option_or (hears v x e) (owns same elect v x e)))) ≡ true → is_some (round_of y v).slot.held ≡ true
+        now_held : is_some (option_or (first_certificate_by v x e) (or_new (round_of x v).slot.held (option_or (hears_of v x e) (owns same elect v x e)))) ≡ true → is_some (round_of y v).slot.held ≡ true
         now_held some = ap (λ k. is_some k.held) (follows.rounds v kept) ∙ some
 
         by_old : (b : Bool) → (is_some (round_of x v).notarization || is_some (round_of x v).finalization) ≡ b → is_some (round_of y v).slot.held ≡ true
         by_old true there = now_held (some_or (first_certificate_by v x e) _ (some_still (round_of x v).slot.held _ (led.held v there)))
         by_old false none =
             let neither = none_both (round_of x v).notarization (round_of x v).finalization none in
-            let told : (is_some (or_new (round_of x v).notarization (notarizes v e)) || is_some (or_new (round_of x v).finalization (finalizes v e))) ≡ true = (λ i. is_some (sym (follows.rounds v kept) i).notarization || is_some (sym (follows.rounds v kept) i).finalization) ∙ is in
-            now_held (some_first (first_certificate_by v x e) _ (first_held x v e neither.0 neither.1 (by_new (notarizes v e) (finalizes v e) ((λ i. is_some (or_new (sym neither.0 i) (notarizes v e)) || is_some (or_new (sym neither.1 i) (finalizes v e))) ∙ told))))
+            let told : (is_some (or_new (round_of x v).notarization (brings_notarization v e)) || is_some (or_new (round_of x v).finalization (brings_finalization v e))) ≡ true = (λ i. is_some (sym (follows.rounds v kept) i).notarization || is_some (sym (follows.rounds v kept) i).finalization) ∙ is in
+            now_held (some_first (first_certificate_by v x e) _ (first_held x v e neither.0 neither.1 (by_new (brings_notarization v e) (brings_finalization v e) ((λ i. is_some (or_new (sym neither.0 i) (brings_notarization v e)) || is_some (or_new (sym neither.1 i) (brings_finalization v e))) ∙ told))))
           where
             by_new : (n f : Option (ProposalFacts D)) → (is_some (or_new None n) || is_some (or_new None f)) ≡ true → (is_some n || is_some f) ≡ true
             by_new None None is = is
@@ -213,7 +213,7 @@ module _ {K L D : Type 0} (same : D → D → Bool) (decides : (d e : D) → sam
     | inl raised ↦ inr (subst (λ v. is_some (round_of y v).finalization ≡ true) (sym (follows.finalized ∙ higher raised)) (brought raised))
     | inr stays ↦ elim before [
       | inl none ↦ inl (follows.finalized ∙ omega (arith, stays, none))
-      | inr there ↦ inr (subst (λ v. is_some (round_of y v).finalization ≡ true) (sym (follows.finalized ∙ lower stays)) (ap (λ k. is_some k.finalization) (follows.rounds x.finalized (kept x.finalized (omega arith))) ∙ some_still (round_of x x.finalized).finalization (finalizes x.finalized e) there))
+      | inr there ↦ inr (subst (λ v. is_some (round_of y v).finalization ≡ true) (sym (follows.finalized ∙ lower stays)) (ap (λ k. is_some k.finalization) (follows.rounds x.finalized (kept x.finalized (omega arith))) ∙ some_still (round_of x x.finalized).finalization (brings_finalization x.finalized e) there))
     ]
   ]
     where
@@ -230,7 +230,7 @@ module _ {K L D : Type 0} (same : D → D → Bool) (decides : (d e : D) → sam
           by_prune true = omega (arith, above)
           by_prune false = omega arith
 
-      hands_in : (f : Event K D) → 0 < finalized_by_event f → (c : ProposalFacts D) × (finalizes (finalized_by_event f) f ≡ Some c)
+      hands_in : (f : Event K D) → 0 < finalized_by_event f → (c : ProposalFacts D) × (brings_finalization (finalized_by_event f) f ≡ Some c)
       hands_in (event.AddFinalization c now) some = (c, rw (eq-eqb c.proposal.round.view c.proposal.round.view refl) refl)
       hands_in (event.SetFloor (Finalized c) now) some = (c, rw (eq-eqb c.proposal.round.view c.proposal.round.view refl) refl)
       hands_in _ some = absurd (omega (arith, some))

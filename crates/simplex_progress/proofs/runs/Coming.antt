@@ -33,19 +33,18 @@ use Rattle.simplex_histories.specs.HistoryFolds.{or_new}
 use Rattle.simplex_histories.proofs.EventsWorked.{event_works}
 use Rattle.simplex_histories.proofs.Following.{FollowsEvent}
 use Rattle.simplex_histories.proofs.FollowingReplays.{event_follows}
-use Rattle.simplex_laws.proofs.lists.Splits.{Contains-cases, Contains-cons_rest}
-use Rattle.simplex_laws.proofs.records.TracesShown.{only_one}
+use Rattle.simplex_laws.proofs.lists.Splits.{Contains-cases, Contains-cons_rest, only_one}
+use Rattle.simplex_laws.proofs.lives.Progress.{no_fault_due}
 use Rattle.simplex_progress.specs.Living.{IsSetUpAs}
 use Rattle.simplex_progress.specs.Reaching.{judged_by, judged_in}
 use Rattle.simplex_progress.proofs.runs.Brought.{some_brought}
 use Rattle.simplex_progress.proofs.runs.Nearing.{Nears, event_nears, no_window_there, takes_it, not_late, given_less, nullified_nears}
-use Rattle.simplex_progress.proofs.states.Calls.{and-false, no_fault_due}
 use Rattle.simplex_progress.proofs.states.Sequences.{answered}
 use Rattle.simplex_progress.proofs.states.Skipping.{small_under}
 
 module _ {K L D : Type 0} (same : D → D → Bool) (elect : Elect L) (Q : Subject D → Type 0) (R : Proposal D → Type 0) where
   -- the member goes on by calls that hand in such certificates and certify such proposals, and its state is such then
-  pub record Comes (P : StateFacts K L D → Type 0) (m : MemberFacts K L D) : Type 0 where
+  pub record ComesTo (P : StateFacts K L D → Type 0) (m : MemberFacts K L D) : Type 0 where
     pub calls : List (CallFacts D)
     pub replies : List (Told K D)
     pub end : MemberFacts K L D
@@ -57,7 +56,7 @@ module _ {K L D : Type 0} (same : D → D → Bool) (elect : Elect L) (Q : Subje
     pub lives : end.life ≡ Some state
     pub holds : P state
 
-  pub comes_here : (P : StateFacts K L D → Type 0) (m : MemberFacts K L D) (x : StateFacts K L D) → m.life ≡ Some x → P x → Comes P m
+  pub comes_here : (P : StateFacts K L D → Type 0) (m : MemberFacts K L D) (x : StateFacts K L D) → m.life ≡ Some x → P x → ComesTo P m
   comes_here P m x alive holds = record {
     calls = [];
     replies = [];
@@ -75,7 +74,7 @@ module _ {K L D : Type 0} (same : D → D → Bool) (elect : Elect L) (Q : Subje
       → ((c : Subject D) → Contains (trace_of_call call (answer same elect x m.outstanding_work call)) (Accepts c) → Q c)
       → ((p : Proposal D) → Contains (judged_by (answer same elect x m.outstanding_work call)) (true, p) → R p)
       → ((v : ℕ) (p : Proposal D) → call ≡ SetProposal v p → ⊥)
-      → Comes P (with_call same elect x m call) → Comes P m
+      → ComesTo P (with_call same elect x m call) → ComesTo P m
   comes_on P m x call alive allowed none accepted certified heard rest = record {
     calls = call ∷ rest.calls;
     replies = told ∷ rest.replies;
@@ -122,8 +121,8 @@ module _ {K L D : Type 0} (same : D → D → Bool) (decides : (d e : D) → sam
 
   -- the nullifications, one after another
   pub hand_all : (P : StateFacts K L D → Type 0) (finalized : ℕ) (verdict : Option Bool) (rounds : List Round) (given : Round → Type 0) → ((r : Round) → Contains rounds r → SkipsUpTo Q term_length epoch view start finalized r) → (m : MemberFacts K L D) (x : StateFacts K L D) → m.life ≡ Some x → Near finalized verdict given x
-      → ((n : MemberFacts K L D) (y : StateFacts K L D) → n.life ≡ Some y → Near finalized verdict (λ r. Contains rounds r ⊎ given r) y → Comes same elect Q R P n)
-      → Comes same elect Q R P m
+      → ((n : MemberFacts K L D) (y : StateFacts K L D) → n.life ≡ Some y → Near finalized verdict (λ r. Contains rounds r ⊎ given r) y → ComesTo same elect Q R P n)
+      → ComesTo same elect Q R P m
   hand_all P finalized verdict [] given fits m x alive nears rest = rest m x alive (given_less term_length epoch count me elector parent view start finalized verdict given x nears (λ r. Contains [] r ⊎ given r) (λ r h. elim h [ inl none ↦ absurd (omega (arith, none.1)) | inr old ↦ old ]))
   hand_all P finalized verdict (round ∷ rounds) given fits m x alive nears rest =
       comes_on same elect Q R P m x (AddNullification c 0) alive takes no_fault (λ d h. subst Q (accepted_is d h) here.accepted) (λ p h. absurd (omega (arith, h.1))) (λ v p e. cc)
@@ -153,7 +152,7 @@ module _ {K L D : Type 0} (same : D → D → Bool) (decides : (d e : D) → sam
       regroup r (inr old) = inr (inr old)
 
   -- where the parent is the last finalized view nothing more is needed
-  pub stays_there : (finalized : ℕ) (verdict : Option Bool) (given : Round → Type 0) → finalized ≡ parent → (m : MemberFacts K L D) (x : StateFacts K L D) → m.life ≡ Some x → Near finalized verdict given x → Comes same elect Q R (Arrived given) m
+  pub stays_there : (finalized : ℕ) (verdict : Option Bool) (given : Round → Type 0) → finalized ≡ parent → (m : MemberFacts K L D) (x : StateFacts K L D) → m.life ≡ Some x → Near finalized verdict given x → ComesTo same elect Q R (Arrived given) m
   stays_there finalized verdict given is m x alive near = comes_here same elect Q R (Arrived given) m x alive (record {
     set = near.set;
     terms = near.terms;
@@ -176,7 +175,7 @@ module _ {K L D : Type 0} (same : D → D → Bool) (decides : (d e : D) → sam
     shut y is_first terms = no_window_there elect y c is_first start (subst (λ n. next_term_start n q.round.view ≤ start) (sym terms) (subst (λ v. next_term_start term_length v ≤ start) (sym view_is) behind)) (omega (arith, view_is, next, far))
 
     -- where it was finalized its finalization is handed in
-    pub takes_final : finalized ≤ parent → Q (subject.Finalize q) → Comes same elect Q R (Arrived given) m
+    pub takes_final : finalized ≤ parent → Q (subject.Finalize q) → ComesTo same elect Q R (Arrived given) m
     takes_final low accepted =
         comes_on same elect Q R (Arrived given) m x (AddFinalization c 0) alive takes no_fault (λ d h. subst Q (accepted_is d h) accepted) (λ p h. absurd (omega (arith, h.1))) (λ v p e. cc)
         (comes_here same elect Q R (Arrived given) (with_call same elect x m (AddFinalization c 0)) (after_call same elect x m.outstanding_work (AddFinalization c 0)) refl (record {
@@ -206,7 +205,7 @@ module _ {K L D : Type 0} (same : D → D → Bool) (decides : (d e : D) → sam
         after = event_nears same decides elect term_length epoch count me elector parent view start x e takes refl far finalized parent verdict verdict given near (omega (arith, view_is, next)) (shut x (is_none (round_of x q.round.view).finalization) near.terms) (omega (arith, view_is, low)) refl
 
     -- where it was certified its notarization is handed in, and then a true verdict
-    pub takes_certified : finalized ≤ parent → (verdict ≡ Some false → ⊥) → Q (subject.Notarize q) → ((p : Proposal D) → p.round.view ≡ parent → R p) → Comes same elect Q R (Arrived given) m
+    pub takes_certified : finalized ≤ parent → (verdict ≡ Some false → ⊥) → Q (subject.Notarize q) → ((p : Proposal D) → p.round.view ≡ parent → R p) → ComesTo same elect Q R (Arrived given) m
     takes_certified low not_bad accepted certified =
         comes_on same elect Q R (Arrived given) m x (AddNotarization c) alive takes no_fault (λ d h. subst Q (accepted_is d h) accepted) (λ p h. absurd (omega (arith, h.1))) (λ v p e. cc)
         (comes_on same elect Q R (Arrived given) (with_call same elect x m (AddNotarization c)) y (Certified parent true 0) refl then_takes then_no_fault (λ d h. absurd (omega (arith, h.1))) (λ p h. certified p (told_placed (round_at y parent) refl p h)) (λ v p e. cc)

@@ -30,8 +30,8 @@ use Rattle.simplex_member.specs.Events.{in_context, events_of}
 use Rattle.simplex_laws.specs.Lawful.{HasSigned}
 use Rattle.simplex_laws.proofs.frames.CallsMake.{call_by_event}
 use Rattle.simplex_laws.proofs.lists.Signed.{signed_none, only_signed}
-use Rattle.simplex_laws.proofs.records.TracesShown.{only_one}
 use Rattle.simplex_laws.proofs.votes.LifeCalls.{nullify_silent, nullify_told, no_key, no_rule}
+use Rattle.simplex_laws.proofs.lists.Splits.{only_one}
 use Rattle.simplex_progress.specs.Reaching.{IsLedTo, judged_by, HasJudged}
 use Rattle.simplex_progress.proofs.runs.Brought.{BringsAccepted, brings_nothing}
 use Rattle.simplex_progress.proofs.runs.Led.{Led, event_led, state_more}
@@ -103,9 +103,6 @@ module _ {K L D : Type 0} (same : D → D → Bool) (decides : (d e : D) → sam
   abbrev AllBringAccepted : CallFacts D → List (Event K D) → Type 0
   AllBringAccepted call [] = Unit {0}
   AllBringAccepted call (e ∷ rest) = BringsAccepted x.settings.epoch (more call) (others call) x e
-
-  brings_none : (call : CallFacts D) (e : Event K D) → BringsAccepted x.settings.epoch (more call) (others call) x e → AllBringAccepted call (e ∷ [])
-  brings_none call e brings = brings
 
   in_context_brings : (call : CallFacts D) (f : Context D K → Event K D) → ((c : Context D K) → BringsAccepted x.settings.epoch (more call) (others call) x (f c)) → (c : Option (Context D K)) → AllBringAccepted call (in_context f c)
   in_context_brings call f each None = tt

@@ -1,23 +1,23 @@
 -- Over a member's lives: where it lives, its current view was led to, and so was each view that it voted to nullify.
 use Rattle.std.proofs.Common.{◌≡◌, refl, ap, sym, ◌∙◌, subst, inl, inr, ℕ, zero, suc, ◌-◌, ◌<◌, Bool, true, false, ◌&&◌, if◌then◌else◌, nat_lt, List, [], ◌∷◌, ◌++◌, append_assoc, length, take, drop, map, Contains, Option, Some, None, Result, Ok, Err, is_some, unwrap_or, arith}
 use Rattle.std.specs.Prelude.{MatchOption, ◌==◌}
-use Rattle.std.proofs.lemmas.Bool.{false≢true, eq-eqb, eqb-true}
+use Rattle.std.proofs.lemmas.Bool.{false≢true, eqb-true}
 use Rattle.std.proofs.lemmas.List.{append-nil, take-append-drop}
 use Rattle.std.proofs.lemmas.List.Elements.{Contains-append_left, Contains-append_cases}
-use Rattle.simplex_types.specs.Certificates.{ArtifactFacts, CertificateFacts, NotarizeVote, NullifyVote, FinalizeVote, Verdict, Accepted, Notarized, Nullified, Finalized, artifact_facts}
+use Rattle.simplex_types.specs.Certificates.{ArtifactFacts, CertificateFacts, NotarizeVote, NullifyVote, FinalizeVote, Verdict, Accepted, Notarized, Nullified, Finalized}
 use Rattle.simplex_types.specs.Config.{FloorFacts, Genesis, Finalized as FinalizedFloor}
-use Rattle.simplex_types.specs.Viewed.{artifact_view}
 use Rattle.simplex_types.specs.declared.types.fault.Fault.{Fault}
 use Rattle.simplex_types.specs.declared.types.messages.Proposal.{Proposal}
 use Rattle.simplex_types.specs.declared.types.messages.Subject.TheVariants as subject
 use Rattle.simplex_types.specs.declared.types.numbers.Round.{Round}
+use Rattle.simplex_types.specs.Encoding.{certificate_subject}
 use Rattle.simplex_voter.specs.Acceptance.{after_set_floor}
 use Rattle.simplex_voter.specs.Facts.{StateFacts, Elect, is_tracked}
 use Rattle.simplex_voter.specs.Windows.{min_active}
 use Rattle.simplex_record.specs.declared.record.error.RecoverError.{RecoverError}
 use Rattle.simplex_record.specs.Check.{stands, first_error, recovery_floor_rules, first_broken_after, first_recover_error}
 use Rattle.simplex_record.specs.Cuts.{may_drop, without_last, pruned_entries}
-use Rattle.simplex_record.specs.Entries.{entry_round, entry_view, entries_of}
+use Rattle.simplex_record.specs.Entries.{entry_round, entry_view}
 use Rattle.simplex_record.specs.Recovery.{as_artifact, after_replaying, after_entry, after_kept_entry, after_entries, recovered_state, recover_error, with_floor, is_finalization, TakesEntry, TakesEntries}
 use Rattle.simplex_record.specs.Start.{StartFacts, new_state}
 use Rattle.simplex_record.proofs.Allowing.{new_bears}
@@ -28,7 +28,7 @@ use Rattle.simplex_member.specs.Allowed.{is_allowed, fault_of}
 use Rattle.simplex_member.specs.Calls.{CallFacts, Told}
 use Rattle.simplex_member.specs.Lives.{MemberFacts, AnswersAlive, IsCall, reply_of, left_of, without_life}
 use Rattle.simplex_member.specs.CallSemantics.{answer, recorded_by}
-use Rattle.simplex_member.specs.Restarts.{RestartFacts, IsByView, cut_member, new_life, retention_grows, RecoversByView, IsRestart, IsRestartWhere}
+use Rattle.simplex_member.specs.Restarts.{RestartFacts, cut_member, new_life, retention_grows, RecoversByView, IsRestart, IsRestartWhere}
 use Rattle.simplex_member.specs.Runs.{StepFacts, Calls, Prunes, Restarts, restart_told, IsRun, IsRunFrom}
 use Rattle.simplex_member.specs.Pruning.{stays_within, pruned_member}
 use Rattle.simplex_laws.specs.Traces.{TraceEvent, Accepts, of_floor, trace_of_call, trace_at, trace_of_steps}
@@ -39,11 +39,9 @@ use Rattle.simplex_laws.specs.Executions.{new_member, Execution, trace_of, IsExe
 use Rattle.simplex_laws.specs.TermLengths.{HasTerms, KeepTerms}
 use Rattle.simplex_laws.proofs.frames.Rising.{event_goes}
 use Rattle.simplex_laws.proofs.frames.RunsKeep.{HoldsIn}
-use Rattle.simplex_laws.proofs.lists.Filters.{Contains-filtered, Contains-filter}
+use Rattle.simplex_laws.proofs.lists.Filters.{Contains-filtered, same_entries}
 use Rattle.simplex_laws.proofs.lists.Signed.{signed_none, signed_cases, only_signed}
-use Rattle.simplex_laws.proofs.lists.Splits.{Contains-cons_rest}
-use Rattle.simplex_laws.proofs.records.TracesShown.{only_one}
-use Rattle.simplex_laws.proofs.records.EntryTraces.{subject_of}
+use Rattle.simplex_laws.proofs.lists.Splits.{Contains-cons_rest, only_one}
 use Rattle.simplex_laws.proofs.records.Lifetimes.{Between}
 use Rattle.simplex_laws.proofs.records.NewLives.{all_of_epoch, first_none}
 use Rattle.simplex_laws.proofs.records.RunsLawful.{MemberLives, between_of, cut_between, call_lives_on, prune_lives_on, restart_lives_on, start_lives}
@@ -53,11 +51,12 @@ use Rattle.simplex_progress.proofs.runs.Brought.{BringsAccepted, brings_nothing}
 use Rattle.simplex_progress.proofs.runs.Ends.{terms_kept}
 use Rattle.simplex_progress.proofs.runs.Led.{Led, event_led, led_more, judged_more, floor_led}
 use Rattle.simplex_progress.proofs.runs.LedCalls.{call_led, recorded_verdict, answered_vote, judged_notarized}
+use Rattle.simplex_histories.proofs.Lives.{entry_back, entries_back, view_back}
 
 -- what a record has was accepted or certified
 module _ {D : Type 0} (trace : List (TraceEvent D)) (verdicts : List (Bool × Proposal D)) where
   pub record RecordLed (entries : List (ArtifactFacts D)) : Type 0 where
-    pub accepted : (c : CertificateFacts D) → Contains entries (Accepted c) → Contains trace (Accepts (subject_of c))
+    pub accepted : (c : CertificateFacts D) → Contains entries (Accepted c) → Contains trace (Accepts (certificate_subject c))
     pub judged : (success : Bool) (round : Round) → Contains entries (Verdict round success) → HasJudged success round.epoch verdicts round.view
 
   within_led : (entries fewer : List (ArtifactFacts D)) → ((e : ArtifactFacts D) → Contains fewer e → Contains entries e) → RecordLed entries → RecordLed fewer
@@ -76,11 +75,6 @@ module _ {D : Type 0} where
       by_test : (Contains (without_last closed n shorter) e → Contains shorter e) → (b : Bool) → Contains (if b then without_last closed n shorter else entries) e → Contains entries e
       by_test behind true kept = subst (λ es. Contains es e) (take-append-drop (length entries - 1) entries) (Contains-append_left shorter (drop (length entries - 1) entries) e (behind kept))
       by_test behind false kept = kept
-
-  copied_within : (entries copy : List (ArtifactFacts D)) → IsByView entries copy → (e : ArtifactFacts D) → Contains copy e → Contains entries e
-  copied_within entries copy by_view e h =
-      let test : ArtifactFacts D → Bool = λ f. entry_view f == entry_view e in
-      Contains-filtered test entries e (subst (λ es. Contains es e) (by_view.of_each_view (entry_view e)) (Contains-filter test copy e h (eq-eqb (entry_view e) (entry_view e) refl)))
 
   pruned_within : (retention : ℕ) (entries : List (ArtifactFacts D)) (e : ArtifactFacts D) → Contains (pruned_entries retention entries) e → Contains entries e
   unfolding pruned_entries
@@ -101,28 +95,6 @@ cut_within m drop false e h = left_within m.closed drop m.entries e h
 
 -- a new life
 
-entry_back : (K : Type 0) {D : Type 0} (e : ArtifactFacts D) → artifact_facts (λ b. b) (as_artifact {K = K} e) ≡ e
-entry_back K (NotarizeVote p signer) = refl
-entry_back K (NullifyVote round signer) = refl
-entry_back K (FinalizeVote p signer) = refl
-entry_back K (Verdict round success) = refl
-entry_back K (Accepted (Notarized c)) = refl
-entry_back K (Accepted (Nullified c)) = refl
-entry_back K (Accepted (Finalized c)) = refl
-
-entries_back : (K : Type 0) {D : Type 0} (es : List (ArtifactFacts D)) → entries_of (λ b. b) (map (as_artifact {K = K}) es) ≡ es
-entries_back K [] = refl
-entries_back K (e ∷ es) = rw (entry_back K e, entries_back K es) refl
-
-view_back : (K : Type 0) {D : Type 0} (e : ArtifactFacts D) → artifact_view (as_artifact {K = K} e) ≡ entry_view e
-view_back K (NotarizeVote p signer) = refl
-view_back K (NullifyVote round signer) = refl
-view_back K (FinalizeVote p signer) = refl
-view_back K (Verdict round success) = refl
-view_back K (Accepted (Notarized c)) = refl
-view_back K (Accepted (Nullified c)) = refl
-view_back K (Accepted (Finalized c)) = refl
-
 -- an entry's verdict, given or replayed
 module _ {D : Type 0} (epoch : ℕ) (verdicts : List (Bool × Proposal D)) where
   given_by : (v w : ℕ) (success told b : Bool) → HasJudged success epoch verdicts v → (a : Bool) → (w == v) ≡ a → (if a && b then Some success else None) ≡ Some told → HasJudged told epoch verdicts w
@@ -136,7 +108,7 @@ module _ {D : Type 0} (epoch : ℕ) (verdicts : List (Bool × Proposal D)) where
 
 -- what is known of an entry
 abbrev IsKnown : {D : Type 0} → ℕ → List (TraceEvent D) → List (Bool × Proposal D) → ArtifactFacts D → Type 0
-IsKnown epoch trace verdicts (Accepted c) = Contains trace (Accepts (subject_of c))
+IsKnown epoch trace verdicts (Accepted c) = Contains trace (Accepts (certificate_subject c))
 IsKnown epoch trace verdicts (Verdict round success) = HasJudged success epoch verdicts round.view
 IsKnown epoch trace verdicts _ = Unit {0}
 
@@ -320,7 +292,7 @@ module _ {K L D : Type 0} (same : D → D → Bool) (decides : (d e : D) → sam
       where
         by_error : (o : Option RecoverError) → recover_error same (new_state r.start.setup) r.start.floor r.start.now copy ≡ o → MatchOption o ((result ≡ Ok tt) × (left ≡ new_life same elect n r.start copy)) (λ e. (result ≡ Err e) × (left ≡ without_life n)) → MemberLed term_length (trace ++ trace_at (Restarts r) (restart_told {K = K} {D = D} result)) (verdicts ++ judged_by (restart_told {K = K} {D = D} result)) left
         by_error None none (is, leaves) =
-            let begun = from_copy n r.start copy fresh (record_of n kept between within) led.signed led.notarized (copied_within n.entries copy by_view) (first_none (first_recover_error same r.start.setup.settings.epoch r.start.setup.me r.start.floor copy) _ none).0 in
+            let begun = from_copy n r.start copy fresh (record_of n kept between within) led.signed led.notarized (same_entries copy n.entries by_view.of_each_view) (first_none (first_recover_error same r.start.setup.settings.epoch r.start.setup.me r.start.floor copy) _ none).0 in
             rw (is, leaves)
             (subst (λ more. MemberLed term_length (trace ++ more) (verdicts ++ []) (new_life same elect n r.start copy)) (sym (append-nil (of_floor r.start.floor)))
             (subst (λ ps. MemberLed term_length (trace ++ of_floor r.start.floor) ps (new_life same elect n r.start copy)) (sym (append-nil verdicts)) begun))

@@ -17,9 +17,9 @@ use Rattle.simplex_voter.proofs.Gaps.{and_both, or_right}
 use Rattle.simplex_member.specs.OutstandingWork.{is_among}
 use Rattle.simplex_record.specs.Events as event
 use Rattle.simplex_record.specs.Events.{Event, IsEvent, after_event, finalized_by_event, covers_from, is_prune}
-use Rattle.simplex_histories.specs.Leading.{tracks, tracks_by, opens}
+use Rattle.simplex_histories.specs.Leading.{comes_to_track, tracks_by, opens}
 use Rattle.simplex_histories.specs.Shows.{verdict_of}
-use Rattle.simplex_histories.specs.HistoryFolds.{or_new, notarizes, verdict_of_event, entered_by}
+use Rattle.simplex_histories.specs.HistoryFolds.{or_new, brings_notarization, verdict_of_event, entered_by}
 use Rattle.simplex_histories.specs.Timing.{enters}
 use Rattle.simplex_laws.proofs.frames.Rising.{event_goes}
 use Rattle.simplex_laws.proofs.frames.Sound.{event_ahead}
@@ -28,7 +28,6 @@ use Rattle.simplex_histories.proofs.Following.{FollowsEvent, left_from}
 use Rattle.simplex_histories.proofs.FollowingReplays.{event_follows}
 use Rattle.simplex_progress.specs.Living.{IsSetUpAs}
 use Rattle.simplex_progress.proofs.runs.Brought.{new_or_old, notarizes_by}
-use Rattle.simplex_progress.proofs.states.Calls.{and-false}
 
 -- the member stands at the view or below it, with this finalized view, and this verdict on the parent; these nullifications are
 -- known, and it knows nothing of the start
@@ -63,7 +62,7 @@ module _ {K L D : Type 0} (same : D → D → Bool) (decides : (d e : D) → sam
       }
 
   -- a view that nothing speaks of stays untracked
-  untouched_still : is_prune e ≡ false → view < start → entered_by x.terms.term_length (is_tracked x) e ≤ view → tracks same elect start x e ≡ false → is_tracked x start ≡ false → is_tracked y start ≡ false
+  untouched_still : is_prune e ≡ false → view < start → entered_by x.terms.term_length (is_tracked x) e ≤ view → comes_to_track same elect start x e ≡ false → is_tracked x start ≡ false → is_tracked y start ≡ false
   untouched_still no_prune far enters_below silent untouched =
       let not_entered : enters start x e ≡ None = rw (ne_eqb start (entered_by x.terms.term_length (is_tracked x) e) (λ at. absurd (omega (arith, at, far, enters_below)))) refl in
       ap (λ k. k.tracked) ((event_works same elect x e).work start (nothing_left no_prune)) ∙ rw (not_entered, silent, untouched) refl
@@ -79,12 +78,12 @@ module _ {K L D : Type 0} (same : D → D → Bool) (decides : (d e : D) → sam
     none_left v = subst (λ b. (if b then min_active x else 0) ≤ v) (sym no_prune) (omega arith)
 
     placed_still : (c : ProposalFacts D) → (round_of y parent).notarization ≡ Some c → c.proposal.round.view ≡ parent
-    placed_still c is = elim (new_or_old (round_of x parent).notarization (notarizes parent e) c (sym (ap (λ k. k.notarization) (follows.rounds parent (none_left parent))) ∙ is)) [
+    placed_still c is = elim (new_or_old (round_of x parent).notarization (brings_notarization parent e) c (sym (ap (λ k. k.notarization) (follows.rounds parent (none_left parent))) ∙ is)) [
       | inl old ↦ nears.placed c old
       | inr new ↦ (notarizes_by parent e c new).1
     ]
 
-    pub event_nears : entered_by term_length (is_tracked x) e ≤ view → tracks same elect start x e ≡ false → finalized_then ≡ max finalized (finalized_by_event e) → verdict_then ≡ or_new verdict (verdict_of_event (is_tracked x) parent e) → Nears term_length epoch count me elector parent view start finalized_then verdict_then given y
+    pub event_nears : entered_by term_length (is_tracked x) e ≤ view → comes_to_track same elect start x e ≡ false → finalized_then ≡ max finalized (finalized_by_event e) → verdict_then ≡ or_new verdict (verdict_of_event (is_tracked x) parent e) → Nears term_length epoch count me elector parent view start finalized_then verdict_then given y
     event_nears enters_below silent final judges =
         let goes = event_goes same elect x e in
         let entered_here : entered_by x.terms.term_length (is_tracked x) e ≤ view = subst (λ n. entered_by n (is_tracked x) e ≤ view) (sym nears.terms) enters_below in
@@ -177,7 +176,7 @@ module _ {K L D : Type 0} (same : D → D → Bool) (decides : (d e : D) → sam
       y : StateFacts K L D
       y = after_event same elect x e
 
-      silent : tracks same elect start x e ≡ false
+      silent : comes_to_track same elect start x e ≡ false
       silent = rw (ne_eqb start c.round.view (λ at. absurd (omega (arith, at, low))), ne_eqb start (next_term_start x.terms.term_length c.round.view) (λ at. absurd (let up = subst (λ n. next_term_start n c.round.view ≤ view) (sym nears.terms) next in omega (arith, at, up, far)))) refl
 
       after : Nears term_length epoch count me elector parent view start finalized verdict given y

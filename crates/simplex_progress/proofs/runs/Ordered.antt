@@ -1,5 +1,5 @@
 -- A vote to nullify comes after what led to its view: the execution up to the vote's step is a run itself.
-use Rattle.std.proofs.Common.{◌≡◌, refl, ap, sym, ◌∙◌, subst, ◌⊎◌, inl, inr, ℕ, Bool, true, List, [], ◌∷◌, ◌++◌, append_assoc, length, length-append, map, Contains, Some, arith}
+use Rattle.std.proofs.Common.{◌≡◌, refl, ap, sym, ◌∙◌, subst, inl, inr, ℕ, Bool, true, List, [], ◌∷◌, ◌++◌, append_assoc, length, length-append, map, Contains, Some, arith}
 use Rattle.std.proofs.lemmas.List.{append-nil}
 use Rattle.std.proofs.lemmas.List.Elements.{Contains-append_cases, Contains-append_left}
 use Rattle.simplex_types.specs.Certificates.{ArtifactFacts, NotarizeVote, NullifyVote, FinalizeVote}
@@ -17,31 +17,16 @@ use Rattle.simplex_laws.specs.Lawful.{SignsAfter}
 use Rattle.simplex_laws.specs.Executions.{new_member, Execution, trace_of, IsExecution}
 use Rattle.simplex_laws.proofs.agreement.VoteOrder.{Contains-middle}
 use Rattle.simplex_laws.proofs.lives.WithinRuns.{run_from_before}
-use Rattle.simplex_laws.proofs.records.TracesShown.{only_one}
+use Rattle.simplex_laws.proofs.lists.Splits.{only_one}
+use Rattle.simplex_laws.proofs.records.Remembering.{append_split, none_split}
 use Rattle.simplex_progress.specs.Reaching.{IsLedTo, First, PastFinalized, PastCertified, PastNullified, judged_by, judged_in, judged_of}
 use Rattle.simplex_progress.proofs.runs.LedLives.{floor_signs_none, nullified_led}
 use Rattle.simplex_progress.proofs.runs.Onward.{judged_joined, paired}
-
--- where a list of two parts is split
-append_split : {X : Type 0} (xs ys before after : List X) (d : X) → xs ++ ys ≡ before ++ d ∷ after → ((rest : List X) × (xs ≡ before ++ d ∷ rest)) ⊎ ((more : List X) × (before ≡ xs ++ more) × (ys ≡ more ++ d ∷ after))
-append_split [] ys before after d is = inr (before, refl, is)
-append_split {X} (x ∷ xs) ys [] after d is = inl (xs, (let head : x ≡ d = cc in ap (λ (z : X). z ∷ xs) head))
-append_split {X} (x ∷ xs) ys (b ∷ before) after d is =
-    let head : x ≡ b = cc in
-    let rest : xs ++ ys ≡ before ++ d ∷ after = cc in
-    elim (append_split xs ys before after d rest) [
-      | inl (more, same) ↦ inl (more, cc)
-      | inr (more, same, last) ↦ inr (more, cc, last)
-    ]
 
 single_split : {X : Type 0} (y d : X) (before after : List X) → y ∷ [] ≡ before ++ d ∷ after → (before ≡ []) × (y ≡ d)
 single_split y d [] after is = (refl, cc)
 single_split y d (b ∷ []) after is = absurd (cc)
 single_split y d (b ∷ (c ∷ before)) after is = absurd (cc)
-
-no_split : {X : Type 0} (d : X) (before after : List X) → [] ≡ before ++ d ∷ after → ⊥
-no_split d [] after is = cc
-no_split d (b ∷ before) after is = cc
 
 -- a list of the vote alone is split there
 module _ {D : Type 0} (signer : ℕ) (round : Round) where
@@ -58,14 +43,14 @@ module _ {D : Type 0} (signer : ℕ) (round : Round) where
   entry_split (NotarizeVote p i) before after is = one_split _ before after is
   entry_split (NullifyVote r i) before after is = one_split _ before after is
   entry_split (FinalizeVote p i) before after is = one_split _ before after is
-  entry_split _ before after is = absurd (no_split vote before after is)
+  entry_split _ before after is = absurd (none_split before after vote is)
 
   -- none is handed in
   no_certificate : (call : CallFacts D) (before after : List (TraceEvent D)) → handed_in call ++ [] ≡ before ++ vote ∷ after → ⊥
   no_certificate (AddNotarization c) before after is = let one = single_split _ vote before after is in let apart = one.1 in cc
   no_certificate (AddNullification c now) before after is = let one = single_split _ vote before after is in let apart = one.1 in cc
   no_certificate (AddFinalization c now) before after is = let one = single_split _ vote before after is in let apart = one.1 in cc
-  no_certificate _ before after is = no_split vote before after is
+  no_certificate _ before after is = none_split before after vote is
 
   no_floor : (floor : _) (before after : List (TraceEvent D)) → of_floor floor ≡ before ++ vote ∷ after → ⊥
   no_floor floor before after is = floor_signs_none floor round (signer, subst (λ ds. Contains ds vote) (sym is) (Contains-middle before after vote))
@@ -81,20 +66,20 @@ module _ {D : Type 0} (signer : ℕ) (round : Round) where
   call_all call (Nullify (Some (retry, entry))) before after is = record { alone = entry_split entry before after is; no_verdict = refl }
   call_all call (Finalize (Some entry)) before after is = record { alone = entry_split entry before after is; no_verdict = refl }
   call_all call (Notarize (Some entry)) before after is = record { alone = entry_split entry before after is; no_verdict = refl }
-  call_all call _ before after is = absurd (no_split vote before after is)
+  call_all call _ before after is = absurd (none_split before after vote is)
 
   restart_all : {K L : Type 0} (r : _) (told : Told K D) (before after : List (TraceEvent D)) → trace_at {L = L} (Restarts r) told ≡ before ++ vote ∷ after → IsAll {L = L} (Restarts r) told before
   restart_all r (Nullify (Some (retry, entry))) before after is = record { alone = entry_split entry before after is; no_verdict = refl }
   restart_all r (Finalize (Some entry)) before after is = record { alone = entry_split entry before after is; no_verdict = refl }
   restart_all r (Notarize (Some entry)) before after is = record { alone = entry_split entry before after is; no_verdict = refl }
   restart_all r Restarted before after is = absurd (no_floor r.start.floor before after (sym (append-nil (of_floor r.start.floor)) ∙ is))
-  restart_all r _ before after is = absurd (no_split vote before after is)
+  restart_all r _ before after is = absurd (none_split before after vote is)
 
   prune_all : {K L : Type 0} (told : Told K D) (before after : List (TraceEvent D)) → trace_at {L = L} Prunes told ≡ before ++ vote ∷ after → IsAll {L = L} Prunes told before
   prune_all (Nullify (Some (retry, entry))) before after is = record { alone = entry_split entry before after is; no_verdict = refl }
   prune_all (Finalize (Some entry)) before after is = record { alone = entry_split entry before after is; no_verdict = refl }
   prune_all (Notarize (Some entry)) before after is = record { alone = entry_split entry before after is; no_verdict = refl }
-  prune_all _ before after is = absurd (no_split vote before after is)
+  prune_all _ before after is = absurd (none_split before after vote is)
 
   step_all : {K L : Type 0} (step : StepFacts K L D) (told : Told K D) (before after : List (TraceEvent D)) → trace_at step told ≡ before ++ vote ∷ after → IsAll step told before
   step_all (Calls call) told before after is = call_all call told before after is
@@ -118,7 +103,7 @@ module _ {K L D : Type 0} (same : D → D → Bool) (elect : Elect L) (signer : 
     no_verdict : judged_by reply ≡ []
 
   vote_at : (steps : List (StepFacts K L D)) (replies : List (Told K D)) (m end : MemberFacts K L D) → IsRun same elect m steps replies end → (before after : List (TraceEvent D)) → trace_of_steps steps replies ≡ before ++ vote signer round ∷ after → VoteAt steps replies before
-  vote_at [] [] m end run before after is = absurd (no_split (vote signer round) before after is)
+  vote_at [] [] m end run before after is = absurd (none_split before after (vote signer round) is)
   vote_at [] (reply ∷ replies) m end run before after is = absurd run
   vote_at (step ∷ steps) [] m end run before after is = absurd run
   vote_at (step ∷ steps) (reply ∷ replies) m end (next, is_step, run) before after is =

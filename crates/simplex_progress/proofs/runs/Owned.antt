@@ -7,7 +7,7 @@ use Rattle.simplex_voter.specs.Acceptance.{after_set_floor}
 use Rattle.simplex_record.specs.Events as event
 use Rattle.simplex_record.specs.Events.{Event, after_event}
 use Rattle.simplex_laws.proofs.frames.EachRound.{rounds_or_gone}
-use Rattle.simplex_laws.proofs.frames.Fresh.{IsFresh}
+use Rattle.simplex_laws.proofs.frames.Fresh.{IsNewState}
 use Rattle.simplex_record.proofs.Paths.{event_path, asked_of_all}
 use Rattle.simplex_laws.proofs.frames.Rising.{UnchangedOrHigher, event_goes}
 use Rattle.simplex_record.proofs.Steps.{RoundStep, Kept}
@@ -37,7 +37,7 @@ module _ {K L D : Type 0} (same : D → D → Bool) (elect : Elect L) (x : State
       ]
 
 module _ {K L D : Type 0} (same : D → D → Bool) (elect : Elect L) where
-  pub floor_owns : (term_length : ℕ) (x : StateFacts K L D) (floor : FloorFacts D) (now : ℕ) → IsFresh term_length x → Owns (after_set_floor same elect x floor now)
+  pub floor_owns : (term_length : ℕ) (x : StateFacts K L D) (floor : FloorFacts D) (now : ℕ) → IsNewState term_length x → Owns (after_set_floor same elect x floor now)
   floor_owns term_length x floor now fresh =
       let begun : StateFacts K L D = new_facts x.settings x.me x.members x.elector x.terms x.elects_early in
       event_owns same elect x (event.SetFloor floor now) (subst (λ y. Owns y) (sym fresh.fresh) (record { alive = refl; mine = λ v. refl }))

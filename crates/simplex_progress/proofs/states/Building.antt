@@ -1,9 +1,10 @@
 -- The leader's two calls, in a state that stands at an untouched term start.
-use Rattle.std.proofs.Common.{◌≡◌, refl, ap, sym, ◌∙◌, ℕ, ◌<◌, Bool, true, false, ◌||◌, cond, Some, None, is_some, arith}
+use Rattle.std.proofs.Common.{◌≡◌, refl, ap, sym, ◌∙◌, ℕ, ◌<◌, Bool, true, false, cond, Some, None, is_some, arith}
 use Rattle.std.specs.Ordering.{nat_cmp}
 use Rattle.std.specs.Cmp.{nat_cmp_total}
 use Rattle.std.specs.FinMap.Entries.{find, find-put}
 use Rattle.std.proofs.lemmas.Bool.{eq-eqb, false≢true}
+use Rattle.std.proofs.Math.Bool.{or-true}
 use Rattle.simplex_types.specs.declared.types.messages.Context.{Context}
 use Rattle.simplex_types.specs.declared.types.messages.Proposal.{Proposal}
 use Rattle.simplex_sorted.proofs.Maps.{is_eq-nat_cmp}
@@ -20,20 +21,18 @@ use Rattle.simplex_member.specs.CallSemantics.{outstanding_work_after}
 use Rattle.simplex_member.specs.OutstandingWork.{OutstandingWork, context_at}
 use Rattle.simplex_progress.proofs.states.Standing.{StandingMember, StandsAtView, put_here, at_another}
 use Rattle.simplex_progress.proofs.states.Words.{built_on, round_is, tracked_is, starts, admitted, allowed_parent}
-use Rattle.simplex_progress.proofs.states.Calls.{Work, with_work, nothing_done, verified, not_nullified, no_fault_due, Makes}
+use Rattle.simplex_progress.proofs.states.Calls.{Work, with_work, nothing_done, verified, Makes}
 use Rattle.simplex_progress.proofs.states.Scan.{ahead_rises, ahead_here, ahead_below}
-
-or_true : (b : Bool) → (b || true) ≡ true
-or_true true = refl
-or_true false = refl
+use Rattle.simplex_laws.proofs.lives.Progress.{no_fault_due}
+use Rattle.simplex_laws.proofs.votes.ShownVotesByVotes.{not_nullified}
 
 -- a block was asked for
 abbrev pub asked_for : {D : Type 0} → Work D
 asked_for = record nothing_done { slot = record { held = None; conflict = false; verified = false; build_requested = true; verify_requested = false } }
 
 -- what the leader is asked to build on
-abbrev pub context_of : {K D : Type 0} → StandingMember D → Leader K → Context D K
-context_of l lead = record { round = record { epoch = l.epoch; view = l.view }; leader = lead.key; parent = (l.parent, l.payload) }
+abbrev pub build_context : {K D : Type 0} → StandingMember D → Leader K → Context D K
+build_context l lead = record { round = record { epoch = l.epoch; view = l.view }; leader = lead.key; parent = (l.parent, l.payload) }
 
 -- the own proposal was built at this moment
 abbrev pub built_at : {K D : Type 0} → RoundFacts K D → ℕ → RoundFacts K D
@@ -53,10 +52,10 @@ module _ {K L D : Type 0} (same : D → D → Bool) (elect : Elect L) (reflexive
     unfolding find_parent
     preferred = rw (starts l here l.view x s, builds, s.gapless) refl
 
-    requests : request_in same elect x (l.view, here) ≡ Some (Propose (context_of l lead))
+    requests : request_in same elect x (l.view, here) ≡ Some (Propose (build_context l lead))
     requests = rw (admitted l here l.view x s (omega arith), leads, own, not_nullified r.decision pending, preferred, starts l here l.view x s, s.explicit, reflexive l.payload) (ap (λ (e : ℕ). Some (Propose (record { round = record { epoch = e; view = l.view }; leader = lead.key; parent = (l.parent, l.payload) }))) s.epoch)
 
-    pub propose_told : propose_answer same elect x ≡ Some (Propose (context_of l lead))
+    pub propose_told : propose_answer same elect x ≡ Some (Propose (build_context l lead))
     unfolding propose_answer
     propose_told = first_given (request_in same elect x) (views_ahead x) l.view here (ahead_rises l here x s) (ahead_here l here x s) (ap is_some requests) nothing ∙ requests
       where
@@ -70,15 +69,15 @@ module _ {K L D : Type 0} (same : D → D → Bool) (elect : Elect L) (reflexive
       leaves = rw (propose_told, tracked_is l here l.view x s, round_is l here l.view x s) (put_here l here (with_work r asked_for) l.view x s);
     }
 
-    pub opens : (o : OutstandingWork K D) → context_at (outstanding_work_after same elect x o TryPropose) l.view ≡ Some (context_of l lead)
-    opens o = rw propose_told (find-put nat_cmp nat_cmp_total l.view l.view (context_of l lead) o.contexts ∙ ap (λ b. cond b (Some (context_of l lead)) (find nat_cmp l.view o.contexts)) (is_eq-nat_cmp l.view l.view ∙ eq-eqb l.view l.view refl))
+    pub opens : (o : OutstandingWork K D) → context_at (outstanding_work_after same elect x o TryPropose) l.view ≡ Some (build_context l lead)
+    opens o = rw propose_told (find-put nat_cmp nat_cmp_total l.view l.view (build_context l lead) o.contexts ∙ ap (λ b. cond b (Some (build_context l lead)) (find nat_cmp l.view o.contexts)) (is_eq-nat_cmp l.view l.view ∙ eq-eqb l.view l.view refl))
 
-  module _ (s : StandsAtView l (with_work r asked_for) l.view x) (o : OutstandingWork K D) (open_now : context_at o l.view ≡ Some (context_of l lead)) where
+  module _ (s : StandsAtView l (with_work r asked_for) l.view x) (o : OutstandingWork K D) (open_now : context_at o l.view ≡ Some (build_context l lead)) where
     stands_still : captured_parent_valid same elect x l.view l.parent l.payload ≡ true
     unfolding captured_parent_valid
-    stands_still = rw (allowed_parent same elect reflexive l _ l.view x s, reflexive l.payload) (or_true _)
+    stands_still = rw (allowed_parent same elect reflexive l _ l.view x s, reflexive l.payload) (or-true _)
 
-    taken : proposed_answer same elect x (context_of l lead) q ≡ true
+    taken : proposed_answer same elect x (build_context l lead) q ≡ true
     unfolding proposed_answer
     taken = rw (stands_still, s.here, not_nullified r.decision pending) refl
 

@@ -5,18 +5,17 @@ use Rattle.std.proofs.Math.Bool.{and-false}
 use Rattle.std.proofs.lemmas.Bool.{eq-eqb, lt-ltb, le-ltb, false≢true}
 use Rattle.simplex_types.specs.Certificates.{ProposalFacts, NotarizeVote, FinalizeVote}
 use Rattle.simplex_types.specs.declared.types.messages.Proposal.{Proposal}
-use Rattle.simplex_round.specs.declared.round.Decision.{Decision}
 use Rattle.simplex_round.specs.declared.round.Decision.TheVariants as decision
 use Rattle.simplex_round.specs.declared.round.Certification.{Certification}
 use Rattle.simplex_round.specs.declared.round.Certification.TheVariants.{Ready, Judged}
 use Rattle.simplex_round.specs.Slot.{SlotFacts, empty_slot}
-use Rattle.simplex_round.specs.Round.{RoundFacts, is_pending, is_nullify}
+use Rattle.simplex_round.specs.Round.{RoundFacts, is_pending}
 use Rattle.simplex_voter.specs.Facts.{StateFacts, Elect, round_of, round_number, is_tracked}
 use Rattle.simplex_voter.specs.Acceptance.{with_notarization_at}
 use Rattle.simplex_voter.specs.Certification.{with_verdict}
 use Rattle.simplex_voter.specs.Entering.{at_moment}
 use Rattle.simplex_voter.specs.Leaders.{with_elected_leader, with_next_view_ready}
-use Rattle.simplex_voter.specs.Refusals.{first_fault, names_too_large, is_started, enters_late, has_late_deadline}
+use Rattle.simplex_voter.specs.Refusals.{names_too_large, is_started, enters_late, has_late_deadline}
 use Rattle.simplex_voter.specs.Payloads.{explicit_ancestry_payload}
 use Rattle.simplex_voter.specs.Rules.{may_notarize, may_finalize, required_certification_parent, explicit_parent_ready}
 use Rattle.simplex_voter.specs.Verifying.{with_proposal}
@@ -28,6 +27,8 @@ use Rattle.simplex_member.specs.CallSemantics.{answer, after_call}
 use Rattle.simplex_member.specs.OutstandingWork.{OutstandingWork, is_verifying}
 use Rattle.simplex_progress.proofs.states.Standing.{StandingMember, StandsAtView, put_here, at_another, next_ready, waits, woken, next_entered, leader_above, window_led}
 use Rattle.simplex_progress.proofs.states.Words.{built_on, same_self, round_is, tracked_is, starts, no_window, admitted, takes, names_small, binding_holds}
+use Rattle.simplex_laws.proofs.lives.Progress.{no_fault_due}
+use Rattle.simplex_laws.proofs.votes.ShownVotesByVotes.{not_nullified}
 
 -- what was done so far in the view: nothing else of its round matters
 pub record Work (D : Type 0) : Type 0 where
@@ -74,18 +75,6 @@ module _ {D : Type 0} where
   -- certified
   abbrev pub certified : Bool → Proposal D → D → ProposalFacts D → Work D
   certified built p d c = record (notarized built p d c) { certification = Judged true }
-
-pub not_nullified : (d : Decision) → is_pending d ≡ true → is_nullify d ≡ false
-not_nullified (decision.Pending _ _ _) is = refl
-not_nullified (decision.Nullify _) is = absurd (false≢true is)
-not_nullified decision.Finalize is = absurd (false≢true is)
-
-pub and-false : (b : Bool) → (b && false) ≡ false
-and-false true = refl
-and-false false = refl
-
-pub no_fault_due : (failed too_large late : Bool) → failed ≡ false → too_large ≡ false → late ≡ false → first_fault failed too_large late ≡ None
-no_fault_due failed too_large late alive small early = rw (alive, small, early) refl
 
 module _ {K L D : Type 0} (elect : Elect L) (l : StandingMember D) (r : RoundFacts K D) (c : ℕ) (x : StateFacts K L D) (s : StandsAtView l r c x) where
   -- what the proposal requires, if anything, is its parent

@@ -1,5 +1,5 @@
 -- The highest explicit view, where none above a parent is explicit.
-use Rattle.std.proofs.Common.{◌≡◌, refl, ap, sym, ◌∙◌, subst, inl, inr, ℕ, ◌<◌, ◌≤◌, Bool, true, false, cond, nat_lt, List, [], ◌∷◌, Option, Some, None, is_some, arith}
+use Rattle.std.proofs.Common.{◌≡◌, refl, ap, sym, ◌∙◌, subst, inl, inr, ℕ, ◌<◌, Bool, true, false, cond, nat_lt, List, [], ◌∷◌, Option, Some, None, is_some, arith}
 use Rattle.std.specs.Prelude.{T, option_and_then}
 use Rattle.std.specs.List.{filter_map, cons_option, last_or}
 use Rattle.std.specs.Ordering.{nat_cmp}
@@ -32,10 +32,6 @@ module _ {K L D : Type 0} (x : StateFacts K L D) (p v : ℕ) (d : D) (low : p < 
   last_kept : (o : Option (ℕ × D)) (es : List (ℕ × RoundFacts K D)) → AllAbove p es → last_or o (filter_map gives es) ≡ o
   last_kept o [] above = refl
   last_kept o (e ∷ es) above = rw (nothing_above e above.0) (last_kept o es above.1)
-
-  above_too : (q : ℕ) (es : List (ℕ × RoundFacts K D)) → p ≤ q → AllAbove q es → AllAbove p es
-  above_too q [] le above = tt
-  above_too q (e ∷ es) le above = (omega (arith, above.0), above_too q es le above.1)
 
   -- the parent is the last that gives something
   last_found : (o : Option (ℕ × D)) (es : List (ℕ × RoundFacts K D)) → Rises es → is_some (find nat_cmp p es) ≡ true → last_or o (filter_map gives es) ≡ Some (p, d)

@@ -16,8 +16,9 @@ use Rattle.simplex_member.specs.CallSemantics.{after_call}
 use Rattle.simplex_member.specs.OutstandingWork.{OutstandingWork}
 use Rattle.simplex_laws.specs.Traces.{TraceEvent, Accepts, Signs}
 use Rattle.simplex_laws.proofs.frames.Rising.{call_goes}
+use Rattle.simplex_laws.proofs.lives.Progress.{no_fault_due}
 use Rattle.simplex_progress.specs.Together.{terms_on}
-use Rattle.simplex_progress.proofs.states.Calls.{with_work, nothing_done, no_fault_due}
+use Rattle.simplex_progress.proofs.states.Calls.{with_work, nothing_done}
 use Rattle.simplex_progress.proofs.states.Standing.{StandingMember, StandsAtView}
 use Rattle.simplex_progress.proofs.states.Sequences.{Sequence, call_then, calls_in, whole_trace}
 use Rattle.simplex_progress.proofs.states.Skipping.{gives_up, give_up_told, next_is, takes_it, no_fault_then, skips, elsewhere, first_round, entered_first}

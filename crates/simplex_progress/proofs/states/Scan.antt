@@ -25,7 +25,9 @@ use Rattle.simplex_member.specs.OutstandingWork.{OutstandingWork}
 use Rattle.simplex_histories.proofs.UnchangedHistories.{from_T}
 use Rattle.simplex_progress.proofs.states.Standing.{StandingMember, StandsAtView, remade}
 use Rattle.simplex_progress.proofs.states.Words.{built_on, spans_it, no_gap, admitted, payload_is}
-use Rattle.simplex_progress.proofs.states.Calls.{with_work, heard, being_verified, not_nullified, no_fault_due, Makes}
+use Rattle.simplex_progress.proofs.states.Calls.{with_work, heard, being_verified, Makes}
+use Rattle.simplex_laws.proofs.lives.Progress.{no_fault_due}
+use Rattle.simplex_laws.proofs.votes.ShownVotesByVotes.{not_nullified}
 
 below_span : (low high v : ℕ) → v < low → (nat_le low v && nat_le v high) ≡ false
 below_span low high v less = grind (arith, nat_tests)

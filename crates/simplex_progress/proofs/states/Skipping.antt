@@ -26,9 +26,9 @@ use Rattle.simplex_member.specs.Calls.{Nullify, ConstructNullify, AddNullificati
 use Rattle.simplex_member.specs.CallSemantics.{answer, after_call}
 use Rattle.simplex_member.specs.OutstandingWork.{OutstandingWork}
 use Rattle.simplex_record.proofs.Rounds.{armed_finalize, round_put}
-use Rattle.simplex_progress.proofs.states.Calls.{and-false, no_fault_due}
 use Rattle.simplex_progress.proofs.states.Standing.{StandingMember, round_kept, round_here}
 use Rattle.simplex_progress.proofs.states.Waiting.{Waits, unexplicit_round, put_waits, reached, covered_on, known_as, at_its_own, either_waits}
+use Rattle.simplex_laws.proofs.lives.Progress.{no_fault_due}
 
 given_up : {K D : Type 0} (r : RoundFacts K D) → is_finalize r.decision ≡ false → (is_finalize (after_nullify r).decision ≡ false) × (certified_payload (after_nullify r) ≡ certified_payload r)
 given_up r is = rw is (refl, refl)

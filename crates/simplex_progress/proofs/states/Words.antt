@@ -34,9 +34,6 @@ or_so : (a b : Bool) → b ≡ true → (a || b) ≡ true
 or_so true b is = refl
 or_so false b is = is
 
-or_first : (a b : Bool) → a ≡ true → (a || b) ≡ true
-or_first a b is = rw is refl
-
 small_below : (p v : ℕ) → p < v → is_too_large v ≡ false → is_too_large p ≡ false
 small_below p v low small = grind (arith, nat_tests)
 

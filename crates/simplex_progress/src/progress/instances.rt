@@ -3,7 +3,7 @@
 ghost use Rattle.std.specs.Prelude.{◌≡◌, nat_eq, length};
 ghost use Rattle.simplex_laws.specs.DividedNetwork.{divided};
 ghost use Rattle.simplex_laws.specs.HandoffNetwork.{taken_over};
-ghost use Rattle.simplex_laws.specs.LackingNetwork.{lacking};
+ghost use Rattle.simplex_laws.specs.LackingNetwork.{lacking_certificates};
 ghost use Rattle.simplex_laws.specs.Replicas.{faults, IsNetworkOf};
 ghost use Rattle.simplex_laws.specs.ScenarioSteps.{in_turn};
 ghost use Rattle.simplex_progress.specs.Living.{EachLives};
@@ -42,7 +42,7 @@ pub fn started_networks_go_on()
 pub fn worked_networks_may_go_on()
     ensures divided { MayReach 1 divided 6 × Reaches 1 divided 6 }
     ensures soon { ReachesWithin 7 1 divided }
-    ensures lacking { MayReach 1 lacking 6 × Reaches 1 lacking 6 }
+    ensures lacking { MayReach 1 lacking_certificates 6 × Reaches 1 lacking_certificates 6 }
     ensures taken_over { MayReach 2 taken_over 11 × Reaches 2 taken_over 11 }
 {}
 
