@@ -3,7 +3,7 @@
 ghost use Rattle.std.specs.Io.Buffered.{reader_remaining};
 ghost use Rattle.simplex_program.specs.Mode.{IsServed};
 ghost use Rattle.simplex_program.specs.Session.{asked_of};
-ghost use Rattle.simplex_program.specs.Transcript.{Transcribes, Continues, Advances};
+ghost use Rattle.simplex_program.specs.Transcript.{Transcribes, Advances};
 
 use crate::line_reader::{LONGEST_LINE, line_text, read_line};
 use crate::line_writer::write_line;
@@ -31,22 +31,9 @@ pub fn serve<R: Read + Drop, W: Write + Drop>(
     let Ok(mut reader) = BufReader::new(alloc, reader) else {
         return Err(ServeError::OutOfMemory);
     };
-    match Session::start(alloc, mode) {
-        Ok(mut session) => answer_lines(&mut session, alloc, &mut reader, writer),
-        Err(_) => Err(ServeError::OutOfMemory),
-    }
-}
-
-/// Answers each line of the reader from a session on.
-fn answer_lines<R: Read + Drop, W: Write + Drop>(
-    session: &mut Session,
-    alloc: Global,
-    reader: &mut BufReader<R>,
-    writer: &mut W,
-) -> Result<(), ServeError>
-    ensures { Continues (record { asked = asked_of session.old; left = reader_remaining R.remaining reader.old; held = W.contents writer.old })
-        result (W.contents writer.new) }
-{
+    let Ok(mut session) = Session::start(alloc, mode) else {
+        return Err(ServeError::OutOfMemory);
+    };
     let Ok(line) = Vec::with_capacity(alloc, LONGEST_LINE + 1) else {
         return Err(ServeError::OutOfMemory);
     };
@@ -55,7 +42,7 @@ fn answer_lines<R: Read + Drop, W: Write + Drop>(
         reply: String::new(alloc),
     };
     for number in 1..u64::MAX {
-        if !answer_line(session, alloc, number, reader, &mut room, writer)? {
+        if !answer_line(&mut session, alloc, number, &mut reader, &mut room, writer)? {
             return Ok(());
         }
     }
@@ -90,7 +77,7 @@ fn answer_line<R: Read + Drop, W: Write + Drop>(
     let Some(text) = line_text(&room.line) else {
         return Err(ServeError::NotACall(number));
     };
-    session.answer(alloc, number, text, &mut room.reply)?;
+    session.reply_to(alloc, number, text, &mut room.reply)?;
     match write_line(writer, room.reply.as_bytes()) {
         Ok(()) => Ok(true),
         Err(_) => Err(ServeError::Write),

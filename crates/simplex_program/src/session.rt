@@ -2,7 +2,7 @@
 
 ghost use Rattle.std.specs.Prelude.{◌≡◌, ◌++◌, ◌∷◌, [], IfOk, OnOk, IfErr, IfSome, string_bytes};
 ghost use Rattle.simplex_program.specs.Mode.{IsServed};
-ghost use Rattle.simplex_program.specs.Session.{asked_of, voter_asked, resolver_asked, IsNotReplied};
+ghost use Rattle.simplex_program.specs.Session.{asked_of, IsNotReplied};
 ghost use Rattle.simplex_program.specs.Transcript.{Begins, Replies, reply_line};
 ghost use Rattle.simplex_program.specs.declared.serve_error.ServeError.TheVariants.{OutOfMemory};
 
@@ -49,7 +49,7 @@ impl Session {
     }
 
     /// Writes the reply to the text of a line, with a line feed, in place of what stands in `reply`. The line has this number.
-    pub(crate) fn answer(
+    pub(crate) fn reply_to(
         &mut self,
         alloc: Global,
         number: u64,
@@ -60,48 +60,25 @@ impl Session {
         ensures refused { IfErr result (IsNotReplied number (asked_of self.old) text.now) }
     {
         match self {
-            Session::Voter(voter) => answer_voter(voter, alloc, number, text, reply),
-            Session::Resolver(resolver) => answer_resolver(resolver, alloc, number, text, reply),
+            Session::Voter(voter) => {
+                let Some(line) = VoterLine::parse(text) else {
+                    return Err(ServeError::NotACall(number));
+                };
+                match voter.answer(alloc, line) {
+                    Ok(answer) => write_reply(reply, answer),
+                    Err(AllocError) => Err(ServeError::OutOfMemory),
+                }
+            }
+            Session::Resolver(resolver) => {
+                let Some(line) = ResolverLine::parse(text) else {
+                    return Err(ServeError::NotACall(number));
+                };
+                match resolver.answer(alloc, line) {
+                    Ok(answer) => write_reply(reply, answer),
+                    Err(AllocError) => Err(ServeError::OutOfMemory),
+                }
+            }
         }
-    }
-}
-
-fn answer_voter(
-    voter: &mut Voter,
-    alloc: Global,
-    number: u64,
-    text: &str,
-    reply: &mut String,
-) -> Result<(), ServeError>
-    ensures replied { OnOk result (Replies (voter_asked voter.old) text.now (string_bytes reply.new) (voter_asked voter.new)) }
-    ensures refused { IfErr result (IsNotReplied number (voter_asked voter.old) text.now) }
-{
-    let Some(line) = VoterLine::parse(text) else {
-        return Err(ServeError::NotACall(number));
-    };
-    match voter.answer(alloc, line) {
-        Ok(answer) => write_reply(reply, answer),
-        Err(AllocError) => Err(ServeError::OutOfMemory),
-    }
-}
-
-fn answer_resolver(
-    resolver: &mut Resolver,
-    alloc: Global,
-    number: u64,
-    text: &str,
-    reply: &mut String,
-) -> Result<(), ServeError>
-    ensures replied { OnOk result
-        (Replies (resolver_asked resolver.old) text.now (string_bytes reply.new) (resolver_asked resolver.new)) }
-    ensures refused { IfErr result (IsNotReplied number (resolver_asked resolver.old) text.now) }
-{
-    let Some(line) = ResolverLine::parse(text) else {
-        return Err(ServeError::NotACall(number));
-    };
-    match resolver.answer(alloc, line) {
-        Ok(answer) => write_reply(reply, answer),
-        Err(AllocError) => Err(ServeError::OutOfMemory),
     }
 }
 

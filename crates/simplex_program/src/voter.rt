@@ -2,16 +2,14 @@
 
 ghost use Rattle.std.specs.Prelude.{◌≡◌, false, true, IfOk, length};
 ghost use Rattle.simplex_types.specs.Plain.{members_of, keys_of};
-ghost use Rattle.simplex_member.specs.Calls.{asked};
-ghost use Rattle.simplex_program.specs.Voter.{VoterAnswers, IsReplied, IsRestarted, IsDone, is_no_call, shown_views};
-ghost use Rattle.simplex_program.specs.Plain.{plain_bytes};
+ghost use Rattle.simplex_program.specs.Voter.{VoterAnswers, IsRestarted, IsDone, is_no_call, shown_views};
 ghost use Rattle.simplex_program.specs.Setup.{IsSetUp, IsGenesisStart, StartsAtGenesis, plain_start};
 
 use crate::network::Network;
 use crate::rounds::EPOCH;
 use crate::voter_call::call_of;
 use crate::voter_line::VoterLine;
-use simplex_member::member::{Call, Member, RecoverError, Reply, Restart, Start};
+use simplex_member::member::{Member, RecoverError, Reply, Restart, Start};
 use simplex_types::config::Floor;
 use simplex_types::types::plain::{PlainDigest, PlainElector, PlainScheme};
 use simplex_types::types::{Epoch, Fault, Participant, Terms, View, ViewDelta};
@@ -81,20 +79,14 @@ impl Voter {
         ensures network { self.new.network ≡ self.old.network }
         ensures answer { IfOk result (λ answer. VoterAnswers self.old.network self.old.member.facts line answer self.new.member.facts) }
     {
-        match call_of(&line) {
-            Some(call) => self.call(call),
-            None => self.other(alloc, line),
+        let Some(call) = call_of(&line) else {
+            return self.other(alloc, line);
+        };
+        let reply = self.member.call(call);
+        if matches!(&reply, Reply::Fault(Fault::OutOfMemory)) {
+            return Err(AllocError);
         }
-    }
-
-    fn call(&mut self, call: Call<PlainScheme, PlainDigest>) -> Result<VoterAnswer, AllocError>
-        ensures network { self.new.network ≡ self.old.network }
-        ensures reply { IfOk result (λ answer. IsReplied self.old.member.facts (asked plain_bytes call) answer self.new.member.facts) }
-    {
-        match self.member.call(call) {
-            Reply::Fault(Fault::OutOfMemory) => Err(AllocError),
-            reply => Ok(VoterAnswer::Reply(reply)),
-        }
+        Ok(VoterAnswer::Reply(reply))
     }
 
     /// Does what a line asks that stands for no call: a restart, or to be shown something.

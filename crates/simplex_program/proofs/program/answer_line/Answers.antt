@@ -7,6 +7,6 @@ use Rattle.simplex_program.proofs.program.answer_line.Goals as goal
 pub returns-in-Err : goal.returns-in-Err
 returns-in-Err g c =
     let next = rw c.if-not-found.false at c.in-Ok.ensures in
-    let replied = rw (c.in-Some.ensures.0, c.deref.ensures.value) at c.in_ok-answer.ensures.replied in
+    let replied = rw (c.in-Some.ensures.0, c.deref.ensures.value) at c.in_ok-reply_to.ensures.replied in
     let written = rw c.as_bytes.ensures.value at c.in-Err.ensures in
-    (c.read_line.new.line.items, string_bytes c.answer.new.reply, asked_of c.answer.new.self, reader_remaining g.R.Read.remaining c.read_line.new.reader, (next, replied), written)
+    (c.read_line.new.line.items, string_bytes c.reply_to.new.reply, asked_of c.reply_to.new.self, reader_remaining g.R.Read.remaining c.read_line.new.reader, (next, replied), written)

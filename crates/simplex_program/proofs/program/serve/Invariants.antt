@@ -1,8 +1,8 @@
--- The loop of `answer_lines`: the lines so far, each of which is served.
+-- The loop of `serve`: the lines so far, each of which is served.
 use Rattle.std.specs.Io.Buffered.{reader_remaining}
 use Rattle.simplex_program.specs.Session.{asked_of}
 use Rattle.simplex_program.proofs.Turns.{HasServed}
-use Rattle.simplex_program.proofs.program.answer_lines.Given as goal
+use Rattle.simplex_program.proofs.program.serve.Given as goal
 
 abbrev pub invariant-loop-number : goal.invariant-loop-number
 invariant-loop-number g l = HasServed
