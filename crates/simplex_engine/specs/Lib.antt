@@ -21,3 +21,4 @@ pub mod Following
 pub mod Tasks
 pub mod Dropping
 pub mod Admitting
+pub mod Acting

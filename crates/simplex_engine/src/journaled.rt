@@ -8,6 +8,8 @@ ghost use Rattle.std.specs.Option.{option_copied};
 ghost use Rattle.simplex_types.specs.Certificates.{certificate_facts};
 ghost use Rattle.simplex_types.specs.Encoding.{certificate_subject};
 ghost use Rattle.simplex_laws.specs.Shown.{certificates_in};
+ghost use Rattle.simplex_member.specs.Calls.{asked};
+ghost use Rattle.simplex_engine.specs.Acting.{hands_in};
 ghost use Rattle.simplex_engine.specs.Doing.{IsDoneOn};
 
 use crate::outbox::Outbox;
@@ -37,7 +39,7 @@ pub struct Journaled<S: CertificateScheme, L: Elector<S>, D: Digest> {
 
 impl<S: Scheme<D>, L: Elector<S>, D: Digest> Journaled<S, L, D> {
     ghost use Rattle.simplex_voter.specs.Refusals.{is_started};
-    ghost use Rattle.simplex_member.specs.Calls.{told, asked};
+    ghost use Rattle.simplex_member.specs.Calls.{told};
     ghost use Rattle.simplex_member.specs.Lives.{IsCall};
     ghost use Rattle.simplex_record.specs.Entries.{entries_of};
     ghost use Rattle.simplex_record.specs.Votes.{votes_of};
@@ -234,7 +236,8 @@ pub fn handing_in<S: CertificateScheme, D: Digest>(
     certificate: Certificate<S, D>,
     now: u64,
 ) -> Call<S, D>
-    ensures { All (IsDoneOn (Some (certificate_subject (certificate_facts S.certificate_bytes certificate)))) (certificates_in result) }
+    ensures asked { asked S.certificate_bytes result ≡ hands_in (certificate_facts S.certificate_bytes certificate) now }
+    ensures on_this { All (IsDoneOn (Some (certificate_subject (certificate_facts S.certificate_bytes certificate)))) (certificates_in result) }
 {
     match certificate {
         Certificate::Notarization(notarization) => Call::AddNotarization(notarization),

@@ -2,6 +2,7 @@
 #![tactic(auto, using(crate::proofs::Going::stays, crate::proofs::Going::goes_further, crate::proofs::Backing::takes_nothing, crate::proofs::Backing::takes_no_more, crate::proofs::Backing::takes_anyway))]
 
 ghost use Rattle.std.specs.Prelude.{◌≡◌, ◌∷◌, [], ℕ, length, None, Some, OnOk, IfOk, IfSome, IsTrue, not, false, ◌==◌, Ok, IsFalse};
+ghost use Rattle.std.specs.List.{list_any};
 ghost use Rattle.std.specs.Option.{option_map_or};
 ghost use Rattle.simplex_types.specs.Certificates.{certificate_facts};
 ghost use Rattle.simplex_types.specs.Encoding.{certificate_subject};
@@ -10,6 +11,7 @@ ghost use Rattle.simplex_laws.specs.Shown.{certificates_in};
 ghost use Rattle.simplex_engine.specs.Quiet.{is_nothing};
 ghost use Rattle.simplex_engine.specs.Dropping.{is_lasting, is_refused, says_nothing};
 ghost use Rattle.simplex_engine.specs.Admitting.{admits, admits_votes, admits_proposal};
+ghost use Rattle.simplex_engine.specs.declared.engine.task.Task.TheVariants.{SetProposal};
 
 use super::Engine;
 use super::plan::{Step, Views};
@@ -46,6 +48,8 @@ impl<S: Assembly<D>, L: Elector<S>, D: Digest> Engine<S, L, D> {
     ghost use Rattle.simplex_engine.specs.Batching.{HoldsAllTheSame};
     ghost use Rattle.simplex_engine.specs.Subjects.{subject_round};
     ghost use Rattle.simplex_engine.specs.Tasks.{call_of};
+    ghost use Rattle.simplex_engine.specs.Building.{is_asked_in};
+    ghost use Rattle.simplex_engine.specs.Acting.{verification_of, HasDone, IsBlockTaken, IsHandedIn, IsVoteCounted, IsActedOn};
     ghost use Rattle.simplex_engine.specs.Dropping.{IsLeftBy, IsLeftByInput, IsDropped};
     ghost use Rattle.simplex_engine.specs.Admitting.{is_so, is_admitted, IsTurnedAway, ignoring};
 
@@ -59,6 +63,8 @@ impl<S: Assembly<D>, L: Elector<S>, D: Digest> Engine<S, L, D> {
         ensures unadmitted { IsFalse (is_admitted S.certificate_bytes self.old.core.member.facts input) → IfOk result (λ is_of_use.
             IsFalse is_of_use × IsTurnedAway input (ignoring self.old) self.new) }
         ensures bounded { StaysBounded S.participants self.old.core self.old.batcher self.new.core self.new.batcher }
+        ensures acted { IsTrue (is_admitted S.certificate_bytes self.old.core.member.facts input) → IfOk result (IsActedOn D.eq L.elect S.certificate_bytes
+            S.IsMadeOf S.participants now input self.old self.new.core.member.facts self.new.batcher self.new.plan.steps.items) }
     {
         let is_of_use = self.take_in(input, now)?;
         if !is_of_use {
@@ -77,6 +83,8 @@ impl<S: Assembly<D>, L: Elector<S>, D: Digest> Engine<S, L, D> {
         ensures unadmitted { IsFalse (is_admitted S.certificate_bytes self.old.core.member.facts input) → IfOk result (λ is_of_use.
             IsFalse is_of_use × IsTurnedAway input self.old self.new) }
         ensures bounded { StaysBounded S.participants self.old.core self.old.batcher self.new.core self.new.batcher }
+        ensures acted { IsTrue (is_admitted S.certificate_bytes self.old.core.member.facts input) → IfOk result (IsActedOn D.eq L.elect S.certificate_bytes
+            S.IsMadeOf S.participants now input self.old self.new.core.member.facts self.new.batcher self.new.plan.steps.items) }
     {
         match input {
             Input::Proposal(from, proposal) => self.offer(from, proposal, now),
@@ -346,6 +354,7 @@ impl<S: Assembly<D>, L: Elector<S>, D: Digest> Engine<S, L, D> {
         ensures batcher { self.new.batcher ≡ self.old.batcher }
         ensures dropped { IfOk result (λ is_of_use. IsFalse is_of_use
             → IsLeftBy (call_of task now) self.old.core.member.facts self.new.core.member.facts) }
+        ensures acted { IfOk result (HasDone D.eq L.elect task now self.old.core.member.facts self.new.core.member.facts) }
     {
         let reply = self.core.call(task.call(now));
         self.follow(task, reply, now)
@@ -389,6 +398,8 @@ impl<S: Assembly<D>, L: Elector<S>, D: Digest> Engine<S, L, D> {
         ensures dropped { IfOk result (λ is_of_use. IsFalse is_of_use → self.new.core.member.facts ≡ self.old.core.member.facts) }
         ensures unadmitted { IsFalse (is_so (λ x. admits_proposal x from proposal.round) self.old.core.member.facts) → IfOk result (λ is_of_use.
             IsFalse is_of_use × (self.new ≡ record self.old { plan = record (self.old.plan) { early = self.new.plan.early } })) }
+        ensures acted { IsTrue (is_so (λ x. admits_proposal x from proposal.round) self.old.core.member.facts) → IfOk result
+            (HasDone D.eq L.elect (SetProposal proposal.round.view proposal) now self.old.core.member.facts self.new.core.member.facts) }
     {
         if self.admits_proposal(from, proposal.round) {
             return self.hand_in(proposal, now);
@@ -405,6 +416,8 @@ impl<S: Assembly<D>, L: Elector<S>, D: Digest> Engine<S, L, D> {
         ensures votes { TakesNone self.old.batcher self.new.batcher }
         ensures batcher { self.new.batcher ≡ self.old.batcher }
         ensures dropped { IfOk result (λ is_of_use. IsFalse is_of_use → self.new.core.member.facts ≡ self.old.core.member.facts) }
+        ensures acted { IfOk result (HasDone D.eq L.elect (SetProposal proposal.round.view proposal) now
+            self.old.core.member.facts self.new.core.member.facts) }
     {
         self.ask(Task::SetProposal(proposal.view(), proposal), now)
     }
@@ -447,6 +460,7 @@ impl<S: Assembly<D>, L: Elector<S>, D: Digest> Engine<S, L, D> {
         ensures votes { TakesNone self.old.batcher self.new.batcher }
         ensures batcher { self.new.batcher ≡ self.old.batcher }
         ensures dropped { IfOk result (λ is_of_use. IsFalse is_of_use → self.new.core.member.facts ≡ self.old.core.member.facts) }
+        ensures acted { IfOk result (HasDone D.eq L.elect (verification_of is_valid view) now self.old.core.member.facts self.new.core.member.facts) }
     {
         if is_valid {
             self.ask(Task::Verified(view), now)
@@ -466,6 +480,8 @@ impl<S: Assembly<D>, L: Elector<S>, D: Digest> Engine<S, L, D> {
         ensures votes { TakesNone self.old.batcher self.new.batcher }
         ensures batcher { self.new.batcher ≡ self.old.batcher }
         ensures dropped { IfOk result (λ is_of_use. IsFalse is_of_use → self.new.core.member.facts ≡ self.old.core.member.facts) }
+        ensures acted { IfOk result (IsBlockTaken D.eq L.elect (list_any (is_asked_in D.eq context.now) self.old.plan.builds.items)
+            context.now.round.view payload now self.old.core.member.facts self.new.core.member.facts) }
     {
         if !self.plan.is_building(context) {
             return Ok(false);
@@ -495,6 +511,9 @@ impl<S: Assembly<D>, L: Elector<S>, D: Digest> Engine<S, L, D> {
         ensures unadmitted { IsFalse (is_so (λ x. admits_votes x (subject_round vote.subject)) self.old.core.member.facts)
             → (result ≡ Ok false) × (self.new ≡ self.old) }
         ensures bounded { StaysBounded S.participants self.old.core self.old.batcher self.new.core self.new.batcher }
+        ensures acted { IsTrue (is_so (λ x. admits_votes x (subject_round vote.subject)) self.old.core.member.facts) → IfOk result
+            (IsVoteCounted D.eq L.elect S.certificate_bytes S.IsMadeOf S.participants now vote
+            self.old self.new.core.member.facts self.new.batcher self.new.plan.steps.items) }
     {
         if !self.admits_votes(round_of(&vote.subject)) {
             return Ok(false);
@@ -512,6 +531,8 @@ impl<S: Assembly<D>, L: Elector<S>, D: Digest> Engine<S, L, D> {
             → (self.new.core ≡ self.old.core) × HoldsAllTheSame self.old.batcher self.new.batcher) }
         ensures bounded { IsTrue (is_so (λ x. admits_votes x (subject_round vote.subject)) self.old.core.member.facts)
             → StaysBounded S.participants self.old.core self.old.batcher self.new.core self.new.batcher }
+        ensures acted { IfOk result (IsVoteCounted D.eq L.elect S.certificate_bytes S.IsMadeOf S.participants now vote
+            self.old self.new.core.member.facts self.new.batcher self.new.plan.steps.items) }
     {
         match self.batcher.count(vote, true)? {
             Counted::Certified(certificate) => {
@@ -536,6 +557,8 @@ impl<S: Assembly<D>, L: Elector<S>, D: Digest> Engine<S, L, D> {
         ensures dropped { IfOk result (λ is_of_use. IsFalse is_of_use → self.new.core.member.facts ≡ self.old.core.member.facts) }
         ensures unadmitted { IsFalse (is_so (λ x. admits x (certificate_facts S.certificate_bytes certificate)) self.old.core.member.facts)
             → (result ≡ Ok false) × (self.new ≡ self.old) }
+        ensures acted { IsTrue (is_so (λ x. admits x (certificate_facts S.certificate_bytes certificate)) self.old.core.member.facts) → IfOk result
+            (IsHandedIn D.eq L.elect S.certificate_bytes now certificate self.old.core.member.facts self.new.core.member.facts) }
     {
         if !self.admits(&certificate) {
             return Ok(false);

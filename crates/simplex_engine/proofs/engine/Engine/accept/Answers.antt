@@ -1,5 +1,7 @@
--- That no other certificate is accepted than the one that is handed in.
-use Rattle.std.proofs.Common.{Some, sym, subst}
+-- That no other certificate is accepted than the one that is handed in, and that one which is refused changes nothing.
+use Rattle.std.proofs.Common.{Some, sym, subst, ap, ◌∙◌}
+use Rattle.std.proofs.lemmas.Bool.{not-false}
+use Rattle.std.proofs.lemmas.Result.{IfOk-weaker}
 use Rattle.simplex_types.specs.Certificates.{certificate_facts}
 use Rattle.simplex_types.specs.Encoding.{certificate_subject}
 use Rattle.simplex_engine.specs.Going.{GoesOn}
@@ -10,4 +12,10 @@ returns-clause-goes_on g c =
     let bytes_of = g.S.CertificateScheme.certificate_bytes in
     let taken = Some (certificate_subject (certificate_facts bytes_of c.args.certificate)) in
     subst (GoesOn g.D.PartialEq.eq g.L.Elector.elect bytes_of taken c.args.self.now.core) (sym c.follow_certificate.ensures.core)
-    (c.call-reply.ensures.goes_on taken c.handing_in.ensures)
+    (c.call-reply.ensures.goes_on taken c.handing_in.ensures.on_this)
+
+pub returns-clause-dropped : goal.returns-clause-dropped
+returns-clause-dropped g c =
+    IfOk-weaker c.follow_certificate.result _ _ (λ is_of_use told no.
+      ap (λ core. core.member.facts) c.follow_certificate.ensures.core ∙ c.call-reply.ensures.refused (not-false _ (sym told ∙ no)))
+    c.follow_certificate.ensures.of_use
