@@ -1,6 +1,6 @@
 -- That what is held is bounded: votes stay those of members, and of views that are admitted; what is left is of views that are kept.
-use Rattle.std.proofs.Common.{◌≡◌, ◌≢◌, ℕ, ◌≤◌, ◌<◌, Bool, true, false, cond, eqb, leb, List, [], ◌∷◌, length, Option, Some, None, Result, Ok, Err, refl, ap, sym, ◌∙◌, subst, arith}
-use Rattle.std.specs.Prelude.{All, IfSome, IsTrue, Contains, ◌&&◌, ◌==◌, nat_le}
+use Rattle.std.proofs.Common.{◌≡◌, ℕ, ◌≤◌, ◌<◌, Bool, true, false, List, [], length, Option, Some, None, refl, sym, subst, arith}
+use Rattle.std.specs.Prelude.{IfSome, IsTrue, Contains, ◌&&◌, ◌==◌, nat_le}
 use Rattle.std.specs.Option.{option_map_or}
 use Rattle.std.proofs.lemmas.Bool.{le-leb, leb-true, and_parts}
 use Rattle.simplex_types.specs.Terms.{next_term_start}
@@ -13,31 +13,20 @@ use Rattle.simplex_voter.specs.Refusals.{is_started}
 use Rattle.simplex_voter.specs.Windows.{min_active, admits_vote}
 use Rattle.simplex_laws.specs.LifeLaws.{WhileAlive}
 use Rattle.simplex_engine.specs.declared.batcher.Batcher.{Batcher}
-use Rattle.simplex_engine.specs.declared.batcher.poll.Ballot.{Ballot}
-use Rattle.simplex_engine.specs.declared.fetches.Fetch.{Fetch}
 use Rattle.simplex_engine.specs.declared.journaled.Journaled.{Journaled}
 use Rattle.simplex_engine.specs.Admitting.{admits_votes, is_so}
-use Rattle.simplex_engine.specs.Polls.{ballot_of}
 use Rattle.simplex_engine.specs.Subjects.{subject_round}
-use Rattle.simplex_engine.specs.Batching.{Kind, held, AreGiven, EachVote, HoldsUpTo, HoldsFrom}
+use Rattle.simplex_engine.specs.Batching.{held, AreGiven, EachVote, HoldsUpTo, HoldsFrom}
 use Rattle.simplex_engine.specs.Backing.{TakesNone}
 use Rattle.simplex_engine.specs.Bounds.{HoldsFromKept, HoldsNoneAhead, StaysBounded, HoldsAdmitted}
 use Rattle.simplex_engine.specs.Going.{GoesOn, HasRisen}
 
 module _ {L S D K G C : Type 0} where
   -- where none is below the lowest view that is kept
-  pub kept_from : (life : Option (StateFacts K L D)) (lowest finalized : ℕ) (batcher : Batcher S D K G C)
-      → IfSome life (λ x. (min_active x ≡ lowest) × (x.finalized ≡ finalized)) → HoldsFrom lowest batcher → IfSome life (λ x. HoldsFrom (min_active x) batcher)
-  kept_from None lowest finalized batcher is from = tt
-  kept_from (Some x) lowest finalized batcher is from = subst (λ v. HoldsFrom v batcher) (sym is.0) from
-
-module _ {K L D : Type 0} where
-  -- where they are of views above the last finalized one
-  pub ahead_of : (life : Option (StateFacts K L D)) (lowest finalized : ℕ) (fetches : List Fetch)
-      → IfSome life (λ x. (min_active x ≡ lowest) × (x.finalized ≡ finalized)) → All (λ fetch. finalized < fetch.view) fetches
-      → IfSome life (λ x. All (λ fetch. x.finalized < fetch.view) fetches)
-  ahead_of None lowest finalized fetches is above = tt
-  ahead_of (Some x) lowest finalized fetches is above = subst (λ v. All (λ (fetch : Fetch). v < fetch.view) fetches) (sym is.1) above
+  pub kept_from : (life : Option (StateFacts K L D)) (lowest : ℕ) (batcher : Batcher S D K G C)
+      → IfSome life (λ x. min_active x ≡ lowest) → HoldsFrom lowest batcher → IfSome life (λ x. HoldsFrom (min_active x) batcher)
+  kept_from None lowest batcher is from = tt
+  kept_from (Some x) lowest batcher is from = subst (λ v. HoldsFrom v batcher) (sym is) from
 
 module _ {S D K G C : Type 0} where
   -- up to a higher view
@@ -76,12 +65,12 @@ next_monotone : (length v w : ℕ) → v ≤ w → next_term_start length v ≤ 
 next_monotone length v w up = omega (arith, start_monotone length v w up)
 
 module _ {S L D K G C : Type 0} (keys_of : S → List K) where
-  private_stays : (old new : Option (StateFacts K L D)) → WhileAlive HasRisen old new → (held left : Batcher S D K G C) → TakesNone held left
+  within_still : (old new : Option (StateFacts K L D)) → WhileAlive HasRisen old new → (held left : Batcher S D K G C) → TakesNone held left
       → IfSome old (λ x. HoldsUpTo (length (keys_of held.scheme)) (next_term_start x.terms.term_length x.current) held)
       → IfSome new (λ x. HoldsUpTo (length (keys_of left.scheme)) (next_term_start x.terms.term_length x.current) left)
-  private_stays old None risen held left none within = tt
-  private_stays None (Some y) risen held left none within = absurd risen
-  private_stays (Some x) (Some y) risen held left none within =
+  within_still old None risen held left none within = tt
+  within_still None (Some y) risen held left none within = absurd risen
+  within_still (Some x) (Some y) risen held left none within =
       subst (λ scheme. HoldsUpTo (length (keys_of scheme)) (next_term_start y.terms.term_length y.current) left) (sym none.scheme)
       (up_further (length (keys_of held.scheme)) (next_term_start x.terms.term_length x.current) (next_term_start y.terms.term_length y.current)
       (subst (λ t. next_term_start x.terms.term_length x.current ≤ next_term_start t.term_length y.current) (sym risen.terms)
@@ -90,7 +79,7 @@ module _ {S L D K G C : Type 0} (keys_of : S → List K) where
   -- where no vote is taken
   pub bounded_still : {same : D → D → Bool} {elect : Elect L} {bytes_of : C → List ℕ} {taken : Option (Subject D)} {a b : Journaled S L D K G C} {c d : Batcher S D K G C}
       → GoesOn same elect bytes_of taken a b → TakesNone c d → StaysBounded keys_of a c b d
-  bounded_still {a = a} {b = b} {c = c} {d = d} went none = record { stays = private_stays a.member.facts.life b.member.facts.life went.risen c d none }
+  bounded_still {a = a} {b = b} {c = c} {d = d} went none = record { stays = within_still a.member.facts.life b.member.facts.life went.risen c d none }
 
   -- one behind the other
   pub bounded_further : {a b c : Journaled S L D K G C} {d e f : Batcher S D K G C} → StaysBounded keys_of a d b e → StaysBounded keys_of b e c f → StaysBounded keys_of a d c f

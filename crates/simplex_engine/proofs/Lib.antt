@@ -4,6 +4,8 @@ mod Batching
 mod Earlier
 mod Once
 mod Passing
+mod Wanted
+mod Repairing
 mod Behind
 mod Copying
 mod Lawfully
@@ -22,3 +24,4 @@ mod Bounds
 mod Dropping
 mod Planning
 mod Planned
+mod Accepting

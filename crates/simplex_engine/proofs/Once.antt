@@ -1,8 +1,6 @@
 -- Fetches of which each kind and view is open once, after one is opened, some are closed, or one is asked for.
-use Rattle.std.proofs.Common.{◌≡◌, ◌≢◌, ℕ, zero, suc, Bool, true, false, cond, eqb, not, ◌&&◌, ◌||◌, List, [], ◌∷◌, ◌++◌, get_or, filter, refl, ap, sym, ◌∙◌, subst, arith}
+use Rattle.std.proofs.Common.{◌≡◌, ℕ, zero, suc, Bool, true, false, cond, eqb, not, ◌&&◌, ◌||◌, List, [], ◌∷◌, ◌++◌, get_or, filter, refl, ap, ◌∙◌, arith}
 use Rattle.std.specs.Prelude.{slice_set}
-use Rattle.std.specs.List.{list_any}
-use Rattle.std.proofs.lemmas.Bool.{and_parts, false≢true}
 use Rattle.std.proofs.lemmas.Bool.Decides.{nat_tests}
 use Rattle.simplex_engine.specs.declared.fetches.Fetch.{Fetch}
 use Rattle.simplex_engine.specs.declared.fetches.FetchKind.{FetchKind}
@@ -101,7 +99,7 @@ module _ (again : Fetch) where
   same_of : (kind : FetchKind) (view : ℕ) (fetch : Fetch) → IsAgain fetch → is_of kind view again ≡ is_of kind view fetch
   same_of kind view fetch (same, at) = ap (λ k. same_kind k kind && eqb again.view view) same ∙ ap (λ v. same_kind fetch.kind kind && eqb v view) at
 
-  open_again : (kind : FetchKind) (view : ℕ) (fetches : List Fetch) (place : ℕ) (d : Fetch) → IsAgain (get_or fetches place d) → is_open kind view (slice_set fetches place again) ≡ is_open kind view fetches
+  pub open_again : (kind : FetchKind) (view : ℕ) (fetches : List Fetch) (place : ℕ) (d : Fetch) → IsAgain (get_or fetches place d) → is_open kind view (slice_set fetches place again) ≡ is_open kind view fetches
   open_again kind view [] place d is = refl
   open_again kind view (first ∷ rest) zero d is = ap (λ b. b || is_open kind view rest) (same_of kind view first is)
   open_again kind view (first ∷ rest) (suc place) d is = ap (λ b. is_of kind view first || b) (open_again kind view rest place d is)

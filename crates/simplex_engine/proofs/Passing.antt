@@ -1,15 +1,8 @@
--- The fetches that are left once those of earlier views are closed.
-use Rattle.std.proofs.Common.{◌≡◌, ℕ, ◌<◌, suc, Bool, true, false, cond, ltb, not, List, [], ◌∷◌, length, Option, Some, None, filter, refl, ap, sym, ◌∙◌, arith}
-use Rattle.std.specs.Prelude.{All, nat_lt, position}
+-- That none of what is left passes a test that none passed.
+use Rattle.std.proofs.Common.{◌≡◌, Bool, true, false, cond, List, [], ◌∷◌, length, Some, None, filter, refl, ap, arith}
+use Rattle.std.specs.Prelude.{nat_lt, position}
 use Rattle.std.specs.List.{position_or_len}
-use Rattle.std.proofs.lemmas.Bool.{false≢true, ltb-true}
 use Rattle.std.proofs.lemmas.Bool.Decides.{nat_tests}
-use Rattle.std.proofs.lemmas.List.Elements.{All-map, filter_passes}
-use Rattle.simplex_engine.specs.declared.fetches.Fetch.{Fetch}
-
--- they are of later views
-pub passed_ahead : (finalized : ℕ) (fetches : List Fetch) → All (λ fetch. finalized < fetch.view) (filter (λ fetch. nat_lt finalized fetch.view) fetches)
-passed_ahead finalized fetches k d within = ltb-true finalized _ (filter_passes (λ (fetch : Fetch). nat_lt finalized fetch.view) fetches k d within)
 
 module _ {X : Type 0} (p q : X → Bool) where
   abbrev stands : List X → Bool

@@ -1,10 +1,17 @@
 -- Fetches that are open, and of whom they are asked.
-use Rattle.std.specs.Prelude.{◌≡◌, ℕ, ◌≤◌, ◌+◌, ◌-◌, ◌%◌, ◌^◌, Bool, true, false, ◌&&◌, ◌==◌, nat_le, nat_lt, min, List, [], ◌∷◌, not, All, Any, Option, Some, None, MatchOption, if◌then◌else◌, position}
+use Rattle.std.specs.Prelude.{◌≡◌, ℕ, ◌≤◌, ◌+◌, ◌-◌, ◌%◌, ◌^◌, Bool, true, false, ◌&&◌, ◌==◌, nat_le, nat_lt, min, List, [], ◌∷◌, ◌++◌, not, All, Any, Option, Some, None, MatchOption, if◌then◌else◌, position, filter}
 use Rattle.std.specs.List.{list_any}
+use Rattle.simplex_types.specs.declared.reasons.Kind.{Kind}
+use Rattle.simplex_types.specs.declared.reasons.Kind.TheVariants as kind
 use Rattle.simplex_engine.specs.declared.fetches.Fetch.{Fetch}
 use Rattle.simplex_engine.specs.declared.fetches.FetchKind.{FetchKind}
 use Rattle.simplex_engine.specs.declared.fetches.FetchKind.TheVariants.{Notarization, Nullification, Decision}
 use Rattle.simplex_engine.specs.declared.fetches.Peers.{Peers}
+
+-- the kind of certificate to ask for
+abbrev pub fetch_kind : Kind → FetchKind
+fetch_kind kind.Notarization = Notarization
+fetch_kind kind.Nullification = Nullification
 
 -- the same kind of certificate
 abbrev pub same_kind : FetchKind → FetchKind → Bool
@@ -33,6 +40,22 @@ each_once (fetch ∷ rest) = not (is_open fetch.kind fetch.view rest) && each_on
 -- one that was never asked for, and is to be at once
 abbrev pub fresh : FetchKind → ℕ → ℕ → ℕ → Fetch
 fresh kind view first now = record { kind = kind; view = view; first = first; count = 0; moment = now }
+
+-- a fetch is opened, where it is not open
+abbrev pub opened : FetchKind → ℕ → ℕ → ℕ → List Fetch → List Fetch
+opened kind view first moment fetches = if is_open kind view fetches then fetches else fetches ++ fresh kind view first moment ∷ []
+
+-- it is closed
+abbrev pub closed : FetchKind → ℕ → List Fetch → List Fetch
+closed kind view fetches = filter (λ fetch. not (is_of kind view fetch)) fetches
+
+-- those of the views up to this one are
+abbrev pub passed : ℕ → List Fetch → List Fetch
+passed finalized fetches = filter (λ (fetch : Fetch). nat_lt finalized fetch.view) fetches
+
+-- those of this kind are, of the views from one to another
+abbrev pub settled : FetchKind → ℕ → ℕ → List Fetch → List Fetch
+settled kind first last fetches = filter (λ fetch. not (is_within kind first last fetch)) fetches
 
 -- one that was asked for once more, and is to be again after the retry interval; both numbers stop at 2^64 - 1
 abbrev pub asked : ℕ → ℕ → Fetch → Fetch

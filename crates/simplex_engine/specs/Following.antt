@@ -1,19 +1,24 @@
 -- What is planned for an answer of the member.
-use Rattle.std.specs.Prelude.{◌≡◌, ℕ, ◌+◌, ◌-◌, ◌^◌, min, Bool, true, false, not, ◌==◌, nat_le, List, [], ◌∷◌, ◌++◌, Option, Some, None, is_some, if◌then◌else◌}
-use Rattle.simplex_types.specs.declared.reasons.Kind.{Kind}
-use Rattle.simplex_types.specs.declared.reasons.Kind.TheVariants as kind
+use Rattle.std.specs.Prelude.{◌≡◌, ℕ, ◌+◌, ◌-◌, ◌^◌, min, Bool, true, false, not, ◌==◌, nat_le, nat_lt, List, [], ◌∷◌, ◌++◌, Option, Some, None, is_some, if◌then◌else◌}
+use Rattle.simplex_types.specs.Certificates.{certificate_facts, notarization_facts}
+use Rattle.simplex_types.specs.Viewed.{certificate_view}
 use Rattle.simplex_types.specs.declared.reasons.TimeoutReason.{TimeoutReason}
 use Rattle.simplex_types.specs.declared.types.messages.Certificate.{Certificate}
+use Rattle.simplex_types.specs.declared.types.messages.Certificate.TheVariants as certificate
 use Rattle.simplex_types.specs.declared.types.messages.Context.{Context}
+use Rattle.simplex_types.specs.declared.types.messages.Notarization.{Notarization}
 use Rattle.simplex_types.specs.declared.types.messages.Nullify.{Nullify}
 use Rattle.simplex_types.specs.declared.types.messages.Proposal.{Proposal}
+use Rattle.simplex_resolver.specs.declared.resolver.effect.Effect.{Effect}
+use Rattle.simplex_resolver.specs.Steps.{effects, update, verdict}
+use Rattle.simplex_resolver.specs.Told.{IsMade}
+use Rattle.simplex_voter.specs.declared.voter.candidates.CertificateFetch.{CertificateFetch}
 use Rattle.simplex_voter.specs.declared.voter.propose.ProposalRequest.{ProposalRequest}
 use Rattle.simplex_voter.specs.declared.voter.propose.ProposalRequest.TheVariants.{Prepare, Propose}
 use Rattle.simplex_voter.specs.declared.voter.verify.Verify.{Verify}
 use Rattle.simplex_voter.specs.declared.voter.verify.Verify.TheVariants as verify
 use Rattle.simplex_member.specs.declared.member.calls.Reply.{Reply}
 use Rattle.simplex_member.specs.declared.member.calls.Reply.TheVariants as reply
-use Rattle.simplex_engine.specs.declared.engine.plan.Building.{Building}
 use Rattle.simplex_engine.specs.declared.engine.plan.Plan.{Plan}
 use Rattle.simplex_engine.specs.declared.engine.plan.Step.{Step}
 use Rattle.simplex_engine.specs.declared.engine.plan.Step.TheVariants.{Ask, Resolve, Repeat, Push}
@@ -21,16 +26,14 @@ use Rattle.simplex_engine.specs.declared.engine.task.Task.{Task}
 use Rattle.simplex_engine.specs.declared.engine.task.Task.TheVariants as task
 use Rattle.simplex_engine.specs.declared.fetches.Fetch.{Fetch}
 use Rattle.simplex_engine.specs.declared.fetches.FetchKind.{FetchKind}
-use Rattle.simplex_engine.specs.declared.fetches.FetchKind.TheVariants as fetch
 use Rattle.simplex_engine.specs.declared.output.Work.TheVariants as work
 use Rattle.simplex_engine.specs.Building.{all_but_at, asking_for, HasBuilds, IsEnded, IsStopped}
-use Rattle.simplex_engine.specs.Fetches.{is_open}
+use Rattle.simplex_engine.specs.declared.fetches.FetchKind.TheVariants as fetch
+use Rattle.simplex_engine.specs.declared.repair.Repair.{Repair}
+use Rattle.simplex_engine.specs.Fetches.{fetch_kind, is_open, closed}
 use Rattle.simplex_engine.specs.Planning.{HasPlanned, touching}
-
--- the kind of certificate to ask for
-abbrev pub fetch_kind : Kind → FetchKind
-fetch_kind kind.Notarization = fetch.Notarization
-fetch_kind kind.Nullification = fetch.Nullification
+use Rattle.simplex_engine.specs.Repairing.{HasFetches, IsRepaired}
+use Rattle.simplex_engine.specs.Wanted.{after_effects, fetching}
 
 module _ {S D K G C : Type 0} where
   -- blocks are to be watched
@@ -73,7 +76,7 @@ module _ {S D K G C : Type 0} where
   -- a proposal is verified, or a certificate is lacking for one
   abbrev pub IsVerifyFollowed : Verify D K → Plan S D K G C → Plan S D K G C → Type 0
   IsVerifyFollowed (verify.Ready context proposal) old new = HasPlanned (Push (work.Verify context proposal) ∷ []) old new
-  IsVerifyFollowed (verify.Resolve proposal view kind _) old new = HasPlanned (lacking (fetch_kind kind) view proposal old.fetches.wanted.items) old new
+  IsVerifyFollowed (verify.Resolve proposal view kind _) old new = HasPlanned (lacking (fetch_kind kind) view proposal old.repair.fetches.wanted.items) old new
   IsVerifyFollowed verify.Wait old new = new ≡ old
 
   -- a block is to be built: by a member alone not before it enters the view
@@ -116,21 +119,98 @@ module _ {S D K G C : Type 0} where
   IsTold proposal true old new = HasPlanned (Push (work.Finalized proposal) ∷ []) (record old { told = proposal.round.view }) new
   IsTold proposal false old new = new ≡ old
 
-  -- what is planned for the answer to a task, at a moment; of proposals to certify, of a verdict and of dropped views nothing is
-  -- said here
-  abbrev pub IsFollowed : ℕ → Task D → Reply S D K G C → Plan S D K G C → Plan S D K G C → Type 0
-  IsFollowed now asked (reply.Flag is_taken) old new = IsFlagFollowed asked is_taken old new
-  IsFollowed now asked (reply.Triggered is_latched) old new = IsFlagFollowed asked is_latched old new
-  IsFollowed now asked (reply.Released was_open) old new = IsFlagFollowed asked was_open old new
-  IsFollowed now asked (reply.Abandoned reason) old new = IsWatchFollowed asked (is_some reason) old new
-  IsFollowed now asked (reply.Work verify) old new = IsVerifyFollowed verify old new
-  IsFollowed now asked (reply.Request request) old new = IsRequestFollowed request old new
-  IsFollowed now asked (reply.Candidates _ _) old new = Unit {0}
-  IsFollowed now asked (reply.Certified _ _) old new = Unit {0}
-  IsFollowed now asked (reply.Nullify answer) old new = IsNullifyFollowed now answer old new
-  IsFollowed now asked (reply.Certificate certificate) old new = IsBroadcastFollowed certificate old new
-  IsFollowed now asked (reply.Timeout moment reason) old new = IsTimeoutFollowed now moment reason old new
-  IsFollowed now asked (reply.Views _) old new = Unit {0}
-  IsFollowed now asked (reply.Fault _) old new = IsRefusalFollowed asked old new
-  IsFollowed now asked reply.NotAllowed old new = IsRefusalFollowed asked old new
-  IsFollowed now asked _ old new = new ≡ old
+  -- proposals are certified, one behind the other
+  abbrev pub certifying : List (Proposal D) → List (Step S D K G C)
+  certifying [] = []
+  certifying (proposal ∷ rest) = Push (work.Certify proposal) ∷ Ask (task.SetHandle proposal.round.view) ∷ certifying rest
+
+  -- so they are, and the notarizations are asked for that others wait for
+  pub record AreCertified (now : ℕ) (proposals : List (Proposal D)) (wanted : List CertificateFetch) (old new : Plan S D K G C) : Type 0 where
+    pub steps : new.steps.items ≡ old.steps.items ++ certifying proposals
+    pub fetched : HasFetches (fetching now wanted old.repair.fetches.wanted.items) old.repair new.repair
+    pub same : new ≡ record old { steps = new.steps; repair = new.repair }
+
+  -- a finalization tells of its proposal
+  abbrev pub IsFinalTold : Certificate S D K G C → Plan S D K G C → Plan S D K G C → Type 0
+  IsFinalTold (certificate.Finalization f) old new = IsTold f.proposal (nat_lt old.told f.proposal.round.view) old new
+  IsFinalTold _ old new = new ≡ old
+
+  -- a notarization that came is asked for no longer
+  abbrev pub without : Certificate S D K G C → List Fetch → List Fetch
+  without (certificate.Notarization n) fetches = closed fetch.Notarization n.proposal.round.view fetches
+  without _ fetches = fetches
+
+module _ {S D K G C : Type 0} (bytes : D → List ℕ) (bytes_of : C → List ℕ) (now : ℕ) where
+  -- the moment from which on what is lacking is asked for: until then it may be on its way
+  abbrev pub later : Plan S D K G C → ℕ
+  later plan = min (now + plan.options.on_its_way) (2 ^ 64 - 1)
+
+  -- the resolver is told of a verdict, and something of the view has changed
+  pub record IsVerdictTold (is_success : Bool) (notarization : Notarization S D K G C) (old new : Plan S D K G C) : Type 0 where
+    pub repaired : IsRepaired (later old) (verdict bytes (notarization_facts bytes_of notarization) is_success) old.repair new.repair
+    pub planned : HasPlanned (touching notarization.proposal.round.view) (watching (record old { repair = new.repair })) new
+
+  -- where it is not on genesis
+  abbrev pub IsVerdictToldAbove : Bool → Bool → Notarization S D K G C → Plan S D K G C → Plan S D K G C → Type 0
+  IsVerdictToldAbove true is_success notarization old new = new ≡ old
+  IsVerdictToldAbove false is_success notarization old new = IsVerdictTold is_success notarization old new
+
+  -- a verdict was given, where the view is notarized
+  abbrev pub IsVerdictFollowed : Bool → Option (Notarization S D K G C) → Plan S D K G C → Plan S D K G C → Type 0
+  IsVerdictFollowed is_success None old new = new ≡ old
+  IsVerdictFollowed is_success (Some notarization) old new = IsVerdictToldAbove (notarization.proposal.round.view == 0) is_success notarization old new
+
+  -- what follows from a certificate for the resolver
+  abbrev pub effects_due : Certificate S D K G C → Plan S D K G C → List Effect
+  effects_due told old = effects old.repair.resolver.state (update bytes (certificate_facts bytes_of told))
+
+  -- it is told of one
+  pub record IsResolverTold (told : Certificate S D K G C) (old : Plan S D K G C) (repair : Repair) : Type 0 where
+    pub made : IsMade (update bytes (certificate_facts bytes_of told)) old.repair.resolver (effects_due told old) repair.resolver
+    pub fetched : repair.fetches.wanted.items ≡ without told (after_effects (later old) (effects_due told old) old.repair.fetches.wanted.items)
+
+  -- a new certificate: the resolver is told, then what is final, and something of the view has changed
+  pub record IsTakenIn (accepted : Certificate S D K G C) (old new : Plan S D K G C) : Type 0 where
+    pub heard : IsResolverTold accepted old new.repair
+    pub told : Plan S D K G C
+    pub is_told : IsFinalTold accepted (record old { repair = new.repair }) told
+    pub planned : HasPlanned (touching (certificate_view accepted)) (watching told) new
+
+  -- where it is not of genesis
+  abbrev pub IsTakenInAbove : Bool → Certificate S D K G C → Plan S D K G C → Plan S D K G C → Type 0
+  IsTakenInAbove true accepted old new = new ≡ old
+  IsTakenInAbove false accepted old new = IsTakenIn accepted old new
+
+  -- where it is new
+  abbrev pub IsNewFollowed : Bool → Certificate S D K G C → Plan S D K G C → Plan S D K G C → Type 0
+  IsNewFollowed true taken old new = IsTakenInAbove (certificate_view taken == 0) taken old new
+  IsNewFollowed false taken old new = new ≡ old
+
+  -- a notarization or a finalization was handed in: first it is shown that a leader signed two proposals, where one did
+  pub record IsAddedFollowed (added : Certificate S D K G C) (is_new : Bool) (equivocator : Option K) (old new : Plan S D K G C) : Type 0 where
+    pub shown : Plan S D K G C
+    pub is_shown : HasPlanned (showing (certificate_view added) equivocator) old shown
+    pub followed : IsNewFollowed is_new added shown new
+
+  -- what is planned for the answer to a certificate
+  abbrev pub IsCertificateFollowed : Certificate S D K G C → Reply S D K G C → Plan S D K G C → Plan S D K G C → Type 0
+  IsCertificateFollowed handed (reply.Added is_new equivocator) old new = IsAddedFollowed handed is_new equivocator old new
+  IsCertificateFollowed handed (reply.AddedNullification is_new) old new = IsNewFollowed is_new handed old new
+  IsCertificateFollowed handed _ old new = new ≡ old
+
+  -- what is planned for the answer to a task
+  abbrev pub IsFollowed : Task D → Reply S D K G C → Plan S D K G C → Plan S D K G C → Type 0
+  IsFollowed asked (reply.Flag is_taken) old new = IsFlagFollowed asked is_taken old new
+  IsFollowed asked (reply.Triggered is_latched) old new = IsFlagFollowed asked is_latched old new
+  IsFollowed asked (reply.Released was_open) old new = IsFlagFollowed asked was_open old new
+  IsFollowed asked (reply.Abandoned reason) old new = IsWatchFollowed asked (is_some reason) old new
+  IsFollowed asked (reply.Work verify) old new = IsVerifyFollowed verify old new
+  IsFollowed asked (reply.Request request) old new = IsRequestFollowed request old new
+  IsFollowed asked (reply.Candidates proposals wanted) old new = AreCertified now proposals.items wanted.items old new
+  IsFollowed asked (reply.Certified is_success notarization) old new = IsVerdictFollowed is_success notarization old new
+  IsFollowed asked (reply.Nullify answer) old new = IsNullifyFollowed now answer old new
+  IsFollowed asked (reply.Certificate certificate) old new = IsBroadcastFollowed certificate old new
+  IsFollowed asked (reply.Timeout moment reason) old new = IsTimeoutFollowed now moment reason old new
+  IsFollowed asked (reply.Fault _) old new = IsRefusalFollowed asked old new
+  IsFollowed asked reply.NotAllowed old new = IsRefusalFollowed asked old new
+  IsFollowed asked _ old new = new ≡ old

@@ -4,6 +4,8 @@ pub mod Counting
 pub mod Batching
 pub mod Fetches
 pub mod Asking
+pub mod Wanted
+pub mod Repairing
 pub mod Entries
 pub mod Outputs
 pub mod Outboxes

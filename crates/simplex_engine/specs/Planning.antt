@@ -13,7 +13,7 @@ pub record IsIdle {S D K G C : Type 0} (now : ℕ) (plan : Plan S D K G C) : Typ
   pub watched : plan.is_watch_due ≡ false
   pub timeout : plan.is_timeout_due ≡ false
   pub pruned : plan.is_prune_due ≡ false
-  pub fetched : due_at now plan.fetches.wanted.items ≡ None
+  pub fetched : due_at now plan.repair.fetches.wanted.items ≡ None
 
 module _ {S D K G C : Type 0} where
   -- these steps stand behind those that were queued, and nothing else has changed

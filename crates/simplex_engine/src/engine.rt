@@ -58,7 +58,8 @@ impl<S: Assembly<D>, L: Elector<S>, D: Digest> Engine<S, L, D> {
     ghost use Rattle.simplex_engine.specs.Planning.{IsIdle};
     ghost use Rattle.simplex_engine.specs.Inputs.{subject_in, given_out};
     ghost use Rattle.simplex_engine.specs.Backing.{votes_in, TakesVotes, TakesNone, IsBackedInput};
-    ghost use Rattle.simplex_engine.specs.Bounds.{HoldsFromKept, FetchesAhead, HoldsNoneAhead, StaysBounded, HoldsAdmitted};
+    ghost use Rattle.simplex_engine.specs.Bounds.{HoldsFromKept, HoldsNoneAhead, StaysBounded, HoldsAdmitted};
+    ghost use Rattle.simplex_engine.specs.Repairing.{AsksForItsLacking};
     ghost use Rattle.simplex_engine.specs.Dropping.{IsDropped};
     ghost use Rattle.simplex_engine.specs.Admitting.{is_admitted, IsTurnedAway, ignoring};
     ghost use Rattle.simplex_engine.specs.Acting.{IsActedOn};
@@ -121,8 +122,9 @@ impl<S: Assembly<D>, L: Elector<S>, D: Digest> Engine<S, L, D> {
     ///   its work, its votes on the current view and the certificates of it, and had nothing new.
     /// - `idle`: where nothing is answered, nothing is to be done at the moment: no step is queued, the timeout was asked for, and
     ///   no fetch is due.
-    /// - `lowest`, `ahead`: where nothing is answered, no vote is held of a view below the lowest one that is kept, and each open
-    ///   fetch is of a view above the last finalized one.
+    /// - `lowest`: where nothing is answered, no vote is held of a view below the lowest one that is kept.
+    /// - `lacking`: and just what is lacking is asked for: each open fetch is of a view above the last finalized one, and of a
+    ///   certificate that the state does not hold; and of each such view that the resolver has open, a nullification is asked for.
     /// - `admitted`: so each vote that is held is a member's, and of a view whose votes are taken: at most three of each member a
     ///   view.
     ///
@@ -135,7 +137,7 @@ impl<S: Assembly<D>, L: Elector<S>, D: Digest> Engine<S, L, D> {
         ensures none { IfOk result (λ out. IsNone out → IsSettled D.eq L.elect S.certificate_bytes self.new.core) }
         ensures idle { IfOk result (λ out. IsNone out → IsIdle now self.new.plan) }
         ensures lowest { IfOk result (λ out. IsNone out → HoldsFromKept self.new.core self.new.batcher) }
-        ensures ahead { IfOk result (λ out. IsNone out → FetchesAhead self.new.core self.new.plan.fetches.wanted.items) }
+        ensures lacking { IfOk result (λ out. IsNone out → AsksForItsLacking self.new.core self.new.plan.repair) }
         ensures admitted { HoldsNoneAhead S.participants self.old.core self.old.batcher
             → IfOk result (λ out. IsNone out → HoldsAdmitted S.participants self.new.core self.new.batcher) }
         ensures votes { TakesNone self.old.batcher self.new.batcher }
@@ -159,7 +161,7 @@ impl<S: Assembly<D>, L: Elector<S>, D: Digest> Engine<S, L, D> {
         ensures none { IfOk result (λ out. IsNone out → IsSettled D.eq L.elect S.certificate_bytes self.new.core) }
         ensures idle { IfOk result (λ out. IsNone out → IsIdle now self.new.plan) }
         ensures lowest { IfOk result (λ out. IsNone out → HoldsFromKept self.new.core self.new.batcher) }
-        ensures ahead { IfOk result (λ out. IsNone out → FetchesAhead self.new.core self.new.plan.fetches.wanted.items) }
+        ensures lacking { IfOk result (λ out. IsNone out → AsksForItsLacking self.new.core self.new.plan.repair) }
         ensures votes { TakesNone self.old.batcher self.new.batcher }
         ensures bounded { StaysBounded S.participants self.old.core self.old.batcher self.new.core self.new.batcher }
         ensures failed { OnErr result (has_failed self.new.core ≡ true) }
@@ -182,7 +184,7 @@ impl<S: Assembly<D>, L: Elector<S>, D: Digest> Engine<S, L, D> {
 
     /// The moment in milliseconds at which `poll` is to be called where nothing comes before.
     pub fn wake(&self) -> u64
-        ensures { IsWake self.now.plan.fetches.wanted.items self.now.plan.timeout result }
+        ensures { IsWake self.now.plan.repair.fetches.wanted.items self.now.plan.timeout result }
     {
         self.plan.wake()
     }
@@ -196,14 +198,14 @@ impl<S: Assembly<D>, L: Elector<S>, D: Digest> Engine<S, L, D> {
 
     /// The fetches that are open.
     pub fn fetches(&self) -> &Fetches
-        ensures { result.now ≡ self.now.plan.fetches }
+        ensures { result.now ≡ self.now.plan.repair.fetches }
     {
         self.plan.fetches()
     }
 
     /// The resolver, whose state serves peers that lag behind.
     pub fn resolver(&self) -> &LawfulResolver
-        ensures { result.now ≡ self.now.plan.resolver }
+        ensures { result.now ≡ self.now.plan.repair.resolver }
     {
         self.plan.resolver()
     }

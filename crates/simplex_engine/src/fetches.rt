@@ -4,9 +4,13 @@
 //! retry interval is over, of the next peer in turn and never of this member; and that `wake` is the moment of the next
 //! asking. Moments are milliseconds, and do not fall.
 
-ghost use Rattle.std.specs.Prelude.{◌≡◌, ◌≢◌, ◌≤◌, [], ◌++◌, ◌∷◌, true, not, filter, is_some, length, nat_lt, IfOk, OnOk, OnErr, IfSome, IsTrue, if◌then◌else◌};
-ghost use Rattle.simplex_engine.specs.Fetches.{same_kind, is_of, is_within, is_open, each_once, due_at, fresh, asked, first_of, peers_of, place_of, whose_turn, IsEarliest};
+ghost use Rattle.std.specs.Prelude.{◌≡◌, ◌≢◌, ◌≤◌, ℕ, [], ◌++◌, ◌∷◌, true, not, filter, is_some, length, nat_lt, IfOk, OnOk, OnErr, IfSome, IsTrue, if◌then◌else◌};
+ghost use Rattle.simplex_engine.specs.Fetches.{fetch_kind, same_kind, is_of, is_within, is_open, each_once, due_at, fresh, asked, first_of, peers_of, place_of, whose_turn, IsEarliest};
 
+mod applying;
+mod lacking;
+
+use simplex_types::reasons::Kind;
 use simplex_types::types::{Participant, View};
 use std::alloc::{AllocError, Global};
 
@@ -31,6 +35,16 @@ impl FetchKind {
             FetchKind::Nullification => matches!(other, FetchKind::Nullification),
             FetchKind::Decision => matches!(other, FetchKind::Decision),
         }
+    }
+}
+
+/// The kind of certificate to ask for.
+pub(crate) fn fetch_kind(kind: Kind) -> FetchKind
+    ensures { result ≡ fetch_kind kind }
+{
+    match kind {
+        Kind::Notarization => FetchKind::Notarization,
+        Kind::Nullification => FetchKind::Nullification,
     }
 }
 
@@ -187,7 +201,8 @@ impl Fetches {
     /// The first fetch whose moment has come, and of whom it is asked. It is to be asked for again, of the next peer, after the
     /// retry interval. An engine asks until there is none.
     pub fn ask(&mut self, now: u64) -> Option<Ask>
-        ensures { IsAsking now self.old result self.new }
+        ensures asked { IsAsking now self.old result self.new }
+        ensures still { (kind : _) (view : ℕ) → is_open kind view self.new.wanted.items ≡ is_open kind view self.old.wanted.items }
     {
         let place = due_at(&self.wanted, now)?;
         let fetch = self.wanted[place];

@@ -8,4 +8,5 @@ pub mod input;
 pub mod journaled;
 pub mod outbox;
 pub mod output;
+pub mod repair;
 pub mod votes;

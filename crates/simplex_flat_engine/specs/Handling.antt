@@ -6,7 +6,8 @@ use Rattle.simplex_host.specs.Host.{certificate_bytes, keys_of}
 use Rattle.simplex_engine.specs.declared.output.Output.TheVariants as output
 use Rattle.simplex_engine.specs.Admitting.{IsTurnedAway, ignoring, is_admitted}
 use Rattle.simplex_engine.specs.Backing.{IsBackedInput, TakesNone, TakesVotes, votes_in}
-use Rattle.simplex_engine.specs.Bounds.{FetchesAhead, HoldsAdmitted, HoldsFromKept, HoldsNoneAhead, StaysBounded}
+use Rattle.simplex_engine.specs.Bounds.{HoldsAdmitted, HoldsFromKept, HoldsNoneAhead, StaysBounded}
+use Rattle.simplex_engine.specs.Repairing.{AsksForItsLacking}
 use Rattle.simplex_engine.specs.Dropping.{IsDropped}
 use Rattle.simplex_engine.specs.Going.{DoesMoreOn, GoesOn, IsKept, IsWhole, has_failed}
 use Rattle.simplex_engine.specs.Inputs.{subject_in}
@@ -139,13 +140,13 @@ HoldsRecord given held =
     held.engine.core.failed ≡ false → held.engine.core.outbox.queue.items ≡ [] → IsWhole certificate_bytes held.engine.core
     → IsRecordOf certificate_bytes held.engine.core.member (journal_of given)
 
--- an engine has nothing more to do at a moment, and holds no vote or fetch of views that are over; where no vote was held above
--- those that are taken, each that is held is a member's, and of a view whose votes are taken
+-- an engine has nothing more to do at a moment, holds no vote of views that are over, and asks for just what is lacking; where no
+-- vote was held above those that are taken, each that is held is a member's, and of a view whose votes are taken
 pub record IsAtRest (now : ℕ) (old new : HostEngine) : Type 0 where
   pub settled : IsSettled same_payload host_leader certificate_bytes new.core
   pub idle : IsIdle now new.plan
   pub lowest : HoldsFromKept new.core new.batcher
-  pub ahead : FetchesAhead new.core new.plan.fetches.wanted.items
+  pub lacking : AsksForItsLacking new.core new.plan.repair
   pub admitted : HoldsNoneAhead keys_of old.core old.batcher → HoldsAdmitted keys_of new.core new.batcher
 
 -- what a poll comes to at a moment: something is given out; nothing is left to be done then; or the engine has failed

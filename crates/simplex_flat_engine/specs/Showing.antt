@@ -28,9 +28,9 @@ is_failed held = held.is_lost || has_failed held.engine.core
 -- what an engine knows of itself
 pub record ShowsStatus (held : HeldEngine) (r : FlatStatus) : Type 0 where
   pub status : r.status ≡ (if is_failed held then 2 else 0)
-  pub wake : IsWake held.engine.plan.fetches.wanted.items held.engine.plan.timeout r.wake
+  pub wake : IsWake held.engine.plan.repair.fetches.wanted.items held.engine.plan.timeout r.wake
   pub ignored : r.ignored ≡ held.engine.plan.ignored
-  pub fetches : r.fetches ≡ length held.engine.plan.fetches.wanted.items
+  pub fetches : r.fetches ≡ length held.engine.plan.repair.fetches.wanted.items
 
 -- a fetch is of these numbers
 pub record IsOpenAs (f : Fetch) (r : FlatOpen) : Type 0 where
@@ -42,7 +42,7 @@ pub record IsOpenAs (f : Fetch) (r : FlatOpen) : Type 0 where
 -- there is no such open fetch, or this one
 abbrev pub ShowsOpenFetch : HeldEngine → ℕ → FlatOpen → Type 0
 ShowsOpenFetch held index r =
-    (r.status ≡ 0) × MatchOption (slice_get held.engine.plan.fetches.wanted.items index) (r.fetch ≡ 0) (λ f. IsOpenAs f r)
+    (r.status ≡ 0) × MatchOption (slice_get held.engine.plan.repair.fetches.wanted.items index) (r.fetch ≡ 0) (λ f. IsOpenAs f r)
 
 -- what the member knows of a view
 abbrev pub ShowsView : HeldEngine → ℕ → FlatView → Type 0
@@ -57,5 +57,5 @@ pub record ShowsFound (old : HeldEngine) (kind view : ℕ) (r : FlatFound) (new 
 -- how what a peer is served for a view is shown
 pub record ShowsServed (old : HeldEngine) (view : ℕ) (r : FlatServed) (new : HeldEngine) : Type 0 where
   pub of_view : r.view ≡ view
-  pub served : HasServedOf old.engine.plan.resolver.state view r new.shown.items
+  pub served : HasServedOf old.engine.plan.repair.resolver.state view r new.shown.items
   pub rest : new ≡ record old { shown = new.shown }

@@ -8,8 +8,9 @@ ghost use Rattle.simplex_engine.specs.Going.{IsKept, IsWhole};
 use super::Engine;
 use super::plan::{Options, Plan, Views};
 use crate::batcher::Batcher;
-use crate::fetches::{FetchKind, Fetches, Peers};
+use crate::fetches::{Fetches, Peers};
 use crate::journaled::Journaled;
+use crate::repair::Repair;
 use simplex_assembly::assembly::Assembly;
 use simplex_lawful::lawful::LawfulMember;
 use simplex_member::member::{RecoverError, ResumeError, Start, Stored};
@@ -18,7 +19,6 @@ use simplex_types::types::{
     Artifact, CertificateScheme, Digest, Elector, Scheme, TermLength, View,
 };
 use std::alloc::{AllocError, Global};
-use std::collections::BTreeSet;
 use std::error::Error;
 use std::fmt;
 
@@ -218,27 +218,9 @@ fn plan_of<S: Scheme<D>, L: Elector<S>, D: Digest>(
     options: Options,
 ) -> Result<Plan<S, D>, StartError> {
     let resolver = resolver_of(alloc, company.term_length, member.record())?;
-    let fetches = fetches_of(alloc, company.peers, options.retry, &resolver)?;
-    Ok(Plan::new(
-        alloc,
-        options,
-        company.is_alone,
-        views_of(member),
-        resolver,
-        fetches,
-    ))
-}
-
-/// The fetches of what a resolver wants.
-fn fetches_of(
-    alloc: Global,
-    peers: Peers,
-    retry: u64,
-    resolver: &LawfulResolver,
-) -> Result<Fetches, AllocError> {
-    let mut fetches = Fetches::new(alloc, peers, retry);
-    open_all(&mut fetches, resolver.fetches())?;
-    Ok(fetches)
+    let fetches = Fetches::new(alloc, company.peers, options.retry);
+    let repair = Repair::new(resolver, fetches)?;
+    Ok(Plan::new(alloc, options, company.is_alone, views_of(member), repair))
 }
 
 /// The resolver of a record.
@@ -251,14 +233,6 @@ fn resolver_of<S: CertificateScheme, D: Digest>(
         Ok(resolver) => Ok(resolver),
         Err(error) => Err(StartError::Replay(error)),
     }
-}
-
-/// Opens the fetch of each view.
-fn open_all(fetches: &mut Fetches, views: &BTreeSet<View>) -> Result<(), AllocError> {
-    for view in views {
-        fetches.open(FetchKind::Nullification, *view, None, 0)?;
-    }
-    Ok(())
 }
 
 /// The views that a member begins at.

@@ -5,19 +5,22 @@ mod early;
 mod following;
 mod working;
 
-ghost use Rattle.std.specs.Prelude.{◌≡◌, ◌≢◌, ◌<◌, ◌+◌, ◌-◌, ◌^◌, ℕ, All, min, max, true, false, [], ◌∷◌, ◌++◌, Some, Ok, IfOk, OnOk, IsOk, IsNone, IsTrue, ◌↔◌};
+ghost use Rattle.std.specs.Prelude.{◌≡◌, ◌≢◌, ◌+◌, ◌-◌, ◌^◌, ℕ, min, max, true, false, [], ◌∷◌, ◌++◌, Some, Ok, IfOk, OnOk, IsOk, IsNone, IsTrue, ◌↔◌};
 ghost use Rattle.simplex_engine.specs.Settled.{IsWake};
+ghost use Rattle.simplex_engine.specs.Wanted.{AsksForTheLacking};
 ghost use Rattle.simplex_engine.specs.Planning.{IsIdle, HasPlanned, for_votes, for_certificates, touching};
 ghost use Rattle.simplex_engine.specs.declared.engine.plan.Step.TheVariants.{Ask, Push};
 
 use super::task::Task;
 use crate::fetches::{FetchKind, Fetches};
 use crate::output::Work;
+use crate::repair::Repair;
 use early::EarlyProposals;
 use simplex_resolver::replay::LawfulResolver;
 use simplex_types::types::{
-    CertificateScheme, Context, Digest, Fault, Participant, Proposal, View,
+    CertificateScheme, Context, Digest, Elector, Fault, Participant, Proposal, View,
 };
+use simplex_voter::voter::State;
 use std::alloc::{AllocError, Global};
 use std::collections::VecDeque;
 
@@ -87,8 +90,7 @@ pub struct Plan<S: CertificateScheme, D> {
     /// The highest view whose finalization was told.
     told: View,
     steps: VecDeque<Step<S, D>>,
-    resolver: LawfulResolver,
-    fetches: Fetches,
+    repair: Repair,
     builds: Vec<Building<D, S::PublicKey>>,
     early: EarlyProposals<D>,
     is_watch_due: bool,
@@ -107,12 +109,11 @@ impl<S: CertificateScheme, D: Digest> Plan<S, D> {
         options: Options,
         is_alone: bool,
         views: Views,
-        resolver: LawfulResolver,
-        fetches: Fetches,
+        repair: Repair,
     ) -> Plan<S, D>
         ensures options { (result.options ≡ options) × (result.is_alone ≡ is_alone) }
         ensures views { (result.views ≡ views) × (result.told ≡ views.last_finalized) }
-        ensures fetches { (result.resolver ≡ resolver) × (result.fetches ≡ fetches) }
+        ensures repair { result.repair ≡ repair }
         ensures nothing { (result.steps.items ≡ []) × (result.builds.items ≡ []) × (result.early.proposals.items ≡ []) × (result.ignored ≡ 0) }
         ensures due { (result.is_watch_due ≡ true) × (result.is_timeout_due ≡ true) × (result.is_prune_due ≡ true) × (result.timeout ≡ 0) }
     {
@@ -123,8 +124,7 @@ impl<S: CertificateScheme, D: Digest> Plan<S, D> {
             views,
             told: views.last_finalized,
             steps: VecDeque::new(alloc),
-            resolver,
-            fetches,
+            repair,
             builds: Vec::new(alloc),
             early: EarlyProposals::new(alloc),
             is_watch_due: true,
@@ -137,16 +137,16 @@ impl<S: CertificateScheme, D: Digest> Plan<S, D> {
 
     /// The resolver, with its open fetches.
     pub fn resolver(&self) -> &LawfulResolver
-        ensures { result.now ≡ self.now.resolver }
+        ensures { result.now ≡ self.now.repair.resolver }
     {
-        &self.resolver
+        self.repair.resolver()
     }
 
     /// The fetches that are open.
     pub fn fetches(&self) -> &Fetches
-        ensures { result.now ≡ self.now.fetches }
+        ensures { result.now ≡ self.now.repair.fetches }
     {
-        &self.fetches
+        self.repair.fetches()
     }
 
     /// How many inputs were of no use.
@@ -158,9 +158,9 @@ impl<S: CertificateScheme, D: Digest> Plan<S, D> {
 
     /// The moment at which something is due, where nothing comes before.
     pub fn wake(&self) -> u64
-        ensures { IsWake self.now.fetches.wanted.items self.now.timeout result }
+        ensures { IsWake self.now.repair.fetches.wanted.items self.now.timeout result }
     {
-        match self.fetches.wake() {
+        match self.fetches().wake() {
             Some(moment) => moment.min(self.timeout),
             None => self.timeout,
         }
@@ -181,16 +181,16 @@ impl<S: CertificateScheme, D: Digest> Plan<S, D> {
         self.is_prune_due = true;
     }
 
-    /// The fetches that a finalization of the view passed are closed.
+    /// The fetches of what the state does not lack are closed.
     ///
-    /// - `ahead`: those that are open are of later views.
+    /// - `lacking`: just what it lacks is asked for.
     /// - `idle`: where nothing was to be done, nothing is.
-    pub fn pass(&mut self, finalized: View)
-        ensures same { self.new ≡ record self.old { fetches = self.new.fetches } }
-        ensures ahead { All (λ fetch. finalized < fetch.view) self.new.fetches.wanted.items }
+    pub fn let_go<L: Elector<S>>(&mut self, state: &State<S, L, D>) -> Result<(), Fault>
+        ensures same { self.new ≡ record self.old { repair = self.new.repair } }
+        ensures lacking { OnOk result (AsksForTheLacking self.new.repair.resolver.open_fetches state.now self.new.repair.fetches.wanted.items) }
         ensures idle { (now : ℕ) → IsIdle now self.old → IsIdle now self.new }
     {
-        self.fetches.pass(finalized);
+        self.repair.let_go(state)
     }
 
     /// Whether nothing is to be done at the moment.
@@ -201,7 +201,7 @@ impl<S: CertificateScheme, D: Digest> Plan<S, D> {
             && !self.is_watch_due
             && !self.is_timeout_due
             && !self.is_prune_due
-            && !self.fetches.is_due(now)
+            && !self.fetches().is_due(now)
     }
 
     /// The next step.
@@ -255,7 +255,7 @@ impl<S: CertificateScheme, D: Digest> Plan<S, D> {
             self.is_prune_due = false;
             return self.ask(Task::Prune);
         }
-        match self.fetches.ask(now) {
+        match self.repair.ask(now) {
             Some(ask) => self.push(Work::Fetch(ask)),
             None => Ok(()),
         }

@@ -30,20 +30,14 @@ use simplex_types::types::{
 };
 use simplex_voter::voter::{State, Verify};
 
-/// From which view on what is held is kept, and the last finalized one.
-#[derive(Clone, Copy)]
-struct Horizon {
-    lowest: View,
-    finalized: View,
-}
-
 impl<S: Assembly<D>, L: Elector<S>, D: Digest> Engine<S, L, D> {
     ghost use Rattle.simplex_engine.specs.Going.{IsWhole, GoesOn};
     ghost use Rattle.simplex_engine.specs.Inputs.{subject_in};
     ghost use Rattle.simplex_engine.specs.Backing.{votes_in, TakesVotes, TakesNone, IsBacked, IsBackedInput};
     ghost use Rattle.simplex_engine.specs.Quiet.{current_view, for_all, for_work, for_votes, for_certificates, AnswersNothing, AnswerNothing, HasNothingNew};
     ghost use Rattle.simplex_engine.specs.Planning.{IsIdle};
-    ghost use Rattle.simplex_engine.specs.Bounds.{HoldsFromKept, FetchesAhead, StaysBounded};
+    ghost use Rattle.simplex_engine.specs.Bounds.{HoldsFromKept, StaysBounded};
+    ghost use Rattle.simplex_engine.specs.Repairing.{AsksForItsLacking};
     ghost use Rattle.simplex_voter.specs.Windows.{min_active};
     ghost use Rattle.simplex_engine.specs.Batching.{HoldsAllTheSame};
     ghost use Rattle.simplex_engine.specs.Subjects.{subject_round};
@@ -101,8 +95,7 @@ impl<S: Assembly<D>, L: Elector<S>, D: Digest> Engine<S, L, D> {
     ///
     /// - `quiet`: it was asked for all that may be due last, and had nothing new.
     /// - `idle`: nothing is to be done at the moment.
-    /// - `lowest`, `ahead`: no vote is held of a view below the lowest one that is kept, and no fetch is open up to the last
-    ///   finalized one.
+    /// - `lowest`, `lacking`: no vote is held of a view below the lowest one that is kept, and just what is lacking is asked for.
     pub(super) fn work(&mut self, now: u64) -> Result<(), Fault>
         ensures goes_on { GoesOn D.eq L.elect S.certificate_bytes None self.old.core self.new.core }
         ensures votes { TakesNone self.old.batcher self.new.batcher }
@@ -110,7 +103,7 @@ impl<S: Assembly<D>, L: Elector<S>, D: Digest> Engine<S, L, D> {
         ensures quiet { OnOk result (HasNothingNew D.eq L.elect self.new.core.member.facts) }
         ensures idle { OnOk result (IsIdle now self.new.plan) }
         ensures lowest { OnOk result (HoldsFromKept self.new.core self.new.batcher) }
-        ensures ahead { OnOk result (FetchesAhead self.new.core self.new.plan.fetches.wanted.items) }
+        ensures lacking { OnOk result (AsksForItsLacking self.new.core self.new.plan.repair) }
     {
         self.prepare(now)?;
         self.finish(now)
@@ -136,7 +129,7 @@ impl<S: Assembly<D>, L: Elector<S>, D: Digest> Engine<S, L, D> {
         ensures quiet { OnOk result (HasNothingNew D.eq L.elect self.new.core.member.facts) }
         ensures idle { OnOk result (IsIdle now self.new.plan) }
         ensures lowest { OnOk result (HoldsFromKept self.new.core self.new.batcher) }
-        ensures ahead { OnOk result (FetchesAhead self.new.core self.new.plan.fetches.wanted.items) }
+        ensures lacking { OnOk result (AsksForItsLacking self.new.core self.new.plan.repair) }
     {
         self.run_all(now)?;
         self.settle()?;
@@ -151,7 +144,7 @@ impl<S: Assembly<D>, L: Elector<S>, D: Digest> Engine<S, L, D> {
         ensures idle { (now : ℕ) → IsIdle now self.old.plan → IsIdle now self.new.plan }
         ensures whole { OnOk result (IsWhole S.certificate_bytes self.new.core) }
         ensures lowest { OnOk result (HoldsFromKept self.new.core self.new.batcher) }
-        ensures ahead { OnOk result (FetchesAhead self.new.core self.new.plan.fetches.wanted.items) }
+        ensures lacking { OnOk result (AsksForItsLacking self.new.core self.new.plan.repair) }
     {
         self.let_go()?;
         self.core.store()?;
@@ -619,32 +612,40 @@ impl<S: Assembly<D>, L: Elector<S>, D: Digest> Engine<S, L, D> {
         }
     }
 
-    /// Lets go what is held of views that are not kept: votes here and elsewhere, and fetches that a finalization passed.
+    /// Lets go what is held of views that are not kept: votes here and elsewhere; and fetches of what is not lacking.
     fn let_go(&mut self) -> Result<(), Fault>
         ensures goes_on { GoesOn D.eq L.elect S.certificate_bytes None self.old.core self.new.core }
         ensures votes { TakesNone self.old.batcher self.new.batcher }
         ensures member { self.new.core.member ≡ self.old.core.member }
         ensures idle { (now : ℕ) → IsIdle now self.old.plan → IsIdle now self.new.plan }
         ensures lowest { OnOk result (HoldsFromKept self.new.core self.new.batcher) }
-        ensures ahead { OnOk result (FetchesAhead self.new.core self.new.plan.fetches.wanted.items) }
+        ensures lacking { OnOk result (AsksForItsLacking self.new.core self.new.plan.repair) }
     {
-        let horizon = self.horizon()?;
-        self.tell_forgotten(horizon.lowest)?;
-        self.plan.pass(horizon.finalized);
-        self.batcher.forget(horizon.lowest);
-        Ok(())
+        let lowest = self.lowest_kept()?;
+        self.tell_forgotten(lowest)?;
+        self.batcher.forget(lowest);
+        self.let_fetches_go()
     }
 
-    /// Which views are kept. A member that has failed since found no memory.
-    fn horizon(&self) -> Result<Horizon, Fault>
-        ensures { IfOk result (λ horizon. IfSome self.now.core.member.facts.life
-            (λ x. (min_active x ≡ horizon.lowest) × (x.finalized ≡ horizon.finalized))) }
+    /// From which view on what is held is kept. A member that has failed since found no memory.
+    fn lowest_kept(&self) -> Result<View, Fault>
+        ensures { IfOk result (λ lowest. IfSome self.now.core.member.facts.life (λ x. min_active x ≡ lowest)) }
     {
         match self.core.state() {
-            Some(state) => Ok(Horizon {
-                lowest: state.min_active(),
-                finalized: state.last_finalized(),
-            }),
+            Some(state) => Ok(state.min_active()),
+            None => Err(Fault::OutOfMemory),
+        }
+    }
+
+    /// Closes the fetches of what the member's state does not lack.
+    fn let_fetches_go(&mut self) -> Result<(), Fault>
+        ensures core { self.new.core ≡ self.old.core }
+        ensures batcher { self.new.batcher ≡ self.old.batcher }
+        ensures idle { (now : ℕ) → IsIdle now self.old.plan → IsIdle now self.new.plan }
+        ensures lacking { OnOk result (AsksForItsLacking self.new.core self.new.plan.repair) }
+    {
+        match self.core.state() {
+            Some(state) => self.plan.let_go(state),
             None => Err(Fault::OutOfMemory),
         }
     }

@@ -1,15 +1,13 @@
 //! What follows from a certificate that the member accepted.
 
-ghost use Rattle.std.specs.Prelude.{OnOk, nat_lt};
+ghost use Rattle.std.specs.Prelude.{◌≡◌, ◌≤◌, ◌==◌, ◌+◌, ◌-◌, ◌^◌, min, OnOk, IsFalse, nat_lt};
 ghost use Rattle.simplex_engine.specs.Planning.{HasPlanned};
-ghost use Rattle.simplex_engine.specs.Following.{showing, IsTold};
+ghost use Rattle.simplex_types.specs.Viewed.{certificate_view};
+ghost use Rattle.simplex_engine.specs.Following.{showing, IsTold, IsResolverTold, IsFinalTold, IsTakenInAbove, IsNewFollowed, IsAddedFollowed, IsCertificateFollowed};
 
 use super::Plan;
-use crate::fetches::FetchKind;
 use crate::output::Work;
 use simplex_member::member::Reply;
-use simplex_resolver::resolver::Effect;
-use simplex_types::reasons::Kind;
 use simplex_types::types::{
     Certificate, CertificateScheme, Digest, Fault, Proposal, View, Viewable,
 };
@@ -21,7 +19,9 @@ impl<S: CertificateScheme, D: Digest> Plan<S, D> {
         certificate: &Certificate<S, D>,
         reply: &Reply<S, D>,
         now: u64,
-    ) -> Result<(), Fault> {
+    ) -> Result<(), Fault>
+        ensures { OnOk result (IsCertificateFollowed D.bytes S.certificate_bytes now certificate.now reply.now self.old self.new) }
+    {
         match reply {
             Reply::Added(is_new, equivocator) => {
                 self.follow_added(certificate, *is_new, *equivocator, now)
@@ -39,7 +39,9 @@ impl<S: CertificateScheme, D: Digest> Plan<S, D> {
         is_new: bool,
         equivocator: Option<S::PublicKey>,
         now: u64,
-    ) -> Result<(), Fault> {
+    ) -> Result<(), Fault>
+        ensures { OnOk result (IsAddedFollowed D.bytes S.certificate_bytes now certificate.now is_new equivocator self.old self.new) }
+    {
         self.show(certificate.view(), equivocator)?;
         self.follow_new(certificate, is_new, now)
     }
@@ -50,7 +52,9 @@ impl<S: CertificateScheme, D: Digest> Plan<S, D> {
         certificate: &Certificate<S, D>,
         is_new: bool,
         now: u64,
-    ) -> Result<(), Fault> {
+    ) -> Result<(), Fault>
+        ensures { OnOk result (IsNewFollowed D.bytes S.certificate_bytes now is_new certificate.now self.old self.new) }
+    {
         if is_new {
             return self.accept(certificate, now);
         }
@@ -68,19 +72,48 @@ impl<S: CertificateScheme, D: Digest> Plan<S, D> {
     }
 
     /// A certificate is new: the resolver is told of it.
-    fn accept(&mut self, certificate: &Certificate<S, D>, now: u64) -> Result<(), Fault> {
+    fn accept(&mut self, certificate: &Certificate<S, D>, now: u64) -> Result<(), Fault>
+        ensures { OnOk result (IsTakenInAbove D.bytes S.certificate_bytes now (certificate_view certificate.now == 0) certificate.now
+            self.old self.new) }
+    {
         let view = certificate.view();
-        if view.is_zero() {
+        if is_genesis(view) {
             return Ok(());
         }
-        let effects = self.resolver.updated(certificate)?;
-        self.apply(&effects, now)?;
-        match certificate {
-            Certificate::Notarization(_) => self.fetches.close(FetchKind::Notarization, view),
-            Certificate::Finalization(finalization) => self.tell(&finalization.proposal)?,
-            Certificate::Nullification(_) => {}
-        }
+        self.hear(certificate, now)?;
+        self.tell_final(certificate)?;
         self.touch(view)
+    }
+
+    /// The resolver is told of a certificate, and a notarization that came is asked for no longer.
+    fn hear(&mut self, certificate: &Certificate<S, D>, now: u64) -> Result<(), Fault>
+        requires { 1 ≤ certificate_view certificate.now }
+        ensures same { self.new ≡ record self.old { repair = self.new.repair } }
+        ensures heard { OnOk result (IsResolverTold D.bytes S.certificate_bytes now certificate.now self.old self.new.repair) }
+    {
+        let moment = self.later(now);
+        self.repair.updated(certificate, moment)?;
+        if let Certificate::Notarization(notarization) = certificate {
+            self.repair.close_notarization(notarization.view());
+        }
+        Ok(())
+    }
+
+    /// A proposal that is final by the certificate is told.
+    fn tell_final(&mut self, certificate: &Certificate<S, D>) -> Result<(), Fault>
+        ensures { OnOk result (IsFinalTold certificate.now self.old self.new) }
+    {
+        match certificate {
+            Certificate::Finalization(finalization) => self.tell(&finalization.proposal),
+            _ => Ok(()),
+        }
+    }
+
+    /// The moment from which on what is lacking is asked for: until then it may be on its way.
+    pub(super) fn later(&self, now: u64) -> u64
+        ensures { result ≡ min (now + self.now.options.on_its_way) (2 ^ 64 - 1) }
+    {
+        now.saturating_add(self.options.on_its_way)
     }
 
     /// A proposal is final, and none above it was before.
@@ -93,32 +126,12 @@ impl<S: CertificateScheme, D: Digest> Plan<S, D> {
         }
         Ok(())
     }
+}
 
-    /// Opens and ends fetches as the resolver says. What is lacking may be on its way.
-    pub(super) fn apply(&mut self, effects: &[Effect], now: u64) -> Result<(), Fault> {
-        let moment = now.saturating_add(self.options.on_its_way);
-        for effect in effects {
-            self.apply_one(effect, moment)?;
-        }
-        Ok(())
-    }
-
-    fn apply_one(&mut self, effect: &Effect, moment: u64) -> Result<(), Fault> {
-        let nullification = FetchKind::Nullification;
-        match *effect {
-            Effect::Fetch { view, .. } => {
-                self.fetches.open(nullification, view, None, moment)?;
-            }
-            Effect::Settled { kind, start, end } => {
-                let kind = match kind {
-                    Kind::Notarization => FetchKind::Notarization,
-                    Kind::Nullification => nullification,
-                };
-                self.fetches.settle(kind, start, end);
-            }
-            Effect::Finalized(view) => self.fetches.pass(view),
-            Effect::Raised(view) => self.fetches.settle(nullification, View::zero(), view),
-        }
-        Ok(())
-    }
+/// Whether the view is genesis.
+pub(super) fn is_genesis(view: View) -> bool
+    ensures is { result ≡ (view == 0) }
+    ensures above { IsFalse result → 1 ≤ view }
+{
+    view.is_zero()
 }

@@ -1,17 +1,18 @@
 //! What follows from the answer to a call.
 
-ghost use Rattle.std.specs.Prelude.{◌≡◌, [], ◌∷◌, OnOk};
+ghost use Rattle.std.specs.Prelude.{◌≡◌, ◌==◌, [], ◌∷◌, OnOk};
 ghost use Rattle.simplex_engine.specs.Planning.{HasPlanned, touching};
 ghost use Rattle.simplex_engine.specs.Building.{all_but_at, HasBuilds};
 ghost use Rattle.simplex_engine.specs.declared.engine.task.Task.TheVariants.{Abandon, Supersede};
-ghost use Rattle.simplex_engine.specs.Following.{fetch_kind, watching, IsTouched, IsRefusalFollowed, IsFlagFollowed, IsWatchFollowed, lacking, IsVerifyFollowed, IsRequestFollowed, IsBroadcastFollowed, repeating, IsNullifyFollowed, IsTimeoutFollowed, IsFollowed};
+ghost use Rattle.simplex_engine.specs.Following.{watching, IsTouched, IsRefusalFollowed, IsFlagFollowed, IsWatchFollowed, lacking, IsVerifyFollowed, IsRequestFollowed, IsBroadcastFollowed, repeating, IsNullifyFollowed, IsTimeoutFollowed, certifying, AreCertified, IsVerdictFollowed, IsVerdictToldAbove, IsFollowed};
 
 use super::super::task::Task;
+use super::accepting::is_genesis;
 use super::{Plan, Step};
-use crate::fetches::FetchKind;
+use crate::fetches::{FetchKind, fetch_kind};
 use crate::output::Work;
 use simplex_member::member::Reply;
-use simplex_types::reasons::{Kind, TimeoutReason};
+use simplex_types::reasons::TimeoutReason;
 use simplex_types::types::{
     Certificate, CertificateScheme, Digest, Fault, Notarization, Nullify, Proposal, View, Viewable,
 };
@@ -20,7 +21,7 @@ use simplex_voter::voter::{CertificateFetch, ProposalRequest, Verify};
 impl<S: CertificateScheme, D: Digest> Plan<S, D> {
     /// Follows an answer.
     pub fn follow(&mut self, task: Task<D>, reply: Reply<S, D>, now: u64) -> Result<(), Fault>
-        ensures { OnOk result (IsFollowed now task reply self.old self.new) }
+        ensures { OnOk result (IsFollowed D.bytes S.certificate_bytes now task reply self.old self.new) }
     {
         match reply {
             Reply::Flag(is_taken) => self.follow_flag(task, is_taken),
@@ -140,9 +141,9 @@ impl<S: CertificateScheme, D: Digest> Plan<S, D> {
 
     /// A certificate is lacking for a proposal.
     fn lack(&mut self, kind: FetchKind, view: View, proposal: View) -> Result<(), Fault>
-        ensures { OnOk result (HasPlanned (lacking kind view proposal self.old.fetches.wanted.items) self.old self.new) }
+        ensures { OnOk result (HasPlanned (lacking kind view proposal self.old.repair.fetches.wanted.items) self.old self.new) }
     {
-        if self.fetches.is_open(kind, view) {
+        if self.fetches().is_open(kind, view) {
             return Ok(());
         }
         self.plan(Step::Resolve(kind, view, proposal))
@@ -179,27 +180,30 @@ impl<S: CertificateScheme, D: Digest> Plan<S, D> {
         proposals: &[Proposal<D>],
         fetches: &[CertificateFetch],
         now: u64,
-    ) -> Result<(), Fault> {
+    ) -> Result<(), Fault>
+        ensures { OnOk result (AreCertified now proposals.now fetches.now self.old self.new) }
+    {
         self.certify_all(proposals)?;
-        self.fetch_all(fetches, now)
+        self.repair.fetch_all(fetches, now)?;
+        Ok(())
     }
 
     /// Proposals are certified.
-    fn certify_all(&mut self, proposals: &[Proposal<D>]) -> Result<(), Fault> {
+    fn certify_all(&mut self, proposals: &[Proposal<D>]) -> Result<(), Fault>
+        ensures { OnOk result (HasPlanned (certifying proposals.now) self.old self.new) }
+    {
         for proposal in proposals {
-            self.push(Work::Certify(*proposal))?;
-            self.ask(Task::SetHandle(proposal.round.view))?;
+            self.certify(*proposal)?;
         }
         Ok(())
     }
 
-    /// The notarizations that certifications wait for are fetched.
-    fn fetch_all(&mut self, fetches: &[CertificateFetch], now: u64) -> Result<(), Fault> {
-        for fetch in fetches {
-            self.fetches
-                .open(FetchKind::Notarization, fetch.view, None, now)?;
-        }
-        Ok(())
+    /// A proposal is certified.
+    fn certify(&mut self, proposal: Proposal<D>) -> Result<(), Fault>
+        ensures { OnOk result (HasPlanned (certifying (proposal ∷ [])) self.old self.new) }
+    {
+        self.push(Work::Certify(proposal))?;
+        self.ask(Task::SetHandle(proposal.round.view))
     }
 
     /// A verdict was given, of which the resolver is told.
@@ -208,7 +212,9 @@ impl<S: CertificateScheme, D: Digest> Plan<S, D> {
         is_success: bool,
         notarization: Option<Notarization<S, D>>,
         now: u64,
-    ) -> Result<(), Fault> {
+    ) -> Result<(), Fault>
+        ensures { OnOk result (IsVerdictFollowed D.bytes S.certificate_bytes now is_success notarization self.old self.new) }
+    {
         match notarization {
             Some(notarization) => self.judge(is_success, notarization, now),
             None => Ok(()),
@@ -221,13 +227,16 @@ impl<S: CertificateScheme, D: Digest> Plan<S, D> {
         is_success: bool,
         notarization: Notarization<S, D>,
         now: u64,
-    ) -> Result<(), Fault> {
+    ) -> Result<(), Fault>
+        ensures { OnOk result (IsVerdictToldAbove D.bytes S.certificate_bytes now (notarization.proposal.round.view == 0) is_success notarization
+            self.old self.new) }
+    {
         let view = notarization.view();
-        if view.is_zero() {
+        if is_genesis(view) {
             return Ok(());
         }
-        let effects = self.resolver.certified(notarization, is_success)?;
-        self.apply(&effects, now)?;
+        let moment = self.later(now);
+        self.repair.certified(notarization, is_success, moment)?;
         self.touch(view)
     }
 
@@ -264,15 +273,5 @@ impl<S: CertificateScheme, D: Digest> Plan<S, D> {
             self.ask(Task::Nullify(self.views.current, reason))?;
         }
         Ok(())
-    }
-}
-
-/// The kind of certificate to ask for.
-fn fetch_kind(kind: Kind) -> FetchKind
-    ensures { result ≡ fetch_kind kind }
-{
-    match kind {
-        Kind::Notarization => FetchKind::Notarization,
-        Kind::Nullification => FetchKind::Nullification,
     }
 }

@@ -2,7 +2,7 @@
 
 ghost use Rattle.std.specs.List.{list_any};
 ghost use Rattle.std.specs.Prelude.{◌≡◌, ◌+◌, ◌-◌, ◌^◌, min, if◌then◌else◌, [], ◌∷◌, ◌++◌, length, OnOk};
-ghost use Rattle.simplex_engine.specs.Fetches.{is_open, fresh, place_of};
+ghost use Rattle.simplex_engine.specs.Fetches.{opened, place_of};
 ghost use Rattle.simplex_engine.specs.Planning.{may_keep, HasPlanned};
 ghost use Rattle.simplex_engine.specs.Building.{is_asked_in, is_asked_at, stopping, asking_for, HasBuilds, IsEnded, IsStopped};
 
@@ -31,7 +31,7 @@ impl<S: CertificateScheme, D: Digest> Plan<S, D> {
         ensures { OnOk result (self.new.views ≡ views) }
     {
         if self.views.last_finalized < views.last_finalized {
-            self.fetches.pass(views.last_finalized);
+            self.repair.pass(views.last_finalized);
         }
         let is_entered = self.views.current != views.current;
         self.views = views;
@@ -84,13 +84,12 @@ impl<S: CertificateScheme, D: Digest> Plan<S, D> {
         of: Option<Participant>,
         now: u64,
     ) -> Result<(), Fault>
-        ensures same { self.new ≡ record self.old { fetches = self.new.fetches } }
-        ensures opened { let fetches = self.old.fetches in let moment = min (now + self.old.options.on_its_way) (2 ^ 64 - 1) in
-            OnOk result (self.new.fetches.wanted.items ≡ (if is_open kind view fetches.wanted.items then fetches.wanted.items
-            else fetches.wanted.items ++ fresh kind view (place_of fetches.peers of) moment ∷ [])) }
+        ensures same { self.new ≡ record self.old { repair = self.new.repair } }
+        ensures opened { let fetches = self.old.repair.fetches in let moment = min (now + self.old.options.on_its_way) (2 ^ 64 - 1) in
+            OnOk result (self.new.repair.fetches.wanted.items ≡ opened kind view (place_of fetches.peers of) moment fetches.wanted.items) }
     {
-        let moment = now.saturating_add(self.options.on_its_way);
-        self.fetches.open(kind, view, of, moment)?;
+        let moment = self.later(now);
+        self.repair.open(kind, view, of, moment)?;
         Ok(())
     }
 

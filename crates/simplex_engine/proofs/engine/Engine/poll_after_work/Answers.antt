@@ -1,9 +1,9 @@
 -- That only the steps have done anything, and that an error fails the engine.
-use Rattle.std.proofs.Common.{refl, ap, sym, subst, length, ◌<◌, ◌≤◌}
-use Rattle.std.specs.Prelude.{All, IfSome}
+use Rattle.std.proofs.Common.{refl, ap, sym, subst, length, ◌≤◌}
+use Rattle.std.specs.Prelude.{IfSome}
 use Rattle.simplex_voter.specs.Windows.{min_active}
 use Rattle.simplex_engine.specs.Batching.{HoldsFrom}
-use Rattle.simplex_engine.specs.declared.fetches.Fetch.{Fetch}
+use Rattle.simplex_engine.specs.Wanted.{AsksForTheLacking}
 use Rattle.simplex_engine.specs.Going.{has_failed}
 use Rattle.simplex_engine.specs.Quiet.{HasNothingNew}
 use Rattle.simplex_engine.proofs.Backing.{takes_nothing}
@@ -48,10 +48,10 @@ pub returns-in-Ok-clause-lowest : goal.returns-in-Ok-clause-lowest
 returns-in-Ok-clause-lowest g c none =
     subst (λ m. IfSome m.facts.life (λ x. HoldsFrom (min_active x) c.work.new.self.batcher)) (sym c.next.ensures.same.0) c.in-Ok.ensures.lowest
 
-pub returns-in-Ok-clause-ahead : goal.returns-in-Ok-clause-ahead
-returns-in-Ok-clause-ahead g c none =
-    subst (λ m. IfSome m.facts.life (λ x. All (λ (fetch : Fetch). x.finalized < fetch.view) c.work.new.self.plan.fetches.wanted.items))
-    (sym c.next.ensures.same.0) c.in-Ok.ensures.ahead
+pub returns-in-Ok-clause-lacking : goal.returns-in-Ok-clause-lacking
+returns-in-Ok-clause-lacking g c none =
+    let repair = c.work.new.self.plan.repair in
+    subst (λ m. IfSome m.facts.life (λ x. AsksForTheLacking repair.resolver.open_fetches x repair.fetches.wanted.items)) (sym c.next.ensures.same.0) c.in-Ok.ensures.lacking
 
 pub returns-in-Ok-clause-bounded : goal.returns-in-Ok-clause-bounded
 returns-in-Ok-clause-bounded g c =

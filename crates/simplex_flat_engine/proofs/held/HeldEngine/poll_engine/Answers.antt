@@ -48,7 +48,7 @@ returns-in-Ok-None c =
               settled = (rw none at c.in-Ok-None.ensures.none) refl;
               idle = (rw none at c.in-Ok-None.ensures.idle) refl;
               lowest = (rw none at c.in-Ok-None.ensures.lowest) refl;
-              ahead = (rw none at c.in-Ok-None.ensures.ahead) refl;
+              lacking = (rw none at c.in-Ok-None.ensures.lacking) refl;
               admitted = λ before. (rw none at c.in-Ok-None.ensures.admitted before) refl;
             },
           ));
