@@ -70,7 +70,7 @@ module _ {S L D K G C : Type 0} (same : D → D → Bool) (elect : Elect L) (byt
   IsCountFollowed counted queued m steps left is_of_use = (is_of_use ≡ false) × (left ≡ m)
 
 module _ {S L D K G C : Type 0} (same : D → D → Bool) (elect : Elect L) (bytes_of : C → List ℕ)
-  (IsMadeOf : S → Subject D → List (ℕ × G) → C → Type 0) (keys_of : S → List K) (now : ℕ) where
+    (IsMadeOf : S → Subject D → List (ℕ × G) → C → Type 0) (keys_of : S → List K) (now : ℕ) where
   -- a vote is counted, and what it comes to is followed
   pub record IsVoteCounted (vote : Vote D G) (old : Engine S L D K G C) (left : MemberFacts K L D) (held : Batcher S D K G C)
       (steps : List (Step S D K G C)) (is_of_use : Bool) : Type 0 where

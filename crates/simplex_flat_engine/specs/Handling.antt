@@ -1,8 +1,15 @@
 -- How an engine behind a handle is told and asked.
-use Rattle.std.specs.Prelude.{◌≡◌, ◌⊎◌, ◌+◌, ◌-◌, ◌^◌, ◌++◌, min, ℕ, Bool, true, false, List, [], length, Option, Some, None, option_to_list, Result, Ok, Err, OnErr, IfOk, IsFalse}
+use Rattle.std.specs.Prelude.{◌≡◌, ◌⊎◌, ◌+◌, ◌-◌, ◌^◌, ◌++◌, min, ℕ, Bool, true, false, List, [], length, Option, Some, None, option_to_list, Result, Ok, Err, OnErr, IfOk, IsFalse, IsTrue}
 use Rattle.simplex_types.specs.declared.types.fault.Fault.{Fault}
 use Rattle.simplex_types.specs.declared.types.fault.Fault.TheVariants.{Failed}
+use Rattle.simplex_types.specs.declared.types.messages.Subject.{Subject}
+use Rattle.simplex_codec.specs.declared.digest.BytesDigest.{BytesDigest}
+use Rattle.simplex_host.specs.declared.scheme.HostCertificate.{HostCertificate}
+use Rattle.simplex_host.specs.declared.scheme.HostScheme.{HostScheme}
+use Rattle.simplex_host.specs.declared.scheme.Order.{Order}
+use Rattle.simplex_host.specs.Assembling.{signed_bytes}
 use Rattle.simplex_host.specs.Host.{certificate_bytes, keys_of}
+use Rattle.simplex_engine.specs.Acting.{IsActedOn}
 use Rattle.simplex_engine.specs.declared.output.Output.TheVariants as output
 use Rattle.simplex_engine.specs.Admitting.{IsTurnedAway, ignoring, is_admitted}
 use Rattle.simplex_engine.specs.Backing.{IsBackedInput, TakesNone, TakesVotes, votes_in}
@@ -39,6 +46,10 @@ abbrev pub IsAnswer : Result Bool Fault → FlatTaken → Type 0
 IsAnswer (Ok is_of_use) r = (r.status ≡ 0) × (r.is_of_use ≡ flag_number is_of_use)
 IsAnswer (Err fault) r = r.status ≡ fault_number fault
 
+-- a certificate of the host is the signatures that it is made of
+abbrev pub AreTheSignatures : HostScheme → Subject (BytesDigest 32) → List (ℕ × Order) → HostCertificate → Type 0
+AreTheSignatures _ _ signatures certificate = certificate_bytes certificate ≡ signed_bytes signatures
+
 -- the engine takes an input at a moment, by its contract, and nothing else changes
 pub record IsTaken (now : ℕ) (input : HostInput) (old : HeldEngine) (r : FlatTaken) (new : HeldEngine) : Type 0 where
   pub going : old.is_lost ≡ false
@@ -51,6 +62,10 @@ pub record IsTaken (now : ℕ) (input : HostInput) (old : HeldEngine) (r : FlatT
   pub dropped : IfOk answer (λ is_of_use. IsFalse is_of_use → IsDropped now input old.engine new.engine)
   pub unadmitted : IsFalse (is_admitted certificate_bytes old.engine.core.member.facts input) → IfOk answer (λ is_of_use. IsFalse is_of_use
       × IsTurnedAway input (ignoring old.engine) new.engine)
+  -- what is admitted is acted on
+  pub acted : IsTrue (is_admitted certificate_bytes old.engine.core.member.facts input) → IfOk answer
+      (IsActedOn same_payload host_leader certificate_bytes AreTheSignatures keys_of now input old.engine
+      new.engine.core.member.facts new.engine.batcher new.engine.plan.steps.items)
   pub goes_on : GoesOn same_payload host_leader certificate_bytes (subject_in certificate_bytes input) old.engine.core new.engine.core
   pub votes : TakesVotes (votes_in input) old.engine.batcher new.engine.batcher
   pub backed : IsBackedInput same_payload host_leader certificate_bytes (length (keys_of old.engine.batcher.scheme)) input old.engine.batcher

@@ -17,5 +17,5 @@ returns-clause-goes_on g c =
 pub returns-clause-dropped : goal.returns-clause-dropped
 returns-clause-dropped g c =
     IfOk-weaker c.follow_certificate.result _ _ (λ is_of_use told no.
-      ap (λ core. core.member.facts) c.follow_certificate.ensures.core ∙ c.call-reply.ensures.refused (not-false _ (sym told ∙ no)))
+    ap (λ core. core.member.facts) c.follow_certificate.ensures.core ∙ c.call-reply.ensures.refused (not-false _ (sym told ∙ no)))
     c.follow_certificate.ensures.of_use
