@@ -68,7 +68,7 @@ class Wrong(NamedTuple):
 
 WRONG = (
     Wrong("nothing is asked for again", "fetches.rt", "moment: now.saturating_add(retry),", "moment: u64::MAX,"),
-    Wrong("a certificate of votes is thrown away", "engine/steps.rt",
+    Wrong("a certificate of votes is thrown away", "engine/counting.rt",
           "self.accept(certificate, now)?;", "let _ = certificate;"),
     Wrong("a timeout is never due", "engine/plan/following.rt", "if moment <= now {", "if moment < moment.min(now) {"),
     Wrong("a long record is never made short", "engine/steps.rt", "self.options.long_record < count", "count < self.options.long_record"),

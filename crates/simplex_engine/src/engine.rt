@@ -7,7 +7,10 @@ ghost use Rattle.std.specs.Prelude.{◌≡◌, ◌++◌, [], length, None, Err, 
 ghost use Rattle.std.specs.Option.{option_copied};
 ghost use Rattle.simplex_types.specs.declared.types.fault.Fault.TheVariants.{Failed};
 
+mod asking;
 mod begin;
+mod counting;
+mod inputs;
 mod plan;
 mod steps;
 mod task;

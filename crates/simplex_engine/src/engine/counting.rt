@@ -1,0 +1,181 @@
+//! Votes and certificates that came in.
+#![tactic(auto, using(crate::proofs::Going::stays, crate::proofs::Going::goes_further, crate::proofs::Backing::takes_nothing, crate::proofs::Backing::takes_no_more, crate::proofs::Backing::takes_anyway))]
+
+ghost use Rattle.std.specs.Prelude.{◌≡◌, ◌∷◌, [], length, None, Some, IfOk, IsTrue, not, false, ◌==◌, Ok, IsFalse};
+ghost use Rattle.simplex_types.specs.Certificates.{certificate_facts};
+ghost use Rattle.simplex_types.specs.Encoding.{certificate_subject};
+ghost use Rattle.simplex_member.specs.Calls.{told};
+ghost use Rattle.simplex_engine.specs.Dropping.{is_refused};
+ghost use Rattle.simplex_engine.specs.Admitting.{admits, admits_votes};
+
+use super::Engine;
+use super::asking::is_lasting;
+use crate::batcher::Counted;
+use crate::journaled::handing_in;
+use crate::output::Work;
+use crate::votes::{Vote, round_of};
+use simplex_assembly::assembly::Assembly;
+use simplex_member::member::Reply;
+use simplex_types::types::{Certificate, CertificateScheme, Digest, Elector, Fault, Round, Scheme};
+use simplex_voter::voter::State;
+
+impl<S: Assembly<D>, L: Elector<S>, D: Digest> Engine<S, L, D> {
+    ghost use Rattle.simplex_engine.specs.Going.{GoesOn};
+    ghost use Rattle.simplex_engine.specs.Backing.{TakesVotes, TakesNone, IsBacked};
+    ghost use Rattle.simplex_engine.specs.Bounds.{StaysBounded};
+    ghost use Rattle.simplex_engine.specs.Batching.{HoldsAllTheSame};
+    ghost use Rattle.simplex_engine.specs.Subjects.{subject_round};
+    ghost use Rattle.simplex_engine.specs.Acting.{IsHandedIn, IsVoteCounted};
+    ghost use Rattle.simplex_engine.specs.Admitting.{is_so};
+
+    /// Whether votes of the round are taken. One of another epoch is not: an old vote, sent again, would stand in the place of this
+    /// epoch's, and show a contradiction that its signer never signed.
+    fn admits_votes(&self, round: Round) -> bool
+        ensures { result ≡ is_so (λ x. admits_votes x round) self.now.core.member.facts }
+    {
+        match self.core.state() {
+            Some(state) => takes_votes(state, round),
+            None => false,
+        }
+    }
+
+    /// Counts a vote whose round takes votes.
+    pub(super) fn count(&mut self, vote: Vote<D, S::Signature>, now: u64) -> Result<bool, Fault>
+        ensures goes_on { GoesOn D.eq L.elect S.certificate_bytes (Some vote.subject) self.old.core self.new.core }
+        ensures votes { TakesVotes (vote ∷ []) self.old.batcher self.new.batcher }
+        ensures backed { IsBacked D.eq L.elect S.certificate_bytes (length (S.participants self.old.batcher.scheme))
+            (vote ∷ []) vote.subject self.old.batcher self.old.core self.new.core }
+        ensures dropped { IfOk result (λ is_of_use. IsFalse is_of_use
+            → (self.new.core ≡ self.old.core) × HoldsAllTheSame self.old.batcher self.new.batcher) }
+        ensures unadmitted { IsFalse (is_so (λ x. admits_votes x (subject_round vote.subject)) self.old.core.member.facts)
+            → (result ≡ Ok false) × (self.new ≡ self.old) }
+        ensures bounded { StaysBounded S.participants self.old.core self.old.batcher self.new.core self.new.batcher }
+        ensures acted { IsTrue (is_so (λ x. admits_votes x (subject_round vote.subject)) self.old.core.member.facts) → IfOk result
+            (IsVoteCounted D.eq L.elect S.certificate_bytes S.IsMadeOf S.participants now vote
+            self.old self.new.core.member.facts self.new.batcher self.new.plan.steps.items) }
+    {
+        if !self.admits_votes(round_of(&vote.subject)) {
+            return Ok(false);
+        }
+        self.count_admitted(vote, now)
+    }
+
+    /// Counts a vote, and takes the certificate that it completes.
+    fn count_admitted(&mut self, vote: Vote<D, S::Signature>, now: u64) -> Result<bool, Fault>
+        ensures goes_on { GoesOn D.eq L.elect S.certificate_bytes (Some vote.subject) self.old.core self.new.core }
+        ensures votes { TakesVotes (vote ∷ []) self.old.batcher self.new.batcher }
+        ensures backed { IsBacked D.eq L.elect S.certificate_bytes (length (S.participants self.old.batcher.scheme))
+            (vote ∷ []) vote.subject self.old.batcher self.old.core self.new.core }
+        ensures dropped { IfOk result (λ is_of_use. IsFalse is_of_use
+            → (self.new.core ≡ self.old.core) × HoldsAllTheSame self.old.batcher self.new.batcher) }
+        ensures bounded { IsTrue (is_so (λ x. admits_votes x (subject_round vote.subject)) self.old.core.member.facts)
+            → StaysBounded S.participants self.old.core self.old.batcher self.new.core self.new.batcher }
+        ensures acted { IfOk result (IsVoteCounted D.eq L.elect S.certificate_bytes S.IsMadeOf S.participants now vote
+            self.old self.new.core.member.facts self.new.batcher self.new.plan.steps.items) }
+    {
+        match self.batcher.count(vote, true)? {
+            Counted::Certified(certificate) => {
+                self.accept(certificate, now)?;
+                Ok(true)
+            }
+            Counted::Equivocated(first, second) => {
+                self.plan.push(Work::Equivocated(first, second))?;
+                Ok(true)
+            }
+            Counted::Taken => Ok(true),
+            Counted::Known | Counted::Refused => Ok(false),
+        }
+    }
+
+    /// Hands a certificate in, where it is admitted.
+    pub(super) fn accept(&mut self, certificate: Certificate<S, D>, now: u64) -> Result<bool, Fault>
+        ensures goes_on { GoesOn D.eq L.elect S.certificate_bytes
+            (Some (certificate_subject (certificate_facts S.certificate_bytes certificate))) self.old.core self.new.core }
+        ensures votes { TakesNone self.old.batcher self.new.batcher }
+        ensures batcher { self.new.batcher ≡ self.old.batcher }
+        ensures dropped { IfOk result (λ is_of_use. IsFalse is_of_use → self.new.core.member.facts ≡ self.old.core.member.facts) }
+        ensures unadmitted { IsFalse (is_so (λ x. admits x (certificate_facts S.certificate_bytes certificate)) self.old.core.member.facts)
+            → (result ≡ Ok false) × (self.new ≡ self.old) }
+        ensures acted { IsTrue (is_so (λ x. admits x (certificate_facts S.certificate_bytes certificate)) self.old.core.member.facts) → IfOk result
+            (IsHandedIn D.eq L.elect S.certificate_bytes now certificate self.old.core.member.facts self.new.core.member.facts) }
+    {
+        if !self.admits(&certificate) {
+            return Ok(false);
+        }
+        let copy = certificate.clone(self.alloc)?;
+        let reply = self.core.call(handing_in(certificate, now));
+        self.follow_certificate(&copy, &reply, now)
+    }
+
+    /// Whether the certificate is admitted. One of a kind and view that has its certificate is not: it would change nothing.
+    fn admits(&self, certificate: &Certificate<S, D>) -> bool
+        ensures { result ≡ is_so (λ x. admits x (certificate_facts S.certificate_bytes certificate.now)) self.now.core.member.facts }
+    {
+        match self.core.state() {
+            Some(state) => takes(state, certificate),
+            None => false,
+        }
+    }
+
+    /// Follows the answer to a certificate. Whether it was not refused.
+    fn follow_certificate(
+        &mut self,
+        certificate: &Certificate<S, D>,
+        reply: &Reply<S, D>,
+        now: u64,
+    ) -> Result<bool, Fault>
+        ensures core { self.new.core ≡ self.old.core }
+        ensures votes { TakesNone self.old.batcher self.new.batcher }
+        ensures batcher { self.new.batcher ≡ self.old.batcher }
+        ensures of_use { IfOk result (λ is_of_use. is_of_use ≡ not (is_refused (told S.certificate_bytes reply.now))) }
+    {
+        let is_of_use = !is_refused(reply);
+        self.see()?;
+        self.plan.follow_certificate(certificate, reply, now)?;
+        Ok(is_of_use)
+    }
+}
+
+/// Whether votes of the round are taken.
+pub(super) fn takes_votes<S: Scheme<D>, L: Elector<S>, D: Digest>(
+    state: &State<S, L, D>,
+    round: Round,
+) -> bool
+    ensures { result ≡ admits_votes state.now round }
+{
+    state.epoch() == round.epoch && state.admits_vote(round.view)
+}
+
+/// Whether a call is refused, and not for want of memory.
+fn is_refused<S: CertificateScheme, D: Digest>(reply: &Reply<S, D>) -> bool
+    ensures { result ≡ is_refused (told S.certificate_bytes reply.now) }
+{
+    match reply {
+        Reply::Fault(fault) => is_lasting(fault),
+        Reply::NotAllowed => true,
+        _ => false,
+    }
+}
+
+/// Whether the certificate is taken, and would be the first of its kind and view.
+fn takes<S: Scheme<D>, L: Elector<S>, D: Digest>(
+    state: &State<S, L, D>,
+    certificate: &Certificate<S, D>,
+) -> bool
+    ensures { result ≡ admits state.now (certificate_facts S.certificate_bytes certificate.now) }
+{
+    match certificate {
+        Certificate::Notarization(notarization) => {
+            let round = notarization.proposal.round;
+            state.takes_round(&round) && state.notarization(round.view).is_none()
+        }
+        Certificate::Nullification(nullification) => {
+            let round = nullification.round;
+            state.takes_round(&round) && state.nullification(round.view).is_none()
+        }
+        Certificate::Finalization(finalization) => {
+            let round = finalization.proposal.round;
+            state.takes_round(&round) && state.finalization(round.view).is_none()
+        }
+    }
+}
