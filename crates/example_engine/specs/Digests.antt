@@ -8,8 +8,8 @@ use native.Mathlib.Decide.{ℕ_discrete}
 use Rattle.example_engine.specs.declared.digest.BlockDigest.{BlockDigest}
 
 -- the bytes of a block's digest
-abbrev pub bytes_of : BlockDigest → List ℕ
-bytes_of d = d.bytes
+abbrev pub block_bytes : BlockDigest → List ℕ
+block_bytes d = d.bytes
 
 -- digests of the same bytes are equal
 pub same_bytes : (d e : BlockDigest) → d.bytes ≡ e.bytes → d ≡ e

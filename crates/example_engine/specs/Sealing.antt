@@ -10,7 +10,7 @@ use Rattle.example_engine.specs.declared.scheme.Signature.{Signature}
 use Rattle.example_engine.specs.declared.scheme.Seal.{Seal}
 use Rattle.example_engine.specs.declared.scheme.SealScheme.{SealScheme}
 use Rattle.example_engine.specs.Checksum.{checksum_from}
-use Rattle.example_engine.specs.Digests.{bytes_of}
+use Rattle.example_engine.specs.Digests.{block_bytes}
 use Rattle.example_engine.specs.Rising.{are_members}
 
 -- the member that the scheme signs as
@@ -27,15 +27,15 @@ seal_bytes seal = seal.signers.items
 
 -- the sum of the vote's bytes, begun at the key
 abbrev pub IsSignature : MemberKey → Subject BlockDigest → Signature → Type 0
-IsSignature key subject signature = (signature.key ≡ key) × (signature.sum ≡ checksum_from key.number (subject_bytes bytes_of subject))
+IsSignature key subject signature = (signature.key ≡ key) × (signature.sum ≡ checksum_from key.number (subject_bytes block_bytes subject))
 
 -- the signature is one of the member's key on the subject
 abbrev pub IsSignedBy : SealScheme → ℕ → Subject BlockDigest → Signature → Type 0
 IsSignedBy s member subject signature = MatchOption (slice_get (seal_keys s) member) ⊥ (λ key. IsSignature key subject signature)
 
 -- the key in four bytes, and then the sum in eight, big-endian
-abbrev pub signature_bytes : Signature → List ℕ
-signature_bytes s = to_be_bytes w32 s.key.number ++ to_be_bytes w64 s.sum
+abbrev pub signature_encoding : Signature → List ℕ
+signature_encoding s = to_be_bytes w32 s.key.number ++ to_be_bytes w64 s.sum
 
 -- a signature read back from its twelve bytes
 abbrev pub signature_from_bytes : List ℕ → Option Signature

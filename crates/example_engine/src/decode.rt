@@ -4,7 +4,7 @@ ghost use Rattle.std.specs.Prelude.{◌≡◌, IfOk, IfErr};
 ghost use Rattle.simplex_types.specs.Certificates.{certificate_facts};
 ghost use Rattle.simplex_types.specs.Encoding.{encoding, IsEncodable};
 ghost use Rattle.simplex_codec.specs.Refusals.{IsCertificateRefusal, ReadsCertificates};
-ghost use Rattle.example_engine.specs.Digests.{bytes_of};
+ghost use Rattle.example_engine.specs.Digests.{block_bytes};
 ghost use Rattle.example_engine.specs.Sealing.{seal_bytes};
 
 use crate::parts::Proof;
@@ -18,10 +18,10 @@ use std::alloc::Global;
 /// Bytes of no certificate are refused: each error says what is wrong with them, but `OutOfMemory`. Whether the
 /// certificate is good is tested by `Scheme::verify`.
 pub fn decode(alloc: Global, bytes: &[u8]) -> Result<Proof, DecodeError>
-    ensures decoded { IfOk result (λ proof. encoding bytes_of (certificate_facts seal_bytes proof) ≡ bytes.now) }
+    ensures decoded { IfOk result (λ proof. encoding block_bytes (certificate_facts seal_bytes proof) ≡ bytes.now) }
     ensures fits { IfOk result (λ proof. IsEncodable (certificate_facts seal_bytes proof)) }
-    ensures refused { IfErr result (IsCertificateRefusal bytes_of 8 seal_bytes bytes.now) }
-    ensures reads { ReadsCertificates bytes_of seal_bytes bytes.now result }
+    ensures refused { IfErr result (IsCertificateRefusal block_bytes 8 seal_bytes bytes.now) }
+    ensures reads { ReadsCertificates block_bytes seal_bytes bytes.now result }
 {
     decode_certificate(alloc, bytes)
 }

@@ -17,18 +17,18 @@ pub struct BlockDigest {
 }
 
 impl BlockDigest {
-    ghost use Rattle.example_engine.specs.Digests.{bytes_of};
+    ghost use Rattle.example_engine.specs.Digests.{block_bytes};
 
     /// The digest of genesis.
     pub(crate) fn genesis() -> BlockDigest
-        ensures { bytes_of result ≡ to_be_bytes w64 0 }
+        ensures { block_bytes result ≡ to_be_bytes w64 0 }
     {
         BlockDigest::of_number(0)
     }
 
     /// The digest whose bytes are the number's, big-endian.
     pub(crate) fn of_number(number: u64) -> BlockDigest
-        ensures { bytes_of result ≡ to_be_bytes w64 number }
+        ensures { block_bytes result ≡ to_be_bytes w64 number }
     {
         BlockDigest {
             bytes: number.to_be_bytes(),
@@ -38,7 +38,7 @@ impl BlockDigest {
     /// The digest of the block that is built in a view on a parent. A leader has several blocks to choose from, which
     /// `choice` tells apart.
     pub fn of_block(parent: &BlockDigest, view: View, choice: u64) -> BlockDigest
-        ensures { bytes_of result ≡ to_be_bytes w64 (block_number (bytes_of parent.now) view choice) }
+        ensures { block_bytes result ≡ to_be_bytes w64 (block_number (block_bytes parent.now) view choice) }
     {
         let number = view.get().to_be_bytes();
         let seed = checksum(choice % 1000 + 1, &parent.bytes);
@@ -59,13 +59,13 @@ impl fmt::Display for BlockDigest {
 }
 
 impl Digest for BlockDigest {
-    ghost use Rattle.example_engine.specs.Digests.{bytes_of, from_eq, eq_self, same_bytes};
+    ghost use Rattle.example_engine.specs.Digests.{block_bytes, from_eq, eq_self, same_bytes};
 
     const SIZE: usize = 8;
 
     ghost SIZE = { 8 };
 
-    ghost bytes = { bytes_of };
+    ghost bytes = { block_bytes };
 
     fn as_bytes(&self) -> &[u8] {
         &self.bytes

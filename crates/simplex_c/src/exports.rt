@@ -7,9 +7,9 @@ ghost use Rattle.std.specs.Borrow.{sem};
 ghost use Rattle.simplex_flat.specs.declared.held.Held.{Held};
 ghost use Rattle.simplex_flat.specs.Journals.{IsScan};
 ghost use Rattle.simplex_flat.specs.Pruning.{IsPruned};
-ghost use Rattle.simplex_flat.specs.Serving.{IsServed};
+ghost use Rattle.simplex_flat.specs.Serving.{IsCallServed};
 ghost use Rattle.simplex_flat.specs.Showing.{IsChunkOf, IsEntries, IsFound, IsItem, IsText, IsView};
-ghost use Rattle.simplex_c.specs.Behind.{IsRead, held_at, left_at, owned_at};
+ghost use Rattle.simplex_c.specs.Behind.{IsRead, held_at, member_left_at, owned_at};
 ghost use Rattle.simplex_c.specs.Opened.{IsRestartStatus, IsResumeStatus, IsStartStatus};
 
 use crate::handles::MemberHandle;
@@ -81,7 +81,7 @@ pub unsafe extern "C" fn simplex_member_call(
 ) -> FlatReply
     ghost held: { Held }
     requires* { sem 𝓛 (held_at at held) }
-    ensures* { sem 𝓛 (left_at at (result.status ≡ 15) (λ now. IsServed held call.now certificate.now result now)) }
+    ensures* { sem 𝓛 (member_left_at at (result.status ≡ 15) (λ now. IsCallServed held call.now certificate.now result now)) }
 {
     if at.is_null() {
         return absent::reply();
@@ -90,7 +90,7 @@ pub unsafe extern "C" fn simplex_member_call(
 }
 
 fn serve(held: &mut Held, call: &FlatCall, certificate: &[u8]) -> FlatReply
-    ensures { IsServed held.old call.now certificate.now result held.new }
+    ensures { IsCallServed held.old call.now certificate.now result held.new }
 {
     held.call(call, certificate)
 }
@@ -100,7 +100,7 @@ fn serve(held: &mut Held, call: &FlatCall, certificate: &[u8]) -> FlatReply
 pub unsafe extern "C" fn simplex_member_bytes(at: *mut u8, which: u32, from: u64) -> FlatChunk
     ghost held: { Held }
     requires* { sem 𝓛 (held_at at held) }
-    ensures* { sem 𝓛 (left_at at (result.status ≡ 15) (λ now. IsRead held now (IsChunkOf held which from result))) }
+    ensures* { sem 𝓛 (member_left_at at (result.status ≡ 15) (λ now. IsRead held now (IsChunkOf held which from result))) }
 {
     if at.is_null() {
         return absent::chunk();
@@ -119,7 +119,7 @@ fn hand_chunk(held: &mut Held, which: u32, from: u64) -> FlatChunk
 pub unsafe extern "C" fn simplex_member_item(at: *mut u8, which: u32, index: u64) -> FlatItem
     ghost held: { Held }
     requires* { sem 𝓛 (held_at at held) }
-    ensures* { sem 𝓛 (left_at at (result.status ≡ 15) (λ now. IsRead held now (IsItem held.last which index result))) }
+    ensures* { sem 𝓛 (member_left_at at (result.status ≡ 15) (λ now. IsRead held now (IsItem held.last which index result))) }
 {
     if at.is_null() {
         return absent::item();
@@ -138,7 +138,7 @@ fn hand_item(held: &mut Held, which: u32, index: u64) -> FlatItem
 pub unsafe extern "C" fn simplex_member_certificate(at: *mut u8, kind: u32, view: u64) -> FlatFound
     ghost held: { Held }
     requires* { sem 𝓛 (held_at at held) }
-    ensures* { sem 𝓛 (left_at at (result.status ≡ 15) (λ now. IsFound held kind view result now)) }
+    ensures* { sem 𝓛 (member_left_at at (result.status ≡ 15) (λ now. IsFound held kind view result now)) }
 {
     if at.is_null() {
         return absent::found();
@@ -157,7 +157,7 @@ fn hand_certificate(held: &mut Held, kind: u32, view: u64) -> FlatFound
 pub unsafe extern "C" fn simplex_member_entries(at: *mut u8, count: u64) -> FlatEntries
     ghost held: { Held }
     requires* { sem 𝓛 (held_at at held) }
-    ensures* { sem 𝓛 (left_at at (result.status ≡ 15) (λ now. IsEntries held count result now)) }
+    ensures* { sem 𝓛 (member_left_at at (result.status ≡ 15) (λ now. IsEntries held count result now)) }
 {
     if at.is_null() {
         return absent::entries();
@@ -176,7 +176,7 @@ fn hand_entries(held: &mut Held, count: u64) -> FlatEntries
 pub unsafe extern "C" fn simplex_member_prune_record(at: *mut u8) -> FlatEntries
     ghost held: { Held }
     requires* { sem 𝓛 (held_at at held) }
-    ensures* { sem 𝓛 (left_at at (result.status ≡ 15) (λ now. IsPruned held result now)) }
+    ensures* { sem 𝓛 (member_left_at at (result.status ≡ 15) (λ now. IsPruned held result now)) }
 {
     if at.is_null() {
         return absent::entries();
@@ -195,7 +195,7 @@ fn hand_pruned(held: &mut Held) -> FlatEntries
 pub unsafe extern "C" fn simplex_member_view(at: *mut u8, view: u64) -> FlatView
     ghost held: { Held }
     requires* { sem 𝓛 (held_at at held) }
-    ensures* { sem 𝓛 (left_at at (result.status ≡ 15) (λ now. IsRead held now (IsView held.member.facts view result))) }
+    ensures* { sem 𝓛 (member_left_at at (result.status ≡ 15) (λ now. IsRead held now (IsView held.member.facts view result))) }
 {
     if at.is_null() {
         return absent::view();
@@ -219,7 +219,7 @@ pub unsafe extern "C" fn simplex_member_restart(
 ) -> u32
     ghost held: { Held }
     requires* { sem 𝓛 (held_at at held) }
-    ensures* { sem 𝓛 (left_at at (result ≡ 15) (λ now. IsRestartStatus held restart.now leaders.now certificate.now result now)) }
+    ensures* { sem 𝓛 (member_left_at at (result ≡ 15) (λ now. IsRestartStatus held restart.now leaders.now certificate.now result now)) }
 {
     if at.is_null() {
         return absent::status();

@@ -15,12 +15,12 @@ use Rattle.simplex_types.specs.Encoding.{round_bytes, proposal_bytes, subject_by
 use Rattle.simplex_types.specs.Plain.{digest_bytes, same_digest}
 use Rattle.simplex_codec.specs.Reading.{NoneHas}
 use Rattle.simplex_codec.specs.Refusals.{IsEncodableProposal, IsEncodableSubject}
-use Rattle.simplex_codec.specs.Plain.{plain_signature_bytes, digest_if, plain_digest_of, number_at, front_round, round_of, plain_proposal_of, plain_subject_of, plain_signature_of}
+use Rattle.simplex_codec.specs.Plain.{plain_signature_bytes, digest_if, plain_digest_of, number_at, front_round, plain_round_of, plain_proposal_of, plain_subject_of, plain_signature_of}
 
 round_at : (r : Round) (behind : List ℕ) → IsEncodableRound r → front_round (round_bytes r ++ behind) ≡ r
 round_at r behind fits = λ i. record { epoch = from_be_bytes-to_be_bytes_8 r.epoch fits.0 i; view = from_be_bytes-to_be_bytes_8 r.view fits.1 i }
 
-pub round_back : (r : Round) → IsEncodableRound r → round_of (round_bytes r) ≡ Some r
+pub round_back : (r : Round) → IsEncodableRound r → plain_round_of (round_bytes r) ≡ Some r
 round_back r fits = ap Some (round_at r [] fits)
 
 sized_back : (d : PlainDigest) (test : Dec (length d.bytes ≡ 8)) → digest_if d.bytes test ≡ Some d

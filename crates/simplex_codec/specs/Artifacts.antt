@@ -13,8 +13,8 @@ use Rattle.simplex_codec.specs.declared.error.DecodeError.TheVariants.{OutOfMemo
 use Rattle.simplex_codec.specs.Refusals.{IsEncodableProposal, IsUnreadableBehindProposal, IsUnreadableBehindRound, IsPayloadRefusal, IsCertificateRefusal}
 
 -- the signer, the proposal and the signature's bytes
-abbrev pub signed_proposal : {D : Type 0} → (D → List ℕ) → ℕ → Proposal D → List ℕ → List ℕ
-signed_proposal payload_bytes signer proposal own = to_be_bytes w32 signer ++ (proposal_bytes payload_bytes proposal ++ own)
+abbrev pub signed_proposal_bytes : {D : Type 0} → (D → List ℕ) → ℕ → Proposal D → List ℕ → List ℕ
+signed_proposal_bytes payload_bytes signer proposal own = to_be_bytes w32 signer ++ (proposal_bytes payload_bytes proposal ++ own)
 
 -- the signer, the round and the signature's bytes
 abbrev pub signed_round : ℕ → Round → List ℕ → List ℕ
@@ -29,9 +29,9 @@ abbrev pub artifact_bytes : {S D K G C : Type 0} → (D → List ℕ) → (C →
 artifact_bytes payload_bytes bytes_of _ (artifact.Notarization n) = encoding payload_bytes (Notarized (notarization_facts bytes_of n))
 artifact_bytes payload_bytes bytes_of _ (artifact.Nullification n) = encoding payload_bytes (Nullified (nullification_facts bytes_of n))
 artifact_bytes payload_bytes bytes_of _ (artifact.Finalization f) = encoding payload_bytes (Finalized (finalization_facts bytes_of f))
-artifact_bytes payload_bytes _ signed (artifact.Notarize vote) = 3 ∷ signed_proposal payload_bytes vote.signer vote.proposal (signed vote.signature)
+artifact_bytes payload_bytes _ signed (artifact.Notarize vote) = 3 ∷ signed_proposal_bytes payload_bytes vote.signer vote.proposal (signed vote.signature)
 artifact_bytes payload_bytes _ signed (artifact.Nullify vote) = 4 ∷ signed_round vote.signer vote.round (signed vote.signature)
-artifact_bytes payload_bytes _ signed (artifact.Finalize vote) = 5 ∷ signed_proposal payload_bytes vote.signer vote.proposal (signed vote.signature)
+artifact_bytes payload_bytes _ signed (artifact.Finalize vote) = 5 ∷ signed_proposal_bytes payload_bytes vote.signer vote.proposal (signed vote.signature)
 artifact_bytes _ _ _ (artifact.Certification round success) = 6 ∷ verdict_bytes round success
 
 -- the numbers of an artifact fit, as those of each artifact of the program do

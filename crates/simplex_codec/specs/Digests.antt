@@ -8,8 +8,8 @@ use native.Mathlib.Decide.{ℕ_discrete}
 use Rattle.simplex_codec.specs.declared.digest.BytesDigest.{BytesDigest}
 
 -- the bytes of a digest
-abbrev pub digest_bytes : {n : ℕ} → BytesDigest n → List ℕ
-digest_bytes d = d.bytes
+abbrev pub bytes_in_digest : {n : ℕ} → BytesDigest n → List ℕ
+bytes_in_digest d = d.bytes
 
 -- digests of the same bytes are equal
 pub same_digest : {n : ℕ} (d e : BytesDigest n) → d.bytes ≡ e.bytes → d ≡ e

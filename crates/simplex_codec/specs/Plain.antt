@@ -33,8 +33,8 @@ abbrev pub front_round : List ℕ → Round
 front_round bytes = record { epoch = number_at 0 bytes; view = number_at 8 bytes }
 
 -- the round that the bytes are, where there are sixteen
-abbrev pub round_of : List ℕ → Option Round
-round_of bytes = if length bytes == 16 then Some (front_round bytes) else None
+abbrev pub plain_round_of : List ℕ → Option Round
+plain_round_of bytes = if length bytes == 16 then Some (front_round bytes) else None
 
 -- the proposal that the bytes are: a round, the parent, and a payload of all that is behind them
 abbrev pub plain_proposal_of : List ℕ → Option (Proposal PlainDigest)
@@ -45,7 +45,7 @@ plain_proposal_of bytes = option_map
 -- the subject that a vote signed these bytes of: 0 marks a vote to notarize, 1 one to nullify, 2 one to finalize
 abbrev pub plain_subject_of : List ℕ → Option (Subject PlainDigest)
 plain_subject_of (zero ∷ rest) = option_map (λ p. subject.Notarize p) (plain_proposal_of rest)
-plain_subject_of (suc zero ∷ rest) = option_map (λ r. subject.Nullify r) (round_of rest)
+plain_subject_of (suc zero ∷ rest) = option_map (λ r. subject.Nullify r) (plain_round_of rest)
 plain_subject_of (suc (suc zero) ∷ rest) = option_map (λ p. subject.Finalize p) (plain_proposal_of rest)
 plain_subject_of _ = None
 

@@ -4,7 +4,7 @@ ghost use Rattle.std.specs.Prelude.{◌≡◌, ◌++◌, ◌<◌, ◌^◌, IfOk,
 ghost use Rattle.simplex_types.specs.Certificates.{certificate_facts};
 ghost use Rattle.simplex_types.specs.Encoding.{encoding, IsEncodableRound, IsEncodable};
 ghost use Rattle.simplex_codec.specs.Refusals.{IsEncodableProposal};
-ghost use Rattle.simplex_codec.specs.Artifacts.{artifact_bytes, signed_proposal, signed_round, verdict_bytes, IsEncodableArtifact};
+ghost use Rattle.simplex_codec.specs.Artifacts.{artifact_bytes, signed_proposal_bytes, signed_round, verdict_bytes, IsEncodableArtifact};
 ghost use Rattle.simplex_codec.specs.Artifacts.{HasReadableSignature, ReadsArtifacts};
 ghost use Rattle.simplex_codec.specs.Artifacts.{IsProposalVoteRefusal, IsRoundVoteRefusal, IsVerdictRefusal, IsArtifactRefusal};
 
@@ -153,7 +153,7 @@ fn read_proposal_vote<S: SchemeCodec, D: DigestCodec>(
     alloc: Global,
     bytes: &[u8],
 ) -> Result<(Participant, Proposal<D>, S::Signature), DecodeError>
-    ensures parts { IfOk result (λ x. bytes.now ≡ signed_proposal D.bytes x.0 x.1 (S.signature_bytes x.2)) }
+    ensures parts { IfOk result (λ x. bytes.now ≡ signed_proposal_bytes D.bytes x.0 x.1 (S.signature_bytes x.2)) }
     ensures fits { IfOk result (λ x. IsEncodableProposal x.1 × (x.0 < 2 ^ 32)) }
     ensures readable { IfOk result (λ x. S.signature_of (S.signature_bytes x.2) ≡ Some x.2) }
     ensures refused { IfErr result (IsProposalVoteRefusal D.bytes D.SIZE S.signature_of bytes.now) }

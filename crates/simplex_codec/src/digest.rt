@@ -13,13 +13,13 @@ pub struct BytesDigest<const N: usize> {
 }
 
 impl<const N: usize> Digest for BytesDigest<N> {
-    ghost use Rattle.simplex_codec.specs.Digests.{digest_bytes, digest_from_eq, digest_eq_self, same_digest};
+    ghost use Rattle.simplex_codec.specs.Digests.{bytes_in_digest, digest_from_eq, digest_eq_self, same_digest};
 
     const SIZE: usize = N;
 
     ghost SIZE = { N };
 
-    ghost bytes = { digest_bytes };
+    ghost bytes = { bytes_in_digest };
 
     fn as_bytes(&self) -> &[u8] {
         &self.bytes
@@ -45,9 +45,9 @@ impl<const N: usize> DigestCodec for BytesDigest<N> {
 }
 
 impl<const N: usize> From<[u8; N]> for BytesDigest<N> {
-    ghost use Rattle.simplex_codec.specs.Digests.{digest_bytes};
+    ghost use Rattle.simplex_codec.specs.Digests.{bytes_in_digest};
 
-    ghost from_gives = { λ bytes digest. digest_bytes digest ≡ bytes };
+    ghost from_gives = { λ bytes digest. bytes_in_digest digest ≡ bytes };
 
     fn from(bytes: [u8; N]) -> BytesDigest<N> {
         BytesDigest { bytes }
@@ -55,9 +55,9 @@ impl<const N: usize> From<[u8; N]> for BytesDigest<N> {
 }
 
 impl<const N: usize> From<BytesDigest<N>> for [u8; N] {
-    ghost use Rattle.simplex_codec.specs.Digests.{digest_bytes};
+    ghost use Rattle.simplex_codec.specs.Digests.{bytes_in_digest};
 
-    ghost from_gives = { λ digest bytes. bytes ≡ digest_bytes digest };
+    ghost from_gives = { λ digest bytes. bytes ≡ bytes_in_digest digest };
 
     fn from(digest: BytesDigest<N>) -> [u8; N] {
         digest.bytes

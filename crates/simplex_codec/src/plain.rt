@@ -3,7 +3,7 @@
 ghost use Rattle.std.specs.Prelude.{◌≡◌, IfSome};
 ghost use Rattle.simplex_types.specs.Plain.{digest_bytes};
 ghost use Rattle.simplex_types.specs.Encoding.{round_bytes, proposal_bytes, subject_bytes};
-ghost use Rattle.simplex_codec.specs.Plain.{plain_signature_bytes, plain_signature_of, plain_subject_of, plain_proposal_of, round_of};
+ghost use Rattle.simplex_codec.specs.Plain.{plain_signature_bytes, plain_signature_of, plain_subject_of, plain_proposal_of, plain_round_of};
 
 use crate::hooks::{DigestCodec, SchemeCodec};
 use crate::kinds::{FINALIZATION, NOTARIZATION, NULLIFICATION};
@@ -83,7 +83,7 @@ fn read_subject(bytes: &[u8]) -> Option<Subject<PlainDigest>>
 
 /// A round, and nothing behind it.
 fn read_round(bytes: &[u8]) -> Option<Round>
-    ensures read { result ≡ round_of bytes.now }
+    ensures read { result ≡ plain_round_of bytes.now }
     ensures same_bytes { IfSome result (λ r. round_bytes r ≡ bytes.now) }
 {
     match take_round(bytes) {

@@ -4,7 +4,7 @@ ghost use Rattle.std.specs.Prelude.{◌≡◌, ◌++◌, ◌∷◌, [], OnOk, So
 ghost use Rattle.std.specs.Int.{w32, w64, to_be_bytes};
 ghost use Rattle.simplex_types.specs.Encoding.{round_bytes, proposal_bytes, subject_bytes, IsEncodableRound};
 ghost use Rattle.simplex_codec.specs.Refusals.{IsEncodableProposal, IsEncodableSubject};
-ghost use Rattle.simplex_codec.specs.Artifacts.{signed_proposal, signed_round, verdict_bytes};
+ghost use Rattle.simplex_codec.specs.Artifacts.{signed_proposal_bytes, signed_round, verdict_bytes};
 
 use crate::hooks::SchemeCodec;
 use crate::kinds::{FINALIZATION, NOTARIZATION, NULLIFICATION, VERDICT};
@@ -93,7 +93,8 @@ pub(crate) fn put_proposal_vote<S: SchemeCodec, D: Digest>(
     proposal: &Proposal<D>,
     signature: &S::Signature,
 ) -> Result<(), AllocError>
-    ensures bytes { OnOk result (out.new.items ≡ out.old.items ++ (kind ∷ signed_proposal D.bytes signer proposal.now (S.signature_bytes signature.now))) }
+    ensures bytes { OnOk result (out.new.items
+        ≡ out.old.items ++ (kind ∷ signed_proposal_bytes D.bytes signer proposal.now (S.signature_bytes signature.now))) }
     ensures readable { OnOk result (S.signature_of (S.signature_bytes signature.now) ≡ Some signature.now) }
 {
     out.put_u8(kind)?;

@@ -14,7 +14,7 @@ use Rattle.simplex_flat.specs.declared.shown.FlatEntries.{FlatEntries}
 use Rattle.simplex_flat.specs.declared.shown.FlatItem.{FlatItem}
 use Rattle.simplex_flat.specs.declared.shown.FlatStored.{FlatStored}
 use Rattle.simplex_flat.specs.Journals.{HostArtifact, IsNotWritten}
-use Rattle.simplex_flat.specs.Opening.{IsStored}
+use Rattle.simplex_flat.specs.Opening.{IsFlatStored}
 use Rattle.simplex_flat.specs.Serving.{IsProposalAt}
 use Rattle.simplex_flat.specs.Showing.{AreShown, IsItemOr}
 use Rattle.simplex_flat.specs.Statuses.{not_written_number}
@@ -28,7 +28,7 @@ proposal_shown None proposals index r at item status = (status, inl (item, at))
 proposal_shown (Some f) proposals index r at item status = (status, inr (item.0, subst (IsProposalAt proposals index) (sym item.1) at))
 
 -- where entries are lost, there are fewer than were closed
-pub fewer_than_closed : (beside : FlatStored) (stored : Stored) (entries : List HostArtifact) → IsStored beside stored
+pub fewer_than_closed : (beside : FlatStored) (stored : Stored) (entries : List HostArtifact) → IsFlatStored beside stored
     → has_lost stored (entries_of certificate_bytes entries) ≡ true → length entries < beside.closed
 fewer_than_closed beside stored entries so lost = grind (arith, common_steps, so.closed, lost)
 

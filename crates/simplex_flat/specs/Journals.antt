@@ -4,7 +4,7 @@ use Rattle.std.specs.List.{flat_map, Contains}
 use Rattle.simplex_types.specs.declared.types.messages.Artifact.{Artifact}
 use Rattle.simplex_codec.specs.declared.digest.BytesDigest.{BytesDigest}
 use Rattle.simplex_codec.specs.Artifacts.{artifact_bytes, IsArtifactRefusal}
-use Rattle.simplex_codec.specs.Digests.{digest_bytes}
+use Rattle.simplex_codec.specs.Digests.{bytes_in_digest}
 use Rattle.simplex_codec.specs.Frames.{frame, HasNoFrame, IsCut}
 use Rattle.simplex_host.specs.declared.scheme.HostCertificate.{HostCertificate}
 use Rattle.simplex_host.specs.declared.scheme.HostKey.{HostKey}
@@ -23,7 +23,7 @@ HostArtifact = Artifact HostScheme (BytesDigest 32) HostKey Order HostCertificat
 
 -- the bytes of an entry
 abbrev pub entry_bytes : HostArtifact → List ℕ
-entry_bytes a = artifact_bytes digest_bytes certificate_bytes order_bytes a
+entry_bytes a = artifact_bytes bytes_in_digest certificate_bytes order_bytes a
 
 -- entries as frames, one behind the other
 abbrev pub framed : List HostArtifact → List ℕ
@@ -63,7 +63,7 @@ pub record IsNoEntryAt (journal : List ℕ) (at : ℕ) (is_refusal : List ℕ �
 abbrev pub IsNotRead : List ℕ → NotRead → Type 0
 IsNotRead journal not_read.OutOfMemory = Unit {0}
 IsNotRead journal (not_read.Damaged at) = IsDamagedAt journal at
-IsNotRead journal (not_read.NoEntry at e) = IsNoEntryAt journal at (λ entry. IsArtifactRefusal (digest_bytes {n = 32}) 32 certificate_bytes order_of entry e)
+IsNotRead journal (not_read.NoEntry at e) = IsNoEntryAt journal at (λ entry. IsArtifactRefusal (bytes_in_digest {n = 32}) 32 certificate_bytes order_of entry e)
 
 -- there are no bytes, or no frame stands at their front
 abbrev pub StandsAlone : List ℕ → Type 0

@@ -67,11 +67,11 @@ abandoned_number abandoned.ResponseClosed = 5
 abandoned_number abandoned.IneligibleAtRecording = 6
 
 -- the number of a fault: a reply's status
-abbrev pub fault_number : Fault → ℕ
-fault_number fault.OutOfMemory = 1
-fault_number fault.Failed = 2
-fault_number fault.ViewTooLarge = 3
-fault_number fault.TimeOverflow = 4
+abbrev pub fault_status : Fault → ℕ
+fault_status fault.OutOfMemory = 1
+fault_status fault.Failed = 2
+fault_status fault.ViewTooLarge = 3
+fault_status fault.TimeOverflow = 4
 
 -- the index of a member, or the greatest number of 32 bits where there is none
 abbrev pub member_number : Option HostKey → ℕ

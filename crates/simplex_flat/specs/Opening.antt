@@ -3,8 +3,8 @@ use Rattle.std.specs.Prelude.{◌≡◌, ◌⊎◌, ◌<◌, ◌≤◌, ℕ, Lis
 use Rattle.simplex_codec.specs.declared.digest.BytesDigest.{BytesDigest}
 use Rattle.simplex_host.specs.declared.elector.HostElector.{HostElector}
 use Rattle.simplex_host.specs.declared.scheme.HostKey.{HostKey}
-use Rattle.simplex_host.specs.Electing.{terms_of, is_early}
-use Rattle.simplex_host.specs.Host.{certificate_bytes, signer_of, keys_of}
+use Rattle.simplex_host.specs.Electing.{host_terms, is_early}
+use Rattle.simplex_host.specs.Host.{certificate_bytes, host_signer, host_keys}
 use Rattle.simplex_record.specs.Entries.{entries_of}
 use Rattle.simplex_record.specs.Start.{StartFacts, start_facts}
 use Rattle.simplex_record.specs.Votes.{votes_of}
@@ -24,12 +24,12 @@ use Rattle.simplex_flat.specs.declared.shown.FlatRestart.{FlatRestart}
 use Rattle.simplex_flat.specs.declared.shown.FlatStored.{FlatStored}
 use Rattle.simplex_flat.specs.Journals.{HostArtifact, IsNotRead, framed}
 use Rattle.simplex_flat.specs.Numbers.{flag_number}
-use Rattle.simplex_flat.specs.Serving.{same_payload, host_leader}
+use Rattle.simplex_flat.specs.Serving.{same_host_payload, host_leader}
 use Rattle.simplex_flat.specs.Settings.{HostStart, IsNoStart, IsStart}
 use Rattle.simplex_flat.specs.Starting.{IsFresh}
 
 -- what is stored beside a journal is of these numbers
-pub record IsStored (f : FlatStored) (s : Stored) : Type 0 where
+pub record IsFlatStored (f : FlatStored) (s : Stored) : Type 0 where
   pub closed : s.closed ≡ f.closed
   pub is_pruned : flag_number s.is_pruned ≡ f.is_pruned
   pub retention : s.retention ≡ f.retention
@@ -37,14 +37,14 @@ pub record IsStored (f : FlatStored) (s : Stored) : Type 0 where
 
 -- how a member of the host starts, as plain data
 abbrev pub host_start : HostStart → StartFacts HostKey HostElector (BytesDigest 32)
-host_start start = start_facts signer_of keys_of terms_of is_early certificate_bytes start
+host_start start = start_facts host_signer host_keys host_terms is_early certificate_bytes start
 
 -- a start, a record and what is stored beside it, by flat settings and the bytes of a journal
 pub record IsGoingOn
     (f : FlatSettings) (leaders bytes : List ℕ) (now : ℕ) (beside : FlatStored) (journal : List ℕ)
     (start : HostStart) (stored : Stored) (entries : List HostArtifact) : Type 0 where
   pub started : IsStart f leaders bytes now start
-  pub stored_so : IsStored beside stored
+  pub stored_so : IsFlatStored beside stored
   pub read : journal ≡ framed entries
 
 -- a member goes on from them; the journal has all entries that were counted
@@ -55,7 +55,7 @@ pub record IsResumedBy
   pub entries : List HostArtifact
   pub from : IsGoingOn f leaders bytes now beside journal start stored entries
   pub whole : beside.entries ≤ length entries
-  pub resumed : IsResumed same_payload host_leader stored (entries_of certificate_bytes entries) (host_start start) held.member.facts
+  pub resumed : IsResumed same_host_payload host_leader stored (entries_of certificate_bytes entries) (host_start start) held.member.facts
   -- its votes are those of the journal, with their orders
   pub votes : held.member.votes ≡ votes_of entries
   pub fresh : IsFresh held
@@ -73,7 +73,7 @@ pub record IsNotRecovered
   pub stored : Stored
   pub entries : List HostArtifact
   pub from : IsGoingOn f leaders bytes now beside journal start stored entries
-  pub refused : IsNotResumed same_payload host_leader stored (entries_of certificate_bytes entries) (host_start start) (resume.Recover error)
+  pub refused : IsNotResumed same_host_payload host_leader stored (entries_of certificate_bytes entries) (host_start start) (resume.Recover error)
 
 -- why no member goes on from them
 abbrev pub IsNotResumedBy : FlatSettings → List ℕ → List ℕ → ℕ → FlatStored → List ℕ → NotResumed → Type 0
@@ -96,7 +96,7 @@ pub record IsRestartTo
     (old : Held) (f : FlatRestart) (leaders bytes : List ℕ) (result : Result (Unit {0}) RecoverError) (new : Held) : Type 0 where
   pub asked : RestartFacts HostKey HostElector (BytesDigest 32)
   pub is_asked : IsRestartOf f leaders bytes asked
-  pub restarted : IsRestart same_payload host_leader old.member.facts asked result new.member.facts
+  pub restarted : IsRestart same_host_payload host_leader old.member.facts asked result new.member.facts
   pub votes : new.member.votes ≡ votes_left old.member.facts asked old.member.votes
   pub last : new.last ≡ old.last
   pub shown : new.shown ≡ old.shown

@@ -9,13 +9,13 @@ use Rattle.simplex_voter.specs.declared.voter.propose.ProposalRequest.TheVariant
 use Rattle.simplex_voter.specs.declared.voter.verify.Verify.{Verify}
 use Rattle.simplex_voter.specs.declared.voter.verify.Verify.TheVariants.{Ready, Resolve, Wait}
 use Rattle.simplex_codec.specs.declared.digest.BytesDigest.{BytesDigest}
-use Rattle.simplex_codec.specs.Digests.{digest_bytes}
+use Rattle.simplex_codec.specs.Digests.{bytes_in_digest}
 use Rattle.simplex_host.specs.declared.scheme.HostKey.{HostKey}
 use Rattle.simplex_member.specs.Calls.{Told, Added, AddedNullification, Judged, Nullify, Finalize, Notarize, Handed, Dropped, Requested, Standing, Answered, Abandoned, Candidates, Released, Triggered, TimesOut, Done, Restarted, Refused, NotAllowed}
 use Rattle.simplex_flat.specs.declared.flat.FlatContext.{FlatContext}
 use Rattle.simplex_flat.specs.declared.flat.FlatReply.{FlatReply}
-use Rattle.simplex_flat.specs.Calls.{IsProposal, round_of}
-use Rattle.simplex_flat.specs.Numbers.{abandoned_number, fault_number, flag_number, member_number, reason_number}
+use Rattle.simplex_flat.specs.Calls.{IsFlatProposal, flat_round}
+use Rattle.simplex_flat.specs.Numbers.{abandoned_number, fault_status, flag_number, member_number, reason_number}
 
 -- the call is answered, by an answer of this kind
 abbrev pub HasAnswer : ℕ → FlatReply → Type 0
@@ -23,9 +23,9 @@ HasAnswer kind f = (f.status ≡ 0) × (f.kind ≡ kind)
 
 -- a context is of these numbers and bytes
 pub record IsContext (f : FlatContext) (c : Context (BytesDigest 32) HostKey) : Type 0 where
-  pub round : c.round ≡ round_of f.round
+  pub round : c.round ≡ flat_round f.round
   pub parent : c.parent.0 ≡ f.parent
-  pub payload : digest_bytes c.parent.1 ≡ f.payload
+  pub payload : bytes_in_digest c.parent.1 ≡ f.payload
 
 -- a request to build: 1 on a certified parent, 2 as a handoff
 abbrev pub HasRequest : Option (ProposalRequest (BytesDigest 32) HostKey) → FlatReply → Type 0
@@ -36,40 +36,40 @@ HasRequest (Some (Prepare c)) f = (f.has ≡ 2) × (f.member ≡ c.leader.0) × 
 -- what is to be verified: 1 for a proposal, 2 where a nullification is lacking, 3 where it is a notarization
 abbrev pub HasWork : Verify (BytesDigest 32) HostKey → FlatReply → Type 0
 HasWork Wait f = f.has ≡ 0
-HasWork (Ready c q) f = (f.has ≡ 1) × (f.member ≡ c.leader.0) × IsContext f.context c × IsProposal f.proposal q
+HasWork (Ready c q) f = (f.has ≡ 1) × (f.member ≡ c.leader.0) × IsContext f.context c × IsFlatProposal f.proposal q
 HasWork (Resolve waiting view lacking.Nullification leader) f = (f.has ≡ 2) × (f.member ≡ leader.0) × (f.waiting ≡ waiting) × (f.lacking ≡ view)
 HasWork (Resolve waiting view lacking.Notarization leader) f = (f.has ≡ 3) × (f.member ≡ leader.0) × (f.waiting ≡ waiting) × (f.lacking ≡ view)
 
 -- the notarization of a verdict's view, if it is there
 abbrev pub HasNotarization : Option (ProposalFacts (BytesDigest 32)) → FlatReply → Type 0
 HasNotarization None f = f.has ≡ 0
-HasNotarization (Some c) f = (f.has ≡ 1) × IsProposal f.proposal c.proposal
+HasNotarization (Some c) f = (f.has ≡ 1) × IsFlatProposal f.proposal c.proposal
 
 -- a vote to notarize, if there is one
 abbrev pub HasNotarize : Option (ArtifactFacts (BytesDigest 32)) → FlatReply → Type 0
 HasNotarize None f = f.has ≡ 0
-HasNotarize (Some (NotarizeVote q signer)) f = (f.has ≡ 1) × (f.member ≡ signer) × IsProposal f.proposal q
+HasNotarize (Some (NotarizeVote q signer)) f = (f.has ≡ 1) × (f.member ≡ signer) × IsFlatProposal f.proposal q
 HasNotarize _ f = ⊥
 
 -- a vote to nullify, and whether it was sent before
 abbrev pub HasNullify : Option (Bool × ArtifactFacts (BytesDigest 32)) → FlatReply → Type 0
 HasNullify None f = f.has ≡ 0
 HasNullify (Some (retry, NullifyVote round signer)) f =
-    (f.has ≡ 1) × (f.member ≡ signer) × (f.flag ≡ flag_number retry) × (round ≡ round_of f.proposal.round)
+    (f.has ≡ 1) × (f.member ≡ signer) × (f.flag ≡ flag_number retry) × (round ≡ flat_round f.proposal.round)
 HasNullify _ f = ⊥
 
 -- a vote to finalize
 abbrev pub HasFinalize : Option (ArtifactFacts (BytesDigest 32)) → FlatReply → Type 0
 HasFinalize None f = f.has ≡ 0
-HasFinalize (Some (FinalizeVote q signer)) f = (f.has ≡ 1) × (f.member ≡ signer) × IsProposal f.proposal q
+HasFinalize (Some (FinalizeVote q signer)) f = (f.has ≡ 1) × (f.member ≡ signer) × IsFlatProposal f.proposal q
 HasFinalize _ f = ⊥
 
 -- a certificate: 1 for a notarization, 2 for a nullification, 3 for a finalization
 abbrev pub HasCertificate : Option (CertificateFacts (BytesDigest 32)) → FlatReply → Type 0
 HasCertificate None f = f.has ≡ 0
-HasCertificate (Some (Notarized c)) f = (f.has ≡ 1) × IsProposal f.proposal c.proposal
-HasCertificate (Some (Nullified c)) f = (f.has ≡ 2) × (c.round ≡ round_of f.proposal.round)
-HasCertificate (Some (Finalized c)) f = (f.has ≡ 3) × IsProposal f.proposal c.proposal
+HasCertificate (Some (Notarized c)) f = (f.has ≡ 1) × IsFlatProposal f.proposal c.proposal
+HasCertificate (Some (Nullified c)) f = (f.has ≡ 2) × (c.round ≡ flat_round f.proposal.round)
+HasCertificate (Some (Finalized c)) f = (f.has ≡ 3) × IsFlatProposal f.proposal c.proposal
 
 -- why a handoff has to be given up, if it has
 abbrev pub HasReason : Option HandoffAbandonedReason → FlatReply → Type 0
@@ -96,6 +96,6 @@ Tells f (Released was_open) = HasAnswer 14 f × (f.flag ≡ flag_number was_open
 Tells f (Triggered latched) = HasAnswer 15 f × (f.flag ≡ flag_number latched)
 Tells f (Abandoned reason) = HasAnswer 16 f × HasReason reason f
 Tells f Restarted = HasAnswer 17 f
-Tells f (Refused fault) = f.status ≡ fault_number fault
+Tells f (Refused fault) = f.status ≡ fault_status fault
 Tells f NotAllowed = f.status ≡ 5
 Tells _ _ = ⊥

@@ -10,7 +10,7 @@ use Rattle.simplex_types.specs.declared.reasons.Kind.{Kind}
 use Rattle.simplex_types.specs.declared.reasons.Kind.TheVariants as lacking
 use Rattle.simplex_types.specs.declared.types.fault.Fault.{Fault}
 use Rattle.simplex_codec.specs.declared.digest.BytesDigest.{BytesDigest}
-use Rattle.simplex_codec.specs.Digests.{digest_bytes}
+use Rattle.simplex_codec.specs.Digests.{bytes_in_digest}
 use Rattle.simplex_host.specs.Host.{certificate_bytes}
 use Rattle.simplex_resolver.specs.declared.replay.error.ReplayError.{ReplayError}
 use Rattle.simplex_resolver.specs.declared.replay.error.ReplayError.TheVariants as replay
@@ -34,16 +34,16 @@ use Rattle.simplex_flat.specs.declared.resolved.FlatTold.{FlatTold}
 use Rattle.simplex_flat.specs.declared.resolving.HeldResolver.{HeldResolver}
 use Rattle.simplex_flat.specs.declared.resolving.NotReplayed.{NotReplayed}
 use Rattle.simplex_flat.specs.declared.resolving.NotReplayed.TheVariants as not_replayed
-use Rattle.simplex_flat.specs.Calls.{IsProposal, round_of}
+use Rattle.simplex_flat.specs.Calls.{IsFlatProposal, flat_round}
 use Rattle.simplex_flat.specs.Journals.{HostArtifact, IsNotRead, framed}
-use Rattle.simplex_flat.specs.Numbers.{fault_number, flag_number}
+use Rattle.simplex_flat.specs.Numbers.{fault_status, flag_number}
 
 -- a resolver that was told the entries whose frames these bytes are, and then that its replay has ended; nothing is to be read yet
 pub record IsBegunFrom (term_length : ℕ) (journal : List ℕ) (held : HeldResolver) : Type 0 where
   pub entries : List HostArtifact
   pub read : journal ≡ framed entries
   pub accepted : record_error (newest_first certificate_bytes entries) ≡ None
-  pub told : HasBeenTold term_length (replay_calls (digest_bytes {n = 32}) certificate_bytes entries) held.resolver
+  pub told : HasBeenTold term_length (replay_calls (bytes_in_digest {n = 32}) certificate_bytes entries) held.resolver
   pub last : held.last.items ≡ []
   pub served : held.served.items ≡ []
 
@@ -71,25 +71,25 @@ not_replayed_number (not_replayed.Replay replay.ViewTooLarge) = 43
 not_replayed_number (not_replayed.Replay replay.VerdictWithoutNotarization) = 46
 
 -- a certificate of a kind is of these numbers and bytes
-abbrev pub IsHandedIn : ℕ → FlatTold → List ℕ → CertificateFacts (BytesDigest 32) → Type 0
-IsHandedIn (suc zero) f bytes (Notarized c) = IsProposal f.proposal c.proposal × (c.bytes ≡ bytes)
-IsHandedIn (suc (suc zero)) f bytes (Nullified c) = (c.round ≡ round_of f.proposal.round) × (c.bytes ≡ bytes)
-IsHandedIn (suc (suc (suc zero))) f bytes (Finalized c) = IsProposal f.proposal c.proposal × (c.bytes ≡ bytes)
-IsHandedIn _ f bytes c = ⊥
+abbrev pub IsFlatCertificate : ℕ → FlatTold → List ℕ → CertificateFacts (BytesDigest 32) → Type 0
+IsFlatCertificate (suc zero) f bytes (Notarized c) = IsFlatProposal f.proposal c.proposal × (c.bytes ≡ bytes)
+IsFlatCertificate (suc (suc zero)) f bytes (Nullified c) = (c.round ≡ flat_round f.proposal.round) × (c.bytes ≡ bytes)
+IsFlatCertificate (suc (suc (suc zero))) f bytes (Finalized c) = IsFlatProposal f.proposal c.proposal × (c.bytes ≡ bytes)
+IsFlatCertificate _ f bytes c = ⊥
 
 -- a verdict on a notarization of these numbers and bytes
 pub record IsJudged (f : FlatTold) (bytes : List ℕ) (call : Call) : Type 0 where
   pub notarization : ProposalFacts (BytesDigest 32)
   pub success : Bool
-  pub proposal : IsProposal f.proposal notarization.proposal
+  pub proposal : IsFlatProposal f.proposal notarization.proposal
   pub own : notarization.bytes ≡ bytes
   pub flag : flag_number success ≡ f.success
-  pub told : call ≡ verdict (digest_bytes {n = 32}) notarization success
+  pub told : call ≡ verdict (bytes_in_digest {n = 32}) notarization success
 
 -- what is told: a certificate, or a verdict
-abbrev pub IsTold : FlatTold → List ℕ → Call → Type 0
-IsTold f bytes call =
-    ((c : CertificateFacts (BytesDigest 32)) × IsHandedIn f.kind f bytes c × (call ≡ update (digest_bytes {n = 32}) c))
+abbrev pub IsToldCall : FlatTold → List ℕ → Call → Type 0
+IsToldCall f bytes call =
+    ((c : CertificateFacts (BytesDigest 32)) × IsFlatCertificate f.kind f bytes c × (call ≡ update (bytes_in_digest {n = 32}) c))
     ⊎ ((f.kind ≡ 4) × IsJudged f bytes call)
 
 -- the highest view that is named: of a nullification its own, else the greater of its own and its parent's
@@ -113,7 +113,7 @@ HasNoEffects status r = (r.status ≡ status) × (r.count ≡ 0) × (r.fetches �
 -- a fault leaves what it leaves, and no effects to be read
 abbrev pub HasFault : HeldResolver → ℕ → Call → FlatEffects → HeldResolver → Type 0
 HasFault old highest call r new =
-    (fault : Fault) × HasNoEffects (fault_number fault) r × IsLeftBy old.resolver highest call fault new.resolver × (new.last.items ≡ [])
+    (fault : Fault) × HasNoEffects (fault_status fault) r × IsLeftBy old.resolver highest call fault new.resolver × (new.last.items ≡ [])
 
 -- a call that names no view above the highest is told, or ends in a fault; what was served last stays
 abbrev pub IsHeardAs : HeldResolver → ℕ → Call → FlatEffects → HeldResolver → Type 0
@@ -136,13 +136,13 @@ IsUntold f r =
     ⊎ (HasNoEffects 7 r × HasTold f)
 
 -- nothing was told, and all is as it was
-abbrev pub IsNotTold : HeldResolver → FlatTold → FlatEffects → HeldResolver → Type 0
-IsNotTold old f r new = (new ≡ old) × IsUntold f r
+abbrev pub IsResolverNotTold : HeldResolver → FlatTold → FlatEffects → HeldResolver → Type 0
+IsResolverNotTold old f r new = (new ≡ old) × IsUntold f r
 
 -- what flat numbers tell a resolver
 abbrev pub IsHeard : HeldResolver → FlatTold → List ℕ → FlatEffects → HeldResolver → Type 0
 IsHeard old f bytes r new =
-    IsNotTold old f r new ⊎ (HasTold f × ((call : Call) × IsTold f bytes call × IsHeardAs old (highest_told f) call r new))
+    IsResolverNotTold old f r new ⊎ (HasTold f × ((call : Call) × IsToldCall f bytes call × IsHeardAs old (highest_told f) call r new))
 
 -- why a fetch is opened, and what is settled
 abbrev pub why_number : FetchReason → ℕ

@@ -6,13 +6,13 @@ use Rattle.simplex_types.specs.declared.types.messages.Proposal.{Proposal}
 use Rattle.simplex_types.specs.declared.types.messages.Certificate.TheVariants as certificate
 use Rattle.simplex_voter.specs.declared.voter.candidates.CertificateFetch.{CertificateFetch}
 use Rattle.simplex_codec.specs.declared.digest.BytesDigest.{BytesDigest}
-use Rattle.simplex_codec.specs.Digests.{digest_bytes}
+use Rattle.simplex_codec.specs.Digests.{bytes_in_digest}
 use Rattle.simplex_host.specs.declared.elector.HostElector.{HostElector}
 use Rattle.simplex_host.specs.declared.scheme.HostCertificate.{HostCertificate}
 use Rattle.simplex_host.specs.declared.scheme.HostKey.{HostKey}
 use Rattle.simplex_host.specs.declared.scheme.HostScheme.{HostScheme}
 use Rattle.simplex_host.specs.declared.scheme.Order.{Order}
-use Rattle.simplex_host.specs.Electing.{leader_of}
+use Rattle.simplex_host.specs.Electing.{leader_after}
 use Rattle.simplex_host.specs.Host.{IsOrder, certificate_bytes}
 use Rattle.simplex_member.specs.declared.member.calls.Reply.{Reply}
 use Rattle.simplex_member.specs.declared.member.calls.Reply.TheVariants as reply
@@ -24,39 +24,39 @@ use Rattle.simplex_flat.specs.declared.flat.FlatFetch.{FlatFetch}
 use Rattle.simplex_flat.specs.declared.flat.FlatProposal.{FlatProposal}
 use Rattle.simplex_flat.specs.declared.flat.FlatReply.{FlatReply}
 use Rattle.simplex_flat.specs.declared.held.Held.{Held}
-use Rattle.simplex_flat.specs.Calls.{HandsInCertificate, HasNumbers, HostCallFacts, IsAskedBy, IsNoCall, IsProposal}
+use Rattle.simplex_flat.specs.Calls.{HandsInCertificate, HasNumbers, HostCallFacts, IsAskedBy, IsNoFlatCall, IsFlatProposal}
 use Rattle.simplex_flat.specs.Replies.{Tells}
 
 -- two payloads have the same bytes
-abbrev pub same_payload : BytesDigest 32 → BytesDigest 32 → Bool
-same_payload d e = bytes_eq (digest_bytes d) (digest_bytes e)
+abbrev pub same_host_payload : BytesDigest 32 → BytesDigest 32 → Bool
+same_host_payload d e = bytes_eq (bytes_in_digest d) (bytes_in_digest e)
 
 -- the leader of a round, after a certificate of these bytes
 abbrev pub host_leader : HostElector → Round → Option (List ℕ) → ℕ
-host_leader e round seed = leader_of e round.view seed
+host_leader e round seed = leader_after e round.view seed
 
 -- no call was made, and all is as it was: one of its numbers is none of a call, or there was no memory for its certificate
 abbrev pub IsNotMade : Held → FlatCall → FlatReply → Held → Type 0
-IsNotMade old f r new = (new ≡ old) × (((r.status ≡ 6) × IsNoCall f) ⊎ ((r.status ≡ 7) × HandsInCertificate f))
+IsNotMade old f r new = (new ≡ old) × (((r.status ≡ 6) × IsNoFlatCall f) ⊎ ((r.status ≡ 7) × HandsInCertificate f))
 
 -- the call that the flat one stands for was made
-pub record IsMade (old : Held) (f : FlatCall) (bytes : List ℕ) (r : FlatReply) (new : Held) : Type 0 where
+pub record IsCallMade (old : Held) (f : FlatCall) (bytes : List ℕ) (r : FlatReply) (new : Held) : Type 0 where
   pub call : HostCallFacts
   pub numbers : HasNumbers f
   pub is_asked : IsAskedBy f bytes call
   -- the member answered it, by its contract; its reply is kept
-  pub made : IsCall same_payload host_leader old.member.facts call (told certificate_bytes new.last) new.member.facts
+  pub made : IsCall same_host_payload host_leader old.member.facts call (told certificate_bytes new.last) new.member.facts
   -- the flat reply tells what it tells
   pub tells : Tells r (told certificate_bytes new.last)
   -- a vote in it is ordered, for just its own bytes
-  pub ordered : IfSome old.member.facts.life (IsSignedReply (IsOrder digest_bytes) new.last)
+  pub ordered : IfSome old.member.facts.life (IsSignedReply (IsOrder bytes_in_digest) new.last)
   -- it stands last among the record's votes, with its order
   pub votes : new.member.votes ≡ old.member.votes ++ signed_reply new.last
   pub shown : new.shown ≡ old.shown
 
 -- a flat call is served: nothing was done, or the call was made
-abbrev pub IsServed : Held → FlatCall → List ℕ → FlatReply → Held → Type 0
-IsServed old f bytes r new = IsNotMade old f r new ⊎ IsMade old f bytes r new
+abbrev pub IsCallServed : Held → FlatCall → List ℕ → FlatReply → Held → Type 0
+IsCallServed old f bytes r new = IsNotMade old f r new ⊎ IsCallMade old f bytes r new
 
 -- a reply of a member of the host
 abbrev pub HostReply : Type 0
@@ -88,7 +88,7 @@ dropped_in _ = []
 
 -- the proposal at an index of a list
 abbrev pub IsProposalAt : List (Proposal (BytesDigest 32)) → ℕ → FlatProposal → Type 0
-IsProposalAt proposals index f = (q : Proposal (BytesDigest 32)) × (slice_get proposals index ≡ Some q) × IsProposal f q
+IsProposalAt proposals index f = (q : Proposal (BytesDigest 32)) × (slice_get proposals index ≡ Some q) × IsFlatProposal f q
 
 -- the fetch at an index of a list
 abbrev pub IsFetchAt : List CertificateFetch → ℕ → FlatFetch → Type 0

@@ -14,18 +14,18 @@ use Rattle.simplex_types.specs.declared.config.SkipPolicy.{SkipPolicy}
 use Rattle.simplex_types.specs.declared.config.SkipPolicy.TheVariants as skip
 use Rattle.simplex_types.specs.declared.types.window.Terms.{Terms}
 use Rattle.simplex_codec.specs.declared.digest.BytesDigest.{BytesDigest}
-use Rattle.simplex_codec.specs.Digests.{digest_bytes}
+use Rattle.simplex_codec.specs.Digests.{bytes_in_digest}
 use Rattle.simplex_host.specs.declared.elector.HostElector.{HostElector}
 use Rattle.simplex_host.specs.declared.scheme.HostCertificate.{HostCertificate}
 use Rattle.simplex_host.specs.declared.scheme.HostKey.{HostKey}
 use Rattle.simplex_host.specs.declared.scheme.HostScheme.{HostScheme}
 use Rattle.simplex_host.specs.declared.scheme.Order.{Order}
-use Rattle.simplex_host.specs.Electing.{members_of, terms_of, table_of, is_early}
-use Rattle.simplex_host.specs.Host.{certificate_bytes, signer_of, keys_of, keys_below}
+use Rattle.simplex_host.specs.Electing.{host_members, host_terms, table_of, is_early}
+use Rattle.simplex_host.specs.Host.{certificate_bytes, host_signer, host_keys, host_keys_below}
 use Rattle.simplex_flat.specs.declared.flat.FlatSettings.{FlatSettings}
 use Rattle.simplex_flat.specs.declared.settings.SettingsError.{SettingsError}
 use Rattle.simplex_flat.specs.declared.settings.SettingsError.TheVariants as error
-use Rattle.simplex_flat.specs.Calls.{IsProposal}
+use Rattle.simplex_flat.specs.Calls.{IsFlatProposal}
 use Rattle.simplex_flat.specs.Numbers.{flag_number}
 
 -- the settings of a member of the host, and how one starts
@@ -53,15 +53,15 @@ pub record IsTerms (f : FlatSettings) (t : Terms) : Type 0 where
 
 -- the elector has this table, and draws leaders where the settings say so
 pub record IsElector (f : FlatSettings) (leaders : List ℕ) (e : HostElector) : Type 0 where
-  pub members : members_of e ≡ f.members
+  pub members : host_members e ≡ f.members
   pub table : table_of e ≡ leaders
-  pub terms : IsTerms f (terms_of e)
+  pub terms : IsTerms f (host_terms e)
   pub draws : f.draws ≡ flag_number (not (is_early e))
 
 -- genesis has the floor's payload; a finalization has the floor's proposal, and these bytes
 abbrev pub IsFloor : FlatSettings → List ℕ → Floor HostScheme (BytesDigest 32) HostKey Order HostCertificate → Type 0
-IsFloor f bytes (floor.Genesis payload) = (f.is_finalized ≡ 0) × (digest_bytes payload ≡ f.floor.payload)
-IsFloor f bytes (floor.Finalized it) = (f.is_finalized ≡ 1) × IsProposal f.floor it.proposal × (certificate_bytes it.certificate ≡ bytes)
+IsFloor f bytes (floor.Genesis payload) = (f.is_finalized ≡ 0) × (bytes_in_digest payload ≡ f.floor.payload)
+IsFloor f bytes (floor.Finalized it) = (f.is_finalized ≡ 1) × IsFlatProposal f.floor it.proposal × (certificate_bytes it.certificate ≡ bytes)
 
 -- whether views of inactive leaders are skipped; a budget of 0 is that of as many terms as there are members
 abbrev pub IsSkip : FlatSettings → SkipPolicy → Type 0
@@ -71,8 +71,8 @@ IsSkip f (skip.Enabled timeout (budget.Fixed terms)) = (0 < timeout) × (timeout
 
 -- the settings are of these numbers and bytes
 pub record IsConfig (f : FlatSettings) (bytes : List ℕ) (c : HostConfig) : Type 0 where
-  pub signer : IsSigner f (signer_of c.scheme)
-  pub keys : keys_of c.scheme ≡ keys_below f.members
+  pub signer : IsSigner f (host_signer c.scheme)
+  pub keys : host_keys c.scheme ≡ host_keys_below f.members
   pub epoch : c.epoch ≡ f.epoch
   pub floor : IsFloor f bytes c.floor
   pub leader_timeout : c.leader_timeout ≡ f.leader_timeout
@@ -111,16 +111,16 @@ abbrev pub settings_error : FlatSettings → List ℕ → Option SettingsError
 settings_error f leaders = option_or (config_error f) (elector_error f leaders)
 
 -- the error that is due, and where none is, want of memory
-abbrev pub IsDue : Option SettingsError → SettingsError → Type 0
-IsDue due found = MatchOption due (found ≡ error.OutOfMemory) (λ e. found ≡ e)
+abbrev pub IsSettingsErrorDue : Option SettingsError → SettingsError → Type 0
+IsSettingsErrorDue due found = MatchOption due (found ≡ error.OutOfMemory) (λ e. found ≡ e)
 
 -- the first rule of an engine that these settings and this elector break: the host's scheme accepts each certificate
 abbrev pub engine_error : HostConfig → HostElector → Option StartError
 engine_error c e =
-    start_error (first_broken_rule (length (keys_of c.scheme)) (λ _ _. true) c) (members_of e == length (keys_of c.scheme))
+    start_error (first_broken_rule (length (host_keys c.scheme)) (λ _ _. true) c) (host_members e == length (host_keys c.scheme))
 
 -- numbers that break no rule are settings and an elector that break this one of an engine
-pub record IsRefused (f : FlatSettings) (leaders bytes : List ℕ) (broken : StartError) : Type 0 where
+pub record IsStartRefused (f : FlatSettings) (leaders bytes : List ℕ) (broken : StartError) : Type 0 where
   pub config : HostConfig
   pub elector : HostElector
   pub is_config : IsConfig f bytes config
@@ -131,7 +131,7 @@ pub record IsRefused (f : FlatSettings) (leaders bytes : List ℕ) (broken : Sta
 -- why no member starts by these settings: memory is wanting, for those of an engine at the least, or they break this rule first
 abbrev pub IsNoStart : FlatSettings → List ℕ → List ℕ → SettingsError → Type 0
 IsNoStart f leaders bytes error.OutOfMemory = config_error f ≡ None
-IsNoStart f leaders bytes (error.Refused broken) = IsRefused f leaders bytes broken
+IsNoStart f leaders bytes (error.Refused broken) = IsStartRefused f leaders bytes broken
 IsNoStart f leaders bytes found = settings_error f leaders ≡ Some found
 
 -- a member starts by these settings, with this table, floor and moment: they break no rule
@@ -139,4 +139,4 @@ abbrev pub IsStart : FlatSettings → List ℕ → List ℕ → ℕ → HostStar
 IsStart f leaders bytes now start =
     (config : HostConfig) × (elector : HostElector) × IsConfig f bytes config × IsElector f leaders elector
     × (settings_error f leaders ≡ None) × (engine_error config elector ≡ None)
-    × (start ≡ start_by (length (keys_of config.scheme)) config elector now)
+    × (start ≡ start_by (length (host_keys config.scheme)) config elector now)

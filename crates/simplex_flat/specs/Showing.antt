@@ -12,7 +12,7 @@ use Rattle.simplex_voter.specs.Serving.{notarization_of, nullification_of, final
 use Rattle.simplex_voter.specs.Windows.{min_active, admits_certificate, admits_vote}
 use Rattle.simplex_voter.specs.Proposing.{voted_nullify}
 use Rattle.simplex_codec.specs.declared.digest.BytesDigest.{BytesDigest}
-use Rattle.simplex_codec.specs.Digests.{digest_bytes}
+use Rattle.simplex_codec.specs.Digests.{bytes_in_digest}
 use Rattle.simplex_host.specs.declared.elector.HostElector.{HostElector}
 use Rattle.simplex_host.specs.declared.scheme.HostKey.{HostKey}
 use Rattle.simplex_host.specs.declared.scheme.Order.{Order}
@@ -30,10 +30,10 @@ use Rattle.simplex_flat.specs.declared.shown.FlatItem.{FlatItem}
 use Rattle.simplex_flat.specs.declared.shown.FlatStored.{FlatStored}
 use Rattle.simplex_flat.specs.declared.shown.FlatText.{FlatText}
 use Rattle.simplex_flat.specs.declared.shown.FlatView.{FlatView}
-use Rattle.simplex_flat.specs.Calls.{IsProposal, round_of}
+use Rattle.simplex_flat.specs.Calls.{IsFlatProposal, flat_round}
 use Rattle.simplex_flat.specs.Journals.{FitsFrame, HasTooLong, HostArtifact, framed}
 use Rattle.simplex_flat.specs.Numbers.{flag_number, index_number}
-use Rattle.simplex_flat.specs.Opening.{IsStored}
+use Rattle.simplex_flat.specs.Opening.{IsFlatStored}
 use Rattle.simplex_flat.specs.Serving.{HostReply, IsFetchAt, IsProposalAt, dropped_in, fetches_in, proposals_in, reply_bytes}
 
 -- a member and a state of the host, as contracts see them
@@ -49,14 +49,14 @@ HostState = StateFacts HostKey HostElector (BytesDigest 32)
 -- what is stored beside a member's record, with how many entries it has
 pub record IsStoredBeside (m : HostFacts) (f : FlatStored) : Type 0 where
   pub entries : f.entries ≡ length m.entries
-  pub stored : IsStored f (stored_of m)
+  pub stored : IsFlatStored f (stored_of m)
 
 -- nothing changed but what is shown
 abbrev pub IsSame : Held → Held → Type 0
 IsSame old new = (new.member ≡ old.member) × (new.last ≡ old.last)
 
 -- the entries behind the first of a record, the votes among them with their orders
-pub record AreBehind (m : HostMember) (count : ℕ) (entries : List HostArtifact) : Type 0 where
+pub record AreViewsBehind (m : HostMember) (count : ℕ) (entries : List HostArtifact) : Type 0 where
   pub behind : entries_of certificate_bytes entries ≡ drop count m.facts.entries
   pub votes : votes_of entries ≡ votes_since count m
 
@@ -69,7 +69,7 @@ AreShown entries r shown =
 
 -- how the entries behind the first of a member's record are shown
 abbrev pub HasEntries : HostMember → ℕ → FlatEntries → List ℕ → Type 0
-HasEntries m count r shown = (entries : List HostArtifact) × AreBehind m count entries × AreShown entries r shown
+HasEntries m count r shown = (entries : List HostArtifact) × AreViewsBehind m count entries × AreShown entries r shown
 
 -- how the entries behind the first of a record are shown
 pub record IsEntries (old : Held) (count : ℕ) (r : FlatEntries) (new : Held) : Type 0 where
@@ -81,7 +81,7 @@ pub record IsEntries (old : Held) (count : ℕ) (r : FlatEntries) (new : Held) :
 -- the proposal that may be forwarded, if there is one
 abbrev pub HasForwardable : Option (Proposal (BytesDigest 32)) → ℕ → FlatProposal → Type 0
 HasForwardable None has f = has ≡ 0
-HasForwardable (Some q) has f = (has ≡ 1) × IsProposal f q
+HasForwardable (Some q) has f = (has ≡ 1) × IsFlatProposal f q
 
 -- what a state knows of itself and of a view
 pub record IsViewOf (x : HostState) (view : ℕ) (f : FlatView) : Type 0 where
@@ -109,18 +109,18 @@ abbrev pub IsView : HostFacts → ℕ → FlatView → Type 0
 IsView m view f = IsViewIn m.life view f
 
 -- a view's certificate of a kind, if it is there
-abbrev pub certificate_of : ℕ → HostState → ℕ → Option (CertificateFacts (BytesDigest 32))
-certificate_of (suc zero) x view = option_map Notarized (notarization_of x view)
-certificate_of (suc (suc zero)) x view = option_map Nullified (nullification_of x view)
-certificate_of (suc (suc (suc zero))) x view = option_map Finalized (finalization_of x view)
-certificate_of _ x view = None
+abbrev pub certificate_of_kind : ℕ → HostState → ℕ → Option (CertificateFacts (BytesDigest 32))
+certificate_of_kind (suc zero) x view = option_map Notarized (notarization_of x view)
+certificate_of_kind (suc (suc zero)) x view = option_map Nullified (nullification_of x view)
+certificate_of_kind (suc (suc (suc zero))) x view = option_map Finalized (finalization_of x view)
+certificate_of_kind _ x view = None
 
 -- what a certificate is of, with its bytes
 abbrev pub HasFound : Option (CertificateFacts (BytesDigest 32)) → FlatFound → List ℕ → Type 0
 HasFound None r shown = (r.has ≡ 0) × (shown ≡ [])
-HasFound (Some (Notarized c)) r shown = (r.has ≡ 1) × IsProposal r.proposal c.proposal × (shown ≡ c.bytes)
-HasFound (Some (Nullified c)) r shown = (r.has ≡ 2) × (c.round ≡ round_of r.proposal.round) × (shown ≡ c.bytes)
-HasFound (Some (Finalized c)) r shown = (r.has ≡ 3) × IsProposal r.proposal c.proposal × (shown ≡ c.bytes)
+HasFound (Some (Notarized c)) r shown = (r.has ≡ 1) × IsFlatProposal r.proposal c.proposal × (shown ≡ c.bytes)
+HasFound (Some (Nullified c)) r shown = (r.has ≡ 2) × (c.round ≡ flat_round r.proposal.round) × (shown ≡ c.bytes)
+HasFound (Some (Finalized c)) r shown = (r.has ≡ 3) × IsFlatProposal r.proposal c.proposal × (shown ≡ c.bytes)
 
 -- a certificate is found, and its bytes are written behind others
 abbrev pub ShowsCertificate : Option (CertificateFacts (BytesDigest 32)) → FlatFound → List ℕ → List ℕ → Type 0
@@ -141,7 +141,7 @@ IsFoundOr found r shown = ((r.status ≡ 0) × HasFound found r shown) ⊎ (IsSo
 -- in a state; a member that has failed has none
 abbrev pub IsFoundIn : Option HostState → ℕ → ℕ → FlatFound → List ℕ → Type 0
 IsFoundIn None kind view r shown = IsUnfound 2 r shown
-IsFoundIn (Some x) kind view r shown = IsFoundOr (certificate_of kind x view) r shown
+IsFoundIn (Some x) kind view r shown = IsFoundOr (certificate_of_kind kind x view) r shown
 
 -- how a view's certificate is asked for: no certificate has the kind, or it is looked for
 abbrev pub HasAnsweredIn : Option HostState → ℕ → ℕ → FlatFound → List ℕ → Type 0
@@ -181,13 +181,13 @@ HasText bytes r = (r.status ≡ 1) ⊎ ((r.status ≡ 0) × (r.count ≡ length 
 
 -- what a vote of a kind is on
 abbrev pub IsSubject : ℕ → FlatProposal → Subject (BytesDigest 32) → Type 0
-IsSubject zero f (subject.Notarize q) = IsProposal f q
-IsSubject (suc zero) f (subject.Nullify round) = round ≡ round_of f.round
-IsSubject (suc (suc zero)) f (subject.Finalize q) = IsProposal f q
+IsSubject zero f (subject.Notarize q) = IsFlatProposal f q
+IsSubject (suc zero) f (subject.Nullify round) = round ≡ flat_round f.round
+IsSubject (suc (suc zero)) f (subject.Finalize q) = IsFlatProposal f q
 IsSubject _ _ _ = ⊥
 
 -- what a vote of a kind signs; nothing, where no vote has the kind
 abbrev pub IsText : ℕ → FlatProposal → FlatText → Type 0
 IsText kind f r =
     ((r.status ≡ 6) × (3 ≤ kind))
-    ⊎ ((s : Subject (BytesDigest 32)) × IsSubject kind f s × HasText (subject_bytes digest_bytes s) r)
+    ⊎ ((s : Subject (BytesDigest 32)) × IsSubject kind f s × HasText (subject_bytes bytes_in_digest s) r)

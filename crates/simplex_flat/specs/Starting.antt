@@ -4,8 +4,8 @@ use Rattle.simplex_types.specs.Config.{floor_facts}
 use Rattle.simplex_codec.specs.declared.digest.BytesDigest.{BytesDigest}
 use Rattle.simplex_host.specs.declared.elector.HostElector.{HostElector}
 use Rattle.simplex_host.specs.declared.scheme.HostKey.{HostKey}
-use Rattle.simplex_host.specs.Electing.{terms_of, is_early}
-use Rattle.simplex_host.specs.Host.{certificate_bytes, signer_of, keys_of}
+use Rattle.simplex_host.specs.Electing.{host_terms, is_early}
+use Rattle.simplex_host.specs.Host.{certificate_bytes, host_signer, host_keys}
 use Rattle.simplex_record.specs.declared.record.error.RecoverError.{RecoverError}
 use Rattle.simplex_record.specs.Recovery.{recover_error}
 use Rattle.simplex_record.specs.Start.{set_up, IsErrorDue}
@@ -13,7 +13,7 @@ use Rattle.simplex_member.specs.declared.member.calls.Reply.TheVariants as reply
 use Rattle.simplex_member.specs.Lives.{MemberFacts}
 use Rattle.simplex_member.specs.Start.{started_member}
 use Rattle.simplex_flat.specs.declared.flat.FlatSettings.{FlatSettings}
-use Rattle.simplex_flat.specs.Serving.{same_payload, host_leader}
+use Rattle.simplex_flat.specs.Serving.{same_host_payload, host_leader}
 use Rattle.simplex_flat.specs.declared.held.Held.{Held}
 use Rattle.simplex_flat.specs.declared.held.NotStarted.{NotStarted}
 use Rattle.simplex_flat.specs.declared.held.NotStarted.TheVariants as not_started
@@ -22,12 +22,13 @@ use Rattle.simplex_flat.specs.Settings.{HostStart, IsNoStart, IsStart}
 -- the member that a start begins
 abbrev pub begun : HostStart → MemberFacts HostKey HostElector (BytesDigest 32)
 begun start =
-    started_member same_payload host_leader (set_up signer_of keys_of terms_of is_early start.settings) (floor_facts certificate_bytes start.floor) start.now
+    started_member same_host_payload host_leader (set_up host_signer host_keys host_terms is_early start.settings)
+    (floor_facts certificate_bytes start.floor) start.now
 
 -- the error in which a start ends, with no record
 abbrev pub begin_error : HostStart → Option RecoverError
 begin_error start =
-    recover_error same_payload (set_up signer_of keys_of terms_of is_early start.settings) (floor_facts certificate_bytes start.floor) start.now []
+    recover_error same_host_payload (set_up host_signer host_keys host_terms is_early start.settings) (floor_facts certificate_bytes start.floor) start.now []
 
 -- no call was made yet, and nothing was shown
 abbrev pub IsFresh : Held → Type 0

@@ -3,7 +3,7 @@
 ghost use Rattle.std.specs.Prelude.{◌≡◌, ◌<◌, IfOk, OnErr, MatchOption};
 ghost use Rattle.simplex_host.specs.Host.{certificate_bytes};
 ghost use Rattle.simplex_member.specs.Calls.{asked};
-ghost use Rattle.simplex_flat.specs.Calls.{HandsInCertificate, HasNumbers, IsAskedBy, IsNoCall, StandsFor, IsProposal, round_of};
+ghost use Rattle.simplex_flat.specs.Calls.{HandsInCertificate, HasNumbers, IsAskedBy, IsNoFlatCall, StandsForCall, IsFlatProposal, flat_round};
 ghost use Rattle.simplex_flat.specs.Numbers.{kind_number, reason_number, flag_number};
 
 use crate::call_kind::{CallKind, kind_of};
@@ -29,7 +29,7 @@ pub fn call_of(
     certificate: &[u8],
 ) -> Result<Option<HostCall>, AllocError>
     ensures wanting { OnErr result (HandsInCertificate flat.now) }
-    ensures made { IfOk result (λ made. MatchOption made (IsNoCall flat.now)
+    ensures made { IfOk result (λ made. MatchOption made (IsNoFlatCall flat.now)
         (λ call. HasNumbers flat.now × IsAskedBy flat.now certificate.now (asked certificate_bytes call))) }
 {
     let Some(kind) = kind_of(flat.kind) else {
@@ -55,7 +55,7 @@ fn call_of_kind(
     requires reason { reason_number reason ≡ flat.now.reason }
     requires success { flag_number success ≡ flat.now.success }
     ensures wanting { OnErr result (kind_number kind < 3) }
-    ensures call { IfOk result (λ call. StandsFor kind flat.now certificate.now (asked certificate_bytes call)) }
+    ensures call { IfOk result (λ call. StandsForCall kind flat.now certificate.now (asked certificate_bytes call)) }
 {
     let view = View::new(flat.view);
     let now = flat.moment;
@@ -96,7 +96,7 @@ fn call_of_kind(
 
 /// A round.
 pub fn round_in(round: FlatRound) -> Round
-    ensures { result ≡ round_of round }
+    ensures { result ≡ flat_round round }
 {
     Round {
         epoch: Epoch::new(round.epoch),
@@ -106,7 +106,7 @@ pub fn round_in(round: FlatRound) -> Round
 
 /// A proposal.
 pub fn proposal_of(proposal: &FlatProposal) -> Proposal<HostDigest>
-    ensures { IsProposal proposal.now result }
+    ensures { IsFlatProposal proposal.now result }
 {
     Proposal {
         round: round_in(proposal.round),
@@ -129,7 +129,7 @@ pub fn notarization_of(
     proposal: &FlatProposal,
     bytes: &[u8],
 ) -> Result<Notarization<HostScheme, HostDigest>, AllocError>
-    ensures proposal { IfOk result (λ it. IsProposal proposal.now it.proposal) }
+    ensures proposal { IfOk result (λ it. IsFlatProposal proposal.now it.proposal) }
     ensures bytes { IfOk result (λ it. certificate_bytes it.certificate ≡ bytes.now) }
 {
     Ok(Notarization {
@@ -144,7 +144,7 @@ pub fn nullification_of(
     round: FlatRound,
     bytes: &[u8],
 ) -> Result<Nullification<HostScheme>, AllocError>
-    ensures round { IfOk result (λ it. it.round ≡ round_of round) }
+    ensures round { IfOk result (λ it. it.round ≡ flat_round round) }
     ensures bytes { IfOk result (λ it. certificate_bytes it.certificate ≡ bytes.now) }
 {
     Ok(Nullification {
@@ -159,7 +159,7 @@ pub fn finalization_of(
     proposal: &FlatProposal,
     bytes: &[u8],
 ) -> Result<Finalization<HostScheme, HostDigest>, AllocError>
-    ensures proposal { IfOk result (λ it. IsProposal proposal.now it.proposal) }
+    ensures proposal { IfOk result (λ it. IsFlatProposal proposal.now it.proposal) }
     ensures bytes { IfOk result (λ it. certificate_bytes it.certificate ≡ bytes.now) }
 {
     Ok(Finalization {

@@ -42,7 +42,7 @@ pub struct Held {
 
 impl Held {
     ghost use Rattle.simplex_flat.specs.Starting.{IsFresh, IsNotStarted, IsStarted};
-    ghost use Rattle.simplex_flat.specs.Serving.{IsServed, IsFetchAt, IsProposalAt, dropped_in, fetches_in, proposals_in, reply_bytes};
+    ghost use Rattle.simplex_flat.specs.Serving.{IsCallServed, IsFetchAt, IsProposalAt, dropped_in, fetches_in, proposals_in, reply_bytes};
 
     /// A member that never voted, by flat settings with a table of leaders and the bytes of the floor's certificate.
     pub fn start(
@@ -81,7 +81,7 @@ impl Held {
     /// Makes a call of the member. The reply tells all but a certificate, a text to sign and lists, which are read below until
     /// the next call is made.
     pub fn call(&mut self, flat: &FlatCall, certificate: &[u8]) -> FlatReply
-        ensures { IsServed self.old flat.now certificate.now result self.new }
+        ensures { IsCallServed self.old flat.now certificate.now result self.new }
     {
         match call_of(self.alloc, flat, certificate) {
             Ok(Some(call)) => {

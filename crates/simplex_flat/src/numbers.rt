@@ -1,7 +1,7 @@
 //! Reasons and verdicts as numbers.
 
 ghost use Rattle.std.specs.Prelude.{◌≡◌, ◌<◌, ◌≤◌, MatchOption};
-ghost use Rattle.simplex_flat.specs.Numbers.{reason_number, abandoned_number, fault_number, flag_number, member_number};
+ghost use Rattle.simplex_flat.specs.Numbers.{reason_number, abandoned_number, fault_status, flag_number, member_number};
 
 use simplex_host::scheme::HostKey;
 use simplex_types::reasons::{HandoffAbandonedReason, TimeoutReason};
@@ -72,7 +72,7 @@ pub fn number_of_abandoned(it: HandoffAbandonedReason) -> u32
 
 /// The number of a fault: a reply's status.
 pub fn number_of_fault(it: Fault) -> u32
-    ensures { result ≡ fault_number it }
+    ensures { result ≡ fault_status it }
 {
     match it {
         Fault::OutOfMemory => 1,

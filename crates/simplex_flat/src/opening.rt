@@ -1,9 +1,9 @@
 //! How a member goes on: from a journal in another process, or restarted in this one.
 
 ghost use Rattle.std.specs.Prelude.{◌≡◌, ◌≤◌, nat_lt, length, IfOk, IfErr, MatchOption};
-ghost use Rattle.simplex_host.specs.Electing.{members_of};
-ghost use Rattle.simplex_host.specs.Host.{keys_of};
-ghost use Rattle.simplex_flat.specs.Opening.{IsGoingOn, IsNotResumedBy, IsStored};
+ghost use Rattle.simplex_host.specs.Electing.{host_members};
+ghost use Rattle.simplex_host.specs.Host.{host_keys};
+ghost use Rattle.simplex_flat.specs.Opening.{IsGoingOn, IsNotResumedBy, IsFlatStored};
 
 use crate::flat::FlatSettings;
 use crate::held::{Held, NotStarted};
@@ -114,7 +114,7 @@ pub fn going_on(
 ) -> Result<GoingOn, NotResumed>
     ensures from { IfOk result (λ it. IsGoingOn flat.now leaders.now certificate.now now stored.now journal.now it.start it.stored it.entries.items) }
     ensures whole { IfOk result (λ it. stored.now.entries ≤ length it.entries.items) }
-    ensures fits { IfOk result (λ it. members_of it.start.settings.elector ≡ length (keys_of it.start.settings.scheme)) }
+    ensures fits { IfOk result (λ it. host_members it.start.settings.elector ≡ length (host_keys it.start.settings.scheme)) }
     ensures refused { IfErr result (IsNotResumedBy flat.now leaders.now certificate.now now stored.now journal.now) }
 {
     let start = match start_of(alloc, flat, leaders, certificate, now) {
@@ -140,7 +140,7 @@ pub fn going_on(
 
 /// What was stored beside a journal; none where its flag is none.
 fn stored_of(flat: &FlatStored) -> Option<Stored>
-    ensures { MatchOption result (2 ≤ flat.now.is_pruned) (IsStored flat.now) }
+    ensures { MatchOption result (2 ≤ flat.now.is_pruned) (IsFlatStored flat.now) }
 {
     let is_pruned = flag_of(flat.is_pruned)?;
     Some(Stored {

@@ -5,8 +5,8 @@ ghost use Rattle.std.specs.Prelude.{◌≡◌, option_map};
 ghost use Rattle.simplex_types.specs.Certificates.{certificate_facts};
 ghost use Rattle.simplex_host.specs.Host.{certificate_bytes};
 ghost use Rattle.simplex_member.specs.Calls.{told, told_notarize, told_nullify, told_finalize};
-ghost use Rattle.simplex_flat.specs.Numbers.{abandoned_number, fault_number, flag_number, member_number, reason_number};
-ghost use Rattle.simplex_flat.specs.Calls.{IsProposal, round_of};
+ghost use Rattle.simplex_flat.specs.Numbers.{abandoned_number, fault_status, flag_number, member_number, reason_number};
+ghost use Rattle.simplex_flat.specs.Calls.{IsFlatProposal, flat_round};
 ghost use Rattle.simplex_flat.specs.Replies.{HasAnswer, HasCertificate, HasFinalize, HasNotarize, HasNullify, HasRequest, HasWork, IsContext, Tells};
 
 use crate::flat::{FlatContext, FlatProposal, FlatReply, FlatRound};
@@ -129,7 +129,7 @@ fn flagged(kind: u32, flag: bool) -> FlatReply
 
 /// The numbers of a round.
 pub fn flat_round(round: Round) -> FlatRound
-    ensures { round ≡ round_of result }
+    ensures { round ≡ flat_round result }
 {
     FlatRound {
         epoch: round.epoch.get(),
@@ -139,7 +139,7 @@ pub fn flat_round(round: Round) -> FlatRound
 
 /// The numbers and bytes of a proposal.
 pub fn flat_proposal(proposal: &Proposal<HostDigest>) -> FlatProposal
-    ensures { IsProposal result proposal.now }
+    ensures { IsFlatProposal result proposal.now }
 {
     FlatProposal {
         round: flat_round(proposal.round),

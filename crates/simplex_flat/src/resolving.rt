@@ -3,11 +3,11 @@
 ghost use Rattle.std.specs.Prelude.{◌≡◌, ◌⊎◌, ◌<◌, ◌≤◌, ◌++◌, [], Some, OnOk, OnErr, IfOk, IfErr, IfSome, MatchOption, length};
 ghost use Rattle.simplex_types.specs.Certificates.{certificate_facts, notarization_facts};
 ghost use Rattle.simplex_types.specs.Viewed.{certificate_view};
-ghost use Rattle.simplex_codec.specs.Digests.{digest_bytes};
+ghost use Rattle.simplex_codec.specs.Digests.{bytes_in_digest};
 ghost use Rattle.simplex_host.specs.Host.{certificate_bytes};
 ghost use Rattle.simplex_resolver.specs.Steps.{highest_named, highest_view, update, verdict};
-ghost use Rattle.simplex_flat.specs.Numbers.{fault_number, flag_number};
-ghost use Rattle.simplex_flat.specs.Resolving.{HasNoEffects, HasServed, HasServedOf, IsEffect, IsHandedIn, highest_told, not_replayed_number, view_bytes};
+ghost use Rattle.simplex_flat.specs.Numbers.{fault_status, flag_number};
+ghost use Rattle.simplex_flat.specs.Resolving.{HasNoEffects, HasServed, HasServedOf, IsEffect, IsFlatCertificate, highest_told, not_replayed_number, view_bytes};
 ghost use Rattle.simplex_flat.specs.Showing.{IsChunk};
 
 use crate::asking::{finalization_of, notarization_of, nullification_of};
@@ -117,7 +117,7 @@ impl HeldResolver {
     fn updated(&mut self, certificate: &HostCertified) -> FlatEffects
         requires { 1 ≤ certificate_view certificate.now }
         ensures { IsHeardAs self.old (highest_view certificate.now)
-            (update digest_bytes (certificate_facts certificate_bytes certificate.now)) result self.new }
+            (update bytes_in_digest (certificate_facts certificate_bytes certificate.now)) result self.new }
     {
         match self.resolver.updated(certificate) {
             Ok(effects) => self.keep(effects),
@@ -132,7 +132,7 @@ impl HeldResolver {
     ) -> FlatEffects
         requires { 1 ≤ notarization.proposal.round.view }
         ensures { IsHeardAs self.old (highest_named notarization.proposal)
-            (verdict digest_bytes (notarization_facts certificate_bytes notarization) success) result self.new }
+            (verdict bytes_in_digest (notarization_facts certificate_bytes notarization) success) result self.new }
     {
         match self.resolver.certified(notarization, success) {
             Ok(effects) => self.keep(effects),
@@ -157,7 +157,7 @@ impl HeldResolver {
 
     /// Keeps that nothing was told.
     fn lose(&mut self, fault: Fault) -> FlatEffects
-        ensures told { HasNoEffects (fault_number fault) result }
+        ensures told { HasNoEffects (fault_status fault) result }
         ensures kept { (self.new.resolver ≡ self.old.resolver) × (self.new.served ≡ self.old.served) }
         ensures none { self.new.last.items ≡ [] }
     {
@@ -277,7 +277,7 @@ fn certificate_in(
     bytes: &[u8],
 ) -> Result<Option<HostCertified>, AllocError>
     ensures made { IfOk result (λ found. MatchOption found ((flat.now.kind ≡ 0) ⊎ (4 ≤ flat.now.kind))
-        (λ c. IsHandedIn flat.now.kind flat.now bytes.now (certificate_facts certificate_bytes c))) }
+        (λ c. IsFlatCertificate flat.now.kind flat.now bytes.now (certificate_facts certificate_bytes c))) }
     ensures view { IfOk result (λ found. IfSome found (λ c. certificate_view c ≡ flat.now.proposal.round.view)) }
     ensures highest { IfOk result (λ found. IfSome found (λ c. highest_view c ≡ highest_told flat.now)) }
     ensures kind { IfOk result (λ found. IfSome found (λ _. (0 < flat.now.kind) × (flat.now.kind < 4))) }

@@ -2,10 +2,10 @@
 
 ghost use Rattle.std.specs.Prelude.{◌≡◌, ◌<◌, Some, None, IfOk, IfErr, OnOk, MatchOption, length};
 ghost use Rattle.std.specs.Option.{ForSome};
-ghost use Rattle.simplex_host.specs.Electing.{members_of, terms_of};
-ghost use Rattle.simplex_host.specs.Host.{certificate_bytes, signer_of, keys_of, keys_below};
-ghost use Rattle.simplex_flat.specs.Calls.{IsProposal};
-ghost use Rattle.simplex_flat.specs.Settings.{IsConfig, IsDue, IsElector, IsFloor, IsNoStart, IsSigner, IsSkip, IsStart, IsTerms};
+ghost use Rattle.simplex_host.specs.Electing.{host_members, host_terms};
+ghost use Rattle.simplex_host.specs.Host.{certificate_bytes, host_signer, host_keys, host_keys_below};
+ghost use Rattle.simplex_flat.specs.Calls.{IsFlatProposal};
+ghost use Rattle.simplex_flat.specs.Settings.{IsConfig, IsSettingsErrorDue, IsElector, IsFloor, IsNoStart, IsSigner, IsSkip, IsStart, IsTerms};
 ghost use Rattle.simplex_flat.specs.Settings.{config_error, elector_error, flag_error, signer_error, terms_error};
 
 use crate::asking::finalization_of;
@@ -61,7 +61,7 @@ pub fn start_of(
 ) -> Result<HostStart, SettingsError>
     ensures made { IfOk result (IsStart flat.now leaders.now certificate.now now) }
     ensures refused { IfErr result (IsNoStart flat.now leaders.now certificate.now) }
-    ensures fits { IfOk result (λ start. members_of start.settings.elector ≡ length (keys_of start.settings.scheme)) }
+    ensures fits { IfOk result (λ start. host_members start.settings.elector ≡ length (host_keys start.settings.scheme)) }
 {
     let config = config_of(alloc, flat, certificate)?;
     let elector = elector_of(alloc, flat, leaders)?;
@@ -79,7 +79,7 @@ pub fn config_of(
 ) -> Result<HostConfig, SettingsError>
     ensures config { IfOk result (IsConfig flat.now certificate.now) }
     ensures accepted { OnOk result (config_error flat.now ≡ None) }
-    ensures refused { IfErr result (IsDue (config_error flat.now)) }
+    ensures refused { IfErr result (IsSettingsErrorDue (config_error flat.now)) }
 {
     let signer = signer_in(flat)?;
     let floor = floor_of(alloc, flat, certificate)?;
@@ -104,7 +104,7 @@ pub fn elector_of(
 ) -> Result<HostElector, SettingsError>
     ensures elector { IfOk result (IsElector flat.now leaders.now) }
     ensures accepted { OnOk result (elector_error flat.now leaders.now ≡ None) }
-    ensures refused { IfErr result (IsDue (elector_error flat.now leaders.now)) }
+    ensures refused { IfErr result (IsSettingsErrorDue (elector_error flat.now leaders.now)) }
 {
     if flat.members == 0 {
         return Err(SettingsError::NoSuchMember);
@@ -181,7 +181,7 @@ fn floor_of(
 ) -> Result<Floor<HostScheme, HostDigest>, SettingsError>
     ensures floor { IfOk result (IsFloor flat.now certificate.now) }
     ensures accepted { OnOk result (flag_error flat.now.is_finalized ≡ None) }
-    ensures refused { IfErr result (IsDue (flag_error flat.now.is_finalized)) }
+    ensures refused { IfErr result (IsSettingsErrorDue (flag_error flat.now.is_finalized)) }
 {
     match flag_of(flat.is_finalized) {
         Some(true) => {

@@ -3,7 +3,7 @@
 ghost use Rattle.std.specs.Prelude.{◌≡◌, ◌≤◌, ◌++◌, true, IfOk, IfSome, OnOk, OnErr, MatchOption, length, take, drop};
 ghost use Rattle.std.specs.Option.{IsSome, option_copied};
 ghost use Rattle.simplex_flat.specs.Numbers.{index_number};
-ghost use Rattle.simplex_flat.specs.Showing.{HasAnsweredIn, HasForwardable, IsChunk, IsViewIn, IsKind, IsSubject, IsText, IsViewOf, ShowsCertificate, certificate_of};
+ghost use Rattle.simplex_flat.specs.Showing.{HasAnsweredIn, HasForwardable, IsChunk, IsViewIn, IsKind, IsSubject, IsText, IsViewOf, ShowsCertificate, certificate_of_kind};
 ghost use Rattle.simplex_voter.specs.Refusals.{is_started};
 ghost use Rattle.simplex_voter.specs.Serving.{forwardable_of};
 
@@ -243,8 +243,8 @@ fn show_certificate(
     out: &mut BytesMut,
 ) -> Result<FlatFound, AllocError>
     requires { IsKind kind }
-    ensures found { IfOk result (λ r. (r.status ≡ 0) × ShowsCertificate (certificate_of kind state.now view) r out.old.items out.new.items) }
-    ensures wanting { OnErr result (IsSome (certificate_of kind state.now view)) }
+    ensures found { IfOk result (λ r. (r.status ≡ 0) × ShowsCertificate (certificate_of_kind kind state.now view) r out.old.items out.new.items) }
+    ensures wanting { OnErr result (IsSome (certificate_of_kind kind state.now view)) }
 {
     match kind {
         1 => match state.notarization(view) {

@@ -1,7 +1,7 @@
 -- How an engine behind a handle begins.
 use Rattle.std.specs.Prelude.{◌≡◌, ◌⊎◌, ◌≤◌, ℕ, List, [], length}
-use Rattle.simplex_host.specs.Electing.{terms_of}
-use Rattle.simplex_host.specs.Host.{certificate_bytes, keys_of, signer_of}
+use Rattle.simplex_host.specs.Electing.{host_terms}
+use Rattle.simplex_host.specs.Host.{certificate_bytes, host_keys, host_signer}
 use Rattle.simplex_record.specs.Entries.{entries_of}
 use Rattle.simplex_member.specs.Journal.{IsResumed}
 use Rattle.simplex_member.specs.declared.member.journal.Stored.{Stored}
@@ -20,7 +20,7 @@ use Rattle.simplex_flat.specs.declared.shown.FlatStored.{FlatStored}
 use Rattle.simplex_flat.specs.Journals.{HostArtifact}
 use Rattle.simplex_flat.specs.Opening.{IsGoingOn, IsNotResumedBy, host_start}
 use Rattle.simplex_flat.specs.Resolving.{not_replayed_number}
-use Rattle.simplex_flat.specs.Serving.{host_leader, same_payload}
+use Rattle.simplex_flat.specs.Serving.{host_leader, same_host_payload}
 use Rattle.simplex_flat.specs.Settings.{HostStart, IsNoStart, IsStart}
 use Rattle.simplex_flat.specs.Starting.{begun}
 use Rattle.simplex_flat.specs.Statuses.{not_resumed_number}
@@ -39,7 +39,7 @@ pub record HasGivenNothing (f : FlatSettings) (held : HeldEngine) : Type 0 where
   pub kept : IsAllGiven [] held
   pub whole : IsWhole certificate_bytes held.engine.core
   pub votes : AreGiven [] held.engine.batcher
-  pub bounded : HoldsNoneAhead keys_of held.engine.core held.engine.batcher
+  pub bounded : HoldsNoneAhead host_keys held.engine.core held.engine.batcher
   pub draws : held.draws ≡ f.draws
   pub fresh : HasShownNothing held
 
@@ -48,7 +48,7 @@ pub record IsEngineBegun (f : FlatSettings) (leaders bytes : List ℕ) (options 
   pub start : HostStart
   pub by : IsStart f leaders bytes now start
   pub facts : held.engine.core.member.facts ≡ begun start
-  pub begins : HasBegun same_payload host_leader signer_of terms_of start held.engine.core.member.facts
+  pub begins : HasBegun same_host_payload host_leader host_signer host_terms start held.engine.core.member.facts
   pub nothing : HasGivenNothing f held
 
 -- why none begins: by its settings; or by what they begin, or for want of memory
@@ -64,8 +64,8 @@ pub record IsEngineResumed (f : FlatSettings) (leaders bytes : List ℕ) (option
   pub entries : List HostArtifact
   pub from : IsGoingOn f leaders bytes now beside journal start stored entries
   pub whole : beside.entries ≤ length entries
-  pub resumed : IsResumed same_payload host_leader stored (entries_of certificate_bytes entries) (host_start start) held.engine.core.member.facts
-  pub goes_on : HasGoneOn same_payload host_leader signer_of terms_of stored (entries_of certificate_bytes entries) start
+  pub resumed : IsResumed same_host_payload host_leader stored (entries_of certificate_bytes entries) (host_start start) held.engine.core.member.facts
+  pub goes_on : HasGoneOn same_host_payload host_leader host_signer host_terms stored (entries_of certificate_bytes entries) start
       held.engine.core.member.facts
   pub nothing : HasGivenNothing f held
 

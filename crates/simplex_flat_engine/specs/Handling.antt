@@ -8,7 +8,7 @@ use Rattle.simplex_host.specs.declared.scheme.HostCertificate.{HostCertificate}
 use Rattle.simplex_host.specs.declared.scheme.HostScheme.{HostScheme}
 use Rattle.simplex_host.specs.declared.scheme.Order.{Order}
 use Rattle.simplex_host.specs.Assembling.{signed_bytes}
-use Rattle.simplex_host.specs.Host.{certificate_bytes, keys_of}
+use Rattle.simplex_host.specs.Host.{certificate_bytes, host_keys}
 use Rattle.simplex_engine.specs.Acting.{IsActedOn}
 use Rattle.simplex_engine.specs.declared.output.Output.TheVariants as output
 use Rattle.simplex_engine.specs.Admitting.{IsTurnedAway, ignoring, is_admitted}
@@ -24,16 +24,16 @@ use Rattle.simplex_engine.specs.Settled.{IsSettled}
 use Rattle.simplex_flat.specs.declared.journal.NotWritten.{NotWritten}
 use Rattle.simplex_flat.specs.declared.shown.FlatStored.{FlatStored}
 use Rattle.simplex_flat.specs.Journals.{framed}
-use Rattle.simplex_flat.specs.Numbers.{fault_number, flag_number}
-use Rattle.simplex_flat.specs.Opening.{IsStored}
-use Rattle.simplex_flat.specs.Serving.{host_leader, same_payload}
+use Rattle.simplex_flat.specs.Numbers.{fault_status, flag_number}
+use Rattle.simplex_flat.specs.Opening.{IsFlatStored}
+use Rattle.simplex_flat.specs.Serving.{host_leader, same_host_payload}
 use Rattle.simplex_flat.specs.Statuses.{not_written_number}
 use Rattle.simplex_flat_engine.specs.declared.held.HeldEngine.{HeldEngine}
 use Rattle.simplex_flat_engine.specs.declared.told.FlatInput.{FlatInput}
 use Rattle.simplex_flat_engine.specs.declared.told.FlatOutput.{FlatOutput}
 use Rattle.simplex_flat_engine.specs.declared.told.FlatTaken.{FlatTaken}
 use Rattle.simplex_flat_engine.specs.Inputs.{HandsInBytes, HasInputNumbers, HostInput, IsNoInput, IsToldAs}
-use Rattle.simplex_flat_engine.specs.Outputs.{HasOutputOf, HostEngine, HostOutput, other_signature, signature_in}
+use Rattle.simplex_flat_engine.specs.Outputs.{HasOutputOf, HostEngine, HostOutput, other_signature, first_bytes_in}
 
 -- nothing was given out or shown yet, and nothing is lost
 pub record HasShownNothing (held : HeldEngine) : Type 0 where
@@ -44,7 +44,7 @@ pub record HasShownNothing (held : HeldEngine) : Type 0 where
 -- whether it was of use, or why the engine has failed
 abbrev pub IsAnswer : Result Bool Fault → FlatTaken → Type 0
 IsAnswer (Ok is_of_use) r = (r.status ≡ 0) × (r.is_of_use ≡ flag_number is_of_use)
-IsAnswer (Err fault) r = r.status ≡ fault_number fault
+IsAnswer (Err fault) r = r.status ≡ fault_status fault
 
 -- a certificate of the host is the signatures that it is made of
 abbrev pub AreTheSignatures : HostScheme → Subject (BytesDigest 32) → List (ℕ × Order) → HostCertificate → Type 0
@@ -64,13 +64,13 @@ pub record IsTaken (now : ℕ) (input : HostInput) (old : HeldEngine) (r : FlatT
       × IsTurnedAway input (ignoring old.engine) new.engine)
   -- what is admitted is acted on
   pub acted : IsTrue (is_admitted certificate_bytes old.engine.core.member.facts input) → IfOk answer
-      (IsActedOn same_payload host_leader certificate_bytes AreTheSignatures keys_of now input old.engine
+      (IsActedOn same_host_payload host_leader certificate_bytes AreTheSignatures host_keys now input old.engine
       new.engine.core.member.facts new.engine.batcher new.engine.plan.steps.items)
-  pub goes_on : GoesOn same_payload host_leader certificate_bytes (subject_in certificate_bytes input) old.engine.core new.engine.core
+  pub goes_on : GoesOn same_host_payload host_leader certificate_bytes (subject_in certificate_bytes input) old.engine.core new.engine.core
   pub votes : TakesVotes (votes_in input) old.engine.batcher new.engine.batcher
-  pub backed : IsBackedInput same_payload host_leader certificate_bytes (length (keys_of old.engine.batcher.scheme)) input old.engine.batcher
+  pub backed : IsBackedInput same_host_payload host_leader certificate_bytes (length (host_keys old.engine.batcher.scheme)) input old.engine.batcher
       old.engine.core new.engine.core
-  pub bounded : StaysBounded keys_of old.engine.core old.engine.batcher new.engine.core new.engine.batcher
+  pub bounded : StaysBounded host_keys old.engine.core old.engine.batcher new.engine.core new.engine.batcher
   pub rest : new ≡ record old { engine = new.engine }
 
 -- or what it gave out was lost before, and it takes nothing
@@ -82,12 +82,12 @@ Takes now input old r new = HasLost old r.status new ⊎ IsTaken now input old r
 
 -- nothing was told, and all is as it was: one of the numbers is none of an input, a vote would make a certificate from which leaders
 -- are drawn, or there was no memory for its bytes
-abbrev pub IsNotTold : HeldEngine → FlatInput → FlatTaken → HeldEngine → Type 0
-IsNotTold old f r new =
+abbrev pub IsInputNotTold : HeldEngine → FlatInput → FlatTaken → HeldEngine → Type 0
+IsInputNotTold old f r new =
     (new ≡ old) × (((r.status ≡ 6) × (IsNoInput f ⊎ ((old.draws ≡ 1) × (f.kind ≡ 2)))) ⊎ ((r.status ≡ 7) × HandsInBytes f))
 
 -- the input that the flat one stands for was told, at a moment
-pub record IsTold (now : ℕ) (old : HeldEngine) (f : FlatInput) (bytes : List ℕ) (r : FlatTaken) (new : HeldEngine) : Type 0 where
+pub record IsInputTold (now : ℕ) (old : HeldEngine) (f : FlatInput) (bytes : List ℕ) (r : FlatTaken) (new : HeldEngine) : Type 0 where
   pub input : HostInput
   pub numbers : HasInputNumbers f
   pub is_told : IsToldAs f bytes input
@@ -95,13 +95,13 @@ pub record IsTold (now : ℕ) (old : HeldEngine) (f : FlatInput) (bytes : List �
 
 -- what came in was told, or nothing was
 abbrev pub IsHandled : ℕ → HeldEngine → FlatInput → List ℕ → FlatTaken → HeldEngine → Type 0
-IsHandled now old f bytes r new = IsNotTold old f r new ⊎ IsTold now old f bytes r new
+IsHandled now old f bytes r new = IsInputNotTold old f r new ⊎ IsInputTold now old f bytes r new
 
 -- the bytes of an output: its entries as these frames, what is to be signed, a certificate, or the first signature of two
 abbrev pub bytes_in : List ℕ → Option HostOutput → List ℕ
 bytes_in frames (Some (output.Store _)) = frames
 bytes_in frames (Some (output.Replace _ _)) = frames
-bytes_in frames (Some out) = signature_in out
+bytes_in frames (Some out) = first_bytes_in out
 bytes_in frames None = []
 
 -- of what was given out last
@@ -121,7 +121,7 @@ abbrev pub AreFramed : HostOutput → FlatStored → List ℕ → FlatStored →
 AreFramed (output.Store entries) before frames after =
     (frames ≡ framed entries.items) × (after ≡ record before { entries = min (before.entries + length entries.items) (2 ^ 64 - 1) })
 AreFramed (output.Replace entries beside) before frames after =
-    (frames ≡ framed entries.items) × (after.entries ≡ length entries.items) × IsStored after beside
+    (frames ≡ framed entries.items) × (after.entries ≡ length entries.items) × IsFlatStored after beside
 AreFramed _ before frames after = after ≡ before
 
 -- a flat output tells an output, which is read behind the handle
@@ -158,27 +158,27 @@ HoldsRecord given held =
 -- an engine has nothing more to do at a moment, holds no vote of views that are over, and asks for just what is lacking; where no
 -- vote was held above those that are taken, each that is held is a member's, and of a view whose votes are taken
 pub record IsAtRest (now : ℕ) (old new : HostEngine) : Type 0 where
-  pub settled : IsSettled same_payload host_leader certificate_bytes new.core
+  pub settled : IsSettled same_host_payload host_leader certificate_bytes new.core
   pub idle : IsIdle now new.plan
   pub lowest : HoldsFromKept new.core new.batcher
   pub lacking : AsksForItsLacking new.core new.plan.repair
-  pub admitted : HoldsNoneAhead keys_of old.core old.batcher → HoldsAdmitted keys_of new.core new.batcher
+  pub admitted : HoldsNoneAhead host_keys old.core old.batcher → HoldsAdmitted host_keys new.core new.batcher
 
 -- what a poll comes to at a moment: something is given out; nothing is left to be done then; or the engine has failed
 abbrev pub IsOutcome : ℕ → HeldEngine → FlatOutput → HeldEngine → Type 0
 IsOutcome now old r new =
     ((out : HostOutput) × IsGivenOut out old.stored r new)
     ⊎ (IsNothing 0 r new × IsAtRest now old.engine new.engine)
-    ⊎ ((fault : Fault) × IsNothing (fault_number fault) r new × (has_failed new.engine.core ≡ true))
+    ⊎ ((fault : Fault) × IsNothing (fault_status fault) r new × (has_failed new.engine.core ≡ true))
 
 -- an engine that has lost nothing is asked what is to be carried out next at a moment
 pub record IsAsked (now : ℕ) (old : HeldEngine) (r : FlatOutput) (new : HeldEngine) : Type 0 where
   -- what is given out stands behind all that was
   pub given : (given : List HostOutput) → IsAllGiven given old → IsAllGiven (given ++ option_to_list new.last) new
   -- no certificate is accepted, and no vote is taken
-  pub does : DoesMoreOn same_payload host_leader None old.engine.core.member.facts new.engine.core.member.facts
+  pub does : DoesMoreOn same_host_payload host_leader None old.engine.core.member.facts new.engine.core.member.facts
   pub votes : TakesNone old.engine.batcher new.engine.batcher
-  pub bounded : StaysBounded keys_of old.engine.core old.engine.batcher new.engine.core new.engine.batcher
+  pub bounded : StaysBounded host_keys old.engine.core old.engine.batcher new.engine.core new.engine.batcher
   pub outcome : IsOutcome now old r new
   -- one that had failed tells only that, and stays as it was
   pub refused : has_failed old.engine.core ≡ true → IsNothing 2 r new × (new.engine ≡ old.engine)

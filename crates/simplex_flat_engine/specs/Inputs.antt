@@ -5,7 +5,7 @@ use Rattle.simplex_types.specs.declared.types.messages.Certificate.TheVariants a
 use Rattle.simplex_types.specs.declared.types.messages.Subject.{Subject}
 use Rattle.simplex_types.specs.declared.types.messages.Subject.TheVariants as subject
 use Rattle.simplex_codec.specs.declared.digest.BytesDigest.{BytesDigest}
-use Rattle.simplex_codec.specs.Digests.{digest_bytes}
+use Rattle.simplex_codec.specs.Digests.{bytes_in_digest}
 use Rattle.simplex_host.specs.declared.scheme.HostCertificate.{HostCertificate}
 use Rattle.simplex_host.specs.declared.scheme.HostKey.{HostKey}
 use Rattle.simplex_host.specs.declared.scheme.HostScheme.{HostScheme}
@@ -14,7 +14,7 @@ use Rattle.simplex_host.specs.Host.{certificate_bytes}
 use Rattle.simplex_engine.specs.declared.input.Input.{Input}
 use Rattle.simplex_engine.specs.declared.input.Input.TheVariants as input
 use Rattle.simplex_engine.specs.declared.votes.Vote.{Vote}
-use Rattle.simplex_flat.specs.Calls.{IsProposal, round_of}
+use Rattle.simplex_flat.specs.Calls.{IsFlatProposal, flat_round}
 use Rattle.simplex_flat.specs.Numbers.{flag_number, reason_number}
 use Rattle.simplex_flat.specs.Replies.{IsContext}
 use Rattle.simplex_flat_engine.specs.declared.told.FlatInput.{FlatInput}
@@ -39,9 +39,9 @@ IsNoKind f = (f.kind ≡ 0) ⊎ (4 ≤ f.kind)
 
 -- what a vote is on: 1 to notarize, 2 to nullify, 3 to finalize
 abbrev pub IsOn : FlatSubject → Subject (BytesDigest 32) → Type 0
-IsOn f (subject.Notarize q) = (f.kind ≡ 1) × IsProposal f.proposal q
-IsOn f (subject.Nullify round) = (f.kind ≡ 2) × (round ≡ round_of f.proposal.round)
-IsOn f (subject.Finalize q) = (f.kind ≡ 3) × IsProposal f.proposal q
+IsOn f (subject.Notarize q) = (f.kind ≡ 1) × IsFlatProposal f.proposal q
+IsOn f (subject.Nullify round) = (f.kind ≡ 2) × (round ≡ flat_round f.proposal.round)
+IsOn f (subject.Finalize q) = (f.kind ≡ 3) × IsFlatProposal f.proposal q
 
 -- a vote on this of this member, under a signature of these bytes with its key
 pub record IsVote (f : FlatSubject) (bytes : List ℕ) (v : HostVote) : Type 0 where
@@ -53,20 +53,20 @@ pub record IsVote (f : FlatSubject) (bytes : List ℕ) (v : HostVote) : Type 0 w
 -- a certificate on this, of these bytes
 abbrev pub IsCertificate : FlatSubject → List ℕ → HostCertified → Type 0
 IsCertificate f bytes (certificate.Notarization it) =
-    (f.kind ≡ 1) × IsProposal f.proposal it.proposal × (certificate_bytes it.certificate ≡ bytes)
+    (f.kind ≡ 1) × IsFlatProposal f.proposal it.proposal × (certificate_bytes it.certificate ≡ bytes)
 IsCertificate f bytes (certificate.Nullification it) =
-    (f.kind ≡ 2) × (it.round ≡ round_of f.proposal.round) × (certificate_bytes it.certificate ≡ bytes)
+    (f.kind ≡ 2) × (it.round ≡ flat_round f.proposal.round) × (certificate_bytes it.certificate ≡ bytes)
 IsCertificate f bytes (certificate.Finalization it) =
-    (f.kind ≡ 3) × IsProposal f.proposal it.proposal × (certificate_bytes it.certificate ≡ bytes)
+    (f.kind ≡ 3) × IsFlatProposal f.proposal it.proposal × (certificate_bytes it.certificate ≡ bytes)
 
 -- the input that a flat one stands for, with these bytes
 abbrev pub IsToldAs : FlatInput → List ℕ → HostInput → Type 0
-IsToldAs f bytes (input.Proposal from q) = (f.kind ≡ 1) × (from ≡ f.subject.member) × IsProposal f.subject.proposal q
+IsToldAs f bytes (input.Proposal from q) = (f.kind ≡ 1) × (from ≡ f.subject.member) × IsFlatProposal f.subject.proposal q
 IsToldAs f bytes (input.Vote v) = (f.kind ≡ 2) × IsVote f.subject bytes v
 IsToldAs f bytes (input.Certificate c) = (f.kind ≡ 3) × IsCertificate f.subject bytes c
 IsToldAs f bytes (input.Verified v success) = (f.kind ≡ 4) × (v ≡ f.view) × (flag_number success ≡ f.success)
 IsToldAs f bytes (input.Built c payload) =
-    (f.kind ≡ 5) × IsContext f.context c × (c.leader.0 ≡ f.subject.member) × (digest_bytes payload ≡ f.subject.proposal.payload)
+    (f.kind ≡ 5) × IsContext f.context c × (c.leader.0 ≡ f.subject.member) × (bytes_in_digest payload ≡ f.subject.proposal.payload)
 IsToldAs f bytes (input.Certified v success) = (f.kind ≡ 6) × (v ≡ f.view) × (flag_number success ≡ f.success)
 IsToldAs f bytes (input.GivenUp v reason) = (f.kind ≡ 7) × (v ≡ f.view) × (reason_number reason ≡ f.reason)
 

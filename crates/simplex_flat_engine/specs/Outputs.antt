@@ -17,7 +17,7 @@ use Rattle.simplex_engine.specs.declared.output.Output.{Output}
 use Rattle.simplex_engine.specs.declared.output.Output.TheVariants as output
 use Rattle.simplex_engine.specs.declared.output.Work.{Work}
 use Rattle.simplex_engine.specs.declared.output.Work.TheVariants as work
-use Rattle.simplex_flat.specs.Calls.{IsProposal, round_of}
+use Rattle.simplex_flat.specs.Calls.{IsFlatProposal, flat_round}
 use Rattle.simplex_flat.specs.Numbers.{index_number}
 use Rattle.simplex_flat.specs.Replies.{IsContext}
 use Rattle.simplex_flat_engine.specs.declared.told.FlatOutput.{FlatOutput}
@@ -41,9 +41,9 @@ IsVoteOf f v = IsOn f v.subject × (f.member ≡ v.signer)
 
 -- a certificate is on this
 abbrev pub IsOf : FlatSubject → HostCertified → Type 0
-IsOf f (certificate.Notarization it) = (f.kind ≡ 1) × IsProposal f.proposal it.proposal
-IsOf f (certificate.Nullification it) = (f.kind ≡ 2) × (it.round ≡ round_of f.proposal.round)
-IsOf f (certificate.Finalization it) = (f.kind ≡ 3) × IsProposal f.proposal it.proposal
+IsOf f (certificate.Notarization it) = (f.kind ≡ 1) × IsFlatProposal f.proposal it.proposal
+IsOf f (certificate.Nullification it) = (f.kind ≡ 2) × (it.round ≡ flat_round f.proposal.round)
+IsOf f (certificate.Finalization it) = (f.kind ≡ 3) × IsFlatProposal f.proposal it.proposal
 
 -- the number of what is fetched
 abbrev pub fetch_number : FetchKind → ℕ
@@ -61,12 +61,12 @@ pub record IsFetch (ask : Ask) (f : FlatOutput) : Type 0 where
 -- what a flat output tells of work
 abbrev pub IsWork : HostWork → FlatOutput → Type 0
 IsWork (work.Broadcast c) f = (f.kind ≡ 4) × IsOf f.subject c
-IsWork (work.Verify c q) f = (f.kind ≡ 5) × IsContext f.context c × (f.subject.member ≡ c.leader.0) × IsProposal f.subject.proposal q
+IsWork (work.Verify c q) f = (f.kind ≡ 5) × IsContext f.context c × (f.subject.member ≡ c.leader.0) × IsFlatProposal f.subject.proposal q
 IsWork (work.Build c) f = (f.kind ≡ 6) × IsContext f.context c × (f.subject.member ≡ c.leader.0)
 IsWork (work.StopBuilding v) f = (f.kind ≡ 7) × (f.view ≡ v)
-IsWork (work.Certify q) f = (f.kind ≡ 8) × IsProposal f.subject.proposal q
+IsWork (work.Certify q) f = (f.kind ≡ 8) × IsFlatProposal f.subject.proposal q
 IsWork (work.Fetch ask) f = IsFetch ask f
-IsWork (work.Finalized q) f = (f.kind ≡ 10) × IsProposal f.subject.proposal q
+IsWork (work.Finalized q) f = (f.kind ≡ 10) × IsFlatProposal f.subject.proposal q
 IsWork (work.Equivocated v w) f = (f.kind ≡ 11) × IsVoteOf f.subject v × IsVoteOf f.other w
 IsWork (work.ProposedTwice v leader) f = (f.kind ≡ 12) × (f.view ≡ v) × (f.member ≡ leader.0)
 IsWork (work.Forget v) f = (f.kind ≡ 13) × (f.view ≡ v)
@@ -79,17 +79,17 @@ HasOutputOf (output.Vote v) f = (f.kind ≡ 3) × IsVoteOf f.subject v
 HasOutputOf (output.Work w) f = IsWork w f
 
 -- the bytes of a certificate
-abbrev pub bytes_of : HostCertified → List ℕ
-bytes_of (certificate.Notarization it) = certificate_bytes it.certificate
-bytes_of (certificate.Nullification it) = certificate_bytes it.certificate
-bytes_of (certificate.Finalization it) = certificate_bytes it.certificate
+abbrev pub certified_bytes : HostCertified → List ℕ
+certified_bytes (certificate.Notarization it) = certificate_bytes it.certificate
+certified_bytes (certificate.Nullification it) = certificate_bytes it.certificate
+certified_bytes (certificate.Finalization it) = certificate_bytes it.certificate
 
 -- what is to be signed, a certificate, or the first signature of two
-abbrev pub signature_in : HostOutput → List ℕ
-signature_in (output.Vote v) = v.signature.text
-signature_in (output.Work (work.Broadcast c)) = bytes_of c
-signature_in (output.Work (work.Equivocated v w)) = v.signature.text
-signature_in _ = []
+abbrev pub first_bytes_in : HostOutput → List ℕ
+first_bytes_in (output.Vote v) = v.signature.text
+first_bytes_in (output.Work (work.Broadcast c)) = certified_bytes c
+first_bytes_in (output.Work (work.Equivocated v w)) = v.signature.text
+first_bytes_in _ = []
 
 -- the second signature of two
 abbrev pub other_signature : HostOutput → List ℕ

@@ -2,7 +2,7 @@
 
 ghost use Rattle.std.specs.Prelude.{◌≡◌, ◌+◌, ◌-◌, ◌^◌, [], true, false, min, length, None, OnOk};
 ghost use Rattle.simplex_flat.specs.Journals.{framed};
-ghost use Rattle.simplex_flat.specs.Opening.{IsStored};
+ghost use Rattle.simplex_flat.specs.Opening.{IsFlatStored};
 ghost use Rattle.simplex_flat.specs.Statuses.{not_written_number};
 
 use crate::input::{HostInput, input_of};
@@ -50,7 +50,7 @@ impl HeldEngine {
     ghost use Rattle.simplex_laws.specs.Lawful.{IsLawful};
     ghost use Rattle.simplex_laws.specs.Living.{OfAllDone, MayBeDoneBy};
     ghost use Rattle.simplex_engine.specs.Outputs.{AreBehind};
-    ghost use Rattle.simplex_flat.specs.Serving.{host_leader, same_payload};
+    ghost use Rattle.simplex_flat.specs.Serving.{host_leader, same_host_payload};
     ghost use Rattle.simplex_host.specs.declared.scheme.HostKey.{HostKey};
 
     /// An engine that gave nothing out yet.
@@ -193,7 +193,7 @@ impl HeldEngine {
         requires { self.old.frames.items ≡ [] }
         ensures written { OnOk result (self.new.frames.items ≡ framed entries.now) }
         ensures entries { OnOk result (self.new.stored.entries ≡ length entries.now) }
-        ensures stored { OnOk result (IsStored self.new.stored beside.now) }
+        ensures stored { OnOk result (IsFlatStored self.new.stored beside.now) }
         ensures rest { self.new ≡ record self.old { frames = self.new.frames; stored = self.new.stored } }
     {
         write_entries(self.alloc, &mut self.frames, entries)?;
@@ -222,8 +222,8 @@ impl HeldEngine {
     pub fn keeps_the_laws(&self)
         ensures behind { (given : _) → IsAllGiven given self.now → self.now.is_lost ≡ false → AreBehind [] given }
         ensures stored { (given : _) → IsAllGiven given self.now → self.now.is_lost ≡ false → HoldsRecord given self.now }
-        ensures lawful { OfAllDone same_payload host_leader self.now.engine.core.member.facts (λ term_length i all. IsLawful term_length all) }
-        ensures ran { OfAllDone same_payload host_leader self.now.engine.core.member.facts (MayBeDoneBy HostKey same_payload host_leader) }
+        ensures lawful { OfAllDone same_host_payload host_leader self.now.engine.core.member.facts (λ term_length i all. IsLawful term_length all) }
+        ensures ran { OfAllDone same_host_payload host_leader self.now.engine.core.member.facts (MayBeDoneBy HostKey same_host_payload host_leader) }
     {
         self.engine.keeps_the_laws();
     }
@@ -242,7 +242,7 @@ impl HeldEngine {
 /// What is stored beside so many entries.
 fn stored_beside(entries: usize, beside: &Stored) -> FlatStored
     ensures entries { result.entries ≡ entries }
-    ensures stored { IsStored result beside.now }
+    ensures stored { IsFlatStored result beside.now }
 {
     FlatStored {
         entries: entries as u64,

@@ -2,11 +2,11 @@
 
 ghost use Rattle.std.specs.Prelude.{◌≡◌};
 ghost use Rattle.simplex_engine.specs.declared.output.Work.TheVariants.{Fetch};
-ghost use Rattle.simplex_flat.specs.Calls.{IsProposal};
+ghost use Rattle.simplex_flat.specs.Calls.{IsFlatProposal};
 ghost use Rattle.simplex_flat.specs.Numbers.{index_number};
 ghost use Rattle.simplex_flat.specs.Replies.{IsContext};
 ghost use Rattle.simplex_flat_engine.specs.Inputs.{IsOn};
-ghost use Rattle.simplex_flat_engine.specs.Outputs.{HasOutputOf, IsOf, IsWork, bytes_of, fetch_number, other_signature, signature_in};
+ghost use Rattle.simplex_flat_engine.specs.Outputs.{HasOutputOf, IsOf, IsWork, certified_bytes, fetch_number, other_signature, first_bytes_in};
 
 use crate::told::{FlatOutput, FlatSubject};
 use simplex_engine::engine::Engine;
@@ -141,7 +141,7 @@ fn of_view(kind: u32, view: u64) -> FlatOutput
 fn of_proposal(kind: u32, proposal: &Proposal<HostDigest>) -> FlatOutput
     ensures kind { result.kind ≡ kind }
     ensures status { result.status ≡ 0 }
-    ensures proposal { IsProposal result.subject.proposal proposal.now }
+    ensures proposal { IsFlatProposal result.subject.proposal proposal.now }
 {
     FlatOutput {
         subject: proposal_subject(proposal),
@@ -178,7 +178,7 @@ fn flat_fetch(ask: Ask) -> FlatOutput
 }
 
 fn proposal_subject(proposal: &Proposal<HostDigest>) -> FlatSubject
-    ensures { IsProposal result.proposal proposal.now }
+    ensures { IsFlatProposal result.proposal proposal.now }
 {
     FlatSubject {
         proposal: flat_proposal(proposal),
@@ -253,7 +253,7 @@ fn number_of_peer(of: Option<Participant>) -> u32
 
 /// What is to be signed, a certificate, or the first signature of two: what is read of an output that is no journal's.
 pub(crate) fn signature_in(output: &HostOutput) -> &[u8]
-    ensures { result.now ≡ signature_in output.now }
+    ensures { result.now ≡ first_bytes_in output.now }
 {
     match output {
         Output::Vote(vote) => vote.signature.text.as_slice(),
@@ -275,7 +275,7 @@ pub(crate) fn other_signature(output: &HostOutput) -> &[u8]
 
 /// The bytes of a certificate.
 fn bytes_of(certificate: &Certificate<HostScheme, HostDigest>) -> &[u8]
-    ensures { result.now ≡ bytes_of certificate.now }
+    ensures { result.now ≡ certified_bytes certificate.now }
 {
     match certificate {
         Certificate::Notarization(it) => it.certificate.bytes.as_slice(),

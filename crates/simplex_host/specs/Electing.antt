@@ -8,11 +8,11 @@ use Rattle.simplex_types.specs.Terms.{term_index}
 use Rattle.simplex_host.specs.declared.elector.HostElector.{HostElector}
 
 -- how many members there are, how views are parted into terms, and the table
-abbrev pub members_of : HostElector → ℕ
-members_of e = e.count
+abbrev pub host_members : HostElector → ℕ
+host_members e = e.count
 
-abbrev pub terms_of : HostElector → Terms
-terms_of e = e.terms
+abbrev pub host_terms : HostElector → Terms
+host_terms e = e.terms
 
 abbrev pub table_of : HostElector → List ℕ
 table_of e = e.leaders.items
@@ -41,13 +41,13 @@ or_entry (Some number) entry = number
 or_entry None entry = entry
 
 -- the leader of a view, after a certificate of these bytes
-abbrev pub leader_of : HostElector → ℕ → Option (List ℕ) → ℕ
-leader_of e view seed = or_entry (named_by e.early seed) (in_table e view) % e.count
+abbrev pub leader_after : HostElector → ℕ → Option (List ℕ) → ℕ
+leader_after e view seed = or_entry (named_by e.early seed) (in_table e view) % e.count
 
-pub elected_below : (e : HostElector) (view : ℕ) (seed : Option (List ℕ)) → leader_of e view seed < members_of e
+pub elected_below : (e : HostElector) (view : ℕ) (seed : Option (List ℕ)) → leader_after e view seed < host_members e
 elected_below e view seed = mod-lt (or_entry (named_by e.early seed) (in_table e view)) e.has_members
 
-pub early_alike : (e : HostElector) (view : ℕ) (seed : Option (List ℕ)) → is_early e ≡ true → leader_of e view seed ≡ leader_of e view None
+pub early_alike : (e : HostElector) (view : ℕ) (seed : Option (List ℕ)) → is_early e ≡ true → leader_after e view seed ≡ leader_after e view None
 early_alike e view seed early =
     let with_seed = ap (λ b. or_entry (named_by b seed) (in_table e view) % e.count) early in
     let without = ap (λ b. or_entry (named_by b None) (in_table e view) % e.count) early in

@@ -20,14 +20,14 @@ pub struct HostElector {
 }
 
 impl HostElector {
-    ghost use Rattle.simplex_host.specs.Electing.{members_of, terms_of, table_of, is_early, in_table, number_in};
+    ghost use Rattle.simplex_host.specs.Electing.{host_members, host_terms, table_of, is_early, in_table, number_in};
 
     /// The elector of this many members, who lead as the table says, whatever the certificates are.
     pub fn by_table(leaders: Vec<u32>, count: u32, terms: Terms) -> HostElector
         requires leaders { 0 < length leaders.items }
         requires members { 0 < count }
-        ensures count { members_of result ≡ count }
-        ensures terms { terms_of result ≡ terms }
+        ensures count { host_members result ≡ count }
+        ensures terms { host_terms result ≡ terms }
         ensures table { table_of result ≡ leaders.items }
         ensures early { is_early result ≡ true }
     {
@@ -43,8 +43,8 @@ impl HostElector {
     pub fn drawn(leaders: Vec<u32>, count: u32, terms: Terms) -> HostElector
         requires leaders { 0 < length leaders.items }
         requires members { 0 < count }
-        ensures count { members_of result ≡ count }
-        ensures terms { terms_of result ≡ terms }
+        ensures count { host_members result ≡ count }
+        ensures terms { host_terms result ≡ terms }
         ensures table { table_of result ≡ leaders.items }
         ensures early { is_early result ≡ false }
     {
@@ -77,15 +77,15 @@ impl HostElector {
 }
 
 impl<S: CertificateScheme> Elector<S> for HostElector {
-    ghost use Rattle.simplex_host.specs.Electing.{members_of, terms_of, is_early, leader_of, elected_below, early_alike};
+    ghost use Rattle.simplex_host.specs.Electing.{host_members, host_terms, is_early, leader_after, elected_below, early_alike};
 
-    ghost terms = { terms_of };
+    ghost terms = { host_terms };
 
-    ghost members = { members_of };
+    ghost members = { host_members };
 
     ghost elects_early = { is_early };
 
-    ghost elect = { λ e round seed. leader_of e round.view seed };
+    ghost elect = { λ e round seed. leader_after e round.view seed };
 
     fn terms(&self) -> Terms {
         self.terms

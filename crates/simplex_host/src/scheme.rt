@@ -59,7 +59,7 @@ pub struct HostScheme {
 }
 
 impl HostScheme {
-    ghost use Rattle.simplex_host.specs.Host.{signer_of, keys_of, keys_below};
+    ghost use Rattle.simplex_host.specs.Host.{host_signer, host_keys, host_keys_below};
 
     /// The scheme of this many members, with the key of one of them or of none.
     pub fn new(
@@ -68,8 +68,8 @@ impl HostScheme {
         signer: Option<Participant>,
     ) -> Result<HostScheme, AllocError>
         requires { ForSome signer (λ m. m < members) }
-        ensures signer { IfOk result (λ s. signer_of s ≡ signer) }
-        ensures members { IfOk result (λ s. keys_of s ≡ keys_below members) }
+        ensures signer { IfOk result (λ s. host_signer s ≡ signer) }
+        ensures members { IfOk result (λ s. host_keys s ≡ host_keys_below members) }
     {
         let mut keys = Vec::new(alloc);
         for index in 0..members {
@@ -86,11 +86,11 @@ impl CertificateScheme for HostScheme {
 
     type Certificate = HostCertificate;
 
-    ghost use Rattle.simplex_host.specs.Host.{signer_of, keys_of, certificate_bytes};
+    ghost use Rattle.simplex_host.specs.Host.{host_signer, host_keys, certificate_bytes};
 
-    ghost me = { signer_of };
+    ghost me = { host_signer };
 
-    ghost participants = { keys_of };
+    ghost participants = { host_keys };
 
     ghost certificate_bytes = { certificate_bytes };
 

@@ -18,7 +18,7 @@ use Rattle.simplex_voter.specs.Facts.{StateFacts, Elect}
 use Rattle.simplex_member.specs.OutstandingWork.{no_outstanding_work}
 use Rattle.simplex_member.specs.Lives.{MemberFacts, without_life}
 use Rattle.simplex_member.specs.Remade.{IsRefusedBy, IsRemadeBy}
-use Rattle.simplex_record.specs.Recovery.{recover_error, is_finalization, with_finalization_entry, with_floor}
+use Rattle.simplex_record.specs.Recovery.{recover_error, is_finalization_entry, with_finalization_entry, with_floor}
 use Rattle.simplex_member.specs.Restarts.{IsByView, RecoversByView}
 use Rattle.simplex_record.specs.Start.{StartFacts, IsErrorDue, new_state}
 use Rattle.simplex_record.proofs.Seen.{entries_from, view_of_entry}
@@ -58,19 +58,19 @@ module _ {S D K G C : Type 0} (bytes_of : C → List ℕ) where
   }
 
   -- whether a finalization of a view stands from a place on: it is the next artifact, or else one behind it
-  pub stands_here : (v : ℕ) (items : List (Artifact S D K G C)) (i : ℕ) (a : Artifact S D K G C) → a ≡ get_or items i a → i < length items → (entry_view (artifact_facts bytes_of a) == v && is_finalization (artifact_facts bytes_of a)) ≡ true
-      → stands v is_finalization (entries_of bytes_of (drop i items)) ≡ true
+  pub stands_here : (v : ℕ) (items : List (Artifact S D K G C)) (i : ℕ) (a : Artifact S D K G C) → a ≡ get_or items i a → i < length items → (entry_view (artifact_facts bytes_of a) == v && is_finalization_entry (artifact_facts bytes_of a)) ≡ true
+      → stands v is_finalization_entry (entries_of bytes_of (drop i items)) ≡ true
   stands_here v items i a is within here = rw (entries_from bytes_of items i a is within, here) refl
 
-  pub stands_behind : (v : ℕ) (items : List (Artifact S D K G C)) (i : ℕ) (a : Artifact S D K G C) → a ≡ get_or items i a → i < length items → (entry_view (artifact_facts bytes_of a) == v && is_finalization (artifact_facts bytes_of a)) ≡ false
-      → stands v is_finalization (entries_of bytes_of (drop i items)) ≡ stands v is_finalization (entries_of bytes_of (drop (i + 1) items))
+  pub stands_behind : (v : ℕ) (items : List (Artifact S D K G C)) (i : ℕ) (a : Artifact S D K G C) → a ≡ get_or items i a → i < length items → (entry_view (artifact_facts bytes_of a) == v && is_finalization_entry (artifact_facts bytes_of a)) ≡ false
+      → stands v is_finalization_entry (entries_of bytes_of (drop i items)) ≡ stands v is_finalization_entry (entries_of bytes_of (drop (i + 1) items))
   stands_behind v items i a is within other = rw (entries_from bytes_of items i a is within, other) refl
 
   -- a finalization whose view is finalized in the record
-  pub recorded_before : (entries : List (ArtifactFacts D)) (o : Option (Finalization S D K G C)) (f : Finalization S D K G C) → o ≡ Some f → stands f.proposal.round.view is_finalization entries ≡ true → entries ≡ with_finalization_entry entries (option_map (finalization_facts bytes_of) o)
+  pub recorded_before : (entries : List (ArtifactFacts D)) (o : Option (Finalization S D K G C)) (f : Finalization S D K G C) → o ≡ Some f → stands f.proposal.round.view is_finalization_entry entries ≡ true → entries ≡ with_finalization_entry entries (option_map (finalization_facts bytes_of) o)
   recorded_before entries o f is found = rw (is, found) refl
 
-  pub recorded_now : (entries : List (ArtifactFacts D)) (o : Option (Finalization S D K G C)) (f : Finalization S D K G C) → o ≡ Some f → stands f.proposal.round.view is_finalization entries ≡ false → entries ++ Accepted (Finalized (finalization_facts bytes_of f)) ∷ [] ≡ with_finalization_entry entries (option_map (finalization_facts bytes_of) o)
+  pub recorded_now : (entries : List (ArtifactFacts D)) (o : Option (Finalization S D K G C)) (f : Finalization S D K G C) → o ≡ Some f → stands f.proposal.round.view is_finalization_entry entries ≡ false → entries ++ Accepted (Finalized (finalization_facts bytes_of f)) ∷ [] ≡ with_finalization_entry entries (option_map (finalization_facts bytes_of) o)
   recorded_now entries o f is none = rw (is, none) refl
 
 -- an error for a copy of the record by view, or want of memory

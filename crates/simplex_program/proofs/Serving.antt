@@ -4,7 +4,7 @@ use Rattle.std.proofs.lemmas.Bool.{ne_eqb}
 use Rattle.std.proofs.lemmas.List.{take-append-drop}
 use Rattle.std.specs.Fmt.{AppendsText, with_newline}
 use Rattle.std.specs.Io.KnownBytes.{Keeps, Appends}
-use Rattle.simplex_program.specs.Transcript.{Point, IsAnswered, AreAnswered, AppendsFront, reply_line}
+use Rattle.simplex_program.specs.Transcript.{Point, IsLineAnswered, AreAnswered, AppendsFront, reply_line}
 
 pub keeps_self : (a : Option (List ℕ)) → Keeps a a
 keeps_self None = tt
@@ -59,6 +59,6 @@ pub line_written : (o : Option (List ℕ)) (old new : List ℕ) → old ≡ [] �
 line_written None old new empty written = tt
 line_written (Some text) old new empty written = written ∙ ap (λ (front : List ℕ). front ++ (text ++ 10 ∷ [])) empty
 
-pub one_more : (p : Point) (lines : List (List ℕ)) (q : Point) (line : List ℕ) (r : Point) → AreAnswered p lines q → IsAnswered q line r → AreAnswered p (lines ++ line ∷ []) r
-one_more p [] q line r before now = (r, subst (λ (x : Point). IsAnswered x line r) (sym before) now, refl)
+pub one_more : (p : Point) (lines : List (List ℕ)) (q : Point) (line : List ℕ) (r : Point) → AreAnswered p lines q → IsLineAnswered q line r → AreAnswered p (lines ++ line ∷ []) r
+one_more p [] q line r before now = (r, subst (λ (x : Point). IsLineAnswered x line r) (sym before) now, refl)
 one_more p (first ∷ lines) q line r before now = (before.0, before.1, one_more before.0 lines q line r before.2 now)

@@ -8,7 +8,7 @@ use Rattle.simplex_program.specs.declared.serve_error.ServeError.{ServeError}
 use Rattle.simplex_program.specs.declared.serve_error.ServeError.TheVariants.{NotACall, OutOfMemory, Read, Write}
 use Rattle.simplex_program.specs.Line.{without_feed, ReadsText, IsNextLine}
 use Rattle.simplex_program.specs.Session.{IsNotReplied}
-use Rattle.simplex_program.specs.Transcript.{Asked, Point, AreAnswered, IsNoCall, Ends, Advances, Continues}
+use Rattle.simplex_program.specs.Transcript.{Asked, Point, AreAnswered, IsNoCall, EndsServing, Advances, Continues}
 use Rattle.simplex_program.proofs.Serving.{keeps_self, one_more}
 
 -- lines were answered from a point on, and the next one has this number
@@ -29,13 +29,13 @@ pub serves_most : (p q : Point) (number : ℕ) → HasServed p q number → numb
 serves_most p q number before most = (before.0, q, before.1, (inr (sym before.2 ∙ most), keeps_self q.held))
 
 pub serving_ends : (p q r : Point) (number : ℕ) (e : ServeError) → HasServed p q number → Advances q number (Err e) r → Continues p (Err e) r.held
-serving_ends p q r number e before now = (before.0, q, before.1, subst (λ (k : ℕ). Ends q k (Err e) r.held) before.2 now)
+serving_ends p q r number e before now = (before.0, q, before.1, subst (λ (k : ℕ). EndsServing q k (Err e) r.held) before.2 now)
 
 pub no_room : (p : Point) → Continues p (Err OutOfMemory) p.held
 no_room p = ([], p, refl, keeps_self p.held)
 
 -- why a line has no reply
-pub is_not_replied : (p : Point) (k : ℕ) (line text : List ℕ) (rest : Option (List ℕ)) (e : ServeError) → IsNextLine p.left line rest → text ≡ without_feed line → IsNotReplied k p.asked text e → Ends p k (Err e) p.held
+pub is_not_replied : (p : Point) (k : ℕ) (line text : List ℕ) (rest : Option (List ℕ)) (e : ServeError) → IsNextLine p.left line rest → text ≡ without_feed line → IsNotReplied k p.asked text e → EndsServing p k (Err e) p.held
 is_not_replied p k line text rest (NotACall n) next is not =
     (not.0, keeps_self p.held, (line, rest, next, inr (inr (rw is at not.1))))
 is_not_replied p k line text rest OutOfMemory next is not = keeps_self p.held

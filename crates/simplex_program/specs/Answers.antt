@@ -57,8 +57,8 @@ abbrev pub verdict_call : ℕ → Bool → Call
 verdict_call v success = verdict {D = List ℕ} (λ payload. payload) (proposed_at v) success
 
 -- nothing changes
-abbrev pub IsKept : {F : Type 0} → F → List ℕ → F → List ℕ → Type 0
-IsKept x fetching y left = (y ≡ x) × (left ≡ fetching)
+abbrev pub IsUnchanged : {F : Type 0} → F → List ℕ → F → List ℕ → Type 0
+IsUnchanged x fetching y left = (y ≡ x) × (left ≡ fetching)
 
 -- a call is answered with its effects, which are applied to the open fetches, or refused
 abbrev pub Calls : ResolverFacts → List ℕ → ℕ → Call → Answer → ResolverFacts → List ℕ → Type 0
@@ -70,7 +70,7 @@ Calls _ _ _ _ _ _ _ = ⊥
 -- a report of view 0 is not allowed, any other is a call
 abbrev pub Reports : ResolverFacts → List ℕ → ℕ → Call → Answer → ResolverFacts → List ℕ → Type 0
 Reports x fetching v call a y left =
-    (v ≡ 0 → (a ≡ answer.NotAllowed) × IsKept x fetching y left) × (1 ≤ v → Calls x fetching v call a y left)
+    (v ≡ 0 → (a ≡ answer.NotAllowed) × IsUnchanged x fetching y left) × (1 ≤ v → Calls x fetching v call a y left)
 
 -- the views whose fetch is open are the reply
 abbrev pub Lists : List ℕ → Answer → Type 0
@@ -84,10 +84,10 @@ ResolverAnswers x fetching (Nullification v) a y left = Reports x fetching v (nu
 ResolverAnswers x fetching (Finalization v) a y left = Reports x fetching v (finalization_call v) a y left
 ResolverAnswers x fetching (Certified v success) a y left = Reports x fetching v (verdict_call v success) a y left
 ResolverAnswers x fetching Replayed a y left = Calls x fetching 0 EndOfReplay a y left
-ResolverAnswers x fetching (Settled v kind) a y left = (a ≡ answer.Flag (is_settled x v kind)) × IsKept x fetching y left
+ResolverAnswers x fetching (Settled v kind) a y left = (a ≡ answer.Flag (is_settled x v kind)) × IsUnchanged x fetching y left
 ResolverAnswers x fetching (KeySettled v) a y left =
-    (a ≡ answer.Flag (is_settled x v OfNullification && is_settled x v OfNotarization)) × IsKept x fetching y left
-ResolverAnswers x fetching (Uncertifiable v) a y left = (a ≡ answer.Flag (map.contains_key x.uncertifiable v)) × IsKept x fetching y left
+    (a ≡ answer.Flag (is_settled x v OfNullification && is_settled x v OfNotarization)) × IsUnchanged x fetching y left
+ResolverAnswers x fetching (Uncertifiable v) a y left = (a ≡ answer.Flag (map.contains_key x.uncertifiable v)) × IsUnchanged x fetching y left
 ResolverAnswers x fetching (Produce v) a y left =
-    (a ≡ (if x.is_failed then answer.Fault Failed else answer.Encoding (served_encoding x v))) × IsKept x fetching y left
-ResolverAnswers x fetching Outstanding a y left = Lists fetching a × IsKept x fetching y left
+    (a ≡ (if x.is_failed then answer.Fault Failed else answer.Encoding (served_encoding x v))) × IsUnchanged x fetching y left
+ResolverAnswers x fetching Outstanding a y left = Lists fetching a × IsUnchanged x fetching y left

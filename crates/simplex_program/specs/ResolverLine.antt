@@ -32,13 +32,13 @@ HasSmallView (Produce view) = view < 2 ^ 64
 HasSmallView Outstanding = ⊤
 
 -- the line has so many words
-abbrev pub HasWords : ℕ → ResolverLine → Type 0
-HasWords count line = length (line_words line) ≡ count
+abbrev pub HasLineWords : ℕ → ResolverLine → Type 0
+HasLineWords count line = length (line_words line) ≡ count
 
 -- the line that the words ask for, and none where they ask for none with so many words
 abbrev pub ReadsLineOf : ℕ → List (List ℕ) → Option ResolverLine → Type 0
 ReadsLineOf count words r = MatchOption r
-    ((line : ResolverLine) → HasWords count line → HasSmallView line → words ≢ line_words line)
+    ((line : ResolverLine) → HasLineWords count line → HasSmallView line → words ≢ line_words line)
     (λ line. words ≡ line_words line)
 
 -- the line that the words ask for, and none where they ask for none

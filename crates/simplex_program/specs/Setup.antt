@@ -35,7 +35,7 @@ abbrev pub network_terms : Network → Terms
 network_terms n = record { term_length = n.term_length; optimistic_views = n.optimistic; stall_timeout = None }
 
 -- a configuration of a member of the network
-pub record IsSetUp {C G : Type 0} (n : Network) (c : Config PlainScheme PlainElector PlainKey C G) : Type 0 where
+pub record IsNetworkConfig {C G : Type 0} (n : Network) (c : Config PlainScheme PlainElector PlainKey C G) : Type 0 where
   pub count : members_of c.elector ≡ n.members
   pub terms : terms_of c.elector ≡ network_terms n
   pub signer : signer_of c.scheme ≡ n.me

@@ -76,13 +76,13 @@ abbrev pub IsCalled : Point → List ℕ → List ℕ → Asked → Option (List
 IsCalled p line reply asked left = IsNextLine p.left line left × Replies p.asked (without_feed line) reply asked
 
 -- a line is answered, and its reply is written
-abbrev pub IsAnswered : Point → List ℕ → Point → Type 0
-IsAnswered p line q = (reply : List ℕ) × IsCalled p line reply q.asked q.left × Appends p.held q.held reply
+abbrev pub IsLineAnswered : Point → List ℕ → Point → Type 0
+IsLineAnswered p line q = (reply : List ℕ) × IsCalled p line reply q.asked q.left × Appends p.held q.held reply
 
 -- lines are answered one by one
 abbrev pub AreAnswered : Point → List (List ℕ) → Point → Type 0
 AreAnswered p [] q = p ≡ q
-AreAnswered p (line ∷ lines) q = (r : Point) × IsAnswered p line r × AreAnswered r lines q
+AreAnswered p (line ∷ lines) q = (r : Point) × IsLineAnswered p line r × AreAnswered r lines q
 
 -- some front of the bytes is written
 abbrev pub AppendsFront : Option (List ℕ) → Option (List ℕ) → List ℕ → Type 0
@@ -90,24 +90,24 @@ AppendsFront old new bytes = (front : List ℕ) × (others : List ℕ) × (bytes
 
 -- how serving ends before line k, and what the writer holds then: where no byte is left, or after 2^64 - 2 lines; at a line
 -- that is no call; where a read or a write failed; for want of memory. No byte is written of a reply, but where a write failed
-abbrev pub Ends : Point → ℕ → Result (Unit {0}) ServeError → Option (List ℕ) → Type 0
-Ends p k (Ok _) held = (IsAtEnd p.left ⊎ (k ≡ 2 ^ 64 - 1)) × Keeps p.held held
-Ends p k (Err (NotACall n)) held =
+abbrev pub EndsServing : Point → ℕ → Result (Unit {0}) ServeError → Option (List ℕ) → Type 0
+EndsServing p k (Ok _) held = (IsAtEnd p.left ⊎ (k ≡ 2 ^ 64 - 1)) × Keeps p.held held
+EndsServing p k (Err (NotACall n)) held =
     (n ≡ k) × Keeps p.held held × ((line : List ℕ) × (rest : Option (List ℕ)) × IsNextLine p.left line rest × IsNoCall p.asked line)
-Ends p k (Err OutOfMemory) held = Keeps p.held held
-Ends p k (Err Read) held = Keeps p.held held
-Ends p k (Err Write) held =
+EndsServing p k (Err OutOfMemory) held = Keeps p.held held
+EndsServing p k (Err Read) held = Keeps p.held held
+EndsServing p k (Err Write) held =
     (line : List ℕ) × (reply : List ℕ) × (asked : Asked) × (left : Option (List ℕ)) × IsCalled p line reply asked left × AppendsFront p.held held reply
 
 -- one turn of serving, before line k: a line is answered; or no byte is left; or serving ends
 abbrev pub Advances : Point → ℕ → Result Bool ServeError → Point → Type 0
-Advances p k (Ok true) q = (line : List ℕ) × IsAnswered p line q
+Advances p k (Ok true) q = (line : List ℕ) × IsLineAnswered p line q
 Advances p k (Ok false) q = IsAtEnd p.left × Keeps p.held q.held
-Advances p k (Err e) q = Ends p k (Err e) q.held
+Advances p k (Err e) q = EndsServing p k (Err e) q.held
 
 -- from some point on: lines are answered, and then serving ends
 abbrev pub Continues : Point → Result (Unit {0}) ServeError → Option (List ℕ) → Type 0
-Continues p r held = (lines : List (List ℕ)) × (q : Point) × AreAnswered p lines q × Ends q (length lines + 1) r held
+Continues p r held = (lines : List (List ℕ)) × (q : Point) × AreAnswered p lines q × EndsServing q (length lines + 1) r held
 
 -- serving in a mode: what the reader has to give and what the writer holds before, how it ends, and what the writer holds then
 abbrev pub Transcribes : Mode → Option (List ℕ) → Option (List ℕ) → Result (Unit {0}) ServeError → Option (List ℕ) → Type 0

@@ -78,13 +78,13 @@ HasSmallNumbers Record = ⊤
 HasSmallNumbers Views = ⊤
 
 -- the line has so many words
-abbrev pub HasWords : ℕ → VoterLine → Type 0
-HasWords count line = length (voter_words line) ≡ count
+abbrev pub HasVoterWords : ℕ → VoterLine → Type 0
+HasVoterWords count line = length (voter_words line) ≡ count
 
 -- the line that the words ask for, and none where they ask for none with so many words
 abbrev pub ReadsVoterLineOf : ℕ → List (List ℕ) → Option VoterLine → Type 0
 ReadsVoterLineOf count words r = MatchOption r
-    ((line : VoterLine) → HasWords count line → HasSmallNumbers line → words ≢ voter_words line)
+    ((line : VoterLine) → HasVoterWords count line → HasSmallNumbers line → words ≢ voter_words line)
     (λ line. words ≡ voter_words line)
 
 -- the line that the words ask for, and none where they ask for none

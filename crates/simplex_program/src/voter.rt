@@ -3,7 +3,7 @@
 ghost use Rattle.std.specs.Prelude.{◌≡◌, false, true, IfOk, length};
 ghost use Rattle.simplex_types.specs.Plain.{members_of, keys_of};
 ghost use Rattle.simplex_program.specs.Voter.{VoterAnswers, IsRestarted, IsDone, is_no_call, shown_views};
-ghost use Rattle.simplex_program.specs.Setup.{IsSetUp, IsGenesisStart, StartsAtGenesis, plain_start};
+ghost use Rattle.simplex_program.specs.Setup.{IsNetworkConfig, IsGenesisStart, StartsAtGenesis, plain_start};
 
 use crate::network::Network;
 use crate::rounds::EPOCH;
@@ -158,7 +158,7 @@ fn settings(
     alloc: Global,
     network: &Network,
 ) -> Result<Config<PlainScheme, PlainElector>, AllocError>
-    ensures { IfOk result (IsSetUp network.now) }
+    ensures { IfOk result (IsNetworkConfig network.now) }
 {
     let signer = match network.me {
         Some(index) => Some(Participant::new(index)),

@@ -16,7 +16,7 @@ use Rattle.simplex_record.specs.declared.record.seen.Seen.{Seen}
 use Rattle.std.proofs.lemmas.List.{drop_more}
 use Rattle.simplex_record.specs.Entries.{entry_view, entries_of}
 use Rattle.simplex_record.specs.Check.{first_error, last_view, stands, agrees, is_notarization, is_verdict, is_nullify_vote, is_finalize_vote, notarizes_other, finalizes_other, beside_rules, own_rules, entry_rules, first_broken_after}
-use Rattle.simplex_record.specs.Seen.{is_given, is_other, nothing_seen, turned_to, with_entry, seen_rules, next_rules}
+use Rattle.simplex_record.specs.Seen.{is_given, is_other, nothing_seen, turned_to, seen_with, seen_rules, next_rules}
 
 left_false : (a b : Bool) → (a || b) ≡ false → a ≡ false
 left_false false b h = refl
@@ -126,7 +126,7 @@ module _ {D : Type 0} (same : D → D → Bool) where
 
 module _ {D : Type 0} (same : D → D → Bool) (alike : (d e : D) → same d e ≡ true → d ≡ e) where
   -- an entry that the rules allow
-  pub shows_entry : (before : List (ArtifactFacts D)) (s : Seen D) (e : ArtifactFacts D) → entry_view e ≡ s.view → ShowsBefore same before s → first_error (seen_rules same s e) ≡ None → ShowsBefore same (e ∷ before) (with_entry s e)
+  pub shows_entry : (before : List (ArtifactFacts D)) (s : Seen D) (e : ArtifactFacts D) → entry_view e ≡ s.view → ShowsBefore same before s → first_error (seen_rules same s e) ≡ None → ShowsBefore same (e ∷ before) (seen_with s e)
   shows_entry before s (NotarizeVote p m) at shows allowed =
       let e : ArtifactFacts D = NotarizeVote p m in
       record {
@@ -234,7 +234,7 @@ first_error-append ((true, e) ∷ xs) ys = refl
 first_error-append ((false, e) ∷ xs) ys = first_error-append xs ys
 
 module _ {D : Type 0} where
-  with_entry_view : (s : Seen D) (e : ArtifactFacts D) → (with_entry s e).view ≡ s.view
+  with_entry_view : (s : Seen D) (e : ArtifactFacts D) → (seen_with s e).view ≡ s.view
   with_entry_view s (Accepted (Notarized c)) = refl
   with_entry_view s _ = refl
 
@@ -291,7 +291,7 @@ none_left (Some x) b h = absurd cc
 
 module _ {D : Type 0} (same : D → D → Bool) (alike : (d e : D) → same d e ≡ true → d ≡ e) (epoch : ℕ) (me : Option ℕ) where
   -- an entry that breaks none
-  pub tested_next : (all rest : List (ArtifactFacts D)) (s : Seen D) (e : ArtifactFacts D) → Tested same epoch me all (e ∷ rest) s → first_error (next_rules same epoch me s e) ≡ None → Tested same epoch me all rest (with_entry (turned_to s (entry_view e)) e)
+  pub tested_next : (all rest : List (ArtifactFacts D)) (s : Seen D) (e : ArtifactFacts D) → Tested same epoch me all (e ∷ rest) s → first_error (next_rules same epoch me s e) ≡ None → Tested same epoch me all rest (seen_with (turned_to s (entry_view e)) e)
   tested_next all rest s e tested allowed =
       let beside = seen_rules same (turned_to s (entry_view e)) e in
       let at = turned_view s (entry_view e) (unbroken (nat_lt (entry_view e) s.view) error.OutOfOrder (own_rules epoch me e ++ beside) allowed) in

@@ -74,15 +74,15 @@ module _ {K L D : Type 0} (same : D → D → Bool) where
 
 module _ {D : Type 0} where
   -- the entry is a finalization
-  abbrev pub is_finalization : ArtifactFacts D → Bool
-  is_finalization (Accepted (Finalized _)) = true
-  is_finalization _ = false
+  abbrev pub is_finalization_entry : ArtifactFacts D → Bool
+  is_finalization_entry (Accepted (Finalized _)) = true
+  is_finalization_entry _ = false
 
   -- a finalization is recorded, unless one of its view stands there
   abbrev pub with_finalization_entry : List (ArtifactFacts D) → Option (ProposalFacts D) → List (ArtifactFacts D)
   with_finalization_entry entries None = entries
   with_finalization_entry entries (Some c) =
-      if stands c.proposal.round.view is_finalization entries then entries else entries ++ Accepted (Finalized c) ∷ []
+      if stands c.proposal.round.view is_finalization_entry entries then entries else entries ++ Accepted (Finalized c) ∷ []
 
   -- the floor's finalization is
   abbrev pub with_floor : List (ArtifactFacts D) → FloorFacts D → List (ArtifactFacts D)

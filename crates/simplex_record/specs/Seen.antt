@@ -28,14 +28,14 @@ turned_to s v = if nat_lt s.view v then nothing_seen v else s
 
 module _ {D : Type 0} where
   -- with an entry of the view
-  abbrev pub with_entry : Seen D → ArtifactFacts D → Seen D
-  with_entry s (NotarizeVote p _) = record s { notarize = Some p }
-  with_entry s (NullifyVote _ _) = record s { nullified = true }
-  with_entry s (FinalizeVote p _) = record s { finalize = Some p }
-  with_entry s (Verdict _ success) = record s { verdict = Some success }
-  with_entry s (Accepted (Notarized _)) = record s { notarized = true }
-  with_entry s (Accepted (Nullified _)) = s
-  with_entry s (Accepted (Finalized _)) = s
+  abbrev pub seen_with : Seen D → ArtifactFacts D → Seen D
+  seen_with s (NotarizeVote p _) = record s { notarize = Some p }
+  seen_with s (NullifyVote _ _) = record s { nullified = true }
+  seen_with s (FinalizeVote p _) = record s { finalize = Some p }
+  seen_with s (Verdict _ success) = record s { verdict = Some success }
+  seen_with s (Accepted (Notarized _)) = record s { notarized = true }
+  seen_with s (Accepted (Nullified _)) = s
+  seen_with s (Accepted (Finalized _)) = s
 
 module _ {D : Type 0} (same : D → D → Bool) where
   -- what a vote to finalize breaks by what was seen of its view

@@ -13,7 +13,7 @@ use Rattle.simplex_program.specs.declared.resolver.Answer.{Answer}
 use Rattle.simplex_program.specs.declared.resolver.Answer.TheVariants as answer
 use Rattle.simplex_program.specs.declared.resolver_line.ResolverLine.{ResolverLine}
 use Rattle.simplex_program.specs.declared.resolver_line.ResolverLine.TheVariants.{Notarization, Nullification, Finalization, Certified, Replayed, Settled, KeySettled, Uncertifiable, Produce, Outstanding}
-use Rattle.simplex_program.specs.Answers.{ResolverAnswers, Calls, Reports, IsKept, notarization_call, nullification_call, finalization_call, verdict_call}
+use Rattle.simplex_program.specs.Answers.{ResolverAnswers, Calls, Reports, IsUnchanged, notarization_call, nullification_call, finalization_call, verdict_call}
 use Rattle.simplex_program.specs.Line.{without_feed}
 use Rattle.simplex_program.specs.ResolverLine.{line_words}
 use Rattle.simplex_program.specs.ResolverText.{resolver_reply_text}
@@ -29,7 +29,7 @@ of_parts x fetching = record { state = x; open_fetches = fetching }
 
 module _ (t : ℕ) (calls : List Call) (x y : ResolverFacts) (fetching left : List ℕ) (told : HasBeenTold t calls (of_parts x fetching)) where
   -- nothing is told, and nothing changes
-  kept : IsKept x fetching y left → HasBeenTold t calls (of_parts y left)
+  kept : IsUnchanged x fetching y left → HasBeenTold t calls (of_parts y left)
   kept (same, same_left) = subst (λ z. HasBeenTold t calls (of_parts z left)) (sym same) (subst (λ views. HasBeenTold t calls (of_parts x views)) (sym same_left) told)
 
   -- a call that is refused with memory at hand changes nothing
@@ -56,7 +56,7 @@ module _ (t : ℕ) (calls : List Call) (x y : ResolverFacts) (fetching left : Li
   reported (suc v) call a names (below, above) = called (suc v) call a (names (omega arith)) (above (omega arith))
 
   -- a line that hands nothing in tells nothing
-  shown : (a : Answer) → IsKept x fetching y left → HasBeenTold t (answered_by a [] ++ calls) (of_parts y left)
+  shown : (a : Answer) → IsUnchanged x fetching y left → HasBeenTold t (answered_by a [] ++ calls) (of_parts y left)
   shown (answer.Effects es) is = kept is
   shown (answer.Fault f) is = kept is
   shown (answer.Flag flag) is = kept is

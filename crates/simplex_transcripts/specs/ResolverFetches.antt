@@ -15,7 +15,7 @@ use Rattle.simplex_program.specs.Line.{without_feed}
 use Rattle.simplex_program.specs.Mode.{IsServed}
 use Rattle.simplex_program.specs.ResolverLine.{line_words}
 use Rattle.simplex_program.specs.ResolverText.{resolver_reply_text}
-use Rattle.simplex_program.specs.Transcript.{Resolver as Asks, Point, Ends, Transcribes, reply_line}
+use Rattle.simplex_program.specs.Transcript.{Resolver as Asks, Point, EndsServing, Transcribes, reply_line}
 use Rattle.simplex_program.specs.Words.{words_in}
 
 -- a line with its answer
@@ -79,7 +79,7 @@ pub record IsServedBy (term_length : ℕ) (held : Option (List ℕ)) (r : Result
   pub last : Point
   pub asked : last.asked ≡ Asks left.state left.open_fetches
   pub transcribed : IsResolverTranscribed term_length lines held last.held left
-  pub ended : Ends last (length lines + 1) r after
+  pub ended : EndsServing last (length lines + 1) r after
 
 -- whatever a resolver's lines are, and however serving ends
 abbrev pub ResolverTranscriptsKeepFetches : Type 0

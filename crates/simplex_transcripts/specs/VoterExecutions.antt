@@ -23,7 +23,7 @@ use Rattle.simplex_program.specs.Mode.{IsServed}
 use Rattle.simplex_program.specs.Plain.{same_payload, plain_leader, plain_bytes}
 use Rattle.simplex_program.specs.Setup.{IsGenesisStart}
 use Rattle.simplex_program.specs.Texts.{text_of}
-use Rattle.simplex_program.specs.Transcript.{Point, Ends, IsNamed, Transcribes, reply_line}
+use Rattle.simplex_program.specs.Transcript.{Point, EndsServing, IsNamed, Transcribes, reply_line}
 use Rattle.simplex_program.specs.Voter.{StandsFor}
 use Rattle.simplex_program.specs.VoterLine.{voter_words}
 use Rattle.simplex_program.specs.VoterText.{voter_reply_words}
@@ -111,7 +111,7 @@ pub record IsServedAs (n : Network) (held : Option (List ℕ)) (r : Result (Unit
   pub lines : List (List ℕ)
   pub last : Point
   pub transcribed : IsTranscribed n lines held last.held s
-  pub ended : Ends last (length lines + 1) r after
+  pub ended : EndsServing last (length lines + 1) r after
 
 -- whatever a voter's lines are, and however serving ends: but for want of memory at the start there is a lawful execution
 abbrev pub VoterTranscriptsAreLawful : Type 0

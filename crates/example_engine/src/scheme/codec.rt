@@ -6,9 +6,9 @@ use simplex_codec::hooks::SchemeCodec;
 use std::alloc::{AllocError, Global};
 
 impl SchemeCodec for SealScheme {
-    ghost use Rattle.example_engine.specs.Sealing.{signature_bytes, signature_from_bytes};
+    ghost use Rattle.example_engine.specs.Sealing.{signature_encoding, signature_from_bytes};
 
-    ghost signature_bytes = { signature_bytes };
+    ghost signature_encoding = { signature_encoding };
 
     ghost signature_of = { signature_from_bytes };
 

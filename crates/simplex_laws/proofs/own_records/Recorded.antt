@@ -12,7 +12,7 @@ use Rattle.simplex_types.specs.declared.types.numbers.Round.{Round}
 use Rattle.simplex_member.specs.CallSemantics.{if_new}
 use Rattle.simplex_record.specs.Check.{stands}
 use Rattle.simplex_record.specs.Entries.{entry_view}
-use Rattle.simplex_record.specs.Recovery.{is_finalization, with_floor}
+use Rattle.simplex_record.specs.Recovery.{is_finalization_entry, with_floor}
 use Rattle.simplex_laws.specs.Traces.{TraceEvent}
 use Rattle.simplex_laws.specs.Lawful.{HasSigned, SignsAfter, IsLawful}
 use Rattle.simplex_laws.proofs.lists.Signed.{signed_left}
@@ -155,9 +155,9 @@ module _ {D : Type 0} (trace : List (TraceEvent D)) (entries : List (ArtifactFac
     where
       wider : OwnRecord (trace ++ more) entries
       wider = record { notarized = own.notarized; one_verdict = own.one_verdict; notarize_cast = λ p m h. signed_left trace more (subject.Notarize p) (own.notarize_cast p m h) }
-  own_floor more (FinalizedFloor c) = by_record (stands c.proposal.round.view is_finalization entries) refl
+  own_floor more (FinalizedFloor c) = by_record (stands c.proposal.round.view is_finalization_entry entries) refl
     where
-      by_record : (b : Bool) → stands c.proposal.round.view is_finalization entries ≡ b → OwnRecord (trace ++ more) (with_floor entries (FinalizedFloor c))
+      by_record : (b : Bool) → stands c.proposal.round.view is_finalization_entry entries ≡ b → OwnRecord (trace ++ more) (with_floor entries (FinalizedFloor c))
       by_record true is = rw is (record { notarized = own.notarized; one_verdict = own.one_verdict; notarize_cast = λ p m h. signed_left trace more (subject.Notarize p) (own.notarize_cast p m h) })
       by_record false is = rw is (own_quiet more (Accepted (Finalized c) ∷ []) (quiet_one (Accepted (Finalized c)) refl))
 

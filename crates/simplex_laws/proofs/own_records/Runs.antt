@@ -17,7 +17,7 @@ use Rattle.simplex_record.specs.Entries.{entry_view}
 use Rattle.simplex_member.specs.Lives.{MemberFacts, IsCall, AnswersAlive, reply_of, left_of, without_life}
 use Rattle.simplex_laws.specs.Executions.{new_member}
 use Rattle.simplex_laws.specs.Outside.{AcceptedParentAbove, is_floor_too_large, IsFromOutside, IsExcused, VerdictsFollowNotarizations}
-use Rattle.simplex_record.specs.Recovery.{recover_error, recovered_state, is_finalization, with_floor}
+use Rattle.simplex_record.specs.Recovery.{recover_error, recovered_state, is_finalization_entry, with_floor}
 use Rattle.simplex_member.specs.Restarts.{RestartFacts, IsByView, cut_member, new_life, retention_grows, RecoversByView, IsRestart, IsRestartWhere}
 use Rattle.simplex_member.specs.Runs.{StepFacts, Calls, Prunes, Restarts, restart_told, IsRun, EndsRun, EndsRunFrom}
 use Rattle.simplex_record.specs.Start.{StartFacts, new_state}
@@ -71,9 +71,9 @@ module _ {D : Type 0} where
   -- the floor adds no verdict
   floor_adds : (entries : List (ArtifactFacts D)) (floor : FloorFacts D) → (more : List (ArtifactFacts D)) × (with_floor entries floor ≡ entries ++ more) × HasNoVerdict more
   floor_adds entries (Genesis payload) = ([], sym (append-nil entries), λ round success h. absurd (omega (arith, h.1)))
-  floor_adds entries (FinalizedFloor c) = by_record (stands c.proposal.round.view is_finalization entries) refl
+  floor_adds entries (FinalizedFloor c) = by_record (stands c.proposal.round.view is_finalization_entry entries) refl
     where
-      by_record : (b : Bool) → stands c.proposal.round.view is_finalization entries ≡ b → (more : List (ArtifactFacts D)) × (with_floor entries (FinalizedFloor c) ≡ entries ++ more) × HasNoVerdict more
+      by_record : (b : Bool) → stands c.proposal.round.view is_finalization_entry entries ≡ b → (more : List (ArtifactFacts D)) × (with_floor entries (FinalizedFloor c) ≡ entries ++ more) × HasNoVerdict more
       by_record true is = rw is ([], sym (append-nil entries), λ round success h. absurd (omega (arith, h.1)))
       by_record false is = rw is (Accepted (Finalized c) ∷ [], refl, λ round success h. (let e = only_one (Accepted (Finalized c)) (Verdict round success) h in cc))
 

@@ -13,7 +13,7 @@ use Rattle.simplex_types.specs.declared.types.numbers.Round.{Round}
 use Rattle.simplex_record.specs.Check.{stands}
 use Rattle.simplex_record.specs.Cuts.{is_vote}
 use Rattle.simplex_record.specs.Entries.{entry_view}
-use Rattle.simplex_record.specs.Recovery.{is_finalization, with_floor}
+use Rattle.simplex_record.specs.Recovery.{is_finalization_entry, with_floor}
 use Rattle.simplex_laws.specs.Traces.{TraceEvent, Accepts, of_floor}
 use Rattle.simplex_laws.proofs.agreement.VoteOrder.{Contains-middle}
 use Rattle.simplex_laws.proofs.lists.Filters.{filter_split, filter_middle, Contains-filter, Contains-filtered, filtered_passes, same_entries}
@@ -113,8 +113,8 @@ module _ {D : Type 0} (trace : List (TraceEvent D)) (kept : ℕ) (entries : List
 
   pub floor_remembers : (floor : FloorFacts D) → Remembers (trace ++ of_floor floor) kept (with_floor entries floor)
   floor_remembers (Genesis _) = subst (λ a. Remembers a kept entries) (sym (append-nil trace)) remembers
-  floor_remembers (FinalizedFloor c) = by_record (stands c.proposal.round.view is_finalization entries) refl
+  floor_remembers (FinalizedFloor c) = by_record (stands c.proposal.round.view is_finalization_entry entries) refl
     where
-      by_record : (b : Bool) → stands c.proposal.round.view is_finalization entries ≡ b → Remembers (trace ++ Accepts (subject.Finalize c.proposal) ∷ []) kept (with_floor entries (FinalizedFloor c))
+      by_record : (b : Bool) → stands c.proposal.round.view is_finalization_entry entries ≡ b → Remembers (trace ++ Accepts (subject.Finalize c.proposal) ∷ []) kept (with_floor entries (FinalizedFloor c))
       by_record true is = rw is (subst (λ es. Remembers (trace ++ Accepts (subject.Finalize c.proposal) ∷ []) kept es) (append-nil entries) (remembers_more trace entries kept (Accepts (subject.Finalize c.proposal) ∷ []) [] (grows_certificate trace entries false (Finalized c)) remembers))
       by_record false is = rw is (remembers_more trace entries kept (Accepts (subject.Finalize c.proposal) ∷ []) (Accepted (Finalized c) ∷ []) (grows_certificate trace entries true (Finalized c)) remembers)

@@ -17,7 +17,7 @@ use Rattle.simplex_member.specs.Calls.{CallFacts}
 use Rattle.simplex_member.specs.CallSemantics.{answer, after_call, outstanding_work_after, recorded_by}
 use Rattle.simplex_record.specs.Check.{first_error, entry_rules, first_broken_after, stands}
 use Rattle.simplex_record.specs.Entries.{entry_round, entry_view}
-use Rattle.simplex_record.specs.Recovery.{recovered_state, with_floor, is_finalization}
+use Rattle.simplex_record.specs.Recovery.{recovered_state, with_floor, is_finalization_entry}
 use Rattle.simplex_laws.specs.Traces.{TraceEvent, Accepts, of_floor, trace_of_call}
 use Rattle.simplex_laws.specs.Lawful.{IsLawful}
 use Rattle.simplex_laws.proofs.agreement.Lawful.{lawful_push}
@@ -95,9 +95,9 @@ module _ {D : Type 0} (same : D → D → Bool) (epoch : ℕ) (me : Option ℕ) 
 module _ {D : Type 0} where
   floor_split : (entries : List (ArtifactFacts D)) (floor : FloorFacts D) → (more : List (ArtifactFacts D)) × (with_floor entries floor ≡ entries ++ more)
   floor_split entries (Genesis payload) = ([], sym (append-nil entries))
-  floor_split entries (FinalizedFloor c) = by_record (stands c.proposal.round.view is_finalization entries) refl
+  floor_split entries (FinalizedFloor c) = by_record (stands c.proposal.round.view is_finalization_entry entries) refl
     where
-      by_record : (b : Bool) → stands c.proposal.round.view is_finalization entries ≡ b → (more : List (ArtifactFacts D)) × (with_floor entries (FinalizedFloor c) ≡ entries ++ more)
+      by_record : (b : Bool) → stands c.proposal.round.view is_finalization_entry entries ≡ b → (more : List (ArtifactFacts D)) × (with_floor entries (FinalizedFloor c) ≡ entries ++ more)
       by_record true is = rw is ([], sym (append-nil entries))
       by_record false is = rw is (Accepted (Finalized c) ∷ [], refl)
 

@@ -21,7 +21,7 @@ use Rattle.simplex_member.specs.OutstandingWork.{OutstandingWork}
 use Rattle.simplex_record.specs.Check.{stands}
 use Rattle.simplex_record.specs.Cuts.{is_vote}
 use Rattle.simplex_record.specs.Entries.{entry_view}
-use Rattle.simplex_record.specs.Recovery.{is_finalization, with_floor}
+use Rattle.simplex_record.specs.Recovery.{is_finalization_entry, with_floor}
 use Rattle.simplex_laws.specs.Traces.{TraceEvent, Accepts, Signs, of_floor, trace_of_call}
 use Rattle.simplex_laws.specs.Lawful.{HasSigned}
 use Rattle.simplex_laws.proofs.lists.Signed.{signed_none, signed_left, signed_cases, signed_last, only_signed}
@@ -144,12 +144,12 @@ module _ {D : Type 0} where
   -- with the floor's finalization
   pub notes_floored : (trace : List (TraceEvent D)) (kept : ℕ) (entries : List (ArtifactFacts D)) (floor : FloorFacts D) → RemembersNotes trace kept entries → RemembersNotes (trace ++ of_floor floor) kept (with_floor entries floor)
   notes_floored trace kept entries (Genesis _) remembers = subst (λ a. RemembersNotes a kept entries) (sym (append-nil trace)) remembers
-  notes_floored trace kept entries (FinalizedFloor c) remembers = by_record (stands c.proposal.round.view is_finalization entries) refl
+  notes_floored trace kept entries (FinalizedFloor c) remembers = by_record (stands c.proposal.round.view is_finalization_entry entries) refl
     where
       casts : CastsNone (Accepts (subject.Finalize c.proposal) ∷ [])
       casts = casts_accepted (subject.Finalize c.proposal)
 
-      by_record : (b : Bool) → stands c.proposal.round.view is_finalization entries ≡ b → RemembersNotes (trace ++ Accepts (subject.Finalize c.proposal) ∷ []) kept (with_floor entries (FinalizedFloor c))
+      by_record : (b : Bool) → stands c.proposal.round.view is_finalization_entry entries ≡ b → RemembersNotes (trace ++ Accepts (subject.Finalize c.proposal) ∷ []) kept (with_floor entries (FinalizedFloor c))
       by_record true is = rw is (subst (λ es. RemembersNotes (trace ++ Accepts (subject.Finalize c.proposal) ∷ []) kept es) (append-nil entries) (notes_grow trace (Accepts (subject.Finalize c.proposal) ∷ []) kept entries [] casts notes_nothing remembers))
       by_record false is = rw is (notes_grow trace (Accepts (subject.Finalize c.proposal) ∷ []) kept entries (Accepted (Finalized c) ∷ []) casts (notes_accepted (Accepted (Finalized c)) (λ p m e. absurd (cc))) remembers)
 

@@ -19,7 +19,7 @@ use Rattle.simplex_record.specs.Cuts.{may_drop, without_last}
 use Rattle.simplex_member.specs.Journal.{stored_of, stored_facts, whole_restart, IsResumed, IsNotResumed}
 use Rattle.simplex_member.specs.Lives.{MemberFacts, without_life, left_of, AnswersAlive, IsCall}
 use Rattle.simplex_member.specs.OutstandingWork.{OutstandingWork, no_outstanding_work}
-use Rattle.simplex_record.specs.Recovery.{recover_error, is_finalization, with_floor}
+use Rattle.simplex_record.specs.Recovery.{recover_error, is_finalization_entry, with_floor}
 use Rattle.simplex_member.specs.Restarts.{RestartFacts, cut_member, retention_grows, new_life, RecoversByView, IsRestartWhere, IsRestart}
 use Rattle.simplex_member.specs.Runs.{StepFacts, Calls, Prunes, Restarts, IsStep, IsRun, IsRefused}
 use Rattle.simplex_record.specs.Start.{StartFacts, new_state}
@@ -55,9 +55,9 @@ module _ {D : Type 0} where
 
   floor_grown : (entries : List (ArtifactFacts D)) (floor : FloorFacts D) → length entries ≤ length (with_floor entries floor)
   floor_grown entries (Genesis payload) = omega arith
-  floor_grown entries (FinalizedFloor c) = by_record (stands c.proposal.round.view is_finalization entries) refl
+  floor_grown entries (FinalizedFloor c) = by_record (stands c.proposal.round.view is_finalization_entry entries) refl
     where
-      by_record : (b : Bool) → stands c.proposal.round.view is_finalization entries ≡ b → length entries ≤ length (with_floor entries (FinalizedFloor c))
+      by_record : (b : Bool) → stands c.proposal.round.view is_finalization_entry entries ≡ b → length entries ≤ length (with_floor entries (FinalizedFloor c))
       by_record true is = rw is (omega arith)
       by_record false is = rw is (grown entries _)
 

@@ -9,7 +9,7 @@ ghost use Rattle.simplex_record.specs.Check.{stands};
 ghost use Rattle.simplex_record.specs.Entries.{entries_of, entry_view};
 ghost use Rattle.simplex_record.specs.Votes.{votes_of};
 ghost use Rattle.simplex_member.specs.Remade.{IsRemadeBy, IsRefusedBy};
-ghost use Rattle.simplex_record.specs.Recovery.{is_finalization, with_finalization_entry, with_floor};
+ghost use Rattle.simplex_record.specs.Recovery.{is_finalization_entry, with_finalization_entry, with_floor};
 ghost use Rattle.simplex_member.specs.Restarts.{IsByView};
 ghost use Rattle.simplex_record.specs.Start.{start_facts};
 ghost use Rattle.simplex_record.specs.declared.record.error.RecoverError.TheVariants.{OutOfMemory};
@@ -207,7 +207,7 @@ fn is_finalized_in<S: CertificateScheme, D: Digest>(
     artifacts: &[Artifact<S, D>],
     view: View,
 ) -> bool
-    ensures { result ≡ stands view is_finalization (entries_of S.certificate_bytes artifacts.now) }
+    ensures { result ≡ stands view is_finalization_entry (entries_of S.certificate_bytes artifacts.now) }
 {
     for artifact in artifacts {
         if is_finalization_of(artifact, view) {
@@ -222,7 +222,7 @@ fn is_finalization_of<S: CertificateScheme, D: Digest>(
     artifact: &Artifact<S, D>,
     view: View,
 ) -> bool
-    ensures { result ≡ (entry_view (artifact_facts S.certificate_bytes artifact.now) == view && is_finalization
+    ensures { result ≡ (entry_view (artifact_facts S.certificate_bytes artifact.now) == view && is_finalization_entry
         (artifact_facts S.certificate_bytes artifact.now)) }
 {
     match artifact {

@@ -18,7 +18,7 @@ use Rattle.simplex_record.specs.declared.record.error.RecoverError.{RecoverError
 use Rattle.simplex_record.specs.Check.{stands, first_error, recovery_floor_rules, first_broken_after, first_recover_error}
 use Rattle.simplex_record.specs.Cuts.{may_drop, without_last, pruned_entries}
 use Rattle.simplex_record.specs.Entries.{entry_round, entry_view}
-use Rattle.simplex_record.specs.Recovery.{as_artifact, after_replaying, after_entry, after_kept_entry, after_entries, recovered_state, recover_error, with_floor, is_finalization, TakesEntry, TakesEntries}
+use Rattle.simplex_record.specs.Recovery.{as_artifact, after_replaying, after_entry, after_kept_entry, after_entries, recovered_state, recover_error, with_floor, is_finalization_entry, TakesEntry, TakesEntries}
 use Rattle.simplex_record.specs.Start.{StartFacts, new_state}
 use Rattle.simplex_record.proofs.Allowing.{new_bears}
 use Rattle.simplex_record.proofs.Bearing.{BearsAll}
@@ -83,7 +83,7 @@ module _ {D : Type 0} where
   -- the floor's finalization is the only entry that a floor adds
   floor_verdict : (entries : List (ArtifactFacts D)) (floor : FloorFacts D) (success : Bool) (round : Round) → Contains (with_floor entries floor) (Verdict round success) → Contains entries (Verdict round success)
   floor_verdict entries (Genesis payload) success round h = h
-  floor_verdict entries (FinalizedFloor c) success round h = by_record (stands c.proposal.round.view is_finalization entries) h
+  floor_verdict entries (FinalizedFloor c) success round h = by_record (stands c.proposal.round.view is_finalization_entry entries) h
     where
       by_record : (b : Bool) → Contains (if b then entries else entries ++ Accepted (Finalized c) ∷ []) (Verdict round success) → Contains entries (Verdict round success)
       by_record true there = there

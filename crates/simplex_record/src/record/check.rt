@@ -7,7 +7,7 @@ ghost use Rattle.simplex_round.specs.Round.{signs_as};
 ghost use Rattle.simplex_voter.specs.Refusals.{is_too_large};
 ghost use Rattle.simplex_record.specs.Entries.{entries_of, entry_view};
 ghost use Rattle.simplex_record.specs.Check.{first_error, round_rules, vote_rules, own_rules, recovery_floor_rules, first_broken_after, first_recover_error};
-ghost use Rattle.simplex_record.specs.Seen.{turned_to, with_entry, next_rules};
+ghost use Rattle.simplex_record.specs.Seen.{turned_to, seen_with, next_rules};
 
 use super::error::{RecoverError, refuse_if};
 use super::seen::Seen;
@@ -81,7 +81,7 @@ fn check_next<S: CertificateScheme, D: Digest>(
     ensures broken { IfErr result (λ error. first_error
         (next_rules D.eq epoch (S.me scheme.now) seen.old (artifact_facts S.certificate_bytes artifact.now)) ≡ Some error) }
     ensures kept { OnOk result (first_error (next_rules D.eq epoch (S.me scheme.now) seen.old (artifact_facts S.certificate_bytes artifact.now)) ≡ None) }
-    ensures seen { OnOk result (seen.new ≡ with_entry
+    ensures seen { OnOk result (seen.new ≡ seen_with
         (turned_to seen.old (entry_view (artifact_facts S.certificate_bytes artifact.now))) (artifact_facts S.certificate_bytes artifact.now)) }
 {
     let view = artifact.view();

@@ -3,7 +3,7 @@
 ghost use Rattle.std.specs.Prelude.{◌≡◌, Some, None, IfErr, OnOk};
 ghost use Rattle.simplex_types.specs.Certificates.{artifact_facts};
 ghost use Rattle.simplex_record.specs.Check.{first_error};
-ghost use Rattle.simplex_record.specs.Seen.{nothing_seen, turned_to, with_entry, seen_rules, finalize_rules, verdict_rules, is_given, is_other};
+ghost use Rattle.simplex_record.specs.Seen.{nothing_seen, turned_to, seen_with, seen_rules, finalize_rules, verdict_rules, is_given, is_other};
 
 use super::error::{RecoverError, refuse_if};
 use simplex_types::types::{Artifact, CertificateScheme, Digest, Proposal, View};
@@ -102,7 +102,7 @@ impl<D: Digest> Seen<D> {
 
     /// Keeps what an artifact of the view says of it.
     pub(super) fn add<S: CertificateScheme>(&mut self, artifact: &Artifact<S, D>)
-        ensures { self.new ≡ with_entry self.old (artifact_facts S.certificate_bytes artifact.now) }
+        ensures { self.new ≡ seen_with self.old (artifact_facts S.certificate_bytes artifact.now) }
     {
         match artifact {
             Artifact::Notarize(vote) => self.notarize = Some(vote.proposal),

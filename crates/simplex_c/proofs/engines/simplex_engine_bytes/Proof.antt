@@ -13,7 +13,7 @@ use Rattle.simplex_flat_engine.specs.declared.held.HeldEngine.{HeldEngine}
 use Rattle.simplex_flat.specs.contracts.shown.FlatChunk.{the_row as A}
 use Rattle.simplex_flat.specs.declared.shown.FlatChunk.{FlatChunk}
 use Rattle.simplex_flat.proofs.shown.FlatChunk.TheLaws as answer
-use Rattle.simplex_c.specs.Behind.{is_so, engine_at}
+use Rattle.simplex_c.specs.Behind.{fact_formula, engine_at}
 use Rattle.simplex_c.specs.Behind.{IsRead}
 use Rattle.simplex_flat_engine.specs.Showing.{ShowsChunk}
 
@@ -85,7 +85,7 @@ simplex_engine_bytes_spec 𝓤 𝓛 𝓜 𝓡 wired =
           move ! (4 ∷ 6 ∷ 0 ∷ []) $ use3 𝓛 (later (‵ (lies_at R full_share (block_ptr b o) ws.0))) (ref_back 𝓛 R κ γ ws.0 b o) $ await ! tt $
           nothing ! $ fpack ! (Testable (block_ptr b o)) (λ _. ftrue) may $ fjoin ! $
           nothing ! $ fpack ! (IsRead held ws.0 (ShowsChunk held which number u)) (λ _. ftrue) added $ fjoin ! $
-          fpack ! HeldEngine (λ now. fsep (is_so (IsRead held now (ShowsChunk held which number u))) (engine_at (block_ptr b o) now)) ws.0 $
+          fpack ! HeldEngine (λ now. fsep (fact_formula (IsRead held now (ShowsChunk held which number u))) (engine_at (block_ptr b o) now)) ws.0 $
           returns ! (look_at ! 0 refl) $ free_all ! refl $ keep ! (3 ∷ 0 ∷ []) $
           suffices ! _ (ends_at 𝓛 f.ended stayed c (y (block_ptr b o)) v u (tt, (tt, (tt, tt))) (tt, (tt, (tt, tt)))) $
           nothing ! $ nothing ! $ join ! $ nothing ! $ join ! $ nothing ! $ join ! $ nothing ! $ group ! 3 $ done !))))))))))

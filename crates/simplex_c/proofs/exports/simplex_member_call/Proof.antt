@@ -14,8 +14,8 @@ use Rattle.simplex_flat.specs.contracts.flat.FlatCall.{the_row as P}
 use Rattle.simplex_flat.specs.contracts.flat.FlatReply.{the_row as A}
 use Rattle.simplex_flat.specs.declared.flat.FlatReply.{FlatReply}
 use Rattle.simplex_flat.proofs.flat.FlatReply.TheLaws as answer
-use Rattle.simplex_c.specs.Behind.{is_so, held_at}
-use Rattle.simplex_flat.specs.Serving.{IsServed}
+use Rattle.simplex_c.specs.Behind.{fact_formula, held_at}
+use Rattle.simplex_flat.specs.Serving.{IsCallServed}
 
 abbrev stayed : Stays f.ended.signature.params f.ended.kept
 stayed = (stay_dropped _ yes, (stay_dropped _ yes, (stay_dropped _ yes, tt)))
@@ -76,7 +76,7 @@ simplex_member_call_spec 𝓤 𝓛 𝓜 𝓡 wired =
           calls_at ! (framed 𝓤 𝓛.H 𝓜 (tables 𝓤 𝓛.H 𝓜 𝓡 𝓡.env)) G (met 𝓤 𝓛 𝓜 𝓡 (code.calls-simplex_c::exports::serve 𝓡.env wired)) z
           (and_then ! (get ! refl) (and_then ! (get ! refl) (and_then ! (get ! refl) (no_more !)))) (λ v.
           use1 𝓛 (later (some (λ (u : FlatReply). ((‵ (flft κ full_share) ⊛ (‵ (flft κs.0 qs.0) ⊛ ‵ (flft κs.1.0 qs.1.0) ⊛ ‵ ftrue)) ⊛ ‵ (A.own_val u (v ∷ []))) ⊛
-          some (λ (ws : Lasts g.ended z.0.0 z.0.3). ‵ (lasts g.ended z.0.0 z.0.3 ws) ⊛ raw (fact 𝓤 (IsServed held asked.now bytes.now u ws.0)))))) (id⊢ 𝓤 _) $
+          some (λ (ws : Lasts g.ended z.0.0 z.0.3). ‵ (lasts g.ended z.0.0 z.0.3 ws) ⊛ raw (fact 𝓤 (IsCallServed held asked.now bytes.now u ws.0)))))) (id⊢ 𝓤 _) $
           await ! tt $ pick ! (λ u. split ! $ split ! $ split ! $ lft_end ! tt $
           -- [α is over; the tokens; the answer; the rest; what the lender keeps]
           move ! (2 ∷ []) $ peeks ! A (Is A) (shows 𝓛 A) u (v ∷ []) (λ is. lands_as ! refl refl ((answer.the_row_laws.lawful 𝓛).typed u (v ∷ []) is).0 $
@@ -84,8 +84,8 @@ simplex_member_call_spec 𝓤 𝓛 𝓜 𝓡 wired =
           -- [the loan's last value; its borrow; nothing; the answer; α is over; the tokens; what the lender keeps]
           move ! (4 ∷ 6 ∷ 0 ∷ []) $ use3 𝓛 (later (‵ (lies_at R full_share (block_ptr b o) ws.0))) (ref_back 𝓛 R κ γ ws.0 b o) $ await ! tt $
           nothing ! $ fpack ! (Testable (block_ptr b o)) (λ _. ftrue) may $ fjoin ! $
-          nothing ! $ fpack ! (IsServed held asked.now bytes.now u ws.0) (λ _. ftrue) added $ fjoin ! $
-          fpack ! Held (λ now. fsep (is_so (IsServed held asked.now bytes.now u now)) (held_at (block_ptr b o) now)) ws.0 $
+          nothing ! $ fpack ! (IsCallServed held asked.now bytes.now u ws.0) (λ _. ftrue) added $ fjoin ! $
+          fpack ! Held (λ now. fsep (fact_formula (IsCallServed held asked.now bytes.now u now)) (held_at (block_ptr b o) now)) ws.0 $
           returns ! (look_at ! 0 refl) $ free_all ! refl $ keep ! (3 ∷ 0 ∷ 4 ∷ []) $
           suffices ! _ (ends_at 𝓛 f.ended stayed c (y (block_ptr b o)) v u (tt, (tt, (tt, tt))) (tt, (tt, (tt, tt)))) $
           nothing ! $ nothing ! $ join ! $ nothing ! $ join ! $ nothing ! $ join ! $ move ! (3 ∷ []) $ group ! 3 $ done !))))))))))

@@ -13,7 +13,7 @@ use Rattle.simplex_flat.specs.declared.held.Held.{Held}
 use Rattle.simplex_flat.specs.contracts.shown.FlatEntries.{the_row as A}
 use Rattle.simplex_flat.specs.declared.shown.FlatEntries.{FlatEntries}
 use Rattle.simplex_flat.proofs.shown.FlatEntries.TheLaws as answer
-use Rattle.simplex_c.specs.Behind.{is_so, held_at}
+use Rattle.simplex_c.specs.Behind.{fact_formula, held_at}
 use Rattle.simplex_flat.specs.Pruning.{IsPruned}
 
 abbrev stayed : Stays f.ended.signature.params f.ended.kept
@@ -82,7 +82,7 @@ simplex_member_prune_record_spec 𝓤 𝓛 𝓜 𝓡 wired =
           move ! (4 ∷ 6 ∷ 0 ∷ []) $ use3 𝓛 (later (‵ (lies_at R full_share (block_ptr b o) ws.0))) (ref_back 𝓛 R κ γ ws.0 b o) $ await ! tt $
           nothing ! $ fpack ! (Testable (block_ptr b o)) (λ _. ftrue) may $ fjoin ! $
           nothing ! $ fpack ! (IsPruned held u ws.0) (λ _. ftrue) added $ fjoin ! $
-          fpack ! Held (λ now. fsep (is_so (IsPruned held u now)) (held_at (block_ptr b o) now)) ws.0 $
+          fpack ! Held (λ now. fsep (fact_formula (IsPruned held u now)) (held_at (block_ptr b o) now)) ws.0 $
           returns ! (look_at ! 0 refl) $ free_all ! refl $ keep ! (3 ∷ 0 ∷ []) $
           suffices ! _ (ends_at 𝓛 f.ended stayed c (y (block_ptr b o)) v u (tt, tt) (tt, tt)) $
           nothing ! $ nothing ! $ join ! $ nothing ! $ group ! 3 $ done !))))))))))

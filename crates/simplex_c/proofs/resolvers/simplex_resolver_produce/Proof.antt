@@ -13,7 +13,7 @@ use Rattle.simplex_flat.specs.declared.resolving.HeldResolver.{HeldResolver}
 use Rattle.simplex_flat.specs.contracts.resolved.FlatServed.{the_row as A}
 use Rattle.simplex_flat.specs.declared.resolved.FlatServed.{FlatServed}
 use Rattle.simplex_flat.proofs.resolved.FlatServed.TheLaws as answer
-use Rattle.simplex_c.specs.Behind.{is_so, resolver_at}
+use Rattle.simplex_c.specs.Behind.{fact_formula, resolver_at}
 use Rattle.simplex_flat.specs.Resolving.{IsServedFor}
 
 abbrev stayed : Stays f.ended.signature.params f.ended.kept
@@ -84,7 +84,7 @@ simplex_resolver_produce_spec 𝓤 𝓛 𝓜 𝓡 wired =
           move ! (4 ∷ 6 ∷ 0 ∷ []) $ use3 𝓛 (later (‵ (lies_at R full_share (block_ptr b o) ws.0))) (ref_back 𝓛 R κ γ ws.0 b o) $ await ! tt $
           nothing ! $ fpack ! (Testable (block_ptr b o)) (λ _. ftrue) may $ fjoin ! $
           nothing ! $ fpack ! (IsServedFor held number u ws.0) (λ _. ftrue) added $ fjoin ! $
-          fpack ! HeldResolver (λ now. fsep (is_so (IsServedFor held number u now)) (resolver_at (block_ptr b o) now)) ws.0 $
+          fpack ! HeldResolver (λ now. fsep (fact_formula (IsServedFor held number u now)) (resolver_at (block_ptr b o) now)) ws.0 $
           returns ! (look_at ! 0 refl) $ free_all ! refl $ keep ! (3 ∷ 0 ∷ []) $
           suffices ! _ (ends_at 𝓛 f.ended stayed c (y (block_ptr b o)) v u (tt, (tt, tt)) (tt, (tt, tt))) $
           nothing ! $ nothing ! $ join ! $ nothing ! $ join ! $ nothing ! $ group ! 3 $ done !))))))))))

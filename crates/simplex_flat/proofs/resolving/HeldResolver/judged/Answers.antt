@@ -1,7 +1,7 @@
 -- How the contract of `judged` follows: the verdict is told of the notarization's own view.
 use Rattle.std.proofs.Common.{inr, refl}
 use Rattle.simplex_types.specs.Certificates.{notarization_facts}
-use Rattle.simplex_codec.specs.Digests.{digest_bytes}
+use Rattle.simplex_codec.specs.Digests.{bytes_in_digest}
 use Rattle.simplex_host.specs.Host.{certificate_bytes}
 use Rattle.simplex_resolver.specs.Steps.{verdict}
 use Rattle.simplex_flat.proofs.Told.{is_told_verdict, highest_of_verdict}
@@ -13,7 +13,7 @@ returns-in-Ok c =
     inr (
       is_told_verdict c.args.flat.now c.requires.kind c.requires.fits c.requires.view,
       (
-        verdict (digest_bytes {n = 32}) notarization c.args.success,
+        verdict (bytes_in_digest {n = 32}) notarization c.args.success,
         inr (
           c.requires.kind,
           record {
