@@ -76,7 +76,8 @@ plain_votes payload me =
 
 -- a member's start, and its steps
 abbrev pub plain_execution : PlainElector → PlainDigest → ℕ → List PlainTurn → PlainExecution
-plain_execution elector payload me steps = record { start = plain_genesis_start elector payload me; steps = map (λ e. e.0) steps; replies = map (λ e. e.1) steps }
+plain_execution elector payload me steps =
+    record { start = plain_genesis_start elector payload me; steps = map (λ e. e.0) steps; replies = map (λ e. e.1) steps }
 
 -- the leader
 abbrev pub plain_proposer : PlainElector → PlainDigest → PlainExecution

@@ -1,5 +1,5 @@
 -- A call is answered, refused, lost, or not allowed.
-use Rattle.std.proofs.Common.{◌≡◌, ◌⊎◌, refl, ap, ◌∙◌, Bool, true, false, List, [], ◌++◌, Option, Some, None, Result, Ok, Err, IfSome, IsOk, inl, inr}
+use Rattle.std.proofs.Common.{◌≡◌, refl, ◌∙◌, Bool, true, false, List, [], ◌++◌, Option, Some, None, Result, Ok, Err, IfSome, IsOk, inl, inr}
 use Rattle.std.proofs.lemmas.Bool.{false≢true}
 use Rattle.std.proofs.lemmas.List.{append-nil}
 use Rattle.simplex_types.specs.Certificates.{ArtifactFacts}
@@ -12,7 +12,7 @@ use Rattle.simplex_member.specs.Calls.{CallFacts, Told, Refused, NotAllowed}
 use Rattle.simplex_member.specs.Lives.{MemberFacts, without_life, with_call, IsCall}
 use Rattle.simplex_member.specs.CallSemantics.{answer, after_call, outstanding_work_after, recorded_by}
 use Rattle.simplex_member.specs.OutstandingWork.{OutstandingWork}
-use Rattle.simplex_member.specs.Parts.{IsWant, IsLoss}
+use Rattle.simplex_member.specs.Parts.{IsLoss}
 use Rattle.simplex_member.specs.MethodContracts.{IsAnswered}
 use Rattle.simplex_member.proofs.CallsKeepSettings.{goes}
 
@@ -57,15 +57,15 @@ module _ {K L D : Type 0} (same : D → D → Bool) (elect : Elect L) (m : Membe
     unfolding IsCall
     answered_call told y p entries allowed no_fault is after open_now recorded = rw (alive, allowed, no_fault, is, after, open_now, recorded) (inl (refl, refl))
 
-    -- a fault that was due, or want of memory, with nothing changed
-    pub refused_call : (found : Fault) → is_allowed x m.outstanding_work call ≡ true → (fault_of x call ≡ Some found) ⊎ IsWant (needs_room x call) found → IsCall same elect m call (Refused found) m
+    -- a fault that was due, with nothing changed
+    pub refused_call : (found : Fault) → is_allowed x m.outstanding_work call ≡ true → fault_of x call ≡ Some found → IsCall same elect m call (Refused found) m
     unfolding IsCall
-    refused_call found allowed (inl due) = rw (alive, allowed, due) (inl (refl, refl))
-    refused_call found allowed (inr want) = wanting (needs_room x call) refl want
-      where
-        wanting : (b : Bool) → needs_room x call ≡ b → IsWant b found → IsCall same elect m call (Refused found) m
-        wanting true needs memory = rw alive (inr (allowed, ap Refused memory, inl (needs, refl)))
-        wanting false needs memory = absurd memory
+    refused_call found allowed due = rw (alive, allowed, due) (inl (refl, refl))
+
+    -- want of memory before the state was called, with nothing changed
+    pub wanting_call : is_allowed x m.outstanding_work call ≡ true → needs_room x call ≡ true → IsCall same elect m call (Refused fault.OutOfMemory) m
+    unfolding IsCall
+    wanting_call allowed needs = rw alive (inr (allowed, refl, inl (needs, refl)))
 
     -- the state is lost for want of memory
     pub lost_call : is_allowed x m.outstanding_work call ≡ true → fault_of x call ≡ None → may_fall x call ≡ true → IsCall same elect m call (Refused fault.OutOfMemory) (without_life m)

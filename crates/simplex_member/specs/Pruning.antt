@@ -1,7 +1,6 @@
 -- What a pruning of the record within a life leaves.
 use Rattle.std.specs.Prelude.{ℕ, ◌-◌, Bool, false, ◌||◌, nat_le, List, filter, Option}
 use Rattle.std.specs.Option.{option_map_or}
-use Rattle.simplex_types.specs.Certificates.{ArtifactFacts}
 use Rattle.simplex_voter.specs.Facts.{StateFacts, is_tracked}
 use Rattle.simplex_record.specs.Cuts.{finalized_in}
 use Rattle.simplex_record.specs.Entries.{entry_view}

@@ -1,7 +1,6 @@
 //! What a member records, what a restart asks of its record and leaves of it.
 
 mod broadcasts;
-mod call_error;
 mod calls;
 mod journal;
 mod life;

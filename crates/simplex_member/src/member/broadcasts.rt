@@ -6,26 +6,25 @@ ghost use Rattle.simplex_voter.specs.Refusals.{plain_refusal, is_started};
 ghost use Rattle.simplex_voter.specs.Serving.{broadcast_notarization_answer, after_broadcast_notarization, broadcast_nullification_answer, after_broadcast_nullification, broadcast_finalization_answer, after_broadcast_finalization};
 ghost use Rattle.simplex_member.specs.Parts.{Ends};
 
-use super::call_error::CallError;
-use simplex_types::types::{Certificate, CertificateScheme, Digest, Elector, View};
+use simplex_types::types::{Certificate, CertificateScheme, Digest, Elector, Fault, View};
 use simplex_voter::voter::State;
 
 /// Hands out a view's notarization, once. The state is lost where there is no memory for a copy.
 pub(super) fn broadcast_notarization<S: CertificateScheme, L: Elector<S>, D: Digest>(
     state: &mut State<S, L, D>,
     view: View,
-) -> Result<Option<Certificate<S, D>>, CallError>
+) -> Result<Option<Certificate<S, D>>, Fault>
     requires going_on { state.old.failed ≡ false }
     requires begun { is_started state.old ≡ true }
     ensures answer { IfOk result (λ c. option_map (certificate_facts S.certificate_bytes) c
         ≡ option_map Notarized (broadcast_notarization_answer state.old view)) }
     ensures after { OnOk result (state.new ≡ after_broadcast_notarization state.old view) }
-    ensures refused { IfErr result (Ends false (is_some (broadcast_notarization_answer state.old view)) (plain_refusal state.old) state.old state.new) }
+    ensures refused { IfErr result (Ends (is_some (broadcast_notarization_answer state.old view)) (plain_refusal state.old) state.old state.new) }
 {
     match state.broadcast_notarization(view) {
         Ok(Some(notarization)) => Ok(Some(Certificate::Notarization(notarization))),
         Ok(None) => Ok(None),
-        Err(fault) => Err(CallError::of(fault)),
+        Err(fault) => Err(fault),
     }
 }
 
@@ -33,18 +32,18 @@ pub(super) fn broadcast_notarization<S: CertificateScheme, L: Elector<S>, D: Dig
 pub(super) fn broadcast_nullification<S: CertificateScheme, L: Elector<S>, D: Digest>(
     state: &mut State<S, L, D>,
     view: View,
-) -> Result<Option<Certificate<S, D>>, CallError>
+) -> Result<Option<Certificate<S, D>>, Fault>
     requires going_on { state.old.failed ≡ false }
     requires begun { is_started state.old ≡ true }
     ensures answer { IfOk result (λ c. option_map (certificate_facts S.certificate_bytes) c
         ≡ option_map Nullified (broadcast_nullification_answer state.old view)) }
     ensures after { OnOk result (state.new ≡ after_broadcast_nullification state.old view) }
-    ensures refused { IfErr result (Ends false (is_some (broadcast_nullification_answer state.old view)) (plain_refusal state.old) state.old state.new) }
+    ensures refused { IfErr result (Ends (is_some (broadcast_nullification_answer state.old view)) (plain_refusal state.old) state.old state.new) }
 {
     match state.broadcast_nullification(view) {
         Ok(Some(nullification)) => Ok(Some(Certificate::Nullification(nullification))),
         Ok(None) => Ok(None),
-        Err(fault) => Err(CallError::of(fault)),
+        Err(fault) => Err(fault),
     }
 }
 
@@ -52,17 +51,17 @@ pub(super) fn broadcast_nullification<S: CertificateScheme, L: Elector<S>, D: Di
 pub(super) fn broadcast_finalization<S: CertificateScheme, L: Elector<S>, D: Digest>(
     state: &mut State<S, L, D>,
     view: View,
-) -> Result<Option<Certificate<S, D>>, CallError>
+) -> Result<Option<Certificate<S, D>>, Fault>
     requires going_on { state.old.failed ≡ false }
     requires begun { is_started state.old ≡ true }
     ensures answer { IfOk result (λ c. option_map (certificate_facts S.certificate_bytes) c
         ≡ option_map Finalized (broadcast_finalization_answer state.old view)) }
     ensures after { OnOk result (state.new ≡ after_broadcast_finalization state.old view) }
-    ensures refused { IfErr result (Ends false (is_some (broadcast_finalization_answer state.old view)) (plain_refusal state.old) state.old state.new) }
+    ensures refused { IfErr result (Ends (is_some (broadcast_finalization_answer state.old view)) (plain_refusal state.old) state.old state.new) }
 {
     match state.broadcast_finalization(view) {
         Ok(Some(finalization)) => Ok(Some(Certificate::Finalization(finalization))),
         Ok(None) => Ok(None),
-        Err(fault) => Err(CallError::of(fault)),
+        Err(fault) => Err(fault),
     }
 }

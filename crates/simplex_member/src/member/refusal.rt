@@ -1,5 +1,8 @@
 //! Why a call of a member has no answer.
 
+ghost use Rattle.std.specs.Prelude.{◌≡◌};
+ghost use Rattle.simplex_member.specs.Parts.{is_lost};
+
 use simplex_types::types::Fault;
 use std::alloc::{AllocError, AllocFailed};
 use std::error::Error;
@@ -63,4 +66,11 @@ impl<V: Drop> From<AllocFailed<V>> for Refusal {
     fn from(_refused: AllocFailed<V>) -> Refusal {
         Refusal::Fault(Fault::OutOfMemory)
     }
+}
+
+/// Whether the state is lost with a part of a call: it found no memory in its midst.
+pub(super) fn is_lost<T>(made: &Result<T, Fault>) -> bool
+    ensures { result ≡ is_lost made.now }
+{
+    matches!(made, Err(Fault::OutOfMemory))
 }

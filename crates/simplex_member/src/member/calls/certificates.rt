@@ -7,12 +7,11 @@ ghost use Rattle.simplex_member.specs.Lives.{IsCall};
 ghost use Rattle.simplex_member.specs.CallSemantics.{if_new};
 ghost use Rattle.simplex_member.specs.MethodContracts.{told_of, UnchangedButLife, IsAnswered};
 
-use crate::member::call_error::{ended, is_lost};
 use crate::member::life::Member;
-use crate::member::recorded_calls::{add_finalization, add_notarization, add_nullification};
-use crate::member::refusal::Refusal;
+use crate::member::recorded_calls::{is_added, is_nullification_added, keep_new, with_room};
+use crate::member::refusal::{Refusal, is_lost};
 use simplex_types::types::{
-    Digest, Elector, Fault, Finalization, Notarization, Nullification, Scheme,
+    Artifact, Digest, Elector, Fault, Finalization, Notarization, Nullification, Scheme,
 };
 
 impl<S: Scheme<D>, L: Elector<S>, D: Digest> Member<S, L, D> {
@@ -41,14 +40,15 @@ impl<S: Scheme<D>, L: Elector<S>, D: Digest> Member<S, L, D> {
         if !self.state.takes_round(&notarization.proposal.round) {
             return Err(Refusal::NotAllowed);
         }
-        let made = add_notarization(
-            self.alloc,
-            &mut self.state,
+        let copy = with_room(&mut self.artifacts, notarization.clone(self.alloc))?;
+        let made = self.state.add_notarization(notarization);
+        keep_new(
             &mut self.artifacts,
-            notarization,
+            is_added(&made),
+            Artifact::Notarization(copy),
         );
         self.failed = is_lost(&made);
-        ended(made)
+        made.map_err(Refusal::Fault)
     }
 
     /// Takes a nullification: the rest of its term is passed over, the next term's start is entered at this moment, in
@@ -77,15 +77,15 @@ impl<S: Scheme<D>, L: Elector<S>, D: Digest> Member<S, L, D> {
         if !self.state.takes_round(&nullification.round) {
             return Err(Refusal::NotAllowed);
         }
-        let made = add_nullification(
-            self.alloc,
-            &mut self.state,
+        let copy = with_room(&mut self.artifacts, nullification.clone(self.alloc))?;
+        let made = self.state.add_nullification(nullification, now);
+        keep_new(
             &mut self.artifacts,
-            nullification,
-            now,
+            is_nullification_added(&made),
+            Artifact::Nullification(copy),
         );
         self.failed = is_lost(&made);
-        ended(made)
+        made.map_err(Refusal::Fault)
     }
 
     /// Takes a finalization: its view is the last finalized one where that is above the one before, the next view is entered at
@@ -116,14 +116,14 @@ impl<S: Scheme<D>, L: Elector<S>, D: Digest> Member<S, L, D> {
         if !self.state.takes_round(&finalization.proposal.round) {
             return Err(Refusal::NotAllowed);
         }
-        let made = add_finalization(
-            self.alloc,
-            &mut self.state,
+        let copy = with_room(&mut self.artifacts, finalization.clone(self.alloc))?;
+        let made = self.state.add_finalization(finalization, now);
+        keep_new(
             &mut self.artifacts,
-            finalization,
-            now,
+            is_added(&made),
+            Artifact::Finalization(copy),
         );
         self.failed = is_lost(&made);
-        ended(made)
+        made.map_err(Refusal::Fault)
     }
 }

@@ -6,10 +6,9 @@ ghost use Rattle.simplex_member.specs.Calls.{CertifyCandidates, SetCertifyHandle
 ghost use Rattle.simplex_member.specs.Lives.{IsCall};
 ghost use Rattle.simplex_member.specs.MethodContracts.{told_of, UnchangedButLife, IsAnswered};
 
-use crate::member::call_error::{ended, is_lost};
 use crate::member::life::Member;
 use crate::member::recorded_calls;
-use crate::member::refusal::Refusal;
+use crate::member::refusal::{Refusal, is_lost};
 use simplex_types::types::{Digest, Elector, Fault, Notarization, Proposal, Scheme, View};
 use simplex_voter::voter::CertificateFetch;
 
@@ -34,7 +33,7 @@ impl<S: Scheme<D>, L: Elector<S>, D: Digest> Member<S, L, D> {
         }
         let made = recorded_calls::certify_candidates(&mut self.state, &mut self.outstanding_work);
         self.failed = is_lost(&made);
-        ended(made)
+        made.map_err(Refusal::Fault)
     }
 
     /// The certification of a view's proposal goes on under a token, in place of an earlier one.
@@ -85,6 +84,7 @@ impl<S: Scheme<D>, L: Elector<S>, D: Digest> Member<S, L, D> {
         if !self.state.takes_verdict(view, success) {
             return Err(Refusal::NotAllowed);
         }
+        self.artifacts.reserve(1)?;
         let made = recorded_calls::certified(
             &mut self.state,
             &mut self.outstanding_work,
@@ -94,6 +94,6 @@ impl<S: Scheme<D>, L: Elector<S>, D: Digest> Member<S, L, D> {
             now,
         );
         self.failed = is_lost(&made);
-        ended(made)
+        made.map_err(Refusal::Fault)
     }
 }

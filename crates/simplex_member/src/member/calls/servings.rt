@@ -10,9 +10,8 @@ ghost use Rattle.simplex_member.specs.MethodContracts.{told_of, UnchangedButLife
 use crate::member::broadcasts::{
     broadcast_finalization, broadcast_notarization, broadcast_nullification,
 };
-use crate::member::call_error::{ended, is_lost, part_of};
 use crate::member::life::Member;
-use crate::member::refusal::Refusal;
+use crate::member::refusal::{Refusal, is_lost};
 use simplex_types::types::{Certificate, Digest, Elector, Fault, Scheme, View};
 
 impl<S: Scheme<D>, L: Elector<S>, D: Digest> Member<S, L, D> {
@@ -38,7 +37,7 @@ impl<S: Scheme<D>, L: Elector<S>, D: Digest> Member<S, L, D> {
         }
         let made = broadcast_notarization(&mut self.state, view);
         self.failed = is_lost(&made);
-        ended(made)
+        made.map_err(Refusal::Fault)
     }
 
     /// The nullification of a view, if it is there and was not handed out or replayed before.
@@ -63,7 +62,7 @@ impl<S: Scheme<D>, L: Elector<S>, D: Digest> Member<S, L, D> {
         }
         let made = broadcast_nullification(&mut self.state, view);
         self.failed = is_lost(&made);
-        ended(made)
+        made.map_err(Refusal::Fault)
     }
 
     /// The finalization of a view, if it is there and was not handed out or replayed before.
@@ -88,7 +87,7 @@ impl<S: Scheme<D>, L: Elector<S>, D: Digest> Member<S, L, D> {
         }
         let made = broadcast_finalization(&mut self.state, view);
         self.failed = is_lost(&made);
-        ended(made)
+        made.map_err(Refusal::Fault)
     }
 
     /// A copy of the certificate that helps others into the current view; none in view 1.
@@ -122,8 +121,8 @@ impl<S: Scheme<D>, L: Elector<S>, D: Digest> Member<S, L, D> {
         if self.failed {
             return Err(Refusal::Fault(Fault::Failed));
         }
-        let made = part_of(self.state.prune());
+        let made = self.state.prune();
         self.failed = is_lost(&made);
-        ended(made)
+        made.map_err(Refusal::Fault)
     }
 }

@@ -5,9 +5,8 @@ ghost use Rattle.simplex_member.specs.Calls.{SetProposal, TryVerify, Verified, V
 ghost use Rattle.simplex_member.specs.Lives.{IsCall};
 ghost use Rattle.simplex_member.specs.MethodContracts.{told_of, UnchangedButLife, IsAnswered};
 
-use crate::member::call_error::{ended, is_lost, part_of};
 use crate::member::life::Member;
-use crate::member::refusal::Refusal;
+use crate::member::refusal::{Refusal, is_lost};
 use simplex_types::reasons::TimeoutReason;
 use simplex_types::types::{Digest, Elector, Fault, Proposal, Scheme, View};
 use simplex_voter::voter::Verify;
@@ -31,9 +30,9 @@ impl<S: Scheme<D>, L: Elector<S>, D: Digest> Member<S, L, D> {
         if !self.state.takes_proposal(view, &proposal) {
             return Err(Refusal::NotAllowed);
         }
-        let made = part_of(self.state.set_proposal(view, &proposal));
+        let made = self.state.set_proposal(view, &proposal);
         self.failed = is_lost(&made);
-        ended(made)
+        made.map_err(Refusal::Fault)
     }
 
     /// What comes next in verifying the proposals of other leaders: a proposal, a certificate that is missing, or nothing. A

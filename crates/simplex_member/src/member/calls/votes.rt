@@ -9,10 +9,9 @@ ghost use Rattle.simplex_member.specs.Signed.{IsSignedReply, signed_notarize, si
 ghost use Rattle.simplex_member.specs.MethodContracts.{told_of, UnchangedButLife, IsAnswered, HasNotarizeVote, HasNullifyVote, HasFinalizeVote};
 ghost use Rattle.simplex_member.specs.declared.member.calls.Reply.TheVariants as reply;
 
-use crate::member::call_error::{ended, is_lost};
 use crate::member::life::Member;
-use crate::member::refusal::Refusal;
-use crate::member::votes::{construct_finalize, construct_notarize, construct_nullify};
+use crate::member::refusal::{Refusal, is_lost};
+use crate::member::votes::{keep_finalize, keep_notarize, keep_nullify};
 use simplex_types::reasons::TimeoutReason;
 use simplex_types::types::{Digest, Elector, Fault, Finalize, Notarize, Nullify, Scheme, View};
 
@@ -37,9 +36,11 @@ impl<S: Scheme<D>, L: Elector<S>, D: Digest> Member<S, L, D> {
         if self.failed {
             return Err(Refusal::Fault(Fault::Failed));
         }
-        let made = construct_notarize(self.alloc, &mut self.state, &mut self.artifacts, view);
-        self.failed = is_lost(&made);
-        ended(made)
+        self.artifacts.reserve(1)?;
+        let made = self.state.construct_notarize(view);
+        let kept = keep_notarize(self.alloc, &mut self.artifacts, made);
+        self.failed = is_lost(&kept);
+        kept.map_err(Refusal::Fault)
     }
 
     /// The vote to nullify the current view, unless it was voted to finalize it, with whether it is a repeat: recorded before it is
@@ -67,15 +68,11 @@ impl<S: Scheme<D>, L: Elector<S>, D: Digest> Member<S, L, D> {
         if self.failed {
             return Err(Refusal::Fault(Fault::Failed));
         }
-        let made = construct_nullify(
-            self.alloc,
-            &mut self.state,
-            &mut self.artifacts,
-            view,
-            reason,
-        );
-        self.failed = is_lost(&made);
-        ended(made)
+        self.artifacts.reserve(1)?;
+        let made = self.state.construct_nullify(view, reason);
+        let kept = keep_nullify(self.alloc, &mut self.artifacts, made);
+        self.failed = is_lost(&kept);
+        kept.map_err(Refusal::Fault)
     }
 
     /// The vote to finalize a certified view, where the rule allows it: recorded before it is answered, and answered once.
@@ -99,8 +96,10 @@ impl<S: Scheme<D>, L: Elector<S>, D: Digest> Member<S, L, D> {
         if self.failed {
             return Err(Refusal::Fault(Fault::Failed));
         }
-        let made = construct_finalize(self.alloc, &mut self.state, &mut self.artifacts, view);
-        self.failed = is_lost(&made);
-        ended(made)
+        self.artifacts.reserve(1)?;
+        let made = self.state.construct_finalize(view);
+        let kept = keep_finalize(self.alloc, &mut self.artifacts, made);
+        self.failed = is_lost(&kept);
+        kept.map_err(Refusal::Fault)
     }
 }

@@ -7,7 +7,7 @@ use Rattle.simplex_member.proofs.HandedOut.{finalization_none_left, finalization
 use Rattle.simplex_record.specs.Entries.{entries_of}
 use Rattle.simplex_member.specs.Calls.{BroadcastFinalization, Handed}
 use Rattle.simplex_member.specs.Lives.{MemberFacts, living, open_while}
-use Rattle.simplex_member.proofs.Parts.{part_goes_on, part_made, told_answered, told_kept, so_ok, same_on_err, kept_shut, on_answer}
+use Rattle.simplex_member.proofs.Parts.{part_goes_on, part_made, ended_so, told_answered, told_kept, so_ok, same_on_err, kept_shut, on_answer}
 use Rattle.simplex_member.proofs.member.life.Member.broadcast_finalization.Goals as goal
 
 pub invariant_of-self : goal.invariant_of-self
@@ -25,7 +25,7 @@ returns-clause-made g c =
     let x = c.deref_mut.result.now in
     let p = c.broadcast_finalization-made in
     let m : MemberFacts _ _ _ = record { life = living false x; outstanding_work = open_while false i.outstanding_work.open_now; entries = entries_of g.S.CertificateScheme.certificate_bytes i.artifacts.items; closed = i.closed; is_pruned = i.is_pruned; retention = i.retention; least_retention = i.least_retention } in
-    rw (← c.self.view_is, c.if-self.false, c.is_lost-self-inside.ensures, c.ended.ensures, ← c.deref_mut.ensures.value)
+    rw (← c.self.view_is, c.if-self.false, c.is_lost-self-inside.ensures, ended_so p.result c.map_err.result c.map_err.ensures.cases, ← c.deref_mut.ensures.value)
     (part_made g.D.PartialEq.eq g.L.Elector.elect m (BroadcastFinalization c.args.view) (λ certificate. Handed (option_map (certificate_facts g.S.CertificateScheme.certificate_bytes) certificate)) x refl refl p.result p.new.state i.outstanding_work.open_now (entries_of g.S.CertificateScheme.certificate_bytes i.artifacts.items)
     (record {
       due = so_ok p.result (rw kept.0 refl);
@@ -39,15 +39,15 @@ returns-clause-made g c =
     }))
 
 pub returns-clause-answered : goal.returns-clause-answered
-returns-clause-answered g c = told_answered g.D.PartialEq.eq g.L.Elector.elect c.args.self.now.facts (BroadcastFinalization c.args.view) (λ certificate. Handed (option_map (certificate_facts g.S.CertificateScheme.certificate_bytes) certificate)) (λ t A is. is) c.ended.result _ (returns-clause-made g c)
+returns-clause-answered g c = told_answered g.D.PartialEq.eq g.L.Elector.elect c.args.self.now.facts (BroadcastFinalization c.args.view) (λ certificate. Handed (option_map (certificate_facts g.S.CertificateScheme.certificate_bytes) certificate)) (λ t A is. is) c.map_err.result _ (returns-clause-made g c)
 
 pub returns-clause-kept : goal.returns-clause-kept
-returns-clause-kept g c = told_kept g.D.PartialEq.eq g.L.Elector.elect c.args.self.now.facts (BroadcastFinalization c.args.view) (λ certificate. Handed (option_map (certificate_facts g.S.CertificateScheme.certificate_bytes) certificate)) c.ended.result _ (returns-clause-made g c)
+returns-clause-kept g c = told_kept g.D.PartialEq.eq g.L.Elector.elect c.args.self.now.facts (BroadcastFinalization c.args.view) (λ certificate. Handed (option_map (certificate_facts g.S.CertificateScheme.certificate_bytes) certificate)) c.map_err.result _ (returns-clause-made g c)
 
 pub returns-clause-none_left : goal.returns-clause-none_left
 returns-clause-none_left g c =
-    λ was. IfOk-weaker c.ended.result _ _ (λ certificate is. finalization_handed_once g.D.PartialEq.eq g.L.Elector.elect c.args.self.now.facts _ c.args.view (certificate_facts g.S.CertificateScheme.certificate_bytes) certificate was is) (returns-clause-answered g c)
+    λ was. IfOk-weaker c.map_err.result _ _ (λ certificate is. finalization_handed_once g.D.PartialEq.eq g.L.Elector.elect c.args.self.now.facts _ c.args.view (certificate_facts g.S.CertificateScheme.certificate_bytes) certificate was is) (returns-clause-answered g c)
 
 pub returns-clause-once : goal.returns-clause-once
 returns-clause-once g c =
-    on_answer c.ended.result (λ certificate is. finalization_none_left g.D.PartialEq.eq g.L.Elector.elect c.args.self.now.facts _ c.args.view (option_map (certificate_facts g.S.CertificateScheme.certificate_bytes) certificate) is) (returns-clause-answered g c)
+    on_answer c.map_err.result (λ certificate is. finalization_none_left g.D.PartialEq.eq g.L.Elector.elect c.args.self.now.facts _ c.args.view (option_map (certificate_facts g.S.CertificateScheme.certificate_bytes) certificate) is) (returns-clause-answered g c)

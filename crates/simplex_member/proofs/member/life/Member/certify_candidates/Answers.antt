@@ -5,7 +5,7 @@ use Rattle.std.proofs.lemmas.Result.{IfOk-weaker}
 use Rattle.simplex_record.specs.Entries.{entries_of}
 use Rattle.simplex_member.specs.Calls.{CertifyCandidates, Candidates}
 use Rattle.simplex_member.specs.Lives.{MemberFacts, living, open_while}
-use Rattle.simplex_member.proofs.Parts.{part_goes_on, part_made, told_answered, told_kept, so_ok, same_on_err}
+use Rattle.simplex_member.proofs.Parts.{part_goes_on, part_made, ended_so, told_answered, told_kept, so_ok, same_on_err}
 use Rattle.simplex_member.proofs.member.life.Member.certify_candidates.Goals as goal
 
 pub invariant_of-self : goal.invariant_of-self
@@ -23,7 +23,7 @@ returns-clause-made g c =
     let x = c.deref_mut.result.now in
     let p = c.certify_candidates-made in
     let m : MemberFacts _ _ _ = record { life = living false x; outstanding_work = open_while false i.outstanding_work.open_now; entries = entries_of g.S.CertificateScheme.certificate_bytes i.artifacts.items; closed = i.closed; is_pruned = i.is_pruned; retention = i.retention; least_retention = i.least_retention } in
-    rw (← c.self.view_is, c.if-self.false, c.is_lost-self-inside.ensures, c.ended.ensures, ← c.deref_mut.ensures.value)
+    rw (← c.self.view_is, c.if-self.false, c.is_lost-self-inside.ensures, ended_so p.result c.map_err.result c.map_err.ensures.cases, ← c.deref_mut.ensures.value)
     (part_made g.D.PartialEq.eq g.L.Elector.elect m CertifyCandidates (λ candidates. Candidates candidates.0.items candidates.1.items) x refl refl p.result p.new.state p.new.outstanding_work.open_now (entries_of g.S.CertificateScheme.certificate_bytes i.artifacts.items)
     (record {
       due = so_ok p.result (rw kept.0 refl);
@@ -37,7 +37,7 @@ returns-clause-made g c =
     }))
 
 pub returns-clause-answered : goal.returns-clause-answered
-returns-clause-answered g c = told_answered g.D.PartialEq.eq g.L.Elector.elect c.args.self.now.facts CertifyCandidates (λ candidates. Candidates candidates.0.items candidates.1.items) (λ t A is. is) c.ended.result _ (returns-clause-made g c)
+returns-clause-answered g c = told_answered g.D.PartialEq.eq g.L.Elector.elect c.args.self.now.facts CertifyCandidates (λ candidates. Candidates candidates.0.items candidates.1.items) (λ t A is. is) c.map_err.result _ (returns-clause-made g c)
 
 pub returns-clause-kept : goal.returns-clause-kept
-returns-clause-kept g c = told_kept g.D.PartialEq.eq g.L.Elector.elect c.args.self.now.facts CertifyCandidates (λ candidates. Candidates candidates.0.items candidates.1.items) c.ended.result _ (returns-clause-made g c)
+returns-clause-kept g c = told_kept g.D.PartialEq.eq g.L.Elector.elect c.args.self.now.facts CertifyCandidates (λ candidates. Candidates candidates.0.items candidates.1.items) c.map_err.result _ (returns-clause-made g c)

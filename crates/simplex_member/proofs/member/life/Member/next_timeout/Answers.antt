@@ -1,5 +1,5 @@
 -- How the contract of `next_timeout` follows: the state's poll is the member's answer, and a refusal leaves the state as it was.
-use Rattle.std.proofs.Common.{false, refl, sym, ap, ◌∙◌, Some, inl}
+use Rattle.std.proofs.Common.{false, refl, sym, ap, ◌∙◌, Some}
 use Rattle.simplex_record.specs.Entries.{entries_of}
 use Rattle.simplex_member.specs.Calls.{NextTimeout, TimesOut}
 use Rattle.simplex_member.specs.Lives.{MemberFacts, living, open_while}
@@ -29,7 +29,7 @@ returns-clause-made g c =
       | in-Ok w ↦ rw w.result-is (call_of_answer g.D.PartialEq.eq g.L.Elector.elect m (NextTimeout c.args.now) _ _
           (answered_unrecorded g.D.PartialEq.eq g.L.Elector.elect m (NextTimeout c.args.now) x refl _ c.next_timeout.new.self i.outstanding_work.open_now allowed (answered_only _ w.in-Ok.timeout _ x c.next_timeout.new.self refl w.in-Ok.ensures.refused) (ap TimesOut (sym w.in-Ok.ensures.answer)) w.in-Ok.ensures.after refl refl))
       | in-Err w ↦ let due = refused_only _ w.in-Err.fault _ x c.next_timeout.new.self refl w.in-Err.ensures.refused w.in-Err.ensures.taken in
-          rw (w.result-is, due.1) (refused_call g.D.PartialEq.eq g.L.Elector.elect m (NextTimeout c.args.now) x refl w.in-Err.fault allowed (inl due.0))
+          rw (w.result-is, due.1) (refused_call g.D.PartialEq.eq g.L.Elector.elect m (NextTimeout c.args.now) x refl w.in-Err.fault allowed due.0)
     ])
 
 pub returns-clause-answered : goal.returns-clause-answered
