@@ -1,12 +1,11 @@
 -- Certificates that votes complete are backed by them.
-use Rattle.std.proofs.Common.{◌≡◌, ℕ, zero, suc, Bool, true, false, cond, List, [], ◌∷◌, ◌++◌, Option, Some, None, Result, Ok, Err, length, refl, subst, inl, inr, ◌∙◌}
-use Rattle.std.specs.Prelude.{IfOk, All, Contains, ◌⊎◌}
+use Rattle.std.proofs.Common.{◌≡◌, ℕ, zero, suc, Bool, true, false, cond, List, [], ◌∷◌, ◌++◌, Option, Some, None, length, refl, sym, subst, inl, inr, ◌∙◌}
+use Rattle.std.specs.Prelude.{All, Contains, ◌⊎◌}
 use Rattle.std.proofs.lemmas.List.Elements.{All-append, All-cons, All-nil}
 use Rattle.simplex_types.specs.declared.types.messages.Subject.{Subject}
 use Rattle.simplex_types.specs.Viewed.{subject_view}
 use Rattle.simplex_voter.specs.Facts.{Elect}
 use Rattle.simplex_engine.specs.declared.batcher.Batcher.{Batcher}
-use Rattle.simplex_engine.specs.declared.batcher.Counted.{Counted}
 use Rattle.simplex_engine.specs.declared.batcher.Counted.TheVariants.{Certified}
 use Rattle.simplex_engine.specs.declared.batcher.poll.Ballot.{Ballot}
 use Rattle.simplex_engine.specs.declared.journaled.Journaled.{Journaled}
@@ -33,6 +32,10 @@ module _ {S D K G C : Type 0} where
   pub takes_nothing : (a : Batcher S D K G C) → TakesNone a a
   takes_nothing a = record { are_given = λ given are. are; were_held = λ kind view member ballot is. is; scheme = refl }
 
+  -- where the same votes are held
+  pub takes_same : {a b : Batcher S D K G C} → b ≡ a → TakesNone a b
+  takes_same {a = a} held = subst (TakesNone a) (sym held) (takes_nothing a)
+
   pub takes_no_more : {a b c : Batcher S D K G C} → TakesNone a b → TakesNone b c → TakesNone a c
   takes_no_more first second = record {
     are_given = λ given are. second.are_given given (first.are_given given are);
@@ -47,7 +50,7 @@ module _ {S D K G C : Type 0} where
   takes_then {more = more} taken none = record { are_given = λ given are. none.are_given (given ++ more) (taken.are_given given are); scheme = none.scheme ∙ taken.scheme }
 
 module _ {S L D K G C : Type 0} {same : D → D → Bool} {elect : Elect L} {bytes_of : C → List ℕ} (members : ℕ) where
-  backed_by_none : {more : List (Vote D G)} {subject : Subject D} {batcher : Batcher S D K G C} {old new : Journaled S L D K G C}
+  pub backed_by_none : {more : List (Vote D G)} {subject : Subject D} {batcher : Batcher S D K G C} {old new : Journaled S L D K G C}
       → GoesOn same elect bytes_of None old new → IsBacked same elect bytes_of members more subject batcher old new
   backed_by_none went = record { backed = λ given are. inl went }
 

@@ -114,6 +114,22 @@ module _ {S D K G C : Type 0} (given : List (Vote D G)) (old new : Batcher S D K
   forgotten_given lowest gone Nullifies view member ballot is = are Nullifies view member ballot (left_by old.nullify lowest view member ballot (ap (λ polls. ballot_of (slots_at polls view) member) (sym gone.1) ∙ is) (leb lowest view) refl)
   forgotten_given lowest gone Finalizes view member ballot is = are Finalizes view member ballot (left_by old.finalize lowest view member ballot (ap (λ polls. ballot_of (slots_at polls view) member) (sym gone.2) ∙ is) (leb lowest view) refl)
 
+module _ {S D K G C : Type 0} (old new : Batcher S D K G C) where
+  -- the same are held of the kind and view of a vote, and of all others
+  pub all_the_same : (on : Subject D) → KeepsOthers on old new
+      → ((member : ℕ) → ballot_of (held new (kind_of on) (subject_view on)) member ≡ ballot_of (held old (kind_of on) (subject_view on)) member) → HoldsAllTheSame old new
+  all_the_same on others here kind view member = by_kind (same_or_not kind (kind_of on))
+    where
+      by_view : kind ≡ kind_of on → (t : Bool) → eqb view (subject_view on) ≡ t → ballot_of (held new kind view) member ≡ ballot_of (held old kind view) member
+      by_view e true t =
+          subst (λ v. ballot_of (held new kind v) member ≡ ballot_of (held old kind v) member) (sym (eqb-true view (subject_view on) t))
+          (subst (λ k. ballot_of (held new k (subject_view on)) member ≡ ballot_of (held old k (subject_view on)) member) (sym e) (here member))
+      by_view e false t = ap (λ slots. ballot_of slots member) (others kind view (λ _ same. false≢true (sym t ∙ eq-eqb view (subject_view on) same)))
+
+      by_kind : (kind ≡ kind_of on) ⊎ (kind ≡ kind_of on → ⊥) → ballot_of (held new kind view) member ≡ ballot_of (held old kind view) member
+      by_kind (inl e) = by_view e (eqb view (subject_view on)) refl
+      by_kind (inr apart) = ap (λ slots. ballot_of slots member) (others kind view (λ e. absurd (apart e)))
+
 module _ {S D K G C : Type 0} where
   -- nothing is held
   pub none_given : (batcher : Batcher S D K G C) → HoldsNothing batcher → AreGiven [] batcher

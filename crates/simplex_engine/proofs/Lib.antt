@@ -17,6 +17,7 @@ mod Doing
 mod Kept
 mod Begun
 mod Backing
+mod Alone
 mod Quiet
 mod Forgetting
 mod Within
@@ -25,3 +26,5 @@ mod Dropping
 mod Planning
 mod Planned
 mod Accepting
+mod Taking
+mod Following

@@ -3,6 +3,8 @@ use Rattle.std.specs.Prelude.{ℕ, List, [], Option, Some, None, Result, Ok, Err
 use Rattle.simplex_types.specs.Certificates.{certificate_facts}
 use Rattle.simplex_types.specs.Encoding.{certificate_subject}
 use Rattle.simplex_types.specs.declared.types.messages.Subject.{Subject}
+use Rattle.simplex_engine.specs.declared.batcher.Counted.{Counted}
+use Rattle.simplex_engine.specs.declared.batcher.Counted.TheVariants.{Certified}
 use Rattle.simplex_engine.specs.declared.input.Input.{Input}
 use Rattle.simplex_engine.specs.declared.input.Input.TheVariants as input
 
@@ -11,6 +13,11 @@ abbrev pub subject_in : {S D K G C : Type 0} → (C → List ℕ) → Input S D 
 subject_in bytes_of (input.Vote vote) = Some vote.subject
 subject_in bytes_of (input.Certificate certificate) = Some (certificate_subject (certificate_facts bytes_of certificate))
 subject_in bytes_of _ = None
+
+-- what the certificate is on that a vote completes, where it completes one
+abbrev pub subject_made : {S D K G C : Type 0} → (C → List ℕ) → Counted S D K G C → Option (Subject D)
+subject_made bytes_of (Certified made) = Some (certificate_subject (certificate_facts bytes_of made))
+subject_made bytes_of _ = None
 
 -- what a poll gives out
 abbrev pub given_out : {A E : Type 0} → Result (Option A) E → List A

@@ -17,6 +17,7 @@ pub mod Quiet
 pub mod Settled
 pub mod Planning
 pub mod Backing
+pub mod Alone
 pub mod Bounds
 pub mod Building
 pub mod Following
@@ -24,3 +25,4 @@ pub mod Tasks
 pub mod Dropping
 pub mod Admitting
 pub mod Acting
+pub mod Taking

@@ -1,7 +1,7 @@
 //! Calls of the member, each with what follows from its answer.
-#![tactic(auto, using(crate::proofs::Going::stays, crate::proofs::Going::goes_further, crate::proofs::Backing::takes_nothing, crate::proofs::Backing::takes_no_more, crate::proofs::Backing::takes_anyway))]
+#![tactic(auto)]
 
-ghost use Rattle.std.specs.Prelude.{◌≡◌, [], None, IfOk, IsTrue, not, false, IsFalse};
+ghost use Rattle.std.specs.Prelude.{◌≡◌, [], None, IfOk, IsTrue, not, false};
 ghost use Rattle.simplex_member.specs.Calls.{told, asked};
 ghost use Rattle.simplex_laws.specs.Shown.{certificates_in};
 ghost use Rattle.simplex_engine.specs.Quiet.{is_nothing};
@@ -18,16 +18,13 @@ use simplex_voter::voter::Verify;
 
 impl<S: Assembly<D>, L: Elector<S>, D: Digest> Engine<S, L, D> {
     ghost use Rattle.simplex_engine.specs.Going.{GoesOn};
-    ghost use Rattle.simplex_engine.specs.Backing.{TakesNone};
+    ghost use Rattle.simplex_engine.specs.Alone.{GoesOnAlone};
     ghost use Rattle.simplex_engine.specs.Quiet.{for_all, for_work, for_votes, for_certificates, AnswersNothing, AnswerNothing};
-    ghost use Rattle.simplex_engine.specs.Tasks.{call_of};
     ghost use Rattle.simplex_engine.specs.Acting.{HasDone};
-    ghost use Rattle.simplex_engine.specs.Dropping.{IsLeftBy};
 
     /// Asks for all that may be due while the view is the current one. Whether there is nothing new.
     pub(super) fn is_quiet(&mut self, view: View, now: u64) -> Result<bool, Fault>
-        ensures goes_on { GoesOn D.eq L.elect S.certificate_bytes None self.old.core self.new.core }
-        ensures votes { TakesNone self.old.batcher self.new.batcher }
+        ensures alone { GoesOnAlone D.eq L.elect S.certificate_bytes self.old self.new }
         ensures quiet { IfOk result (λ quiet. IsTrue quiet
             → AnswerNothing D.eq L.elect self.old.core.member.facts (for_all view) self.new.core.member.facts) }
     {
@@ -39,8 +36,7 @@ impl<S: Assembly<D>, L: Elector<S>, D: Digest> Engine<S, L, D> {
 
     /// Asks for all work: proposals to verify, a block to build, proposals to certify. Whether there is nothing new.
     fn has_no_work(&mut self, now: u64) -> Result<bool, Fault>
-        ensures goes_on { GoesOn D.eq L.elect S.certificate_bytes None self.old.core self.new.core }
-        ensures votes { TakesNone self.old.batcher self.new.batcher }
+        ensures alone { GoesOnAlone D.eq L.elect S.certificate_bytes self.old self.new }
         ensures quiet { IfOk result (λ quiet. IsTrue quiet
             → AnswerNothing D.eq L.elect self.old.core.member.facts for_work self.new.core.member.facts) }
     {
@@ -52,8 +48,7 @@ impl<S: Assembly<D>, L: Elector<S>, D: Digest> Engine<S, L, D> {
 
     /// Asks for this member's votes on the view. Whether there is nothing new.
     fn has_no_vote(&mut self, view: View, now: u64) -> Result<bool, Fault>
-        ensures goes_on { GoesOn D.eq L.elect S.certificate_bytes None self.old.core self.new.core }
-        ensures votes { TakesNone self.old.batcher self.new.batcher }
+        ensures alone { GoesOnAlone D.eq L.elect S.certificate_bytes self.old self.new }
         ensures quiet { IfOk result (λ quiet. IsTrue quiet
             → AnswerNothing D.eq L.elect self.old.core.member.facts (for_votes view) self.new.core.member.facts) }
     {
@@ -72,8 +67,7 @@ impl<S: Assembly<D>, L: Elector<S>, D: Digest> Engine<S, L, D> {
 
     /// Asks for the certificates of the view that are to be handed out. Whether there is nothing new.
     fn has_no_certificate(&mut self, view: View, now: u64) -> Result<bool, Fault>
-        ensures goes_on { GoesOn D.eq L.elect S.certificate_bytes None self.old.core self.new.core }
-        ensures votes { TakesNone self.old.batcher self.new.batcher }
+        ensures alone { GoesOnAlone D.eq L.elect S.certificate_bytes self.old self.new }
         ensures quiet { IfOk result (λ quiet. IsTrue quiet
             → AnswerNothing D.eq L.elect self.old.core.member.facts (for_certificates view) self.new.core.member.facts) }
     {
@@ -98,8 +92,7 @@ impl<S: Assembly<D>, L: Elector<S>, D: Digest> Engine<S, L, D> {
     /// Makes a call that asks for what may be due, and follows its answer. Whether it has nothing new.
     fn asks_nothing(&mut self, call: Call<S, D>, task: Task<D>, now: u64) -> Result<bool, Fault>
         requires { certificates_in call ≡ [] }
-        ensures goes_on { GoesOn D.eq L.elect S.certificate_bytes None self.old.core self.new.core }
-        ensures votes { TakesNone self.old.batcher self.new.batcher }
+        ensures alone { GoesOnAlone D.eq L.elect S.certificate_bytes self.old self.new }
         ensures nothing { IfOk result (λ nothing. IsTrue nothing
             → AnswersNothing D.eq L.elect self.old.core.member.facts (asked S.certificate_bytes call) self.new.core.member.facts) }
     {
@@ -112,10 +105,7 @@ impl<S: Assembly<D>, L: Elector<S>, D: Digest> Engine<S, L, D> {
     /// Makes a call of the member, and follows its answer. Whether it was of use.
     pub(super) fn ask(&mut self, task: Task<D>, now: u64) -> Result<bool, Fault>
         ensures goes_on { GoesOn D.eq L.elect S.certificate_bytes None self.old.core self.new.core }
-        ensures votes { TakesNone self.old.batcher self.new.batcher }
         ensures batcher { self.new.batcher ≡ self.old.batcher }
-        ensures dropped { IfOk result (λ is_of_use. IsFalse is_of_use
-            → IsLeftBy (call_of task now) self.old.core.member.facts self.new.core.member.facts) }
         ensures acted { IfOk result (HasDone D.eq L.elect task now self.old.core.member.facts self.new.core.member.facts) }
     {
         let reply = self.core.call(task.call(now));
@@ -125,7 +115,6 @@ impl<S: Assembly<D>, L: Elector<S>, D: Digest> Engine<S, L, D> {
     /// Follows the answer to a call. Whether that says that anything was done.
     fn follow(&mut self, task: Task<D>, reply: Reply<S, D>, now: u64) -> Result<bool, Fault>
         ensures core { self.new.core ≡ self.old.core }
-        ensures votes { TakesNone self.old.batcher self.new.batcher }
         ensures batcher { self.new.batcher ≡ self.old.batcher }
         ensures of_use { IfOk result (λ is_of_use. is_of_use ≡ not (says_nothing (told S.certificate_bytes reply))) }
     {
@@ -138,7 +127,6 @@ impl<S: Assembly<D>, L: Elector<S>, D: Digest> Engine<S, L, D> {
     /// The member may have come to other views. One that has failed since found no memory.
     pub(super) fn see(&mut self) -> Result<(), Fault>
         ensures core { self.new.core ≡ self.old.core }
-        ensures votes { TakesNone self.old.batcher self.new.batcher }
         ensures batcher { self.new.batcher ≡ self.old.batcher }
     {
         let Some(state) = self.core.state() else {
@@ -160,7 +148,7 @@ impl<S: Assembly<D>, L: Elector<S>, D: Digest> Engine<S, L, D> {
         now: u64,
     ) -> Result<(), Fault>
         ensures core { self.new.core ≡ self.old.core }
-        ensures votes { TakesNone self.old.batcher self.new.batcher }
+        ensures batcher { self.new.batcher ≡ self.old.batcher }
     {
         let leader = self.leader_of(proposal);
         self.plan.resolve(kind, view, leader, now)

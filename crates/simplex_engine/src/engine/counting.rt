@@ -1,7 +1,7 @@
 //! Votes and certificates that came in.
 #![tactic(auto, using(crate::proofs::Going::stays, crate::proofs::Going::goes_further, crate::proofs::Backing::takes_nothing, crate::proofs::Backing::takes_no_more, crate::proofs::Backing::takes_anyway))]
 
-ghost use Rattle.std.specs.Prelude.{◌≡◌, ◌∷◌, [], length, None, Some, IfOk, IsTrue, not, false, ◌==◌, Ok, IsFalse};
+ghost use Rattle.std.specs.Prelude.{◌≡◌, None, Some, IfOk, IsTrue, not, false, ◌==◌, Ok, IsFalse};
 ghost use Rattle.simplex_types.specs.Certificates.{certificate_facts};
 ghost use Rattle.simplex_types.specs.Encoding.{certificate_subject};
 ghost use Rattle.simplex_member.specs.Calls.{told};
@@ -21,11 +21,12 @@ use simplex_voter::voter::State;
 
 impl<S: Assembly<D>, L: Elector<S>, D: Digest> Engine<S, L, D> {
     ghost use Rattle.simplex_engine.specs.Going.{GoesOn};
-    ghost use Rattle.simplex_engine.specs.Backing.{TakesVotes, TakesNone, IsBacked};
-    ghost use Rattle.simplex_engine.specs.Bounds.{StaysBounded};
-    ghost use Rattle.simplex_engine.specs.Batching.{HoldsAllTheSame};
+    ghost use Rattle.simplex_engine.specs.Backing.{TakesNone};
+    ghost use Rattle.simplex_engine.specs.Inputs.{subject_made};
     ghost use Rattle.simplex_engine.specs.Subjects.{subject_round};
-    ghost use Rattle.simplex_engine.specs.Acting.{IsHandedIn, IsVoteCounted};
+    ghost use Rattle.simplex_engine.specs.Acting.{IsHandedIn, IsCountFollowed};
+    ghost use Rattle.simplex_engine.specs.Taking.{IsTaken};
+    ghost use Rattle.simplex_engine.specs.declared.input.Input.TheVariants as input;
     ghost use Rattle.simplex_engine.specs.Admitting.{is_so};
 
     /// Whether votes of the round are taken. One of another epoch is not: an old vote, sent again, would stand in the place of this
@@ -41,18 +42,7 @@ impl<S: Assembly<D>, L: Elector<S>, D: Digest> Engine<S, L, D> {
 
     /// Counts a vote whose round takes votes.
     pub(super) fn count(&mut self, vote: Vote<D, S::Signature>, now: u64) -> Result<bool, Fault>
-        ensures goes_on { GoesOn D.eq L.elect S.certificate_bytes (Some vote.subject) self.old.core self.new.core }
-        ensures votes { TakesVotes (vote ∷ []) self.old.batcher self.new.batcher }
-        ensures backed { IsBacked D.eq L.elect S.certificate_bytes (length (S.participants self.old.batcher.scheme))
-            (vote ∷ []) vote.subject self.old.batcher self.old.core self.new.core }
-        ensures dropped { IfOk result (λ is_of_use. IsFalse is_of_use
-            → (self.new.core ≡ self.old.core) × HoldsAllTheSame self.old.batcher self.new.batcher) }
-        ensures unadmitted { IsFalse (is_so (λ x. admits_votes x (subject_round vote.subject)) self.old.core.member.facts)
-            → (result ≡ Ok false) × (self.new ≡ self.old) }
-        ensures bounded { StaysBounded S.participants self.old.core self.old.batcher self.new.core self.new.batcher }
-        ensures acted { IsTrue (is_so (λ x. admits_votes x (subject_round vote.subject)) self.old.core.member.facts) → IfOk result
-            (IsVoteCounted D.eq L.elect S.certificate_bytes S.IsMadeOf S.participants now vote
-            self.old self.new.core.member.facts self.new.batcher self.new.plan.steps.items) }
+        ensures { IsTaken D.eq L.elect S.certificate_bytes S.IsMadeOf S.participants now (input.Vote vote) self.old self.old self.new result }
     {
         if !self.admits_votes(round_of(&vote.subject)) {
             return Ok(false);
@@ -60,20 +50,25 @@ impl<S: Assembly<D>, L: Elector<S>, D: Digest> Engine<S, L, D> {
         self.count_admitted(vote, now)
     }
 
-    /// Counts a vote, and takes the certificate that it completes.
+    /// Counts a vote whose round takes votes, and takes the certificate that it completes.
     fn count_admitted(&mut self, vote: Vote<D, S::Signature>, now: u64) -> Result<bool, Fault>
-        ensures goes_on { GoesOn D.eq L.elect S.certificate_bytes (Some vote.subject) self.old.core self.new.core }
-        ensures votes { TakesVotes (vote ∷ []) self.old.batcher self.new.batcher }
-        ensures backed { IsBacked D.eq L.elect S.certificate_bytes (length (S.participants self.old.batcher.scheme))
-            (vote ∷ []) vote.subject self.old.batcher self.old.core self.new.core }
-        ensures dropped { IfOk result (λ is_of_use. IsFalse is_of_use
-            → (self.new.core ≡ self.old.core) × HoldsAllTheSame self.old.batcher self.new.batcher) }
-        ensures bounded { IsTrue (is_so (λ x. admits_votes x (subject_round vote.subject)) self.old.core.member.facts)
-            → StaysBounded S.participants self.old.core self.old.batcher self.new.core self.new.batcher }
-        ensures acted { IfOk result (IsVoteCounted D.eq L.elect S.certificate_bytes S.IsMadeOf S.participants now vote
-            self.old self.new.core.member.facts self.new.batcher self.new.plan.steps.items) }
+        requires { IsTrue (is_so (λ x. admits_votes x (subject_round vote.subject)) self.old.core.member.facts) }
+        ensures { IsTaken D.eq L.elect S.certificate_bytes S.IsMadeOf S.participants now (input.Vote vote) self.old self.old self.new result }
     {
-        match self.batcher.count(vote, true)? {
+        match self.batcher.count(vote, true) {
+            Ok(counted) => self.follow_counted(counted, now),
+            Err(refused) => Err(Fault::from(refused)),
+        }
+    }
+
+    /// Follows what a vote came to. Whether that was of use.
+    fn follow_counted(&mut self, counted: Counted<S, D>, now: u64) -> Result<bool, Fault>
+        ensures goes_on { GoesOn D.eq L.elect S.certificate_bytes (subject_made S.certificate_bytes counted) self.old.core self.new.core }
+        ensures batcher { self.new.batcher ≡ self.old.batcher }
+        ensures followed { IfOk result (IsCountFollowed D.eq L.elect S.certificate_bytes now counted self.old.plan.steps.items
+            self.old.core.member.facts self.new.plan.steps.items self.new.core.member.facts) }
+    {
+        match counted {
             Counted::Certified(certificate) => {
                 self.accept(certificate, now)?;
                 Ok(true)

@@ -1,9 +1,10 @@
 //! Inputs: what the member is asked for each.
-#![tactic(auto, using(crate::proofs::Going::stays, crate::proofs::Going::goes_further, crate::proofs::Backing::takes_nothing, crate::proofs::Backing::takes_no_more, crate::proofs::Backing::takes_anyway))]
+#![tactic(auto)]
 
-ghost use Rattle.std.specs.Prelude.{◌≡◌, length, None, IfOk, IsTrue, false, ◌==◌, IsFalse};
+ghost use Rattle.std.specs.Prelude.{◌≡◌, ◌≢◌, None, Ok, IfOk, IsTrue, false, ◌==◌, IsFalse};
 ghost use Rattle.std.specs.List.{list_any};
 ghost use Rattle.std.specs.Option.{option_map_or};
+ghost use Rattle.simplex_engine.specs.Acting.{verification_of};
 ghost use Rattle.simplex_engine.specs.Admitting.{admits_proposal};
 ghost use Rattle.simplex_engine.specs.declared.engine.task.Task.TheVariants.{SetProposal};
 
@@ -19,52 +20,32 @@ use simplex_voter::voter::State;
 
 impl<S: Assembly<D>, L: Elector<S>, D: Digest> Engine<S, L, D> {
     ghost use Rattle.simplex_engine.specs.Going.{GoesOn};
-    ghost use Rattle.simplex_engine.specs.Inputs.{subject_in};
-    ghost use Rattle.simplex_engine.specs.Backing.{votes_in, TakesVotes, TakesNone, IsBackedInput};
-    ghost use Rattle.simplex_engine.specs.Bounds.{StaysBounded};
+    ghost use Rattle.simplex_engine.specs.Taking.{IsTaken};
     ghost use Rattle.simplex_engine.specs.Building.{is_asked_in};
-    ghost use Rattle.simplex_engine.specs.Acting.{verification_of, HasDone, IsBlockTaken, IsActedOn};
-    ghost use Rattle.simplex_engine.specs.Dropping.{IsDropped};
-    ghost use Rattle.simplex_engine.specs.Admitting.{is_so, is_admitted, IsTurnedAway, ignoring};
+    ghost use Rattle.simplex_engine.specs.Acting.{HasDone, IsBlockTaken};
+    ghost use Rattle.simplex_engine.specs.Admitting.{is_so, ignoring};
 
     /// Takes what came in, while the engine has not failed, and counts what is of no use.
     pub(super) fn take(&mut self, input: Input<S, D>, now: u64) -> Result<bool, Fault>
-        ensures goes_on { GoesOn D.eq L.elect S.certificate_bytes (subject_in S.certificate_bytes input) self.old.core self.new.core }
-        ensures votes { TakesVotes (votes_in input) self.old.batcher self.new.batcher }
-        ensures backed { IsBackedInput D.eq L.elect S.certificate_bytes (length (S.participants self.old.batcher.scheme))
-            input self.old.batcher self.old.core self.new.core }
-        ensures dropped { IfOk result (λ is_of_use. IsFalse is_of_use → IsDropped now input self.old self.new) }
-        ensures unadmitted { IsFalse (is_admitted S.certificate_bytes self.old.core.member.facts input) → IfOk result (λ is_of_use.
-            IsFalse is_of_use × IsTurnedAway input (ignoring self.old) self.new) }
-        ensures bounded { StaysBounded S.participants self.old.core self.old.batcher self.new.core self.new.batcher }
-        ensures acted { IsTrue (is_admitted S.certificate_bytes self.old.core.member.facts input) → IfOk result (IsActedOn D.eq L.elect S.certificate_bytes
-            S.IsMadeOf S.participants now input self.old self.new.core.member.facts self.new.batcher self.new.plan.steps.items) }
+        ensures { IsTaken D.eq L.elect S.certificate_bytes S.IsMadeOf S.participants now input self.old (ignoring self.old) self.new result }
     {
-        let is_of_use = self.take_in(input, now)?;
-        if !is_of_use {
+        let answer = self.take_in(input, now);
+        if is_in_vain(&answer) {
             self.plan.ignore();
+            return Ok(false);
         }
-        Ok(is_of_use)
+        answer
     }
 
     /// Takes what came in.
     fn take_in(&mut self, input: Input<S, D>, now: u64) -> Result<bool, Fault>
-        ensures goes_on { GoesOn D.eq L.elect S.certificate_bytes (subject_in S.certificate_bytes input) self.old.core self.new.core }
-        ensures votes { TakesVotes (votes_in input) self.old.batcher self.new.batcher }
-        ensures backed { IsBackedInput D.eq L.elect S.certificate_bytes (length (S.participants self.old.batcher.scheme))
-            input self.old.batcher self.old.core self.new.core }
-        ensures dropped { IfOk result (λ is_of_use. IsFalse is_of_use → IsDropped now input self.old self.new) }
-        ensures unadmitted { IsFalse (is_admitted S.certificate_bytes self.old.core.member.facts input) → IfOk result (λ is_of_use.
-            IsFalse is_of_use × IsTurnedAway input self.old self.new) }
-        ensures bounded { StaysBounded S.participants self.old.core self.old.batcher self.new.core self.new.batcher }
-        ensures acted { IsTrue (is_admitted S.certificate_bytes self.old.core.member.facts input) → IfOk result (IsActedOn D.eq L.elect S.certificate_bytes
-            S.IsMadeOf S.participants now input self.old self.new.core.member.facts self.new.batcher self.new.plan.steps.items) }
+        ensures { IsTaken D.eq L.elect S.certificate_bytes S.IsMadeOf S.participants now input self.old self.old self.new result }
     {
         match input {
             Input::Proposal(from, proposal) => self.offer(from, proposal, now),
             Input::Vote(vote) => self.count(vote, now),
             Input::Certificate(certificate) => self.accept(certificate, now),
-            Input::Verified(view, is_valid) => self.verified(view, is_valid, now),
+            Input::Verified(view, is_valid) => self.ask(verification(view, is_valid), now),
             Input::Built(context, payload) => self.build(&context, payload, now),
             Input::Certified(view, is_success) => self.ask(Task::Certified(view, is_success), now),
             Input::GivenUp(view, reason) => self.ask(Task::GiveUp(view, reason), now),
@@ -80,47 +61,27 @@ impl<S: Assembly<D>, L: Elector<S>, D: Digest> Engine<S, L, D> {
         now: u64,
     ) -> Result<bool, Fault>
         ensures goes_on { GoesOn D.eq L.elect S.certificate_bytes None self.old.core self.new.core }
-        ensures votes { TakesNone self.old.batcher self.new.batcher }
         ensures batcher { self.new.batcher ≡ self.old.batcher }
-        ensures dropped { IfOk result (λ is_of_use. IsFalse is_of_use → self.new.core.member.facts ≡ self.old.core.member.facts) }
         ensures unadmitted { IsFalse (is_so (λ x. admits_proposal x from proposal.round) self.old.core.member.facts) → IfOk result (λ is_of_use.
             IsFalse is_of_use × (self.new ≡ record self.old { plan = record (self.old.plan) { early = self.new.plan.early } })) }
         ensures acted { IsTrue (is_so (λ x. admits_proposal x from proposal.round) self.old.core.member.facts) → IfOk result
             (HasDone D.eq L.elect (SetProposal proposal.round.view proposal) now self.old.core.member.facts self.new.core.member.facts) }
     {
         if self.admits_proposal(from, proposal.round) {
-            return self.hand_in(proposal, now);
+            return self.ask(Task::SetProposal(proposal.view(), proposal), now);
         }
-        if self.is_of_this_epoch(proposal.round) {
-            self.keep_early(from, proposal.view(), proposal)?;
-        }
+        self.keep_early(from, proposal)?;
         Ok(false)
     }
 
-    /// Hands a proposal in.
-    fn hand_in(&mut self, proposal: Proposal<D>, now: u64) -> Result<bool, Fault>
-        ensures goes_on { GoesOn D.eq L.elect S.certificate_bytes None self.old.core self.new.core }
-        ensures votes { TakesNone self.old.batcher self.new.batcher }
-        ensures batcher { self.new.batcher ≡ self.old.batcher }
-        ensures dropped { IfOk result (λ is_of_use. IsFalse is_of_use → self.new.core.member.facts ≡ self.old.core.member.facts) }
-        ensures acted { IfOk result (HasDone D.eq L.elect (SetProposal proposal.round.view proposal) now
-            self.old.core.member.facts self.new.core.member.facts) }
+    /// Keeps a proposal of this epoch whose view comes soon.
+    fn keep_early(&mut self, from: Participant, proposal: Proposal<D>) -> Result<(), Fault>
+        ensures { self.new ≡ record self.old { plan = record (self.old.plan) { early = self.new.plan.early } } }
     {
-        self.ask(Task::SetProposal(proposal.view(), proposal), now)
-    }
-
-    /// Keeps a proposal whose view comes soon.
-    fn keep_early(
-        &mut self,
-        from: Participant,
-        view: View,
-        proposal: Proposal<D>,
-    ) -> Result<(), Fault>
-        ensures core { self.new.core ≡ self.old.core }
-        ensures votes { TakesNone self.old.batcher self.new.batcher }
-        ensures same { self.new ≡ record self.old { plan = record (self.old.plan) { early = self.new.plan.early } } }
-    {
-        self.plan.keep_early(from, view, proposal)
+        if !self.is_of_this_epoch(proposal.round) {
+            return Ok(());
+        }
+        self.plan.keep_early(from, proposal.view(), proposal)
     }
 
     /// Whether a proposal may be handed in. One of this member itself never is: its key would have been used elsewhere.
@@ -134,25 +95,10 @@ impl<S: Assembly<D>, L: Elector<S>, D: Digest> Engine<S, L, D> {
     }
 
     /// Whether the round is of this epoch.
-    fn is_of_this_epoch(&self, round: Round) -> bool {
+    pub(super) fn is_of_this_epoch(&self, round: Round) -> bool {
         match self.core.state() {
             Some(state) => state.epoch() == round.epoch,
             None => false,
-        }
-    }
-
-    /// Whether the application found the view's proposal valid.
-    fn verified(&mut self, view: View, is_valid: bool, now: u64) -> Result<bool, Fault>
-        ensures goes_on { GoesOn D.eq L.elect S.certificate_bytes None self.old.core self.new.core }
-        ensures votes { TakesNone self.old.batcher self.new.batcher }
-        ensures batcher { self.new.batcher ≡ self.old.batcher }
-        ensures dropped { IfOk result (λ is_of_use. IsFalse is_of_use → self.new.core.member.facts ≡ self.old.core.member.facts) }
-        ensures acted { IfOk result (HasDone D.eq L.elect (verification_of is_valid view) now self.old.core.member.facts self.new.core.member.facts) }
-    {
-        if is_valid {
-            self.ask(Task::Verified(view), now)
-        } else {
-            self.ask(Task::VerificationFailed(view), now)
         }
     }
 
@@ -164,9 +110,7 @@ impl<S: Assembly<D>, L: Elector<S>, D: Digest> Engine<S, L, D> {
         now: u64,
     ) -> Result<bool, Fault>
         ensures goes_on { GoesOn D.eq L.elect S.certificate_bytes None self.old.core self.new.core }
-        ensures votes { TakesNone self.old.batcher self.new.batcher }
         ensures batcher { self.new.batcher ≡ self.old.batcher }
-        ensures dropped { IfOk result (λ is_of_use. IsFalse is_of_use → self.new.core.member.facts ≡ self.old.core.member.facts) }
         ensures acted { IfOk result (IsBlockTaken D.eq L.elect (list_any (is_asked_in D.eq context.now) self.old.plan.builds.items)
             context.now.round.view payload now self.old.core.member.facts self.new.core.member.facts) }
     {
@@ -196,5 +140,24 @@ fn is_leader(leader: Option<Participant>, member: Participant) -> bool
     match leader {
         Some(leader) => leader == member,
         None => false,
+    }
+}
+
+/// Whether an input was of no use.
+fn is_in_vain(answer: &Result<bool, Fault>) -> bool
+    ensures vain { IsTrue result → answer.now ≡ Ok false }
+    ensures other { IsFalse result → answer.now ≢ Ok false }
+{
+    matches!(answer, Ok(false))
+}
+
+/// The task of an answer of the application: whether it found the view's proposal valid.
+fn verification<D: Digest>(view: View, is_valid: bool) -> Task<D>
+    ensures { result ≡ verification_of is_valid view }
+{
+    if is_valid {
+        Task::Verified(view)
+    } else {
+        Task::VerificationFailed(view)
     }
 }

@@ -1,5 +1,5 @@
 //! The steps that are due, one after the other, until the member has nothing new.
-#![tactic(auto, using(crate::proofs::Going::stays, crate::proofs::Going::goes_further, crate::proofs::Backing::takes_nothing, crate::proofs::Backing::takes_no_more, crate::proofs::Backing::takes_anyway))]
+#![tactic(auto)]
 
 ghost use Rattle.std.specs.Prelude.{◌≡◌, ℕ, None, Some, OnOk, IfOk, IfSome, IsTrue, false, ◌==◌};
 
@@ -11,8 +11,8 @@ use simplex_assembly::assembly::Assembly;
 use simplex_types::types::{Digest, Elector, Fault, View};
 
 impl<S: Assembly<D>, L: Elector<S>, D: Digest> Engine<S, L, D> {
-    ghost use Rattle.simplex_engine.specs.Going.{IsWhole, GoesOn};
-    ghost use Rattle.simplex_engine.specs.Backing.{TakesNone};
+    ghost use Rattle.simplex_engine.specs.Going.{IsWhole};
+    ghost use Rattle.simplex_engine.specs.Alone.{GoesOnAlone};
     ghost use Rattle.simplex_engine.specs.Quiet.{current_view, HasNothingNew};
     ghost use Rattle.simplex_engine.specs.Planning.{IsIdle};
     ghost use Rattle.simplex_engine.specs.Bounds.{HoldsFromKept};
@@ -25,8 +25,7 @@ impl<S: Assembly<D>, L: Elector<S>, D: Digest> Engine<S, L, D> {
     /// - `idle`: nothing is to be done at the moment.
     /// - `lowest`, `lacking`: no vote is held of a view below the lowest one that is kept, and just what is lacking is asked for.
     pub(super) fn work(&mut self, now: u64) -> Result<(), Fault>
-        ensures goes_on { GoesOn D.eq L.elect S.certificate_bytes None self.old.core self.new.core }
-        ensures votes { TakesNone self.old.batcher self.new.batcher }
+        ensures alone { GoesOnAlone D.eq L.elect S.certificate_bytes self.old self.new }
         ensures whole { OnOk result (IsWhole S.certificate_bytes self.new.core) }
         ensures quiet { OnOk result (HasNothingNew D.eq L.elect self.new.core.member.facts) }
         ensures idle { OnOk result (IsIdle now self.new.plan) }
@@ -39,8 +38,7 @@ impl<S: Assembly<D>, L: Elector<S>, D: Digest> Engine<S, L, D> {
 
     /// A moment has come; a record that is long is made short before anything else.
     fn prepare(&mut self, now: u64) -> Result<(), Fault>
-        ensures goes_on { GoesOn D.eq L.elect S.certificate_bytes None self.old.core self.new.core }
-        ensures votes { TakesNone self.old.batcher self.new.batcher }
+        ensures { GoesOnAlone D.eq L.elect S.certificate_bytes self.old self.new }
     {
         self.plan.begin();
         if self.is_long() {
@@ -51,8 +49,7 @@ impl<S: Assembly<D>, L: Elector<S>, D: Digest> Engine<S, L, D> {
 
     /// Takes all steps, lets go what is kept of views that are not, and queues what the record has grown by.
     fn finish(&mut self, now: u64) -> Result<(), Fault>
-        ensures goes_on { GoesOn D.eq L.elect S.certificate_bytes None self.old.core self.new.core }
-        ensures votes { TakesNone self.old.batcher self.new.batcher }
+        ensures alone { GoesOnAlone D.eq L.elect S.certificate_bytes self.old self.new }
         ensures whole { OnOk result (IsWhole S.certificate_bytes self.new.core) }
         ensures quiet { OnOk result (HasNothingNew D.eq L.elect self.new.core.member.facts) }
         ensures idle { OnOk result (IsIdle now self.new.plan) }
@@ -66,8 +63,7 @@ impl<S: Assembly<D>, L: Elector<S>, D: Digest> Engine<S, L, D> {
 
     /// Lets go what is held of views that are not kept, and queues what the record has grown by.
     fn settle(&mut self) -> Result<(), Fault>
-        ensures goes_on { GoesOn D.eq L.elect S.certificate_bytes None self.old.core self.new.core }
-        ensures votes { TakesNone self.old.batcher self.new.batcher }
+        ensures alone { GoesOnAlone D.eq L.elect S.certificate_bytes self.old self.new }
         ensures member { self.new.core.member ≡ self.old.core.member }
         ensures idle { (now : ℕ) → IsIdle now self.old.plan → IsIdle now self.new.plan }
         ensures whole { OnOk result (IsWhole S.certificate_bytes self.new.core) }
@@ -81,8 +77,7 @@ impl<S: Assembly<D>, L: Elector<S>, D: Digest> Engine<S, L, D> {
 
     /// Takes steps until none is due and the member has nothing new.
     fn run_all(&mut self, now: u64) -> Result<(), Fault>
-        ensures goes_on { GoesOn D.eq L.elect S.certificate_bytes None self.old.core self.new.core }
-        ensures votes { TakesNone self.old.batcher self.new.batcher }
+        ensures alone { GoesOnAlone D.eq L.elect S.certificate_bytes self.old self.new }
         ensures quiet { OnOk result (HasNothingNew D.eq L.elect self.new.core.member.facts) }
         ensures idle { OnOk result (IsIdle now self.new.plan) }
     {
@@ -96,8 +91,7 @@ impl<S: Assembly<D>, L: Elector<S>, D: Digest> Engine<S, L, D> {
 
     /// Takes steps until none is due, and asks for all that may be due. Whether there is nothing new, and nothing follows.
     fn is_settled(&mut self, now: u64) -> Result<bool, Fault>
-        ensures goes_on { GoesOn D.eq L.elect S.certificate_bytes None self.old.core self.new.core }
-        ensures votes { TakesNone self.old.batcher self.new.batcher }
+        ensures alone { GoesOnAlone D.eq L.elect S.certificate_bytes self.old self.new }
         ensures quiet { IfOk result (λ settled. IsTrue settled → HasNothingNew D.eq L.elect self.new.core.member.facts) }
         ensures idle { IfOk result (λ settled. IsTrue settled → IsIdle now self.new.plan) }
     {
@@ -129,8 +123,7 @@ impl<S: Assembly<D>, L: Elector<S>, D: Digest> Engine<S, L, D> {
 
     /// Takes steps until none is due. A run that had no end would be one of 2^64 steps.
     fn run(&mut self, now: u64) -> Result<(), Fault>
-        ensures goes_on { GoesOn D.eq L.elect S.certificate_bytes None self.old.core self.new.core }
-        ensures votes { TakesNone self.old.batcher self.new.batcher }
+        ensures { GoesOnAlone D.eq L.elect S.certificate_bytes self.old self.new }
     {
         for _ in 0..u64::MAX {
             if !self.step(now)? {
@@ -142,8 +135,7 @@ impl<S: Assembly<D>, L: Elector<S>, D: Digest> Engine<S, L, D> {
 
     /// Takes the next step, where one is due.
     fn step(&mut self, now: u64) -> Result<bool, Fault>
-        ensures goes_on { GoesOn D.eq L.elect S.certificate_bytes None self.old.core self.new.core }
-        ensures votes { TakesNone self.old.batcher self.new.batcher }
+        ensures { GoesOnAlone D.eq L.elect S.certificate_bytes self.old self.new }
     {
         match self.plan.next(now)? {
             Some(step) => self.take_step(step, now),
@@ -153,8 +145,7 @@ impl<S: Assembly<D>, L: Elector<S>, D: Digest> Engine<S, L, D> {
 
     /// Takes a step.
     fn take_step(&mut self, step: Step<S, D>, now: u64) -> Result<bool, Fault>
-        ensures goes_on { GoesOn D.eq L.elect S.certificate_bytes None self.old.core self.new.core }
-        ensures votes { TakesNone self.old.batcher self.new.batcher }
+        ensures { GoesOnAlone D.eq L.elect S.certificate_bytes self.old self.new }
     {
         match step {
             Step::Ask(task) => taken(self.ask(task, now)),
@@ -167,8 +158,7 @@ impl<S: Assembly<D>, L: Elector<S>, D: Digest> Engine<S, L, D> {
 
     /// Sends the newest vote to nullify once more, where it is one of the view.
     fn repeat(&mut self, view: View) -> Result<bool, Fault>
-        ensures goes_on { GoesOn D.eq L.elect S.certificate_bytes None self.old.core self.new.core }
-        ensures votes { TakesNone self.old.batcher self.new.batcher }
+        ensures { GoesOnAlone D.eq L.elect S.certificate_bytes self.old self.new }
     {
         self.core.repeat(view)?;
         Ok(true)
@@ -176,8 +166,7 @@ impl<S: Assembly<D>, L: Elector<S>, D: Digest> Engine<S, L, D> {
 
     /// Queues work to be carried out.
     fn push(&mut self, work: Work<S, D>) -> Result<bool, Fault>
-        ensures goes_on { GoesOn D.eq L.elect S.certificate_bytes None self.old.core self.new.core }
-        ensures votes { TakesNone self.old.batcher self.new.batcher }
+        ensures { GoesOnAlone D.eq L.elect S.certificate_bytes self.old self.new }
     {
         self.core.push(work)?;
         Ok(true)
@@ -185,8 +174,7 @@ impl<S: Assembly<D>, L: Elector<S>, D: Digest> Engine<S, L, D> {
 
     /// Lets go what is held of views that are not kept: votes here and elsewhere; and fetches of what is not lacking.
     fn let_go(&mut self) -> Result<(), Fault>
-        ensures goes_on { GoesOn D.eq L.elect S.certificate_bytes None self.old.core self.new.core }
-        ensures votes { TakesNone self.old.batcher self.new.batcher }
+        ensures alone { GoesOnAlone D.eq L.elect S.certificate_bytes self.old self.new }
         ensures member { self.new.core.member ≡ self.old.core.member }
         ensures idle { (now : ℕ) → IsIdle now self.old.plan → IsIdle now self.new.plan }
         ensures lowest { OnOk result (HoldsFromKept self.new.core self.new.batcher) }
@@ -223,15 +211,15 @@ impl<S: Assembly<D>, L: Elector<S>, D: Digest> Engine<S, L, D> {
 
     /// Others are told that the views below may be forgotten, where more may than before.
     fn tell_forgotten(&mut self, lowest: View) -> Result<(), Fault>
-        ensures goes_on { GoesOn D.eq L.elect S.certificate_bytes None self.old.core self.new.core }
-        ensures votes { TakesNone self.old.batcher self.new.batcher }
+        ensures alone { GoesOnAlone D.eq L.elect S.certificate_bytes self.old self.new }
         ensures member { self.new.core.member ≡ self.old.core.member }
         ensures plan { self.new.plan ≡ self.old.plan }
     {
-        if self.forgotten < lowest {
-            self.core.push(Work::Forget(lowest))?;
-            self.forgotten = lowest;
+        if lowest <= self.forgotten {
+            return Ok(());
         }
+        self.core.push(Work::Forget(lowest))?;
+        self.forgotten = lowest;
         Ok(())
     }
 
@@ -244,8 +232,7 @@ impl<S: Assembly<D>, L: Elector<S>, D: Digest> Engine<S, L, D> {
     /// Makes the record short. The member drops the views that are over first: the entries of a view stay as long as it is tracked, and
     /// at the begin of a life all views of the record are.
     fn prune_record(&mut self, now: u64) -> Result<(), Fault>
-        ensures goes_on { GoesOn D.eq L.elect S.certificate_bytes None self.old.core self.new.core }
-        ensures votes { TakesNone self.old.batcher self.new.batcher }
+        ensures { GoesOnAlone D.eq L.elect S.certificate_bytes self.old self.new }
     {
         self.ask(Task::Prune, now)?;
         self.core.prune_record()?;

@@ -1,6 +1,26 @@
--- That a vote whose round takes none is not held.
-use Rattle.simplex_engine.proofs.Backing.{takes_nothing, takes_anyway}
+-- That a vote whose round takes none changes nothing.
+use Rattle.std.proofs.Common.{length, refl, sym, ◌∙◌, ap}
+use Rattle.std.proofs.lemmas.Bool.{false≢true}
+use Rattle.simplex_engine.specs.Admitting.{admits_votes, is_so}
+use Rattle.simplex_engine.proofs.Backing.{takes_nothing, takes_anyway, backed_by_none}
+use Rattle.simplex_engine.proofs.Bounds.{bounded_same}
+use Rattle.simplex_engine.proofs.Going.{stays}
 use Rattle.simplex_engine.proofs.engine.Engine.count.Goals as goal
 
-pub returns-then-not-admits_votes-clause-votes : goal.returns-then-not-admits_votes-clause-votes
-returns-then-not-admits_votes-clause-votes g c = takes_anyway (takes_nothing c.args.self.now.batcher)
+pub returns-then-not-admits_votes : goal.returns-then-not-admits_votes
+returns-then-not-admits_votes g c =
+    let engine = c.args.self.now in
+    let keys_of = g.S.CertificateScheme.participants in
+    record {
+      goes_on = stays engine.core;
+      votes = takes_anyway (takes_nothing engine.batcher);
+      backed = backed_by_none (length (keys_of engine.batcher.scheme)) (stays engine.core);
+      dropped = λ no. record { member = refl; votes = λ kind view member. refl };
+      unadmitted = λ no. (refl, refl);
+      bounded = bounded_same keys_of engine.core engine.core engine.batcher refl;
+      acted = λ is. absurd (false≢true
+          (sym c.if-not-admits_votes.true ∙ c.admits_votes.ensures ∙ ap (λ round. is_so (λ x. admits_votes x round) engine.core.member.facts) c.round_of.ensures.round ∙ is));
+    }
+
+pub returns : goal.returns
+returns g c = c.count_admitted.ensures

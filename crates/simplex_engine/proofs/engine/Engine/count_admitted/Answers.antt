@@ -1,68 +1,27 @@
--- That the certificate which a vote completes is backed by a quorum, and that what is held stays bounded.
-use Rattle.std.proofs.Common.{length, true, [], ◌∷◌, ◌++◌, inr, subst}
-use Rattle.simplex_engine.specs.Batching.{IsCounted}
-use Rattle.simplex_engine.proofs.Backing.{takes_then, certified_given}
-use Rattle.simplex_engine.proofs.Bounds.{bounded_counted, bounded_still, bounded_further}
+-- That what comes of a vote follows from what it comes to.
+use Rattle.std.proofs.Common.{length}
+use Rattle.simplex_engine.proofs.Backing.{backed_by_none}
+use Rattle.simplex_engine.proofs.Bounds.{bounded_counted}
+use Rattle.simplex_engine.proofs.Going.{stays}
+use Rattle.simplex_engine.proofs.Taking.{taken_counted}
 use Rattle.simplex_engine.proofs.engine.Engine.count_admitted.Goals as goal
 
-pub returns-in_err-accept-in-Certified-clause-votes : goal.returns-in_err-accept-in-Certified-clause-votes
-returns-in_err-accept-in-Certified-clause-votes g c = takes_then (record { are_given = c.count.ensures.given; scheme = c.count.ensures.scheme }) c.accept.ensures.votes
-
-pub returns-in_ok-accept-in-Certified-clause-votes : goal.returns-in_ok-accept-in-Certified-clause-votes
-returns-in_ok-accept-in-Certified-clause-votes g c = takes_then (record { are_given = c.count.ensures.given; scheme = c.count.ensures.scheme }) c.accept.ensures.votes
-
-pub returns-in_err-accept-in-Certified-clause-backed : goal.returns-in_err-accept-in-Certified-clause-backed
-returns-in_err-accept-in-Certified-clause-backed g c =
-    let old = c.args.self.now.batcher in
-    let new = c.count.new.self in
-    let made = g.S.Assembly.IsMadeOf old.scheme in
-    let members = length (g.S.CertificateScheme.participants old.scheme) in
+pub returns-in-Err : goal.returns-in-Err
+returns-in-Err g c =
+    let engine = c.args.self.now in
+    let keys_of = g.S.CertificateScheme.participants in
     record {
-      backed = λ given are. inr (certified_given g.D.PartialEq.eq g.met.D.Digest.equal_is_same made members true old new c.args.vote (given ++ c.args.vote ∷ [])
-          (c.count.ensures.given given are) c.in-Certified.certificate
-          (subst (IsCounted g.D.PartialEq.eq made members true old c.args.vote new) c.in-Certified.is c.in_ok-certificate.ensures.counted));
+      goes_on = stays engine.core;
+      votes = record { are_given = c.count.ensures.given; scheme = c.count.ensures.scheme };
+      backed = backed_by_none (length (keys_of engine.batcher.scheme)) (stays engine.core);
+      dropped = tt;
+      unadmitted = λ _. tt;
+      bounded = bounded_counted keys_of engine.core engine.batcher c.count.new.self c.args.vote.subject c.count.ensures.within c.count.ensures.scheme c.requires;
+      acted = λ _. tt;
     }
 
-pub returns-in_ok-accept-in-Certified-clause-backed : goal.returns-in_ok-accept-in-Certified-clause-backed
-returns-in_ok-accept-in-Certified-clause-backed g c =
-    let old = c.args.self.now.batcher in
-    let new = c.count.new.self in
-    let made = g.S.Assembly.IsMadeOf old.scheme in
-    let members = length (g.S.CertificateScheme.participants old.scheme) in
-    record {
-      backed = λ given are. inr (certified_given g.D.PartialEq.eq g.met.D.Digest.equal_is_same made members true old new c.args.vote (given ++ c.args.vote ∷ [])
-          (c.count.ensures.given given are) c.in-Certified.certificate
-          (subst (IsCounted g.D.PartialEq.eq made members true old c.args.vote new) c.in-Certified.is c.in_ok-certificate.ensures.counted));
-    }
-
-pub returns-in_err-certificate-clause-bounded : goal.returns-in_err-certificate-clause-bounded
-returns-in_err-certificate-clause-bounded g c = λ admits.
-    bounded_counted g.S.CertificateScheme.participants c.args.self.now.core c.args.self.now.batcher c.count.new.self c.args.vote.subject c.count.ensures.within c.count.ensures.scheme admits
-
-pub returns-in_err-push-in-Equivocated-clause-bounded : goal.returns-in_err-push-in-Equivocated-clause-bounded
-returns-in_err-push-in-Equivocated-clause-bounded g c = λ admits.
-    bounded_counted g.S.CertificateScheme.participants c.args.self.now.core c.args.self.now.batcher c.count.new.self c.args.vote.subject c.count.ensures.within c.count.ensures.scheme admits
-
-pub returns-in_ok-push-in-Equivocated-clause-bounded : goal.returns-in_ok-push-in-Equivocated-clause-bounded
-returns-in_ok-push-in-Equivocated-clause-bounded g c = λ admits.
-    bounded_counted g.S.CertificateScheme.participants c.args.self.now.core c.args.self.now.batcher c.count.new.self c.args.vote.subject c.count.ensures.within c.count.ensures.scheme admits
-
-pub returns-in-Taken-clause-bounded : goal.returns-in-Taken-clause-bounded
-returns-in-Taken-clause-bounded g c = λ admits.
-    bounded_counted g.S.CertificateScheme.participants c.args.self.now.core c.args.self.now.batcher c.count.new.self c.args.vote.subject c.count.ensures.within c.count.ensures.scheme admits
-
-pub returns-in-Known-clause-bounded : goal.returns-in-Known-clause-bounded
-returns-in-Known-clause-bounded g c = λ admits.
-    bounded_counted g.S.CertificateScheme.participants c.args.self.now.core c.args.self.now.batcher c.count.new.self c.args.vote.subject c.count.ensures.within c.count.ensures.scheme admits
-
-pub returns-in_err-accept-in-Certified-clause-bounded : goal.returns-in_err-accept-in-Certified-clause-bounded
-returns-in_err-accept-in-Certified-clause-bounded g c = λ admits.
-    bounded_further g.S.CertificateScheme.participants
-    (bounded_counted g.S.CertificateScheme.participants c.args.self.now.core c.args.self.now.batcher c.count.new.self c.args.vote.subject c.count.ensures.within c.count.ensures.scheme admits)
-    (bounded_still g.S.CertificateScheme.participants c.accept.ensures.goes_on c.accept.ensures.votes)
-
-pub returns-in_ok-accept-in-Certified-clause-bounded : goal.returns-in_ok-accept-in-Certified-clause-bounded
-returns-in_ok-accept-in-Certified-clause-bounded g c = λ admits.
-    bounded_further g.S.CertificateScheme.participants
-    (bounded_counted g.S.CertificateScheme.participants c.args.self.now.core c.args.self.now.batcher c.count.new.self c.args.vote.subject c.count.ensures.within c.count.ensures.scheme admits)
-    (bounded_still g.S.CertificateScheme.participants c.accept.ensures.goes_on c.accept.ensures.votes)
+pub returns-in-Ok : goal.returns-in-Ok
+returns-in-Ok g c =
+    taken_counted g.D.PartialEq.eq g.L.Elector.elect g.S.CertificateScheme.certificate_bytes g.S.Assembly.IsMadeOf g.S.CertificateScheme.participants c.args.now
+    g.met.D.Digest.equal_is_same c.args.vote c.args.self.now c.follow_counted.new.self c.follow_counted.result c.count.new.self c.in-Ok.counted c.requires c.count.ensures.given
+    c.count.ensures.within c.count.ensures.scheme c.in-Ok.ensures.counted c.follow_counted.ensures.goes_on c.follow_counted.ensures.batcher c.follow_counted.ensures.followed

@@ -1,19 +1,21 @@
 -- That what is let go behind all steps goes on from them, and nothing is due that was not.
-use Rattle.simplex_engine.proofs.Going.{goes_further}
-use Rattle.simplex_engine.proofs.Backing.{takes_no_more}
+use Rattle.std.proofs.Common.{sym, subst}
+use Rattle.simplex_engine.specs.Quiet.{HasNothingNew}
+use Rattle.simplex_engine.proofs.Alone.{alone_further}
 use Rattle.simplex_engine.proofs.engine.Engine.finish.Goals as goal
 
-pub returns-in_err-settle-clause-goes_on : goal.returns-in_err-settle-clause-goes_on
-returns-in_err-settle-clause-goes_on g c = goes_further c.run_all.ensures.goes_on c.settle.ensures.goes_on
+pub returns-in_err-run_all-clause-alone : goal.returns-in_err-run_all-clause-alone
+returns-in_err-run_all-clause-alone g c = c.run_all.ensures.alone
 
-pub returns-clause-goes_on : goal.returns-clause-goes_on
-returns-clause-goes_on g c = goes_further c.run_all.ensures.goes_on c.settle.ensures.goes_on
+pub returns-in_err-settle-clause-alone : goal.returns-in_err-settle-clause-alone
+returns-in_err-settle-clause-alone g c = alone_further c.run_all.ensures.alone c.settle.ensures.alone
 
-pub returns-clause-idle : goal.returns-clause-idle
-returns-clause-idle g c = c.settle.ensures.idle c.args.now c.in_ok-run_all.ensures.idle
-
-pub returns-in_err-settle-clause-votes : goal.returns-in_err-settle-clause-votes
-returns-in_err-settle-clause-votes g c = takes_no_more c.run_all.ensures.votes c.settle.ensures.votes
-
-pub returns-clause-votes : goal.returns-clause-votes
-returns-clause-votes g c = takes_no_more c.run_all.ensures.votes c.settle.ensures.votes
+pub returns : goal.returns
+returns g c = record {
+  alone = alone_further c.run_all.ensures.alone c.settle.ensures.alone;
+  whole = c.in_ok-settle.ensures.whole;
+  quiet = subst (λ m. HasNothingNew g.D.PartialEq.eq g.L.Elector.elect m.facts) (sym c.settle.ensures.member) c.in_ok-run_all.ensures.quiet;
+  idle = c.settle.ensures.idle c.args.now c.in_ok-run_all.ensures.idle;
+  lowest = c.in_ok-settle.ensures.lowest;
+  lacking = c.in_ok-settle.ensures.lacking;
+}

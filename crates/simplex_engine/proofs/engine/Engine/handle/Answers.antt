@@ -1,27 +1,62 @@
 -- That an engine which fails has done no more than its steps before, and holds no more.
-use Rattle.std.proofs.Common.{length, refl}
+use Rattle.std.proofs.Common.{length, refl, sym, subst, ap, ◌∙◌}
+use Rattle.std.proofs.lemmas.Bool.{false≢true}
+use Rattle.simplex_engine.specs.Admitting.{ignoring}
+use Rattle.simplex_engine.specs.Going.{has_failed}
+use Rattle.simplex_engine.specs.Taking.{IsTaken}
 use Rattle.simplex_engine.proofs.Going.{stays, goes_further, goes_on_anyway}
 use Rattle.simplex_engine.proofs.Backing.{input_backed_by_none, input_backed_then, takes_nothing, takes_anyway}
 use Rattle.simplex_engine.proofs.Bounds.{bounded_still, bounded_further, bounded_same}
 use Rattle.simplex_engine.proofs.engine.Engine.handle.Goals as goal
 
-pub returns-in-Err-clause-goes_on : goal.returns-in-Err-clause-goes_on
-returns-in-Err-clause-goes_on g c = goes_further c.take.ensures.goes_on (goes_on_anyway c.fail.ensures.goes_on)
+pub returns-then-has_failed : goal.returns-then-has_failed
+returns-then-has_failed g c =
+    let engine = c.args.self.now in
+    let keys_of = g.S.CertificateScheme.participants in
+    record {
+      goes_on = stays engine.core;
+      votes = takes_anyway (takes_nothing engine.batcher);
+      backed = input_backed_by_none (length (keys_of engine.batcher.scheme)) c.args.input engine.batcher engine.core engine.core (stays engine.core);
+      dropped = tt;
+      unadmitted = λ _. tt;
+      bounded = bounded_same keys_of engine.core engine.core engine.batcher refl;
+      acted = λ _. tt;
+      failed = sym c.has_failed.ensures ∙ c.if-has_failed.true;
+      refused = λ _. (refl, refl);
+    }
 
-pub returns-in-Err-clause-backed : goal.returns-in-Err-clause-backed
-returns-in-Err-clause-backed g c =
-    input_backed_then (length (g.S.CertificateScheme.participants c.args.self.now.batcher.scheme)) c.args.input c.args.self.now.batcher c.args.self.now.core c.take.new.self.core c.fail.new.self c.take.ensures.backed c.fail.ensures.goes_on
+pub returns-in-Ok : goal.returns-in-Ok
+returns-in-Ok g c =
+    let engine = c.args.self.now in
+    let taken =
+    subst (IsTaken g.D.PartialEq.eq g.L.Elector.elect g.S.CertificateScheme.certificate_bytes g.S.Assembly.IsMadeOf g.S.CertificateScheme.participants c.args.now
+    c.args.input engine (ignoring engine) c.take.new.self) c.in-Ok.is c.take.ensures
+    in
+    record {
+      goes_on = taken.goes_on;
+      votes = taken.votes;
+      backed = taken.backed;
+      dropped = taken.dropped;
+      unadmitted = taken.unadmitted;
+      bounded = taken.bounded;
+      acted = taken.acted;
+      failed = tt;
+      refused = λ failed. absurd (false≢true (sym c.if-has_failed.false ∙ c.has_failed.ensures ∙ failed));
+    }
 
-pub returns-then-has_failed-clause-backed : goal.returns-then-has_failed-clause-backed
-returns-then-has_failed-clause-backed g c =
-    input_backed_by_none (length (g.S.CertificateScheme.participants c.args.self.now.batcher.scheme)) c.args.input c.args.self.now.batcher c.args.self.now.core c.args.self.now.core (stays c.args.self.now.core)
-
-pub returns-in-Err-clause-bounded : goal.returns-in-Err-clause-bounded
-returns-in-Err-clause-bounded g c =
-    bounded_further g.S.CertificateScheme.participants c.take.ensures.bounded (bounded_still g.S.CertificateScheme.participants c.fail.ensures.goes_on (takes_nothing c.take.new.self.batcher))
-
-pub returns-then-has_failed-clause-bounded : goal.returns-then-has_failed-clause-bounded
-returns-then-has_failed-clause-bounded g c = bounded_same g.S.CertificateScheme.participants c.args.self.now.core c.args.self.now.core c.args.self.now.batcher refl
-
-pub returns-then-has_failed-clause-votes : goal.returns-then-has_failed-clause-votes
-returns-then-has_failed-clause-votes g c = takes_anyway (takes_nothing c.args.self.now.batcher)
+pub returns-in-Err : goal.returns-in-Err
+returns-in-Err g c =
+    let engine = c.args.self.now in
+    let keys_of = g.S.CertificateScheme.participants in
+    record {
+      goes_on = goes_further c.take.ensures.goes_on (goes_on_anyway c.fail.ensures.goes_on);
+      votes = c.take.ensures.votes;
+      backed = input_backed_then (length (keys_of engine.batcher.scheme)) c.args.input engine.batcher engine.core c.take.new.self.core c.fail.new.self
+          c.take.ensures.backed c.fail.ensures.goes_on;
+      dropped = tt;
+      unadmitted = λ _. tt;
+      bounded = bounded_further keys_of c.take.ensures.bounded (bounded_still keys_of c.fail.ensures.goes_on (takes_nothing c.take.new.self.batcher));
+      acted = λ _. tt;
+      failed = ap has_failed c.fail.ensures.failed;
+      refused = λ failed. absurd (false≢true (sym c.if-has_failed.false ∙ c.has_failed.ensures ∙ failed));
+    }

@@ -1,29 +1,27 @@
 -- That a member that has nothing new goes on by what shows it, and that all was asked for, one call behind the other.
 use Rattle.std.proofs.Common.{◌++◌}
 use Rattle.simplex_engine.specs.Quiet.{for_work, for_votes, for_certificates}
-use Rattle.simplex_engine.proofs.Going.{goes_further}
-use Rattle.simplex_engine.proofs.Backing.{takes_no_more}
+use Rattle.simplex_engine.proofs.Alone.{alone_further}
 use Rattle.simplex_engine.proofs.Quiet.{nothing_further}
 use Rattle.simplex_engine.proofs.engine.Engine.is_quiet.Goals as goal
 
-pub returns-in_err-has_no_vote-clause-goes_on : goal.returns-in_err-has_no_vote-clause-goes_on
-returns-in_err-has_no_vote-clause-goes_on g c = goes_further c.has_no_work.ensures.goes_on c.has_no_vote.ensures.goes_on
+pub returns-in_err-has_no_vote-clause-alone : goal.returns-in_err-has_no_vote-clause-alone
+returns-in_err-has_no_vote-clause-alone g c = alone_further c.has_no_work.ensures.alone c.has_no_vote.ensures.alone
 
-pub returns-in_err-has_no_certificate-clause-goes_on :
-    goal.returns-in_err-has_no_certificate-clause-goes_on
-returns-in_err-has_no_certificate-clause-goes_on g c =
-    goes_further c.has_no_work.ensures.goes_on
-    (goes_further c.has_no_vote.ensures.goes_on c.has_no_certificate.ensures.goes_on)
+pub returns-in_err-has_no_certificate-clause-alone : goal.returns-in_err-has_no_certificate-clause-alone
+returns-in_err-has_no_certificate-clause-alone g c =
+    alone_further c.has_no_work.ensures.alone
+    (alone_further c.has_no_vote.ensures.alone c.has_no_certificate.ensures.alone)
 
-pub returns-then-has_no_vote-clause-goes_on : goal.returns-then-has_no_vote-clause-goes_on
-returns-then-has_no_vote-clause-goes_on g c =
-    goes_further c.has_no_work.ensures.goes_on
-    (goes_further c.has_no_vote.ensures.goes_on c.has_no_certificate.ensures.goes_on)
+pub returns-then-has_no_vote-clause-alone : goal.returns-then-has_no_vote-clause-alone
+returns-then-has_no_vote-clause-alone g c =
+    alone_further c.has_no_work.ensures.alone
+    (alone_further c.has_no_vote.ensures.alone c.has_no_certificate.ensures.alone)
 
-pub returns-else-has_no_vote-clause-goes_on : goal.returns-else-has_no_vote-clause-goes_on
-returns-else-has_no_vote-clause-goes_on g c =
-    goes_further c.has_no_work.ensures.goes_on
-    (goes_further c.has_no_vote.ensures.goes_on c.has_no_certificate.ensures.goes_on)
+pub returns-else-has_no_vote-clause-alone : goal.returns-else-has_no_vote-clause-alone
+returns-else-has_no_vote-clause-alone g c =
+    alone_further c.has_no_work.ensures.alone
+    (alone_further c.has_no_vote.ensures.alone c.has_no_certificate.ensures.alone)
 
 pub returns-then-has_no_vote-clause-quiet : goal.returns-then-has_no_vote-clause-quiet
 returns-then-has_no_vote-clause-quiet g c =
@@ -39,26 +37,5 @@ returns-then-has_no_vote-clause-quiet g c =
     (nothing_further same elect worked voted now (for_votes c.args.view) certificates (c.in_ok-has_no_vote.ensures.quiet c.if-has_no_vote.true.1)
     (c.in_ok-has_no_certificate.ensures.quiet is))
 
-pub returns-in_err-has_no_work-clause-goes_on : goal.returns-in_err-has_no_work-clause-goes_on
-returns-in_err-has_no_work-clause-goes_on g c = c.has_no_work.ensures.goes_on
-
-pub returns-in_err-has_no_work-clause-votes : goal.returns-in_err-has_no_work-clause-votes
-returns-in_err-has_no_work-clause-votes g c = c.has_no_work.ensures.votes
-
-pub returns-in_err-has_no_vote-clause-votes : goal.returns-in_err-has_no_vote-clause-votes
-returns-in_err-has_no_vote-clause-votes g c = takes_no_more c.has_no_work.ensures.votes c.has_no_vote.ensures.votes
-
-pub returns-in_err-has_no_certificate-clause-votes : goal.returns-in_err-has_no_certificate-clause-votes
-returns-in_err-has_no_certificate-clause-votes g c =
-    takes_no_more c.has_no_work.ensures.votes
-    (takes_no_more c.has_no_vote.ensures.votes c.has_no_certificate.ensures.votes)
-
-pub returns-then-has_no_vote-clause-votes : goal.returns-then-has_no_vote-clause-votes
-returns-then-has_no_vote-clause-votes g c =
-    takes_no_more c.has_no_work.ensures.votes
-    (takes_no_more c.has_no_vote.ensures.votes c.has_no_certificate.ensures.votes)
-
-pub returns-else-has_no_vote-clause-votes : goal.returns-else-has_no_vote-clause-votes
-returns-else-has_no_vote-clause-votes g c =
-    takes_no_more c.has_no_work.ensures.votes
-    (takes_no_more c.has_no_vote.ensures.votes c.has_no_certificate.ensures.votes)
+pub returns-in_err-has_no_work-clause-alone : goal.returns-in_err-has_no_work-clause-alone
+returns-in_err-has_no_work-clause-alone g c = c.has_no_work.ensures.alone

@@ -12,10 +12,10 @@ use Rattle.simplex_engine.proofs.Going.{goes_further, gives_nothing, does_more}
 use Rattle.simplex_engine.proofs.engine.Engine.poll_after_work.Goals as goal
 
 pub returns-in-Ok-clause-given : goal.returns-in-Ok-clause-given
-returns-in-Ok-clause-given g c = λ given kept. c.next.ensures.kept given (c.work.ensures.goes_on.kept given kept)
+returns-in-Ok-clause-given g c = λ given kept. c.next.ensures.kept given (c.work.ensures.alone.goes_on.kept given kept)
 
 pub returns-in-Ok-clause-does : goal.returns-in-Ok-clause-does
-returns-in-Ok-clause-does g c = does_more c.args.self.now.core c.work.new.self.core c.next.new.self c.work.ensures.goes_on c.next.ensures.same.0
+returns-in-Ok-clause-does g c = does_more c.args.self.now.core c.work.new.self.core c.next.new.self c.work.ensures.alone.goes_on c.next.ensures.same.0
 
 pub returns-in-Ok-clause-none : goal.returns-in-Ok-clause-none
 returns-in-Ok-clause-none g c = λ none. record {
@@ -29,17 +29,17 @@ pub returns-in-Ok-clause-idle : goal.returns-in-Ok-clause-idle
 returns-in-Ok-clause-idle g c = λ none. c.in-Ok.ensures.idle
 
 pub returns-in-Ok-clause-votes : goal.returns-in-Ok-clause-votes
-returns-in-Ok-clause-votes g c = c.work.ensures.votes
+returns-in-Ok-clause-votes g c = c.work.ensures.alone.votes
 
 pub returns-in-Err-clause-given : goal.returns-in-Err-clause-given
-returns-in-Err-clause-given g c = gives_nothing (goes_further c.work.ensures.goes_on c.fail.ensures.goes_on)
+returns-in-Err-clause-given g c = gives_nothing (goes_further c.work.ensures.alone.goes_on c.fail.ensures.goes_on)
 
 pub returns-in-Err-clause-does : goal.returns-in-Err-clause-does
 returns-in-Err-clause-does g c =
-    does_more c.args.self.now.core c.fail.new.self c.fail.new.self (goes_further c.work.ensures.goes_on c.fail.ensures.goes_on) refl
+    does_more c.args.self.now.core c.fail.new.self c.fail.new.self (goes_further c.work.ensures.alone.goes_on c.fail.ensures.goes_on) refl
 
 pub returns-in-Err-clause-votes : goal.returns-in-Err-clause-votes
-returns-in-Err-clause-votes g c = c.work.ensures.votes
+returns-in-Err-clause-votes g c = c.work.ensures.alone.votes
 
 pub returns-in-Err-clause-failed : goal.returns-in-Err-clause-failed
 returns-in-Err-clause-failed g c = ap has_failed c.fail.ensures.failed
@@ -55,10 +55,10 @@ returns-in-Ok-clause-lacking g c none =
 
 pub returns-in-Ok-clause-bounded : goal.returns-in-Ok-clause-bounded
 returns-in-Ok-clause-bounded g c =
-    bounded_further g.S.CertificateScheme.participants (bounded_still g.S.CertificateScheme.participants c.work.ensures.goes_on c.work.ensures.votes)
+    bounded_further g.S.CertificateScheme.participants (bounded_still g.S.CertificateScheme.participants c.work.ensures.alone.goes_on c.work.ensures.alone.votes)
     (bounded_same g.S.CertificateScheme.participants c.work.new.self.core c.next.new.self c.work.new.self.batcher c.next.ensures.same.0)
 
 pub returns-in-Err-clause-bounded : goal.returns-in-Err-clause-bounded
 returns-in-Err-clause-bounded g c =
-    bounded_further g.S.CertificateScheme.participants (bounded_still g.S.CertificateScheme.participants c.work.ensures.goes_on c.work.ensures.votes)
+    bounded_further g.S.CertificateScheme.participants (bounded_still g.S.CertificateScheme.participants c.work.ensures.alone.goes_on c.work.ensures.alone.votes)
     (bounded_still g.S.CertificateScheme.participants c.fail.ensures.goes_on (takes_nothing c.work.new.self.batcher))

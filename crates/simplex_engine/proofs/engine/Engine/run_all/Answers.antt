@@ -1,22 +1,18 @@
 -- That each run goes on from the ones before.
-use Rattle.simplex_engine.proofs.Going.{goes_further}
-use Rattle.simplex_engine.proofs.Backing.{takes_no_more}
+use Rattle.simplex_engine.proofs.Alone.{alone_still, alone_further}
 use Rattle.simplex_engine.proofs.engine.Engine.run_all.Goals as goal
 
-pub returns-in_err-is_settled-clause-goes_on : goal.returns-in_err-is_settled-clause-goes_on
-returns-in_err-is_settled-clause-goes_on g c = goes_further c.loop.invariant.goes_on c.is_settled.ensures.goes_on
+pub returns-in_err-is_settled-clause-alone : goal.returns-in_err-is_settled-clause-alone
+returns-in_err-is_settled-clause-alone g c = alone_further c.loop.invariant c.is_settled.ensures.alone
 
-pub returns-then-branch-clause-goes_on : goal.returns-then-branch-clause-goes_on
-returns-then-branch-clause-goes_on g c = goes_further c.loop.invariant.goes_on c.is_settled.ensures.goes_on
+pub returns-then-branch-clause-alone : goal.returns-then-branch-clause-alone
+returns-then-branch-clause-alone g c = alone_further c.loop.invariant c.is_settled.ensures.alone
+
+pub loop-init : goal.loop-init
+loop-init g c = alone_still c.args.self.now
 
 pub loop-preserved : goal.loop-preserved
-loop-preserved g c = record {
-  goes_on = goes_further c.loop.invariant.goes_on c.is_settled.ensures.goes_on;
-  votes = takes_no_more c.loop.invariant.votes c.is_settled.ensures.votes;
-}
+loop-preserved g c = alone_further c.loop.invariant c.is_settled.ensures.alone
 
-pub returns-in_err-is_settled-clause-votes : goal.returns-in_err-is_settled-clause-votes
-returns-in_err-is_settled-clause-votes g c = takes_no_more c.loop.invariant.votes c.is_settled.ensures.votes
-
-pub returns-then-branch-clause-votes : goal.returns-then-branch-clause-votes
-returns-then-branch-clause-votes g c = takes_no_more c.loop.invariant.votes c.is_settled.ensures.votes
+pub returns : goal.returns
+returns g c = record { alone = c.loop.invariant; quiet = tt; idle = tt }

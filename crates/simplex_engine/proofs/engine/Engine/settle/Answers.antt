@@ -1,16 +1,39 @@
 -- That what is left is of views that are kept, and what is asked for is lacking.
-use Rattle.std.proofs.Common.{sym, subst}
+use Rattle.std.proofs.Common.{sym, subst, ◌∙◌}
 use Rattle.std.specs.Prelude.{IfSome}
 use Rattle.simplex_voter.specs.Windows.{min_active}
 use Rattle.simplex_engine.specs.Batching.{HoldsFrom}
 use Rattle.simplex_engine.specs.Wanted.{AsksForTheLacking}
+use Rattle.simplex_engine.proofs.Going.{goes_further}
 use Rattle.simplex_engine.proofs.engine.Engine.settle.Goals as goal
 
-pub returns-clause-lowest : goal.returns-clause-lowest
-returns-clause-lowest g c =
-    subst (λ m. IfSome m.facts.life (λ x. HoldsFrom (min_active x) c.let_go.new.self.batcher)) (sym c.store.ensures.member) c.in_ok-let_go.ensures.lowest
+pub returns-in_err-let_go-clause-alone : goal.returns-in_err-let_go-clause-alone
+returns-in_err-let_go-clause-alone g c = c.let_go.ensures.alone
 
-pub returns-clause-lacking : goal.returns-clause-lacking
-returns-clause-lacking g c =
+pub returns-in_err-let_go-clause-member : goal.returns-in_err-let_go-clause-member
+returns-in_err-let_go-clause-member g c = c.let_go.ensures.member
+
+pub returns-in_err-let_go-clause-idle : goal.returns-in_err-let_go-clause-idle
+returns-in_err-let_go-clause-idle g c = c.let_go.ensures.idle
+
+pub returns-in_err-store-clause-alone : goal.returns-in_err-store-clause-alone
+returns-in_err-store-clause-alone g c = record { goes_on = goes_further c.let_go.ensures.alone.goes_on c.store.ensures.goes_on; votes = c.let_go.ensures.alone.votes }
+
+pub returns-in_err-store-clause-member : goal.returns-in_err-store-clause-member
+returns-in_err-store-clause-member g c = c.store.ensures.member ∙ c.let_go.ensures.member
+
+pub returns-in_err-store-clause-idle : goal.returns-in_err-store-clause-idle
+returns-in_err-store-clause-idle g c = c.let_go.ensures.idle
+
+pub returns : goal.returns
+returns g c =
     let repair = c.let_go.new.self.plan.repair in
-    subst (λ m. IfSome m.facts.life (λ x. AsksForTheLacking repair.resolver.open_fetches x repair.fetches.wanted.items)) (sym c.store.ensures.member) c.in_ok-let_go.ensures.lacking
+    record {
+      alone = record { goes_on = goes_further c.let_go.ensures.alone.goes_on c.store.ensures.goes_on; votes = c.let_go.ensures.alone.votes };
+      member = c.store.ensures.member ∙ c.let_go.ensures.member;
+      idle = c.let_go.ensures.idle;
+      whole = c.in_ok-store.ensures.whole;
+      lowest = subst (λ m. IfSome m.facts.life (λ x. HoldsFrom (min_active x) c.let_go.new.self.batcher)) (sym c.store.ensures.member) c.in_ok-let_go.ensures.lowest;
+      lacking = subst (λ m. IfSome m.facts.life (λ x. AsksForTheLacking repair.resolver.open_fetches x repair.fetches.wanted.items)) (sym c.store.ensures.member)
+          c.in_ok-let_go.ensures.lacking;
+    }

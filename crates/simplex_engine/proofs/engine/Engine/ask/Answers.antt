@@ -1,0 +1,26 @@
+-- That a task accepts no certificate, and what its answer says.
+use Rattle.std.proofs.Common.{None, sym, subst}
+use Rattle.std.proofs.lemmas.Result.{IfOk-weaker}
+use Rattle.simplex_member.specs.Calls.{told}
+use Rattle.simplex_member.specs.Lives.{IsCall}
+use Rattle.simplex_engine.specs.Going.{GoesOn}
+use Rattle.simplex_engine.specs.Tasks.{call_of}
+use Rattle.simplex_engine.proofs.engine.Engine.ask.Goals as goal
+
+pub returns : goal.returns
+returns g c =
+    let same = g.D.PartialEq.eq in
+    let elect = g.L.Elector.elect in
+    let bytes_of = g.S.CertificateScheme.certificate_bytes in
+    let before = c.args.self.now.core.member.facts in
+    let answer = told bytes_of c.call-reply.result in
+    record {
+      goes_on = subst (GoesOn same elect bytes_of None c.args.self.now.core) (sym c.follow.ensures.core) (c.call-reply.ensures.quiet c.call.ensures.plain);
+      batcher = c.follow.ensures.batcher;
+      acted = IfOk-weaker c.follow.result _ _ (λ is_of_use of_use. record {
+        answer = answer;
+        answered = subst (λ core. IsCall same elect before (call_of c.args.task c.args.now) answer core.member.facts) (sym c.follow.ensures.core)
+            (subst (λ call. IsCall same elect before call answer c.call-reply.new.self.member.facts) c.call.ensures.asked c.call-reply.ensures.answered);
+        told = of_use;
+      }) c.follow.ensures.of_use;
+    }

@@ -1,0 +1,28 @@
+-- That a block is handed in where the application was asked for it.
+use Rattle.std.proofs.Common.{false, refl, sym, subst, ◌∙◌}
+use Rattle.std.proofs.lemmas.Result.{IfOk-weaker}
+use Rattle.simplex_engine.specs.Acting.{IsBlockTaken}
+use Rattle.simplex_engine.proofs.Going.{stays}
+use Rattle.simplex_engine.proofs.engine.Engine.build.Goals as goal
+
+pub returns-then-not-is_building : goal.returns-then-not-is_building
+returns-then-not-is_building g c =
+    let facts = c.args.self.now.core.member.facts in
+    record {
+      goes_on = stays c.args.self.now.core;
+      batcher = refl;
+      acted = subst (λ is_asked. IsBlockTaken g.D.PartialEq.eq g.L.Elector.elect is_asked c.args.context.now.round.view c.args.payload c.args.now facts facts false)
+          (sym c.if-not-is_building.true ∙ c.is_building.ensures) (refl, refl);
+    }
+
+pub returns : goal.returns
+returns g c =
+    let before = c.args.self.now.core.member.facts in
+    let after = c.ask.new.self.core.member.facts in
+    record {
+      goes_on = c.ask.ensures.goes_on;
+      batcher = c.ask.ensures.batcher;
+      acted = IfOk-weaker c.ask.result _ _ (λ is_of_use done.
+          subst (λ is_asked. IsBlockTaken g.D.PartialEq.eq g.L.Elector.elect is_asked c.args.context.now.round.view c.args.payload c.args.now before after is_of_use)
+          (sym c.if-not-is_building.false ∙ c.is_building.ensures) done) c.ask.ensures.acted;
+    }

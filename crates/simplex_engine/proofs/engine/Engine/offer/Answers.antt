@@ -1,0 +1,35 @@
+-- That a proposal is handed in, or else kept at most.
+use Rattle.std.proofs.Common.{refl, ap, sym, ◌∙◌, None, subst}
+use Rattle.std.proofs.lemmas.Bool.{false≢true}
+use Rattle.std.specs.Prelude.{IfOk}
+use Rattle.simplex_engine.specs.declared.engine.task.Task.TheVariants.{SetProposal}
+use Rattle.simplex_engine.specs.Acting.{HasDone}
+use Rattle.simplex_engine.specs.Going.{GoesOn}
+use Rattle.simplex_engine.proofs.Going.{stays}
+use Rattle.simplex_engine.proofs.engine.Engine.offer.Goals as goal
+
+pub returns-then-admits_proposal : goal.returns-then-admits_proposal
+returns-then-admits_proposal g c = record {
+  goes_on = c.ask.ensures.goes_on;
+  batcher = c.ask.ensures.batcher;
+  unadmitted = λ no. absurd (false≢true (sym no ∙ sym c.admits_proposal.ensures ∙ c.if-admits_proposal.true));
+  acted = λ _. subst (λ view. IfOk c.ask.result (HasDone g.D.PartialEq.eq g.L.Elector.elect (SetProposal view c.args.proposal) c.args.now
+      c.args.self.now.core.member.facts c.ask.new.self.core.member.facts)) c.view.ensures c.ask.ensures.acted;
+}
+
+pub returns-in_err-keep_early-clause-goes_on : goal.returns-in_err-keep_early-clause-goes_on
+returns-in_err-keep_early-clause-goes_on g c =
+    subst (GoesOn g.D.PartialEq.eq g.L.Elector.elect g.S.CertificateScheme.certificate_bytes None c.args.self.now.core)
+    (sym (ap (λ engine. engine.core) c.keep_early.ensures)) (stays c.args.self.now.core)
+
+pub returns-in_err-keep_early-clause-batcher : goal.returns-in_err-keep_early-clause-batcher
+returns-in_err-keep_early-clause-batcher g c = ap (λ engine. engine.batcher) c.keep_early.ensures
+
+pub returns : goal.returns
+returns g c = record {
+  goes_on = subst (GoesOn g.D.PartialEq.eq g.L.Elector.elect g.S.CertificateScheme.certificate_bytes None c.args.self.now.core)
+      (sym (ap (λ engine. engine.core) c.keep_early.ensures)) (stays c.args.self.now.core);
+  batcher = ap (λ engine. engine.batcher) c.keep_early.ensures;
+  unadmitted = λ _. (refl, c.keep_early.ensures);
+  acted = λ is. absurd (false≢true (sym c.if-admits_proposal.false ∙ c.admits_proposal.ensures ∙ is));
+}
