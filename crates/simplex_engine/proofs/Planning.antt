@@ -1,7 +1,8 @@
 -- Plans in which a block is of no use any more.
-use Rattle.std.proofs.Common.{◌≡◌, refl, ap, sym, ◌∙◌, ℕ, Bool, List, [], ◌∷◌, ◌++◌, Result, Ok, Err, OnOk}
+use Rattle.std.proofs.Common.{◌≡◌, refl, ap, sym, ◌∙◌, ℕ, Bool, List, [], ◌∷◌, ◌++◌, length, length-append, arith, Result, Ok, Err, OnOk}
 use Rattle.std.specs.List.{list_any}
 use Rattle.simplex_engine.specs.declared.engine.plan.Plan.{Plan}
+use Rattle.simplex_engine.specs.declared.engine.plan.Step.{Step}
 use Rattle.simplex_engine.specs.Building.{is_asked_at, stopping, IsEnded, IsStopped}
 use Rattle.simplex_engine.specs.Planning.{HasPlanned}
 
@@ -18,3 +19,7 @@ module _ {S D K G C : Type 0} where
     same = planned.same ∙ ap (λ (p : Plan S D K G C). record p { steps = new.steps }) ended.same
         ∙ ap (λ b. record old { steps = new.steps; builds = b }) (sym (ap (λ (p : Plan S D K G C). p.builds) planned.same));
   }
+
+  -- a step that is planned is queued
+  pub some_planned : {step : Step S D K G C} {old new : Plan S D K G C} → HasPlanned (step ∷ []) old new → new.steps.items ≡ [] → ⊥
+  some_planned {step = step} {old = old} planned none = omega (arith, ap length (sym none ∙ planned.steps), length-append old.steps.items (step ∷ []))

@@ -97,8 +97,13 @@ impl<S: Assembly<D>, L: Elector<S>, D: Digest> Engine<S, L, D> {
     {
         self.run(now)?;
         let view = self.current_view()?;
-        let is_quiet = self.is_quiet(view, now)?;
-        Ok(is_quiet && self.is_current(view) && self.plan.is_idle(now))
+        if !self.is_quiet(view, now)? {
+            return Ok(false);
+        }
+        if !self.is_current(view) {
+            return Ok(false);
+        }
+        Ok(self.plan.is_idle(now))
     }
 
     /// The current view. A member that has failed since found no memory.

@@ -5,8 +5,12 @@ use Rattle.simplex_engine.proofs.engine.Engine.run_all.Goals as goal
 pub returns-in_err-is_settled-clause-alone : goal.returns-in_err-is_settled-clause-alone
 returns-in_err-is_settled-clause-alone g c = alone_further c.loop.invariant c.is_settled.ensures.alone
 
-pub returns-then-branch-clause-alone : goal.returns-then-branch-clause-alone
-returns-then-branch-clause-alone g c = alone_further c.loop.invariant c.is_settled.ensures.alone
+pub returns-then-branch : goal.returns-then-branch
+returns-then-branch g c = record {
+  alone = alone_further c.loop.invariant c.is_settled.ensures.alone;
+  quiet = c.in_ok-is_settled.ensures.quiet c.if-branch.true;
+  idle = c.in_ok-is_settled.ensures.idle c.if-branch.true;
+}
 
 pub loop-init : goal.loop-init
 loop-init g c = alone_still c.args.self.now
