@@ -1,7 +1,7 @@
 -- For the code of the engine.
 -- A member with its outbox goes on, step by step.
 use Rattle.std.proofs.Common.{◌≡◌, ◌∙◌, refl, ℕ, Bool, List, [], ◌++◌, sym, subst, append_assoc, append-nil, Option, None, Result, Ok, Err}
-use Rattle.std.specs.Prelude.{All, IfOk}
+use Rattle.std.specs.Prelude.{IfOk}
 use Rattle.std.proofs.lemmas.List.Elements.{All-append, All-nil}
 use Rattle.simplex_types.specs.Certificates.{certificate_facts}
 use Rattle.simplex_types.specs.Encoding.{certificate_subject}
@@ -10,6 +10,7 @@ use Rattle.simplex_types.specs.declared.types.messages.Subject.TheVariants as su
 use Rattle.simplex_voter.specs.Facts.{Elect, StateFacts}
 use Rattle.simplex_member.specs.Calls.{CallFacts, Told}
 use Rattle.simplex_member.specs.Lives.{MemberFacts, IsCall}
+use Rattle.simplex_member.specs.declared.member.journal.Stored.{Stored}
 use Rattle.simplex_laws.specs.LifeLaws.{WhileAlive}
 use Rattle.simplex_laws.proofs.frames.Rising.{never_fell, falls_never, never_falls, call_goes}
 use Rattle.simplex_laws.proofs.lives.WithinLives.{alive_still, alive_joined, each_call}
@@ -17,7 +18,10 @@ use Rattle.simplex_laws.specs.Traces.{TraceEvent, Accepts, Signs}
 use Rattle.simplex_laws.specs.Living.{HasDone, DoesMore}
 use Rattle.simplex_engine.specs.declared.journaled.Journaled.{Journaled}
 use Rattle.simplex_engine.specs.Doing.{IsDoneOn}
+use Rattle.simplex_engine.specs.Finals.{TellsRising, TellsNoMore, finalized_by}
+use Rattle.simplex_engine.specs.declared.output.Output.{Output}
 use Rattle.simplex_engine.specs.Going.{IsKept, GoesOn, DoesMoreOn, HasGivenOut, HasRisen}
+use Rattle.simplex_engine.proofs.Finals.{finalized_by-append, none_finalized, tells_none, tells_further, tells_no_more, tells_nothing}
 use Rattle.simplex_engine.specs.Counting.{certificate_of}
 
 module _ {K L D : Type 0} {same : D → D → Bool} {elect : Elect L} where
@@ -47,7 +51,7 @@ module _ {K L D : Type 0} where
 module _ {S L D K G C : Type 0} {same : D → D → Bool} {elect : Elect L} {bytes_of : C → List ℕ} {taken : Option (Subject D)} where
   -- nothing has changed
   pub stays : (a : Journaled S L D K G C) → GoesOn same elect bytes_of taken a a
-  stays a = record { kept = λ given kept. kept; more = []; on_this = All-nil (IsDoneOn taken); done = does_nothing a.member.facts; risen = risen_not a.member.facts }
+  stays a = record { kept = λ given kept. kept; more = []; on_this = All-nil (IsDoneOn taken); done = does_nothing a.member.facts; told = tells_none a.outbox a.outbox refl refl; risen = risen_not a.member.facts }
 
   -- from one moment to a later one, and on to one later still
   pub goes_further : {a b c : Journaled S L D K G C} → GoesOn same elect bytes_of taken a b → GoesOn same elect bytes_of taken b c → GoesOn same elect bytes_of taken a c
@@ -58,12 +62,15 @@ module _ {S L D K G C : Type 0} {same : D → D → Bool} {elect : Elect L} {byt
     done = λ term_length i all done.
         subst (λ xs. HasDone same elect term_length i xs c.member.facts) (append_assoc all first.more second.more)
         (second.done term_length i (all ++ first.more) (first.done term_length i all done));
+    told =
+        subst (λ ps. TellsRising ps a.outbox c.outbox) (sym (finalized_by-append first.more second.more))
+        (tells_further (finalized_by first.more) (finalized_by second.more) a.outbox b.outbox c.outbox first.told second.told);
     risen = risen_further a.member.facts b.member.facts c.member.facts first.risen second.risen;
   }
 
   -- where no certificate is accepted
   pub goes_on_anyway : {a b : Journaled S L D K G C} → GoesOn same elect bytes_of None a b → GoesOn same elect bytes_of taken a b
-  goes_on_anyway went = record { kept = went.kept; more = went.more; on_this = λ k d less. anyway _ (went.on_this k d less); done = went.done; risen = went.risen }
+  goes_on_anyway went = record { kept = went.kept; more = went.more; on_this = λ k d less. anyway _ (went.on_this k d less); done = went.done; told = went.told; risen = went.risen }
     where
       anyway : (event : TraceEvent D) → IsDoneOn None event → IsDoneOn taken event
       anyway (Signs _ _) is = tt
@@ -86,6 +93,14 @@ pub does_nothing_more : {S L D K G C : Type 0} {same : D → D → Bool} {elect 
 does_nothing_more {same = same} {elect = elect} {taken = taken} a b is =
     subst (λ member. DoesMoreOn same elect taken a.member.facts member.facts) (sym is)
     (record { more = []; on_this = All-nil (IsDoneOn taken); done = does_nothing a.member.facts })
+
+-- no more is told as final than was queued, where no certificate is accepted
+module _ {S L D K G C : Type 0} {same : D → D → Bool} {elect : Elect L} {bytes_of : C → List ℕ} (a b : Journaled S L D K G C) (went : GoesOn same elect bytes_of None a b) where
+  pub tells_no_other : TellsNoMore [] a.outbox b.outbox
+  tells_no_other = tells_nothing (finalized_by went.more) a.outbox b.outbox (none_finalized went.more went.on_this) went.told
+
+  pub tells_no_other_then : (c : Journaled S L D K G C) (out : List (Output S D Stored K G C)) → TellsNoMore out b.outbox c.outbox → TellsNoMore out a.outbox c.outbox
+  tells_no_other_then c out = tells_no_more (finalized_by went.more) out a.outbox b.outbox c.outbox (none_finalized went.more went.on_this) went.told
 
 -- what holds of an answer
 pub where_ok : {X E : Type 0} (r : Result X E) {P Q : X → Type 0} → IfOk r P → ((x : X) → P x → Q x) → IfOk r Q

@@ -8,7 +8,9 @@ mod Wanted
 mod Repairing
 mod Behind
 mod Copying
+mod Finals
 mod Lawfully
+mod Finalizing
 mod Given
 mod Good
 mod Going

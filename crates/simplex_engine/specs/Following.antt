@@ -1,5 +1,5 @@
 -- What is planned for an answer of the member.
-use Rattle.std.specs.Prelude.{◌≡◌, ℕ, ◌+◌, ◌-◌, ◌^◌, min, Bool, true, false, not, ◌==◌, nat_le, nat_lt, List, [], ◌∷◌, ◌++◌, Option, Some, None, is_some, if◌then◌else◌}
+use Rattle.std.specs.Prelude.{◌≡◌, ℕ, ◌+◌, ◌-◌, ◌^◌, min, Bool, true, false, not, ◌==◌, nat_le, List, [], ◌∷◌, ◌++◌, Option, Some, None, is_some, if◌then◌else◌}
 use Rattle.simplex_types.specs.Certificates.{certificate_facts, notarization_facts}
 use Rattle.simplex_types.specs.Viewed.{certificate_view}
 use Rattle.simplex_types.specs.declared.reasons.TimeoutReason.{TimeoutReason}
@@ -114,11 +114,6 @@ module _ {S D K G C : Type 0} where
   showing view None = []
   showing view (Some leader) = Push (work.ProposedTwice view leader) ∷ []
 
-  -- a proposal that is final is told, where none above it was, or it itself
-  abbrev pub IsTold : Proposal D → Bool → Plan S D K G C → Plan S D K G C → Type 0
-  IsTold proposal true old new = HasPlanned (Push (work.Finalized proposal) ∷ []) (record old { told = proposal.round.view }) new
-  IsTold proposal false old new = new ≡ old
-
   -- proposals are certified, one behind the other
   abbrev pub certifying : List (Proposal D) → List (Step S D K G C)
   certifying [] = []
@@ -129,11 +124,6 @@ module _ {S D K G C : Type 0} where
     pub steps : new.steps.items ≡ old.steps.items ++ certifying proposals
     pub fetched : HasFetches (fetching now wanted old.repair.fetches.wanted.items) old.repair new.repair
     pub same : new ≡ record old { steps = new.steps; repair = new.repair }
-
-  -- a finalization tells of its proposal
-  abbrev pub IsFinalTold : Certificate S D K G C → Plan S D K G C → Plan S D K G C → Type 0
-  IsFinalTold (certificate.Finalization f) old new = IsTold f.proposal (nat_lt old.told f.proposal.round.view) old new
-  IsFinalTold _ old new = new ≡ old
 
   -- a notarization that came is asked for no longer
   abbrev pub without : Certificate S D K G C → List Fetch → List Fetch
@@ -169,12 +159,10 @@ module _ {S D K G C : Type 0} (bytes : D → List ℕ) (bytes_of : C → List �
     pub made : IsMade (update bytes (certificate_facts bytes_of told)) old.repair.resolver (effects_due told old) repair.resolver
     pub fetched : repair.fetches.wanted.items ≡ without told (after_effects (later old) (effects_due told old) old.repair.fetches.wanted.items)
 
-  -- a new certificate: the resolver is told, then what is final, and something of the view has changed
+  -- a new certificate: the resolver is told, and something of the view has changed
   pub record IsTakenIn (accepted : Certificate S D K G C) (old new : Plan S D K G C) : Type 0 where
     pub heard : IsResolverTold accepted old new.repair
-    pub told : Plan S D K G C
-    pub is_told : IsFinalTold accepted (record old { repair = new.repair }) told
-    pub planned : HasPlanned (touching (certificate_view accepted)) (watching told) new
+    pub planned : HasPlanned (touching (certificate_view accepted)) (watching (record old { repair = new.repair })) new
 
   -- where it is not of genesis
   abbrev pub IsTakenInAbove : Bool → Certificate S D K G C → Plan S D K G C → Plan S D K G C → Type 0

@@ -8,6 +8,7 @@ pub mod Wanted
 pub mod Repairing
 pub mod Entries
 pub mod Outputs
+pub mod Finals
 pub mod Outboxes
 pub mod Journals
 pub mod Doing

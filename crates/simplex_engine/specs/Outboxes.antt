@@ -1,30 +1,36 @@
 -- What an outbox has queued, and the law of all that it gives out.
-use Rattle.std.specs.Prelude.{◌≡◌, ◌≢◌, ℕ, Bool, true, false, List, [], ◌∷◌, ◌++◌, Option, Some, None, IfSome, Contains, Vec}
+use Rattle.std.specs.Prelude.{◌≡◌, ◌≢◌, ◌<◌, ℕ, nat_lt, Bool, true, false, List, [], ◌∷◌, ◌++◌, Option, Some, None, IfSome, Contains, Vec}
+use Rattle.std.specs.VecDeque.{deque_len, deque_capacity}
 use Rattle.std.specs.declared.alloc.Global.{Global}
 use Rattle.simplex_types.specs.Viewed.{subject_view}
 use Rattle.simplex_types.specs.declared.types.messages.Artifact.{Artifact}
+use Rattle.simplex_types.specs.declared.types.messages.Proposal.{Proposal}
 use Rattle.simplex_engine.specs.declared.outbox.Outbox.{Outbox}
 use Rattle.simplex_engine.specs.declared.output.Output.{Output}
 use Rattle.simplex_engine.specs.declared.output.Output.TheVariants as output
 use Rattle.simplex_engine.specs.declared.votes.Vote.{Vote}
 use Rattle.simplex_engine.specs.Entries.{votes_in, newest_from, AreCopies}
+use Rattle.simplex_engine.specs.Finals.{finalized_in, AreRising, EndsAt}
 use Rattle.simplex_engine.specs.Outputs.{stored_in, storing, AreBehind}
 
 module _ {S D J K G C : Type 0} where
   -- over all that was given out and what is queued each vote stands behind an output that stores it, and so would the vote that
-  -- may be repeated
+  -- may be repeated; and the views of the proposals that are told as final rise, up to the highest one that was told
   pub record IsLawful (given : List (Output S D J K G C)) (box : Outbox S D J K G C) : Type 0 where
     pub behind : AreBehind [] (given ++ box.queue.items)
     pub repeat : IfSome box.repeat (λ vote. Contains (votes_in (stored_in (given ++ box.queue.items))) vote)
+    pub rising : AreRising (finalized_in (given ++ box.queue.items))
+    pub told : EndsAt box.told (finalized_in (given ++ box.queue.items))
 
   -- these stand behind what was queued, and this vote may be repeated
   pub record HasBecome (more : List (Output S D J K G C)) (repeat : Option (Vote D G)) (old new : Outbox S D J K G C) : Type 0 where
     pub queue : new.queue.items ≡ old.queue.items ++ more
     pub repeat_is : new.repeat ≡ repeat
+    pub told_is : new.told ≡ old.told
 
   -- nothing has changed
   abbrev pub HasStayed : Outbox S D J K G C → Outbox S D J K G C → Type 0
-  HasStayed old new = (new.queue.items ≡ old.queue.items) × (new.repeat ≡ old.repeat)
+  HasStayed old new = (new.queue.items ≡ old.queue.items) × (new.repeat ≡ old.repeat) × (new.told ≡ old.told)
 
   -- copies of the entries are to be stored, and each vote among them leaves behind them
   abbrev pub IsStored : (C → List ℕ) → List (Artifact S D K G C) → Outbox S D J K G C → Outbox S D J K G C → Type 0
@@ -43,3 +49,18 @@ module _ {S D J K G C : Type 0} where
   IsRepeated view (Some vote) true old new = (subject_view vote.subject ≡ view) × HasBecome (output.Vote vote ∷ []) old.repeat old new
   IsRepeated view (Some vote) false old new = (subject_view vote.subject ≢ view) × HasStayed old new
   IsRepeated view None sent old new = (sent ≡ false) × HasStayed old new
+
+  -- one output more finds room
+  abbrev pub HasRoom : Outbox S D J K G C → Type 0
+  HasRoom box = deque_len box.queue < deque_capacity box.queue
+
+  -- a proposal is told as final, or nothing is
+  abbrev pub IsToldWhere : (is_above : Bool) → Proposal D → Outbox S D J K G C → Outbox S D J K G C → Type 0
+  IsToldWhere true proposal old new =
+      (new.queue.items ≡ old.queue.items ++ output.Finalized proposal ∷ []) × (new.repeat ≡ old.repeat) × (new.told ≡ proposal.round.view)
+  IsToldWhere false proposal old new = HasStayed old new
+
+  -- it is where there is one, of a view above all that were told
+  abbrev pub IsTold : Option (Proposal D) → Outbox S D J K G C → Outbox S D J K G C → Type 0
+  IsTold (Some proposal) old new = IsToldWhere (nat_lt old.told proposal.round.view) proposal old new
+  IsTold None old new = HasStayed old new

@@ -55,6 +55,7 @@ impl<S: Assembly<D>, L: Elector<S>, D: Digest> Engine<S, L, D> {
     ghost use Rattle.simplex_laws.specs.Lawful.{IsLawful};
     ghost use Rattle.simplex_laws.specs.Living.{OfAllDone, MayBeDoneBy};
     ghost use Rattle.simplex_engine.specs.Outputs.{AreBehind};
+    ghost use Rattle.simplex_engine.specs.Finals.{finalized_in, AreRising, EndsAt, TellsNoMore};
     ghost use Rattle.simplex_engine.specs.Journals.{journal_of, IsRecordOf};
     ghost use Rattle.simplex_engine.specs.Going.{IsKept, IsWhole, GoesOn, DoesMoreOn, HasGivenOut, has_failed};
     ghost use Rattle.simplex_engine.specs.Settled.{IsSettled, IsWake};
@@ -74,7 +75,8 @@ impl<S: Assembly<D>, L: Elector<S>, D: Digest> Engine<S, L, D> {
     /// signer voted before. A certificate is dropped where one of its kind and view is held. What the application verified or built
     /// is dropped where it was not asked for; a verdict is taken where its view is notarized and has none.
     ///
-    /// - `goes_on`: no certificate is accepted but the one that is handed in, or one on what the vote that is handed in is on.
+    /// - `goes_on`: no certificate is accepted but the one that is handed in, or one on what the vote that is handed in is on; a
+    ///   finalization that is accepted is told, where its view is above all that were told.
     /// - `votes`: of each member it holds votes alone that were handed in.
     /// - `backed`: a certificate that a vote completes is backed by votes of n - f different members on just that, each handed in.
     /// - `dropped`: what was of no use changed nothing of the member, and no vote was taken; a reason to give a view up or a
@@ -119,7 +121,7 @@ impl<S: Assembly<D>, L: Elector<S>, D: Digest> Engine<S, L, D> {
     /// moment that `wake` tells.
     ///
     /// - `given`: what is answered is given out.
-    /// - `does`: no certificate is accepted.
+    /// - `does`, `told`: no certificate is accepted, and no other proposal is queued to be told as final.
     /// - `votes`, `bounded`, `failed`, `refused`: as of `handle`.
     /// - `none`: where nothing is answered, all of the record was given out to be stored, and the member was asked last for all
     ///   its work, its votes on the current view and the certificates of it, and had nothing new.
@@ -137,6 +139,7 @@ impl<S: Assembly<D>, L: Elector<S>, D: Digest> Engine<S, L, D> {
     pub fn poll(&mut self, now: u64) -> Result<Option<Output<S, D, Stored>>, Fault>
         ensures given { HasGivenOut S.certificate_bytes (given_out result) self.old.core self.new.core }
         ensures does { DoesMoreOn D.eq L.elect None self.old.core.member.facts self.new.core.member.facts }
+        ensures told { TellsNoMore (given_out result) self.old.core.outbox self.new.core.outbox }
         ensures none { IfOk result (λ out. IsNone out → IsSettled D.eq L.elect S.certificate_bytes self.new.core) }
         ensures idle { IfOk result (λ out. IsNone out → IsIdle now self.new.plan) }
         ensures lowest { IfOk result (λ out. IsNone out → HoldsFromKept self.new.core self.new.batcher) }
@@ -161,6 +164,7 @@ impl<S: Assembly<D>, L: Elector<S>, D: Digest> Engine<S, L, D> {
     fn poll_after_work(&mut self, now: u64) -> Result<Option<Output<S, D, Stored>>, Fault>
         ensures given { HasGivenOut S.certificate_bytes (given_out result) self.old.core self.new.core }
         ensures does { DoesMoreOn D.eq L.elect None self.old.core.member.facts self.new.core.member.facts }
+        ensures told { TellsNoMore (given_out result) self.old.core.outbox self.new.core.outbox }
         ensures none { IfOk result (λ out. IsNone out → IsSettled D.eq L.elect S.certificate_bytes self.new.core) }
         ensures idle { IfOk result (λ out. IsNone out → IsIdle now self.new.plan) }
         ensures lowest { IfOk result (λ out. IsNone out → HoldsFromKept self.new.core self.new.batcher) }
@@ -234,6 +238,8 @@ impl<S: Assembly<D>, L: Elector<S>, D: Digest> Engine<S, L, D> {
     /// - `behind`: each vote stands behind an output that stores it, with its very signature.
     /// - `stored`: until it fails, where all of the record is queued or was given out, a journal that carries out what was given
     ///   out and what is queued holds the record, and beside it what a journal stores.
+    /// - `rising`: the views of the proposals rise that it told as final.
+    /// - `last`: the last of them, of those that it told and those that are queued, is of the member's last finalized view.
     /// - `lawful`: what its member has done keeps the voting rules, over all its lives.
     /// - `ran`: a network of `agreement` may have it as member `i`.
     pub fn keeps_the_laws(&self)
@@ -241,6 +247,9 @@ impl<S: Assembly<D>, L: Elector<S>, D: Digest> Engine<S, L, D> {
         ensures stored { (given : _) → IsKept S.certificate_bytes given self.now.core → self.now.core.failed ≡ false
             → IsWhole S.certificate_bytes self.now.core
             → IsRecordOf S.certificate_bytes self.now.core.member (journal_of (given ++ self.now.core.outbox.queue.items)) }
+        ensures rising { (given : _) → IsKept S.certificate_bytes given self.now.core → AreRising (finalized_in given) }
+        ensures last { (given : _) → IsKept S.certificate_bytes given self.now.core → IfSome self.now.core.member.facts.life (λ x.
+            EndsAt x.finalized (finalized_in (given ++ self.now.core.outbox.queue.items))) }
         ensures lawful { OfAllDone D.eq L.elect self.now.core.member.facts (λ term_length i all. IsLawful term_length all) }
         ensures ran { OfAllDone D.eq L.elect self.now.core.member.facts (MayBeDoneBy S.PublicKey D.eq L.elect) }
     {

@@ -1,23 +1,26 @@
 //! A lawful member whose record is stored before what follows from it leaves.
 //!
-//! It owes that a journal which carries its outputs out holds the member's record, and that each vote stands behind its entry.
+//! It owes that a journal which carries its outputs out holds the member's record, that each vote stands behind its entry, and that
+//! just what the member accepts as final is told, at rising views.
 #![tactic(auto, using(crate::proofs::Going::stays))]
 
-ghost use Rattle.std.specs.Prelude.{◌≡◌, ◌++◌, [], true, false, All, Some, None, IfOk, IfSome, OnOk, IsNone, IsTrue, ◌↔◌, option_to_list};
+ghost use Rattle.std.specs.Prelude.{◌≡◌, ◌++◌, ◌∷◌, [], true, false, All, Some, None, IfOk, IfSome, OnOk, OnErr, IsNone, IsTrue, ◌↔◌, option_to_list};
 ghost use Rattle.std.specs.Option.{option_copied};
 ghost use Rattle.simplex_types.specs.Certificates.{certificate_facts};
 ghost use Rattle.simplex_types.specs.Encoding.{certificate_subject};
+ghost use Rattle.simplex_laws.specs.Traces.{Accepts};
 ghost use Rattle.simplex_laws.specs.Shown.{certificates_in};
 ghost use Rattle.simplex_member.specs.Calls.{asked};
 ghost use Rattle.simplex_engine.specs.Acting.{hands_in};
-ghost use Rattle.simplex_engine.specs.Doing.{IsDoneOn};
+ghost use Rattle.simplex_engine.specs.Doing.{IsDoneOn, final_by};
+ghost use Rattle.simplex_engine.specs.Finals.{finalized_by};
 
 use crate::outbox::Outbox;
 use crate::output::{Output, Work};
 use simplex_lawful::lawful::LawfulMember;
 use simplex_member::member::{Call, Reply, Stored};
 use simplex_types::types::{
-    Artifact, Certificate, CertificateScheme, Digest, Elector, Scheme, View,
+    Artifact, Certificate, CertificateScheme, Digest, Elector, Proposal, Scheme, View,
 };
 use simplex_voter::voter::State;
 use std::alloc::{AllocError, Global};
@@ -26,7 +29,7 @@ use std::alloc::{AllocError, Global};
 ///
 /// `IsKept` says what was given out so far, in order: `begin` begins the list, each call keeps it by its clause `goes_on`, `next`
 /// adds what it answers, and `keeps_the_laws` says what holds of the whole. `GoesOn` says besides what the member has done by a
-/// call: votes, and the acceptance of a certificate where one is handed in.
+/// call: votes, and the acceptance of a certificate where one is handed in, which is told as final where it is a finalization.
 #[derive(Drop)]
 pub struct Journaled<S: CertificateScheme, L: Elector<S>, D: Digest> {
     member: LawfulMember<S, L, D>,
@@ -47,23 +50,28 @@ impl<S: Scheme<D>, L: Elector<S>, D: Digest> Journaled<S, L, D> {
     ghost use Rattle.simplex_laws.specs.Living.{OfAllDone, MayBeDoneBy};
     ghost use Rattle.simplex_member.specs.Journal.{stored_of};
     ghost use Rattle.simplex_engine.specs.Outputs.{AreBehind};
+    ghost use Rattle.simplex_engine.specs.Outboxes.{HasRoom};
+    ghost use Rattle.simplex_engine.specs.Finals.{finalized_in, AreRising, EndsAt, TellsNoMore};
     ghost use Rattle.simplex_engine.specs.Journals.{journal_of, IsRecordOf};
-    ghost use Rattle.simplex_engine.specs.Going.{IsKept, IsWhole, GoesOn, has_failed};
+    ghost use Rattle.simplex_engine.specs.Going.{IsKept, IsWhole, GoesOn, TellsNothing, has_failed};
     ghost use Rattle.simplex_engine.specs.Dropping.{is_refused, says_nothing, IsLeftBy};
 
-    /// A life begins: the whole record is to be stored in place of all that is stored, before anything else.
+    /// A life begins: the whole record is to be stored in place of all that is stored, before anything else. What is final already is
+    /// never told.
     ///
     /// - `kept`: nothing was given out.
     /// - `whole`: all of the record is queued.
+    /// - `told`: no proposal is queued to be told as final.
     pub fn begin(
         alloc: Global,
         member: LawfulMember<S, L, D>,
     ) -> Result<Journaled<S, L, D>, AllocError>
         ensures kept { IfOk result (IsKept S.certificate_bytes []) }
         ensures whole { IfOk result (λ j. IsWhole S.certificate_bytes j) }
+        ensures told { IfOk result TellsNothing }
         ensures member { IfOk result (λ j. j.member ≡ member) }
     {
-        let mut outbox = Outbox::new(alloc);
+        let mut outbox = Outbox::new(alloc, last_finalized(&member));
         outbox.replace(member.record(), member.stored())?;
         let stored = member.record().len();
         Ok(Journaled {
@@ -74,15 +82,15 @@ impl<S: Scheme<D>, L: Elector<S>, D: Digest> Journaled<S, L, D> {
         })
     }
 
-    /// Makes a call of the member. What it records is queued by `store`.
+    /// Makes a call of the member; certificates are handed in by `hand_in`. What it records is queued by `store`.
     ///
-    /// - `goes_on`: the member accepts no certificate but the one that the call hands in.
+    /// - `goes_on`: the member accepts no certificate but the one that the call hands in, where that is no finalization.
     /// - `quiet`: a call that hands none in accepts none.
     /// - `answered`: as of `LawfulMember::call`.
     /// - `refused`: a call that is refused, and not for want of memory, changes nothing.
     /// - `dropped`: what a call leaves that was of no use.
     pub fn call(&mut self, call: Call<S, D>) -> Reply<S, D>
-        ensures goes_on { (taken : _) → All (IsDoneOn taken) (certificates_in call)
+        ensures goes_on { (taken : _) → All (IsDoneOn taken) (certificates_in call) → finalized_by (certificates_in call) ≡ []
             → GoesOn D.eq L.elect S.certificate_bytes taken self.old self.new }
         ensures quiet { certificates_in call ≡ [] → GoesOn D.eq L.elect S.certificate_bytes None self.old self.new }
         ensures answered { IsCall D.eq L.elect self.old.member.facts (asked S.certificate_bytes call)
@@ -93,6 +101,45 @@ impl<S: Scheme<D>, L: Elector<S>, D: Digest> Journaled<S, L, D> {
         ensures outbox { self.new.outbox ≡ self.old.outbox }
     {
         self.member.call(call)
+    }
+
+    /// Hands a certificate in. Without memory nothing has changed.
+    ///
+    /// - `goes_on`: the member accepts no certificate but this one; a finalization that it accepts is told as final, where its view is
+    ///   above all that were told.
+    /// - `answered`, `refused`: as of `call`.
+    pub fn hand_in(
+        &mut self,
+        certificate: Certificate<S, D>,
+        now: u64,
+    ) -> Result<Reply<S, D>, AllocError>
+        ensures goes_on { GoesOn D.eq L.elect S.certificate_bytes
+            (Some (certificate_subject (certificate_facts S.certificate_bytes certificate))) self.old self.new }
+        ensures answered { IfOk result (λ reply. IsCall D.eq L.elect self.old.member.facts
+            (hands_in (certificate_facts S.certificate_bytes certificate) now) (told S.certificate_bytes reply) self.new.member.facts) }
+        ensures refused { IfOk result (λ reply. IsTrue (is_refused (told S.certificate_bytes reply))
+            → self.new.member.facts ≡ self.old.member.facts) }
+        ensures member { OnErr result (self.new.member ≡ self.old.member) }
+    {
+        match self.outbox.make_room() {
+            Ok(()) => Ok(self.take(certificate, now)),
+            Err(refused) => Err(refused),
+        }
+    }
+
+    /// Hands a certificate in, and tells the proposal as final that it finalizes, where it is accepted.
+    fn take(&mut self, certificate: Certificate<S, D>, now: u64) -> Reply<S, D>
+        requires { HasRoom self.old.outbox }
+        ensures goes_on { GoesOn D.eq L.elect S.certificate_bytes
+            (Some (certificate_subject (certificate_facts S.certificate_bytes certificate))) self.old self.new }
+        ensures answered { IsCall D.eq L.elect self.old.member.facts
+            (hands_in (certificate_facts S.certificate_bytes certificate) now) (told S.certificate_bytes result) self.new.member.facts }
+        ensures refused { IsTrue (is_refused (told S.certificate_bytes result)) → self.new.member.facts ≡ self.old.member.facts }
+    {
+        let finalized = finalized_by(&certificate);
+        let reply = self.member.call(handing_in(certificate, now));
+        self.outbox.tell(final_by(finalized, &reply));
+        reply
     }
 
     /// Queues what the record has grown by, and behind it each vote in it. Without memory nothing has changed.
@@ -156,9 +203,11 @@ impl<S: Scheme<D>, L: Elector<S>, D: Digest> Journaled<S, L, D> {
     /// What is to be carried out next.
     ///
     /// - `kept`: what is answered is given out.
+    /// - `told`: no other proposal is queued to be told as final.
     pub fn next(&mut self) -> Option<Output<S, D, Stored>>
         ensures kept { (given : _) → IsKept S.certificate_bytes given self.old
             → IsKept S.certificate_bytes (given ++ option_to_list result) self.new }
+        ensures told { TellsNoMore (option_to_list result) self.old.outbox self.new.outbox }
         ensures none { IsNone result → self.new.outbox.queue.items ≡ [] }
         ensures same { (self.new.member ≡ self.old.member) × (self.new.stored ≡ self.old.stored) × (self.new.failed ≡ self.old.failed) }
     {
@@ -216,12 +265,17 @@ impl<S: Scheme<D>, L: Elector<S>, D: Digest> Journaled<S, L, D> {
     /// - `stored`: until it fails, where all of the record is queued or was, a journal that carries out what was given out and
     ///   what is queued holds the record, and beside it what a journal stores: so a member that is resumed from it goes on from
     ///   the record.
+    /// - `rising`: the views of the proposals rise that it told as final.
+    /// - `last`: the last of them, of those that it told and those that are queued, is of the member's last finalized view.
     /// - `lawful`: what its member has done keeps the voting rules, over all its lives.
     /// - `ran`: a network of `agreement` may have it as member `i`.
     pub fn keeps_the_laws(&self)
         ensures behind { (given : _) → IsKept S.certificate_bytes given self.now → AreBehind [] given }
         ensures stored { (given : _) → IsKept S.certificate_bytes given self.now → self.now.failed ≡ false → IsWhole S.certificate_bytes self.now
             → IsRecordOf S.certificate_bytes self.now.member (journal_of (given ++ self.now.outbox.queue.items)) }
+        ensures rising { (given : _) → IsKept S.certificate_bytes given self.now → AreRising (finalized_in given) }
+        ensures last { (given : _) → IsKept S.certificate_bytes given self.now → IfSome self.now.member.facts.life (λ x.
+            EndsAt x.finalized (finalized_in (given ++ self.now.outbox.queue.items))) }
         ensures lawful { OfAllDone D.eq L.elect self.now.member.facts (λ term_length i all. IsLawful term_length all) }
         ensures ran { OfAllDone D.eq L.elect self.now.member.facts (MayBeDoneBy S.PublicKey D.eq L.elect) }
     {
@@ -231,13 +285,48 @@ impl<S: Scheme<D>, L: Elector<S>, D: Digest> Journaled<S, L, D> {
     }
 }
 
+/// The last finalized view of a member that has not failed.
+fn last_finalized<S: Scheme<D>, L: Elector<S>, D: Digest>(member: &LawfulMember<S, L, D>) -> View
+    ensures { IfSome member.now.facts.life (λ x. result ≡ x.finalized) }
+{
+    match member.state() {
+        Some(state) => state.last_finalized(),
+        None => View::zero(),
+    }
+}
+
+/// The proposal that a certificate finalizes.
+fn finalized_by<S: CertificateScheme, D: Digest>(
+    certificate: &Certificate<S, D>,
+) -> Option<Proposal<D>>
+    ensures { finalized_by (Accepts (certificate_subject (certificate_facts S.certificate_bytes certificate.now)) ∷ []) ≡ option_to_list result }
+{
+    match certificate {
+        Certificate::Finalization(finalization) => Some(finalization.proposal),
+        _ => None,
+    }
+}
+
+/// The proposal that is final by the answer.
+fn final_by<S: CertificateScheme, D: Digest>(
+    finalized: Option<Proposal<D>>,
+    reply: &Reply<S, D>,
+) -> Option<Proposal<D>>
+    ensures { result ≡ final_by finalized reply.now }
+{
+    match reply {
+        Reply::Added(_, _) | Reply::AddedNullification(_) => finalized,
+        _ => None,
+    }
+}
+
 /// The call that hands a certificate in.
-pub fn handing_in<S: CertificateScheme, D: Digest>(
+fn handing_in<S: CertificateScheme, D: Digest>(
     certificate: Certificate<S, D>,
     now: u64,
 ) -> Call<S, D>
     ensures asked { asked S.certificate_bytes result ≡ hands_in (certificate_facts S.certificate_bytes certificate) now }
-    ensures on_this { All (IsDoneOn (Some (certificate_subject (certificate_facts S.certificate_bytes certificate)))) (certificates_in result) }
+    ensures hands { certificates_in result ≡ Accepts (certificate_subject (certificate_facts S.certificate_bytes certificate)) ∷ [] }
 {
     match certificate {
         Certificate::Notarization(notarization) => Call::AddNotarization(notarization),

@@ -2,9 +2,10 @@
 //!
 //! It owes that over the list of all that it gave out and has queued, each vote stands behind a `Store` or a `Replace` that
 //! holds its entry, with the very signature. Votes are read from the entries that are to be stored, and not from what the core
-//! answered: what a record has grown by is handed to `store`, and each vote in it leaves right behind it.
+//! answered: what a record has grown by is handed to `store`, and each vote in it leaves right behind it. It owes too that the
+//! views of the proposals rise that it tells as final.
 
-ghost use Rattle.std.specs.Prelude.{◌≡◌, ◌++◌, ◌∷◌, [], ◌↔◌, true, None, Some, IsTrue, IsNone, IfOk, OnOk, OnErr, option_to_list};
+ghost use Rattle.std.specs.Prelude.{◌≡◌, ◌++◌, ◌∷◌, [], ◌↔◌, true, nat_lt, None, Some, IsTrue, IsNone, IfOk, OnOk, OnErr, option_to_list};
 ghost use Rattle.std.specs.Option.{option_map_or};
 ghost use Rattle.simplex_engine.specs.declared.output.Output.TheVariants as output;
 ghost use Rattle.simplex_engine.specs.Outputs.{storing};
@@ -13,7 +14,7 @@ mod votes;
 
 use crate::output::{Output, Work};
 use crate::votes::Vote;
-use simplex_types::types::{Artifact, CertificateScheme, Digest, View, Viewable};
+use simplex_types::types::{Artifact, CertificateScheme, Digest, Proposal, View, Viewable};
 use std::alloc::{AllocError, Global};
 use std::collections::VecDeque;
 use votes::{copies, copy_of, newest_nullify, votes_of};
@@ -25,23 +26,27 @@ pub struct Outbox<S: CertificateScheme, D, J> {
     queue: VecDeque<Output<S, D, J>>,
     /// The newest vote to nullify among the entries that are stored.
     repeat: Option<Vote<D, S::Signature>>,
+    /// The highest view whose proposal was told as final, or the one up to which none is.
+    told: View,
 }
 
 impl<S: CertificateScheme, D: Digest, J: Drop> Outbox<S, D, J> {
     ghost use Rattle.simplex_engine.specs.Outputs.{AreBehind};
-    ghost use Rattle.simplex_engine.specs.Outboxes.{IsLawful, HasBecome, HasStayed, IsStored, IsReplaced, IsRepeated};
+    ghost use Rattle.simplex_engine.specs.Finals.{finalized_in, AreRising};
+    ghost use Rattle.simplex_engine.specs.Outboxes.{IsLawful, HasBecome, HasStayed, IsStored, IsReplaced, IsRepeated, HasRoom, IsToldWhere, IsTold};
 
-    /// Nothing is to be carried out.
+    /// Nothing is to be carried out, and no proposal of this view or below is ever told as final.
     ///
     /// - `begins`: nothing was given out.
-    pub fn new(alloc: Global) -> Outbox<S, D, J>
-        ensures empty { (result.queue.items ≡ []) × (result.repeat ≡ None) }
+    pub fn new(alloc: Global, told: View) -> Outbox<S, D, J>
+        ensures empty { (result.queue.items ≡ []) × (result.repeat ≡ None) × (result.told ≡ told) }
         ensures begins { IsLawful [] result }
     {
         Outbox {
             alloc,
             queue: VecDeque::new(alloc),
             repeat: None,
+            told,
         }
     }
 
@@ -84,6 +89,24 @@ impl<S: CertificateScheme, D: Digest, J: Drop> Outbox<S, D, J> {
         self.queue_work(work)
     }
 
+    /// Makes room for what `tell` queues. Without memory there is none.
+    pub fn make_room(&mut self) -> Result<(), AllocError>
+        ensures room { OnOk result (HasRoom self.new) }
+        ensures kept { HasStayed self.old self.new }
+        ensures goes_on { (given : _) → IsLawful given self.old → IsLawful given self.new }
+    {
+        self.queue.reserve(1)
+    }
+
+    /// Tells a proposal as final, where there is one, and none of its view or above was told.
+    pub fn tell(&mut self, finalized: Option<Proposal<D>>)
+        requires { HasRoom self.old }
+        ensures told { IsTold finalized self.old self.new }
+        ensures goes_on { (given : _) → IsLawful given self.old → IsLawful given self.new }
+    {
+        self.queue_final(finalized)
+    }
+
     /// What is to be carried out next.
     ///
     /// - `goes_on`: it was given out behind all that was before.
@@ -91,6 +114,7 @@ impl<S: CertificateScheme, D: Digest, J: Drop> Outbox<S, D, J> {
         ensures front { self.old.queue.items ≡ option_to_list result ++ self.new.queue.items }
         ensures none { IsNone result → self.new.queue.items ≡ [] }
         ensures repeat { self.new.repeat ≡ self.old.repeat }
+        ensures told { self.new.told ≡ self.old.told }
         ensures goes_on { (given : _) → IsLawful given self.old → IsLawful (given ++ option_to_list result) self.new }
     {
         self.queue.pop_front()
@@ -103,10 +127,11 @@ impl<S: CertificateScheme, D: Digest, J: Drop> Outbox<S, D, J> {
         self.queue.is_empty()
     }
 
-    /// The law of all that it gave out so far: each vote stands behind an output that stores it. It does nothing: its contract
-    /// is the law.
+    /// The law of all that it gave out so far: each vote stands behind an output that stores it, and the views of the proposals
+    /// rise that are told as final. It does nothing: its contract is the law.
     pub fn keeps_the_law(&self)
-        ensures { (given : _) → IsLawful given self.now → AreBehind [] given }
+        ensures behind { (given : _) → IsLawful given self.now → AreBehind [] given }
+        ensures rising { (given : _) → IsLawful given self.now → AreRising (finalized_in given) }
     {}
 
     /// Queues entries, and behind them the votes among them.
@@ -162,6 +187,27 @@ impl<S: CertificateScheme, D: Digest, J: Drop> Outbox<S, D, J> {
         Ok(())
     }
 
+    /// Queues a proposal that is final, where there is one.
+    fn queue_final(&mut self, finalized: Option<Proposal<D>>)
+        requires { HasRoom self.old }
+        ensures { IsTold finalized self.old self.new }
+    {
+        if let Some(proposal) = &finalized {
+            self.queue_above(proposal)
+        }
+    }
+
+    /// Queues a proposal that is final, where none of its view or above was told.
+    fn queue_above(&mut self, proposal: &Proposal<D>)
+        requires { HasRoom self.old }
+        ensures { IsToldWhere (nat_lt self.old.told proposal.now.round.view) proposal.now self.old self.new }
+    {
+        if self.told < proposal.round.view {
+            self.told = proposal.round.view;
+            self.queue.push_back_reserved(Output::Finalized(*proposal));
+        }
+    }
+
     /// Queues a batch, and notes the newest vote to nullify in it, where there is one.
     fn queue_batch(
         &mut self,
@@ -183,6 +229,7 @@ impl<S: CertificateScheme, D: Digest, J: Drop> Outbox<S, D, J> {
     /// Notes a vote to nullify, where there is one.
     fn note(&mut self, newest: Option<Vote<D, S::Signature>>)
         ensures queue { self.new.queue ≡ self.old.queue }
+        ensures told { self.new.told ≡ self.old.told }
         ensures noted { self.new.repeat ≡ option_map_or Some newest self.old.repeat }
     {
         if let Some(vote) = newest {

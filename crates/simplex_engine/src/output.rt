@@ -13,11 +13,13 @@ pub enum Output<S: CertificateScheme, D, J> {
     Replace(Vec<Artifact<S, D>>, J),
     /// This member's vote, to be sent to all members.
     Vote(Vote<D, S::Signature>),
+    /// A proposal that is final, and all below it: rising, each view once. Its finalization was accepted.
+    Finalized(Proposal<D>),
     /// Anything else: nothing of it has to be stored before.
     Work(Work<S, D>),
 }
 
-/// What is to be carried out and is neither stored nor a vote.
+/// What is to be carried out and is neither stored, nor a vote, nor final.
 #[derive(Drop)]
 pub enum Work<S: CertificateScheme, D> {
     /// A certificate, to be sent to all others.
@@ -32,8 +34,6 @@ pub enum Work<S: CertificateScheme, D> {
     Certify(Proposal<D>),
     /// What is to be asked of a peer.
     Fetch(Ask),
-    /// A proposal that is final, and all below it: rising, each view once.
-    Finalized(Proposal<D>),
     /// Two votes of one member that contradict each other.
     Equivocated(Vote<D, S::Signature>, Vote<D, S::Signature>),
     /// The leader of the view, by its key, signed two proposals, which certificates show.

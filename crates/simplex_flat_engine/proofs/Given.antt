@@ -3,6 +3,7 @@ use Rattle.std.proofs.Common.{◌≡◌, List, [], ◌∷◌, ◌++◌, false, i
 use Rattle.std.specs.Prelude.{option_to_list}
 use Rattle.std.proofs.lemmas.Bool.{false≢true}
 use Rattle.simplex_host.specs.Host.{certificate_bytes}
+use Rattle.simplex_engine.specs.Finals.{TellsNoMore}
 use Rattle.simplex_engine.specs.Going.{HasGivenOut, IsKept}
 use Rattle.simplex_flat.specs.declared.shown.FlatStored.{FlatStored}
 use Rattle.simplex_flat_engine.specs.declared.held.HeldEngine.{HeldEngine}
@@ -17,3 +18,9 @@ pub all_given : (out : HostOutput) (before : FlatStored) (r : FlatOutput) (old n
 all_given out before r old new going gives (inl it) given all alive =
     subst (λ last. IsKept certificate_bytes (given ++ option_to_list last) new.engine.core) (sym it.0.last) (gives given (all going))
 all_given out before r old new going gives (inr it) given all alive = absurd (false≢true (sym alive ∙ it.0))
+
+-- no other proposal is queued to be told as final
+pub tells_no_more : (out : HostOutput) (before : FlatStored) (r : FlatOutput) (old new : HeldEngine) → TellsNoMore (out ∷ []) old.engine.core.outbox new.engine.core.outbox
+    → IsGivenOut out before r new → new.is_lost ≡ false → TellsNoMore (option_to_list new.last) old.engine.core.outbox new.engine.core.outbox
+tells_no_more out before r old new tells (inl it) alive = subst (λ last. TellsNoMore (option_to_list last) old.engine.core.outbox new.engine.core.outbox) (sym it.0.last) tells
+tells_no_more out before r old new tells (inr it) alive = absurd (false≢true (sym alive ∙ it.0))

@@ -12,7 +12,7 @@ use Rattle.simplex_engine.specs.declared.engine.begin.StartError.TheVariants as 
 use Rattle.simplex_engine.specs.declared.engine.plan.Options.{Options}
 use Rattle.simplex_engine.specs.Batching.{AreGiven}
 use Rattle.simplex_engine.specs.Bounds.{HoldsNoneAhead}
-use Rattle.simplex_engine.specs.Going.{IsWhole}
+use Rattle.simplex_engine.specs.Going.{IsWhole, TellsNothing}
 use Rattle.simplex_flat.specs.declared.flat.FlatSettings.{FlatSettings}
 use Rattle.simplex_flat.specs.declared.opening.NotResumed.TheVariants as not_resumed
 use Rattle.simplex_flat.specs.declared.resolving.NotReplayed.TheVariants as not_replayed
@@ -34,10 +34,12 @@ use Rattle.simplex_flat_engine.specs.Handling.{IsAllGiven, HasShownNothing}
 abbrev pub options_of : FlatOptions → Options
 options_of f = record { retry = f.retry; on_its_way = f.on_its_way; long_record = f.long_record }
 
--- nothing was given out; the whole record is to be stored in place of all that is, no vote is held, and leaders are drawn as set
+-- nothing was given out; the whole record is to be stored in place of all that is, no proposal to be told as final, no vote is held,
+-- and leaders are drawn as set
 pub record HasGivenNothing (f : FlatSettings) (held : HeldEngine) : Type 0 where
   pub kept : IsAllGiven [] held
   pub whole : IsWhole certificate_bytes held.engine.core
+  pub told : TellsNothing held.engine.core
   pub votes : AreGiven [] held.engine.batcher
   pub bounded : HoldsNoneAhead host_keys held.engine.core held.engine.batcher
   pub draws : held.draws ≡ f.draws

@@ -16,6 +16,7 @@ use Rattle.simplex_engine.specs.Backing.{IsBackedInput, TakesNone, TakesVotes, v
 use Rattle.simplex_engine.specs.Bounds.{HoldsAdmitted, HoldsFromKept, HoldsNoneAhead, StaysBounded}
 use Rattle.simplex_engine.specs.Repairing.{AsksForItsLacking}
 use Rattle.simplex_engine.specs.Dropping.{IsDropped}
+use Rattle.simplex_engine.specs.Finals.{TellsNoMore}
 use Rattle.simplex_engine.specs.Going.{DoesMoreOn, GoesOn, IsKept, IsWhole, has_failed}
 use Rattle.simplex_engine.specs.Inputs.{subject_in}
 use Rattle.simplex_engine.specs.Journals.{IsRecordOf, journal_of}
@@ -175,6 +176,8 @@ IsOutcome now old r new =
 pub record IsAsked (now : ℕ) (old : HeldEngine) (r : FlatOutput) (new : HeldEngine) : Type 0 where
   -- what is given out stands behind all that was
   pub given : (given : List HostOutput) → IsAllGiven given old → IsAllGiven (given ++ option_to_list new.last) new
+  -- no other proposal is queued to be told as final
+  pub told : new.is_lost ≡ false → TellsNoMore (option_to_list new.last) old.engine.core.outbox new.engine.core.outbox
   -- no certificate is accepted, and no vote is taken
   pub does : DoesMoreOn same_host_payload host_leader None old.engine.core.member.facts new.engine.core.member.facts
   pub votes : TakesNone old.engine.batcher new.engine.batcher

@@ -66,7 +66,6 @@ IsWork (work.Build c) f = (f.kind ≡ 6) × IsContext f.context c × (f.subject.
 IsWork (work.StopBuilding v) f = (f.kind ≡ 7) × (f.view ≡ v)
 IsWork (work.Certify q) f = (f.kind ≡ 8) × IsFlatProposal f.subject.proposal q
 IsWork (work.Fetch ask) f = IsFetch ask f
-IsWork (work.Finalized q) f = (f.kind ≡ 10) × IsFlatProposal f.subject.proposal q
 IsWork (work.Equivocated v w) f = (f.kind ≡ 11) × IsVoteOf f.subject v × IsVoteOf f.other w
 IsWork (work.ProposedTwice v leader) f = (f.kind ≡ 12) × (f.view ≡ v) × (f.member ≡ leader.0)
 IsWork (work.Forget v) f = (f.kind ≡ 13) × (f.view ≡ v)
@@ -76,6 +75,7 @@ abbrev pub HasOutputOf : HostOutput → FlatOutput → Type 0
 HasOutputOf (output.Store entries) f = f.kind ≡ 1
 HasOutputOf (output.Replace entries beside) f = f.kind ≡ 2
 HasOutputOf (output.Vote v) f = (f.kind ≡ 3) × IsVoteOf f.subject v
+HasOutputOf (output.Finalized q) f = (f.kind ≡ 10) × IsProposal f.subject.proposal q
 HasOutputOf (output.Work w) f = IsWork w f
 
 -- the bytes of a certificate

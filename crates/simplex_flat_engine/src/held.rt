@@ -50,6 +50,7 @@ impl HeldEngine {
     ghost use Rattle.simplex_laws.specs.Lawful.{IsLawful};
     ghost use Rattle.simplex_laws.specs.Living.{OfAllDone, MayBeDoneBy};
     ghost use Rattle.simplex_engine.specs.Outputs.{AreBehind};
+    ghost use Rattle.simplex_engine.specs.Finals.{finalized_in, AreRising};
     ghost use Rattle.simplex_flat.specs.Serving.{host_leader, same_host_payload};
     ghost use Rattle.simplex_host.specs.declared.scheme.HostKey.{HostKey};
 
@@ -217,11 +218,13 @@ impl HeldEngine {
     /// - `behind`: each vote stands behind an output that stores it, with its very order.
     /// - `stored`: where all of the record was given out, a journal that carries out what was given out holds the record, and beside
     ///   it what a journal stores.
+    /// - `rising`: the views of the proposals rise that it told as final.
     /// - `lawful`: what its member has done keeps the voting rules, over all its lives.
     /// - `ran`: a network of `agreement` may have it as member `i`.
     pub fn keeps_the_laws(&self)
         ensures behind { (given : _) → IsAllGiven given self.now → self.now.is_lost ≡ false → AreBehind [] given }
         ensures stored { (given : _) → IsAllGiven given self.now → self.now.is_lost ≡ false → HoldsRecord given self.now }
+        ensures rising { (given : _) → IsAllGiven given self.now → self.now.is_lost ≡ false → AreRising (finalized_in given) }
         ensures lawful { OfAllDone same_host_payload host_leader self.now.engine.core.member.facts (λ term_length i all. IsLawful term_length all) }
         ensures ran { OfAllDone same_host_payload host_leader self.now.engine.core.member.facts (MayBeDoneBy HostKey same_host_payload host_leader) }
     {

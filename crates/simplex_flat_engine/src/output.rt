@@ -30,7 +30,7 @@ pub type HostOutput = Output<HostScheme, HostDigest, Stored>;
 /// A vote of a member of the host.
 pub type HostVote = Vote<HostDigest, Order>;
 
-/// What is to be carried out of the host, and is neither stored nor a vote.
+/// What is to be carried out of the host, and is neither stored, nor a vote, nor final.
 pub type HostWork = Work<HostScheme, HostDigest>;
 
 /// A proposal with nothing in it.
@@ -59,6 +59,7 @@ pub(crate) fn flat_output(output: &HostOutput) -> FlatOutput
             subject: flat_vote(vote),
             ..output_of(3)
         },
+        Output::Finalized(proposal) => of_proposal(10, proposal),
         Output::Work(work) => flat_work(work),
     }
 }
@@ -78,7 +79,6 @@ fn flat_work(work: &HostWork) -> FlatOutput
         Work::StopBuilding(view) => of_view(7, view.get()),
         Work::Certify(proposal) => of_proposal(8, proposal),
         Work::Fetch(ask) => flat_fetch(*ask),
-        Work::Finalized(proposal) => of_proposal(10, proposal),
         Work::Equivocated(first, second) => FlatOutput {
             subject: flat_vote(first),
             other: flat_vote(second),

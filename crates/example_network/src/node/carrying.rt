@@ -49,6 +49,10 @@ impl Node {
                 self.send_to_all(Message::Vote(vote))?;
                 self.send_to(self.me, Message::Vote(own))
             }
+            Output::Finalized(proposal) => {
+                self.counts.finalized = self.counts.finalized.saturating_add(1);
+                self.tell(News::Finalized(proposal))
+            }
             Output::Work(work) => self.do_work(work, now),
         }
     }
@@ -63,10 +67,6 @@ impl Node {
                 now,
             ),
             Work::Fetch(ask) => self.fetch(ask),
-            Work::Finalized(proposal) => {
-                self.counts.finalized = self.counts.finalized.saturating_add(1);
-                self.tell(News::Finalized(proposal))
-            }
             Work::Equivocated(_, _) => {
                 self.counts.contradictions = self.counts.contradictions.saturating_add(1);
                 Ok(())

@@ -3,7 +3,7 @@
 
 ghost use Rattle.std.specs.Prelude.{◌≡◌, [], IfOk, length};
 ghost use Rattle.simplex_engine.specs.Batching.{AreGiven};
-ghost use Rattle.simplex_engine.specs.Going.{IsKept, IsWhole};
+ghost use Rattle.simplex_engine.specs.Going.{IsKept, IsWhole, TellsNothing};
 
 use super::Engine;
 use super::plan::{Options, Plan, Views};
@@ -78,8 +78,8 @@ impl<S: Assembly<D>, L: Elector<S>, D: Digest> Engine<S, L, D> {
     /// The elector's members are the scheme's participants.
     /// - `started`: its member is the one that `LawfulMember::start` makes.
     /// - `begins`: it has accepted the floor's finalization, if there is one, and done nothing else.
-    /// - `kept`, `whole`, `votes`, `bounded`: nothing was given out, the whole record stands to be stored in place of all that is,
-    ///   and no vote is held.
+    /// - `kept`, `whole`, `told`, `votes`, `bounded`: nothing was given out, the whole record stands to be stored in place of all that
+    ///   is, no proposal to be told as final, and no vote is held.
     ///
     /// # Errors
     ///
@@ -92,6 +92,7 @@ impl<S: Assembly<D>, L: Elector<S>, D: Digest> Engine<S, L, D> {
         requires { L.members start.settings.elector ≡ length (S.participants start.settings.scheme) }
         ensures kept { IfOk result (λ engine. IsKept S.certificate_bytes [] engine.core) }
         ensures whole { IfOk result (λ engine. IsWhole S.certificate_bytes engine.core) }
+        ensures told { IfOk result (λ engine. TellsNothing engine.core) }
         ensures votes { IfOk result (λ engine. AreGiven [] engine.batcher) }
         ensures bounded { IfOk result (λ engine. HoldsNoneAhead S.participants engine.core engine.batcher) }
         ensures started { IfOk result (λ engine. engine.core.member.facts ≡ started_member D.eq L.elect
@@ -112,7 +113,7 @@ impl<S: Assembly<D>, L: Elector<S>, D: Digest> Engine<S, L, D> {
     /// - `resumed`: its member is the one that `LawfulMember::resume` makes.
     /// - `goes_on`: in terms of the same length and with the key of the same member or none, what was done before stays done,
     ///   and the floor's finalization is accepted too.
-    /// - `kept`, `whole`, `votes`, `bounded`: as of `start`.
+    /// - `kept`, `whole`, `told`, `votes`, `bounded`: as of `start`.
     ///
     /// # Errors
     ///
@@ -127,6 +128,7 @@ impl<S: Assembly<D>, L: Elector<S>, D: Digest> Engine<S, L, D> {
         requires { L.members start.settings.elector ≡ length (S.participants start.settings.scheme) }
         ensures kept { IfOk result (λ engine. IsKept S.certificate_bytes [] engine.core) }
         ensures whole { IfOk result (λ engine. IsWhole S.certificate_bytes engine.core) }
+        ensures told { IfOk result (λ engine. TellsNothing engine.core) }
         ensures votes { IfOk result (λ engine. AreGiven [] engine.batcher) }
         ensures bounded { IfOk result (λ engine. HoldsNoneAhead S.participants engine.core engine.batcher) }
         ensures resumed { IfOk result (λ engine. IsResumed D.eq L.elect stored
@@ -173,6 +175,7 @@ fn begin<S: Assembly<D>, L: Elector<S>, D: Digest>(
 ) -> Result<Engine<S, L, D>, StartError>
     ensures kept { IfOk result (λ engine. IsKept S.certificate_bytes [] engine.core) }
     ensures whole { IfOk result (λ engine. IsWhole S.certificate_bytes engine.core) }
+    ensures told { IfOk result (λ engine. TellsNothing engine.core) }
     ensures votes { AreGiven [] company.batcher → IfOk result (λ engine. AreGiven [] engine.batcher) }
     ensures member { IfOk result (λ engine. engine.core.member ≡ member) }
 {
@@ -193,6 +196,7 @@ fn begin_with<S: Assembly<D>, L: Elector<S>, D: Digest>(
 ) -> Result<Engine<S, L, D>, StartError>
     ensures kept { IfOk result (λ engine. IsKept S.certificate_bytes [] engine.core) }
     ensures whole { IfOk result (λ engine. IsWhole S.certificate_bytes engine.core) }
+    ensures told { IfOk result (λ engine. TellsNothing engine.core) }
     ensures votes { AreGiven [] batcher → IfOk result (λ engine. AreGiven [] engine.batcher) }
     ensures member { IfOk result (λ engine. engine.core.member ≡ member) }
 {

@@ -11,7 +11,6 @@ ghost use Rattle.simplex_engine.specs.Admitting.{admits, admits_votes};
 use super::Engine;
 use super::asking::is_lasting;
 use crate::batcher::Counted;
-use crate::journaled::handing_in;
 use crate::output::Work;
 use crate::votes::{Vote, round_of};
 use simplex_assembly::assembly::Assembly;
@@ -98,7 +97,7 @@ impl<S: Assembly<D>, L: Elector<S>, D: Digest> Engine<S, L, D> {
             return Ok(false);
         }
         let copy = certificate.clone(self.alloc)?;
-        let reply = self.core.call(handing_in(certificate, now));
+        let reply = self.core.hand_in(certificate, now)?;
         self.follow_certificate(&copy, &reply, now)
     }
 

@@ -87,8 +87,6 @@ pub struct Plan<S: CertificateScheme, D> {
     /// There is no other member.
     is_alone: bool,
     views: Views,
-    /// The highest view whose finalization was told.
-    told: View,
     steps: VecDeque<Step<S, D>>,
     repair: Repair,
     builds: Vec<Building<D, S::PublicKey>>,
@@ -112,7 +110,7 @@ impl<S: CertificateScheme, D: Digest> Plan<S, D> {
         repair: Repair,
     ) -> Plan<S, D>
         ensures options { (result.options ≡ options) × (result.is_alone ≡ is_alone) }
-        ensures views { (result.views ≡ views) × (result.told ≡ views.last_finalized) }
+        ensures views { result.views ≡ views }
         ensures repair { result.repair ≡ repair }
         ensures nothing { (result.steps.items ≡ []) × (result.builds.items ≡ []) × (result.early.proposals.items ≡ []) × (result.ignored ≡ 0) }
         ensures due { (result.is_watch_due ≡ true) × (result.is_timeout_due ≡ true) × (result.is_prune_due ≡ true) × (result.timeout ≡ 0) }
@@ -122,7 +120,6 @@ impl<S: CertificateScheme, D: Digest> Plan<S, D> {
             options,
             is_alone,
             views,
-            told: views.last_finalized,
             steps: VecDeque::new(alloc),
             repair,
             builds: Vec::new(alloc),

@@ -1,16 +1,14 @@
 //! What follows from a certificate that the member accepted.
 
-ghost use Rattle.std.specs.Prelude.{◌≡◌, ◌≤◌, ◌==◌, ◌+◌, ◌-◌, ◌^◌, min, OnOk, IsFalse, nat_lt};
+ghost use Rattle.std.specs.Prelude.{◌≡◌, ◌≤◌, ◌==◌, ◌+◌, ◌-◌, ◌^◌, min, OnOk, IsFalse};
 ghost use Rattle.simplex_engine.specs.Planning.{HasPlanned};
 ghost use Rattle.simplex_types.specs.Viewed.{certificate_view};
-ghost use Rattle.simplex_engine.specs.Following.{showing, IsTold, IsResolverTold, IsFinalTold, IsTakenInAbove, IsNewFollowed, IsAddedFollowed, IsCertificateFollowed};
+ghost use Rattle.simplex_engine.specs.Following.{showing, IsResolverTold, IsTakenInAbove, IsNewFollowed, IsAddedFollowed, IsCertificateFollowed};
 
 use super::Plan;
 use crate::output::Work;
 use simplex_member::member::Reply;
-use simplex_types::types::{
-    Certificate, CertificateScheme, Digest, Fault, Proposal, View, Viewable,
-};
+use simplex_types::types::{Certificate, CertificateScheme, Digest, Fault, View, Viewable};
 
 impl<S: CertificateScheme, D: Digest> Plan<S, D> {
     /// Follows the answer to a certificate that was handed in.
@@ -81,7 +79,6 @@ impl<S: CertificateScheme, D: Digest> Plan<S, D> {
             return Ok(());
         }
         self.hear(certificate, now)?;
-        self.tell_final(certificate)?;
         self.touch(view)
     }
 
@@ -99,32 +96,11 @@ impl<S: CertificateScheme, D: Digest> Plan<S, D> {
         Ok(())
     }
 
-    /// A proposal that is final by the certificate is told.
-    fn tell_final(&mut self, certificate: &Certificate<S, D>) -> Result<(), Fault>
-        ensures { OnOk result (IsFinalTold certificate.now self.old self.new) }
-    {
-        match certificate {
-            Certificate::Finalization(finalization) => self.tell(&finalization.proposal),
-            _ => Ok(()),
-        }
-    }
-
     /// The moment from which on what is lacking is asked for: until then it may be on its way.
     pub(super) fn later(&self, now: u64) -> u64
         ensures { result ≡ min (now + self.now.options.on_its_way) (2 ^ 64 - 1) }
     {
         now.saturating_add(self.options.on_its_way)
-    }
-
-    /// A proposal is final, and none above it was before.
-    fn tell(&mut self, proposal: &Proposal<D>) -> Result<(), Fault>
-        ensures { OnOk result (IsTold proposal.now (nat_lt self.old.told proposal.now.round.view) self.old self.new) }
-    {
-        if self.told < proposal.round.view {
-            self.told = proposal.round.view;
-            self.push(Work::Finalized(*proposal))?;
-        }
-        Ok(())
     }
 }
 

@@ -12,10 +12,10 @@ returns-clause-goes_on g c =
     let bytes_of = g.S.CertificateScheme.certificate_bytes in
     let taken = Some (certificate_subject (certificate_facts bytes_of c.args.certificate)) in
     subst (GoesOn g.D.PartialEq.eq g.L.Elector.elect bytes_of taken c.args.self.now.core) (sym c.follow_certificate.ensures.core)
-    (c.call-reply.ensures.goes_on taken c.handing_in.ensures.on_this)
+    c.hand_in.ensures.goes_on
 
 pub returns-clause-dropped : goal.returns-clause-dropped
 returns-clause-dropped g c =
     IfOk-weaker c.follow_certificate.result _ _ (λ is_of_use told no.
-    ap (λ core. core.member.facts) c.follow_certificate.ensures.core ∙ c.call-reply.ensures.refused (not-false _ (sym told ∙ no)))
+    ap (λ core. core.member.facts) c.follow_certificate.ensures.core ∙ c.in_ok-reply.ensures.refused (not-false _ (sym told ∙ no)))
     c.follow_certificate.ensures.of_use

@@ -1,5 +1,9 @@
 -- That nothing is done where nothing but the next output is taken, and that each vote which is held is of a view that takes votes.
-use Rattle.std.proofs.Common.{refl}
+use Rattle.std.proofs.Common.{refl, subst}
+use Rattle.std.specs.Prelude.{option_to_list}
+use Rattle.simplex_engine.specs.Finals.{TellsNoMore}
+use Rattle.simplex_engine.specs.Inputs.{given_out}
+use Rattle.simplex_engine.proofs.Finals.{tells_still}
 use Rattle.simplex_engine.proofs.Bounds.{bounded_same, bounded_admitted}
 use Rattle.simplex_engine.proofs.Going.{does_nothing_more, where_ok}
 use Rattle.simplex_engine.proofs.engine.Engine.poll.Goals as goal
@@ -9,6 +13,17 @@ returns-then-has_failed-clause-does g c = does_nothing_more c.args.self.now.core
 
 pub returns-in-Some-clause-does : goal.returns-in-Some-clause-does
 returns-in-Some-clause-does g c = does_nothing_more c.args.self.now.core c.next.new.self c.next.ensures.same.0
+
+pub returns-then-has_failed-clause-told : goal.returns-then-has_failed-clause-told
+returns-then-has_failed-clause-told g c = record { queued = refl; told = refl }
+
+pub returns-in-Some-clause-told : goal.returns-in-Some-clause-told
+returns-in-Some-clause-told g c = subst (λ out. TellsNoMore (option_to_list out) c.args.self.now.core.outbox c.next.new.self.outbox) c.in-Some.is c.next.ensures.told
+
+pub returns-in-None-clause-told : goal.returns-in-None-clause-told
+returns-in-None-clause-told g c =
+    tells_still (given_out c.poll_after_work.result) c.args.self.now.core.outbox c.next.new.self.outbox c.poll_after_work.new.self.core.outbox
+    (subst (λ out. TellsNoMore (option_to_list out) c.args.self.now.core.outbox c.next.new.self.outbox) c.in-None.is c.next.ensures.told) c.poll_after_work.ensures.told
 
 pub returns-then-has_failed-clause-bounded : goal.returns-then-has_failed-clause-bounded
 returns-then-has_failed-clause-bounded g c = bounded_same g.S.CertificateScheme.participants c.args.self.now.core c.args.self.now.core c.args.self.now.batcher refl

@@ -1,6 +1,6 @@
 -- That only the steps have done anything, and that an error fails the engine.
 use Rattle.std.proofs.Common.{refl, ap, sym, subst, length, ◌≤◌}
-use Rattle.std.specs.Prelude.{IfSome}
+use Rattle.std.specs.Prelude.{IfSome, option_to_list}
 use Rattle.simplex_voter.specs.Windows.{min_active}
 use Rattle.simplex_engine.specs.Batching.{HoldsFrom}
 use Rattle.simplex_engine.specs.Wanted.{AsksForTheLacking}
@@ -8,7 +8,7 @@ use Rattle.simplex_engine.specs.Going.{has_failed}
 use Rattle.simplex_engine.specs.Quiet.{HasNothingNew}
 use Rattle.simplex_engine.proofs.Backing.{takes_nothing}
 use Rattle.simplex_engine.proofs.Bounds.{bounded_still, bounded_further, bounded_same}
-use Rattle.simplex_engine.proofs.Going.{goes_further, gives_nothing, does_more}
+use Rattle.simplex_engine.proofs.Going.{goes_further, gives_nothing, does_more, tells_no_other, tells_no_other_then}
 use Rattle.simplex_engine.proofs.engine.Engine.poll_after_work.Goals as goal
 
 pub returns-in-Ok-clause-given : goal.returns-in-Ok-clause-given
@@ -16,6 +16,13 @@ returns-in-Ok-clause-given g c = λ given kept. c.next.ensures.kept given (c.wor
 
 pub returns-in-Ok-clause-does : goal.returns-in-Ok-clause-does
 returns-in-Ok-clause-does g c = does_more c.args.self.now.core c.work.new.self.core c.next.new.self c.work.ensures.alone.goes_on c.next.ensures.same.0
+
+pub returns-in-Ok-clause-told : goal.returns-in-Ok-clause-told
+returns-in-Ok-clause-told g c =
+    tells_no_other_then c.args.self.now.core c.work.new.self.core c.work.ensures.goes_on c.next.new.self (option_to_list c.next.result) c.next.ensures.told
+
+pub returns-in-Err-clause-told : goal.returns-in-Err-clause-told
+returns-in-Err-clause-told g c = tells_no_other c.args.self.now.core c.fail.new.self (goes_further c.work.ensures.goes_on c.fail.ensures.goes_on)
 
 pub returns-in-Ok-clause-none : goal.returns-in-Ok-clause-none
 returns-in-Ok-clause-none g c = λ none. record {

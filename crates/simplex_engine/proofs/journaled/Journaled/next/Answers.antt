@@ -1,6 +1,7 @@
 -- That what is given out was queued in front.
-use Rattle.std.proofs.Common.{◌++◌, ap, sym, subst, ◌∙◌, append_assoc}
-use Rattle.std.specs.Prelude.{option_to_list}
+use Rattle.std.proofs.Common.{◌≡◌, ◌++◌, ap, sym, subst, ◌∙◌, append_assoc}
+use Rattle.std.specs.Prelude.{IfSome, option_to_list}
+use Rattle.simplex_engine.specs.Finals.{finalized_in}
 use Rattle.simplex_engine.specs.Journals.{journal_of, IsBeginningOf}
 use Rattle.simplex_engine.proofs.journaled.Journaled.next.Goals as goal
 
@@ -14,4 +15,8 @@ returns-clause-kept g c = λ given kept.
           subst (IsBeginningOf g.S.CertificateScheme.certificate_bytes old.member old.stored)
           (ap (λ queued. journal_of (given ++ queued)) c.next.ensures.front ∙ ap journal_of (sym (append_assoc given out c.next.new.self.queue.items)))
           (kept.stored lives);
+      told = subst (λ t. IfSome old.member.facts.life (λ x. t ≡ x.finalized)) (sym c.next.ensures.told) kept.told;
     }
+
+pub returns-clause-told : goal.returns-clause-told
+returns-clause-told g c = record { queued = ap finalized_in c.next.ensures.front; told = c.next.ensures.told }

@@ -1,4 +1,6 @@
-use Rattle.std.proofs.Common.{refl}
+use Rattle.std.proofs.Common.{refl, [], ◌∷◌}
+use Rattle.simplex_engine.specs.declared.output.Output.TheVariants as output
+use Rattle.simplex_engine.proofs.Finals.{become_tells, stayed_tells}
 use Rattle.simplex_engine.proofs.Kept.{does_no_more, pushed, kept_as_it_was}
 use Rattle.simplex_engine.proofs.Lawfully.{by_result}
 use Rattle.simplex_engine.proofs.journaled.Journaled.push.Goals as goal
@@ -12,3 +14,6 @@ returns-clause-goes_on g c =
     (by_result c.push.result c.push.ensures.queued c.push.ensures.kept
     (pushed bytes_of old new refl refl refl c.push.ensures.goes_on c.args.work)
     (kept_as_it_was bytes_of old new refl refl refl c.push.ensures.goes_on))
+    (by_result c.push.result c.push.ensures.queued c.push.ensures.kept
+    (become_tells (output.Work c.args.work ∷ []) old.outbox.repeat old.outbox new.outbox refl)
+    (stayed_tells old.outbox new.outbox))

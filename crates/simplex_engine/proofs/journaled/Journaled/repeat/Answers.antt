@@ -1,5 +1,6 @@
 use Rattle.std.proofs.Common.{refl}
-use Rattle.simplex_engine.proofs.Kept.{does_no_more, repeated, kept_as_it_was}
+use Rattle.simplex_engine.proofs.Finals.{stayed_tells}
+use Rattle.simplex_engine.proofs.Kept.{does_no_more, repeated, repeated_tells, kept_as_it_was}
 use Rattle.simplex_engine.proofs.Lawfully.{by_answer}
 use Rattle.simplex_engine.proofs.journaled.Journaled.repeat.Goals as goal
 
@@ -12,3 +13,6 @@ returns-clause-goes_on g c =
     (by_answer c.repeat.result c.repeat.ensures.queued c.repeat.ensures.kept
     (repeated bytes_of old new refl refl refl c.repeat.ensures.goes_on c.args.view)
     (kept_as_it_was bytes_of old new refl refl refl c.repeat.ensures.goes_on))
+    (by_answer c.repeat.result c.repeat.ensures.queued c.repeat.ensures.kept
+    (repeated_tells bytes_of old new c.args.view)
+    (stayed_tells old.outbox new.outbox))

@@ -14,5 +14,6 @@ returns-in-Ok-clause-queued g c = (
         c.in-Ok.ensures.queued.repeat_is
         ∙ ap (λ newest. option_map_or Some newest c.args.self.now.repeat) (c.in_ok-newest.ensures ∙ ap (newest_from None) c.deref.ensures.value)
         ∙ sym (newest_or c.args.self.now.repeat c.in_ok-entries.entries.items);
+    told_is = c.in-Ok.ensures.queued.told_is;
   },
 )

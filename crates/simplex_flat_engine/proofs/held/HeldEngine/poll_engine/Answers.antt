@@ -3,8 +3,9 @@ use Rattle.std.proofs.Common.{inl, inr, refl, sym, subst, ◌∙◌}
 use Rattle.std.specs.Prelude.{◌++◌, IsOk, option_to_list}
 use Rattle.std.proofs.lemmas.Bool.{false≢true}
 use Rattle.simplex_host.specs.Host.{certificate_bytes}
+use Rattle.simplex_engine.specs.Finals.{TellsNoMore}
 use Rattle.simplex_engine.specs.Going.{IsKept}
-use Rattle.simplex_flat_engine.proofs.Given.{all_given}
+use Rattle.simplex_flat_engine.proofs.Given.{all_given, tells_no_more}
 use Rattle.simplex_flat_engine.proofs.held.HeldEngine.poll_engine.Goals as goal
 
 pub returns-in-Ok-Some : goal.returns-in-Ok-Some
@@ -17,6 +18,8 @@ returns-in-Ok-Some c =
         record {
           given = all_given c.in-Ok-Some.output c.args.self.now.stored c.give_out.result c.args.self.now c.give_out.new.self going
               (rw rest.0 given) c.give_out.ensures.given;
+          told = tells_no_more c.in-Ok-Some.output c.args.self.now.stored c.give_out.result c.args.self.now c.give_out.new.self
+              (rw rest.0 (rw c.in-Ok-Some.field-0-is at c.in-Ok-Some.ensures.told)) c.give_out.ensures.given;
           does = rw rest.0 c.in-Ok-Some.ensures.does;
           votes = rw rest.0 c.in-Ok-Some.ensures.votes;
           bounded = rw rest.0 c.in-Ok-Some.ensures.bounded;
@@ -39,6 +42,8 @@ returns-in-Ok-None c =
         record {
           given = λ before all alive. subst (λ last. IsKept certificate_bytes (before ++ option_to_list last) c.poll.new.self.core)
               (sym c.requires.last) (given before (all going));
+          told = λ alive. subst (λ last. TellsNoMore (option_to_list last) c.args.self.now.engine.core.outbox c.poll.new.self.core.outbox)
+              (sym c.requires.last) (rw none at c.in-Ok-None.ensures.told);
           does = c.in-Ok-None.ensures.does;
           votes = c.in-Ok-None.ensures.votes;
           bounded = c.in-Ok-None.ensures.bounded;

@@ -22,6 +22,7 @@ returns-in-Ok-resume-clause-resumed c =
       nothing = record {
         kept = λ _. rw c.new.ensures.engine c.in-Ok-resume.ensures.kept;
         whole = rw c.new.ensures.engine c.in-Ok-resume.ensures.whole;
+        told = rw c.new.ensures.engine c.in-Ok-resume.ensures.told;
         votes = rw c.new.ensures.engine c.in-Ok-resume.ensures.votes;
         bounded = rw c.new.ensures.engine c.in-Ok-resume.ensures.bounded;
         draws = c.new.ensures.draws;

@@ -13,6 +13,7 @@ returns-in-Ok-start-clause-begun c = record {
   nothing = record {
     kept = λ _. rw c.new.ensures.engine c.in-Ok-start.ensures.kept;
     whole = rw c.new.ensures.engine c.in-Ok-start.ensures.whole;
+    told = rw c.new.ensures.engine c.in-Ok-start.ensures.told;
     votes = rw c.new.ensures.engine c.in-Ok-start.ensures.votes;
     bounded = rw c.new.ensures.engine c.in-Ok-start.ensures.bounded;
     draws = c.new.ensures.draws;

@@ -1,4 +1,4 @@
--- That the resolver is told, then what is final, and the view is touched.
+-- That the resolver is told, and the view is touched.
 use Rattle.std.proofs.Common.{◌∙◌, ap, sym, subst}
 use Rattle.std.specs.Prelude.{◌==◌}
 use Rattle.simplex_engine.specs.Following.{watching, IsTakenInAbove}
@@ -14,9 +14,9 @@ returns g c =
     let taken = c.args.certificate.now in
     let old = c.args.self.now in
     let new = c.touch.new.self in
-    let told = c.tell_final.new.self in
+    let heard = c.hear.new.self in
     let above = ap (λ v. v == 0) (sym c.view-view.ensures) ∙ sym c.is_genesis.ensures.is ∙ c.if-is_genesis.false in
     on_ok c.touch.result c.touch.ensures
     (λ planned. subst (λ b. IsTakenInAbove bytes bytes_of c.args.now b taken old new) (sym above)
-    (taken_in bytes bytes_of c.args.now taken old c.hear.new.self told new c.hear.ensures.same c.in_ok-hear.ensures.heard c.in_ok-tell_final.ensures
-    (subst (λ v. HasPlanned (touching v) (watching told) new) c.view-view.ensures planned)))
+    (taken_in bytes bytes_of c.args.now taken old heard new c.hear.ensures.same c.in_ok-hear.ensures.heard
+    (subst (λ v. HasPlanned (touching v) (watching heard) new) c.view-view.ensures planned)))

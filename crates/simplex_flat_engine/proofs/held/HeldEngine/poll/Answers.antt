@@ -1,0 +1,25 @@
+-- That what is asked of an engine is no matter of what it gave out last.
+use Rattle.std.proofs.Common.{inl, inr}
+use Rattle.simplex_flat_engine.proofs.held.HeldEngine.poll.Goals as goal
+
+pub returns : goal.returns
+returns c =
+    let is = c.poll_engine.ensures in (
+      elim is.0 [
+        | inl lost ↦ inl lost
+        | inr (going, asked) ↦ inr (
+          going,
+          record {
+            given = asked.given;
+            told = asked.told;
+            does = asked.does;
+            votes = asked.votes;
+            bounded = asked.bounded;
+            outcome = asked.outcome;
+            refused = asked.refused;
+          },
+        )
+      ],
+      is.1,
+      is.2,
+    )
