@@ -11,7 +11,7 @@ use Rattle.simplex_engine.specs.declared.batcher.poll.Ballot.{Ballot}
 use Rattle.simplex_engine.specs.declared.journaled.Journaled.{Journaled}
 use Rattle.simplex_engine.specs.declared.votes.Vote.{Vote}
 use Rattle.simplex_engine.specs.Subjects.{same_subject}
-use Rattle.simplex_engine.specs.Polls.{ballot_of, signature_in, signatures_on}
+use Rattle.simplex_engine.specs.Polls.{ballot_of, signature_on, signatures_on}
 use Rattle.simplex_assembly.specs.Quorums.{quorum_of}
 use Rattle.simplex_engine.specs.Batching.{kind_of, held, AreGiven, IsCounted}
 use Rattle.simplex_engine.specs.Backing.{HasQuorum, TakesVotes, TakesNone, IsBacked, IsBackedInput}
@@ -89,7 +89,7 @@ module _ {D G : Type 0} (same : D → D → Bool) (law : (d e : D) → same d e 
   abbrev IsGivenOf : ℕ → Option (Ballot D G) → Type 0
   IsGivenOf member held = (ballot : Ballot D G) → held ≡ Some ballot → Contains given (record { subject = ballot.subject; signer = member; signature = ballot.signature })
 
-  one_given : (member : ℕ) (held : Option (Ballot D G)) → IsGivenOf member held → All IsAmong (signature_in same on member held)
+  one_given : (member : ℕ) (held : Option (Ballot D G)) → IsGivenOf member held → All IsAmong (signature_on same on member held)
   one_given member None are = All-nil IsAmong
   one_given member (Some ballot) are = by_test (same_subject same ballot.subject on) refl
     where
@@ -103,7 +103,7 @@ module _ {D G : Type 0} (same : D → D → Bool) (law : (d e : D) → same d e 
   given_on : (member : ℕ) (slots : List (Option (Ballot D G))) → ((m : ℕ) → IsGivenOf m (ballot_of slots m)) → All IsAmong (signatures_on same on member slots)
   given_on zero slots are = All-nil IsAmong
   given_on (suc member) slots are =
-      All-append IsAmong (signatures_on same on member slots) (signature_in same on member (ballot_of slots member)) (given_on member slots are) (one_given member (ballot_of slots member) (are member))
+      All-append IsAmong (signatures_on same on member slots) (signature_on same on member (ballot_of slots member)) (given_on member slots are) (one_given member (ballot_of slots member) (are member))
 
   -- a quorum of the votes that are held
   pub quorum_given : (members : ℕ) (slots : List (Option (Ballot D G))) → ((m : ℕ) → IsGivenOf m (ballot_of slots m)) → length (signatures_on same on members slots) ≡ quorum_of members → HasQuorum members given on

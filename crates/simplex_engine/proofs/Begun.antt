@@ -11,7 +11,7 @@ use Rattle.simplex_member.specs.declared.member.journal.Stored.{Stored}
 use Rattle.simplex_engine.specs.declared.journaled.Journaled.{Journaled}
 use Rattle.simplex_engine.specs.declared.outbox.Outbox.{Outbox}
 use Rattle.simplex_engine.specs.declared.output.Output.{Output}
-use Rattle.simplex_engine.specs.Outboxes.{IsLawful, IsReplaced}
+use Rattle.simplex_engine.specs.Outboxes.{IsLawfulOutbox, IsReplaced}
 use Rattle.simplex_engine.specs.Going.{IsKept}
 use Rattle.simplex_engine.proofs.Kept.{replaced, told_last_still}
 
@@ -22,7 +22,7 @@ module _ {S L D K G C : Type 0} (bytes_of : C → List ℕ) (member : SignedMemb
   abbrev pub after : Journaled S L D K G C
   after = record { member = member; outbox = new; stored = count; failed = false }
 
-  pub begun : IsLawful [] old → new.told ≡ old.told → IfSome member.facts.life (λ x. old.told ≡ x.finalized) → ((given : List (Output S D Stored K G C)) → IsLawful given old → IsLawful given new)
+  pub begun : IsLawfulOutbox [] old → new.told ≡ old.told → IfSome member.facts.life (λ x. old.told ≡ x.finalized) → ((given : List (Output S D Stored K G C)) → IsLawfulOutbox given old → IsLawfulOutbox given new)
       → (all : List (Artifact S D K G C)) → count ≡ length all → entries_of bytes_of all ≡ member.facts.entries → votes_of all ≡ member.votes
       → IsReplaced bytes_of all (stored_of member.facts) old new → IsKept bytes_of [] after
   begun begins same_told last lawful all counted all_entries all_votes is =

@@ -10,7 +10,7 @@ use Rattle.simplex_types.specs.declared.types.messages.Artifact.TheVariants as a
 use Rattle.simplex_engine.specs.declared.output.Output.{Output}
 use Rattle.simplex_engine.specs.declared.output.Output.TheVariants as output
 use Rattle.simplex_engine.specs.declared.votes.Vote.{Vote}
-use Rattle.simplex_engine.specs.Entries.{vote_in, votes_in, nullify_in, newest_from}
+use Rattle.simplex_engine.specs.Entries.{vote_in, votes_of_entries, nullify_in, newest_from}
 use Rattle.simplex_engine.specs.Outputs.{entries_in, stored_in, storing, AreBehind}
 
 module _ {X : Type 0} where
@@ -29,9 +29,9 @@ or_assoc None (Some w) b = refl
 or_assoc (Some v) o b = refl
 
 module _ {S D K G C : Type 0} where
-  pub votes_in-append : (xs ys : List (Artifact S D K G C)) → votes_in (xs ++ ys) ≡ votes_in xs ++ votes_in ys
+  pub votes_in-append : (xs ys : List (Artifact S D K G C)) → votes_of_entries (xs ++ ys) ≡ votes_of_entries xs ++ votes_of_entries ys
   votes_in-append [] ys = refl
-  votes_in-append (x ∷ xs) ys = ap (λ vs. option_to_list (vote_in x) ++ vs) (votes_in-append xs ys) ∙ sym (append_assoc (option_to_list (vote_in x)) (votes_in xs) (votes_in ys))
+  votes_in-append (x ∷ xs) ys = ap (λ vs. option_to_list (vote_in x) ++ vs) (votes_in-append xs ys) ∙ sym (append_assoc (option_to_list (vote_in x)) (votes_of_entries xs) (votes_of_entries ys))
 
   -- the newest of the entries, or else the one before
   pub newest_or : (before : Option (Vote D G)) (entries : List (Artifact S D K G C)) → newest_from before entries ≡ option_map_or Some (newest_from None entries) before
@@ -42,10 +42,10 @@ module _ {S D K G C : Type 0} where
       ∙ sym (ap (λ v. option_map_or Some v before) (newest_or (option_map_or Some (nullify_in entry) None) rest))
 
   -- what may be repeated is recorded
-  pub newest_recorded : (before : Option (Vote D G)) (entries : List (Artifact S D K G C)) (all : List (Vote D G)) → IfSome before (Contains all) → IfSome (newest_from before entries) (Contains (all ++ votes_in entries))
+  pub newest_recorded : (before : Option (Vote D G)) (entries : List (Artifact S D K G C)) (all : List (Vote D G)) → IfSome before (Contains all) → IfSome (newest_from before entries) (Contains (all ++ votes_of_entries entries))
   newest_recorded None [] all has = tt
   newest_recorded (Some v) [] all has = contains_left all [] v has
-  newest_recorded before (entry ∷ rest) all has = rw (← append_assoc all (option_to_list (vote_in entry)) (votes_in rest)) (newest_recorded (option_map_or Some (nullify_in entry) before) rest (all ++ option_to_list (vote_in entry)) (kept entry before has))
+  newest_recorded before (entry ∷ rest) all has = rw (← append_assoc all (option_to_list (vote_in entry)) (votes_of_entries rest)) (newest_recorded (option_map_or Some (nullify_in entry) before) rest (all ++ option_to_list (vote_in entry)) (kept entry before has))
     where
       wider : (o : Option (Vote D G)) (more : List (Vote D G)) → IfSome o (Contains all) → IfSome o (Contains (all ++ more))
       wider None more h = tt
@@ -76,18 +76,18 @@ module _ {S D J K G C : Type 0} where
   beginning stored (x ∷ xs) ys all = (all.0, beginning (stored ++ entries_in x) xs ys all.1)
 
 module _ {S D K G C : Type 0} (J : Type 0) where
-  votes_follow : (before votes : List (Vote D G)) (stored : List (Artifact S D K G C)) → votes_in stored ≡ before ++ votes → AreBehind {J = J} stored (map output.Vote votes)
+  votes_follow : (before votes : List (Vote D G)) (stored : List (Artifact S D K G C)) → votes_of_entries stored ≡ before ++ votes → AreBehind {J = J} stored (map output.Vote votes)
   votes_follow before [] stored are = tt
   votes_follow before (v ∷ vs) stored are =
       (rw are (contains_seam before v vs), rw append-nil (votes_follow (before ++ v ∷ []) vs stored (are ∙ sym (append_assoc before (v ∷ []) vs))))
 
   -- entries, and behind them the votes among them
   pub storing_behind : (stored : List (Artifact S D K G C)) (entries : Vec (Artifact S D K G C) Global) → AreBehind {J = J} stored (storing entries)
-  storing_behind stored entries = (tt, votes_follow (votes_in stored) (votes_in entries.items) (stored ++ entries.items) (votes_in-append stored entries.items))
+  storing_behind stored entries = (tt, votes_follow (votes_of_entries stored) (votes_of_entries entries.items) (stored ++ entries.items) (votes_in-append stored entries.items))
 
   nothing_stored : (votes : List (Vote D G)) → stored_in {S = S} {J = J} {K = K} {C = C} (map output.Vote votes) ≡ []
   nothing_stored [] = refl
   nothing_stored (v ∷ vs) = nothing_stored vs
 
   pub stored_by : (entries : Vec (Artifact S D K G C) Global) → stored_in {J = J} (storing entries) ≡ entries.items
-  stored_by entries = ap (λ es. entries.items ++ es) (nothing_stored (votes_in entries.items)) ∙ append-nil entries.items
+  stored_by entries = ap (λ es. entries.items ++ es) (nothing_stored (votes_of_entries entries.items)) ∙ append-nil entries.items

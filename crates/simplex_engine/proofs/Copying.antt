@@ -8,7 +8,7 @@ use Rattle.simplex_types.specs.declared.types.messages.Artifact.{Artifact}
 use Rattle.simplex_engine.specs.declared.output.Output.{Output}
 use Rattle.simplex_engine.specs.declared.output.Output.TheVariants as output
 use Rattle.simplex_engine.specs.declared.votes.Vote.{Vote}
-use Rattle.simplex_engine.specs.Entries.{vote_in, votes_in, nullify_in, newest_from, AreCopies}
+use Rattle.simplex_engine.specs.Entries.{vote_in, votes_of_entries, nullify_in, newest_from, AreCopies}
 
 -- the next one is the first that is left
 next_left : {X : Type 0} (xs : List X) (i : ℕ) (x : X) → i < length xs → x ≡ get_or xs i x → drop i xs ≡ x ∷ drop (i + 1) xs
@@ -38,13 +38,13 @@ module _ {S D K G C : Type 0} where
       ap (λ v. newest_from v (drop (i + 1) entries)) step ∙ sym (ap (newest_from before) (next_left entries i entry within is)) ∙ whole
 
 module _ {S D J K G C : Type 0} where
-  pub votes_step : (entries : List (Artifact S D K G C)) (i : ℕ) (entry : Artifact S D K G C) (before after all : List (Output S D J K G C)) → i < length entries → entry ≡ get_or entries i entry → after ≡ before ++ map output.Vote (option_to_list (vote_in entry)) → before ++ map output.Vote (votes_in (drop i entries)) ≡ all → after ++ map output.Vote (votes_in (drop (i + 1) entries)) ≡ all
+  pub votes_step : (entries : List (Artifact S D K G C)) (i : ℕ) (entry : Artifact S D K G C) (before after all : List (Output S D J K G C)) → i < length entries → entry ≡ get_or entries i entry → after ≡ before ++ map output.Vote (option_to_list (vote_in entry)) → before ++ map output.Vote (votes_of_entries (drop i entries)) ≡ all → after ++ map output.Vote (votes_of_entries (drop (i + 1) entries)) ≡ all
   votes_step entries i entry before after all within is step whole =
-      let rest = votes_in (drop (i + 1) entries) in
+      let rest = votes_of_entries (drop (i + 1) entries) in
       ap (λ vs. vs ++ map output.Vote rest) step
       ∙ append_assoc before (map output.Vote (option_to_list (vote_in entry))) (map output.Vote rest)
       ∙ ap (λ vs. before ++ vs) (sym (map-append output.Vote (option_to_list (vote_in entry)) rest))
-      ∙ ap (λ es. before ++ map output.Vote (votes_in es)) (sym (next_left entries i entry within is)) ∙ whole
+      ∙ ap (λ es. before ++ map output.Vote (votes_of_entries es)) (sym (next_left entries i entry within is)) ∙ whole
 
-  pub votes_end : (entries : List (Artifact S D K G C)) (i : ℕ) (votes all : List (Output S D J K G C)) → length entries ≤ i → votes ++ map output.Vote (votes_in (drop i entries)) ≡ all → votes ≡ all
-  votes_end entries i votes all past whole = sym (append-nil votes) ∙ ap (λ es. votes ++ map output.Vote (votes_in es)) (sym (none_left entries i past)) ∙ whole
+  pub votes_end : (entries : List (Artifact S D K G C)) (i : ℕ) (votes all : List (Output S D J K G C)) → length entries ≤ i → votes ++ map output.Vote (votes_of_entries (drop i entries)) ≡ all → votes ≡ all
+  votes_end entries i votes all past whole = sym (append-nil votes) ∙ ap (λ es. votes ++ map output.Vote (votes_of_entries es)) (sym (none_left entries i past)) ∙ whole

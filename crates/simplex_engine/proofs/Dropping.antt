@@ -24,7 +24,7 @@ use Rattle.simplex_member.specs.CallSemantics.{answer, if_new}
 use Rattle.simplex_member.specs.Calls.{CallFacts, Told, Refused, NotAllowed, Judged, TryPropose, TriggerTimeout, Certified}
 use Rattle.simplex_member.specs.Lives.{MemberFacts, IsCall, AnswersAlive, unless_refused, unless_kept, with_call}
 use Rattle.simplex_member.specs.OutstandingWork.{OutstandingWork, without_offer}
-use Rattle.simplex_engine.specs.Dropping.{is_refused, says_nothing, HasNoted, IsNoted, without_offer_at, IsLeftBy}
+use Rattle.simplex_engine.specs.Dropping.{is_refused, says_nothing, HasNoted, IsNoted, without_offer_at, IsLeftByCall}
 
 -- a reason that does not count
 
@@ -103,7 +103,7 @@ module _ {K L D : Type 0} (same : D → D → Bool) (elect : Elect L) (x : State
 -- all calls
 
 module _ {K L D : Type 0} where
-  same_left : (call : CallFacts D) (m left : MemberFacts K L D) → left ≡ m → IsLeftBy call m left
+  same_left : (call : CallFacts D) (m left : MemberFacts K L D) → left ≡ m → IsLeftByCall call m left
   same_left (TriggerTimeout _ _ _) m left is = inl is
   same_left (Certified _ _ _) m left is = inl is
   same_left _ m left is = is
@@ -129,7 +129,7 @@ module _ {K L D : Type 0} (same : D → D → Bool) (elect : Elect L) where
       by_life (Some x) (inr (_, tells, _)) = absurd (false≢true (sym (ap is_refused tells) ∙ refused))
 
   answered_left : (x : StateFacts K L D) (m left : MemberFacts K L D) (call : CallFacts D) (told : Told K D) → m.life ≡ Some x → is_allowed x m.outstanding_work call ≡ true
-      → told ≡ answer same elect x m.outstanding_work call → left ≡ with_call same elect x m call → says_nothing told ≡ true → IsLeftBy call m left
+      → told ≡ answer same elect x m.outstanding_work call → left ≡ with_call same elect x m call → says_nothing told ≡ true → IsLeftByCall call m left
   answered_left x m left (TriggerTimeout view reason now) told alive allowed tells leaves says =
       inr (record {
         before = x;
@@ -143,17 +143,17 @@ module _ {K L D : Type 0} (same : D → D → Bool) (elect : Elect L) where
   answered_left x m left _ told alive allowed tells leaves says = absurd (false≢true (sym (ap says_nothing tells) ∙ says))
 
   -- a call of no use
-  pub dropped_left : (m left : MemberFacts K L D) (call : CallFacts D) (told : Told K D) → IsCall same elect m call told left → says_nothing told ≡ true → IsLeftBy call m left
+  pub dropped_left : (m left : MemberFacts K L D) (call : CallFacts D) (told : Told K D) → IsCall same elect m call told left → says_nothing told ≡ true → IsLeftByCall call m left
   unfolding IsCall
   dropped_left m left call told is_call says = by_life m.life refl is_call
     where
       by_test : (x : StateFacts K L D) → m.life ≡ Some x → (b : Bool) (due : Option Fault) → is_allowed x m.outstanding_work call ≡ b → told ≡ cond b (unless_refused due (answer same elect x m.outstanding_work call)) NotAllowed
-          → left ≡ cond b (unless_kept due m (with_call same elect x m call)) m → IsLeftBy call m left
+          → left ≡ cond b (unless_kept due m (with_call same elect x m call)) m → IsLeftByCall call m left
       by_test x alive false due allowed tells leaves = same_left call m left leaves
       by_test x alive true (Some due) allowed tells leaves = same_left call m left leaves
       by_test x alive true None allowed tells leaves = answered_left x m left call told alive allowed tells leaves says
 
-      by_life : (life : Option (StateFacts K L D)) → m.life ≡ life → AnswersAlive same elect life m call told left → IsLeftBy call m left
+      by_life : (life : Option (StateFacts K L D)) → m.life ≡ life → AnswersAlive same elect life m call told left → IsLeftByCall call m left
       by_life None gone (tells, leaves) = same_left call m left leaves
       by_life (Some x) alive (inl (tells, leaves)) = by_test x alive (is_allowed x m.outstanding_work call) (fault_of x call) refl tells leaves
       by_life (Some x) alive (inr (_, tells, _)) = absurd (false≢true (sym (ap says_nothing tells) ∙ says))

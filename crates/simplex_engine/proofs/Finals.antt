@@ -14,13 +14,13 @@ use Rattle.simplex_engine.specs.declared.output.Output.{Output}
 use Rattle.simplex_engine.specs.declared.output.Output.TheVariants as output
 use Rattle.simplex_engine.specs.declared.votes.Vote.{Vote}
 use Rattle.simplex_engine.specs.Doing.{IsDoneOn}
-use Rattle.simplex_engine.specs.Entries.{votes_in}
-use Rattle.simplex_engine.specs.Finals.{finalized_in, finalized_by, AreRising, EndsAt, rising_above, highest, TellsRising, TellsNoMore}
+use Rattle.simplex_engine.specs.Entries.{votes_of_entries}
+use Rattle.simplex_engine.specs.Finals.{finals_in, finals_by, RiseByView, EndsAt, rising_above, raised_to, TellsRising, TellsNoMore}
 use Rattle.simplex_engine.specs.Outboxes.{HasBecome, HasStayed, IsToldWhere, IsTold}
 use Rattle.simplex_engine.specs.Outputs.{storing}
 
 module _ {S D J K G C : Type 0} where
-  pub finalized_in-append : (xs ys : List (Output S D J K G C)) → finalized_in (xs ++ ys) ≡ finalized_in xs ++ finalized_in ys
+  pub finalized_in-append : (xs ys : List (Output S D J K G C)) → finals_in (xs ++ ys) ≡ finals_in xs ++ finals_in ys
   finalized_in-append [] ys = refl
   finalized_in-append (output.Finalized p ∷ xs) ys = ap (λ ps. p ∷ ps) (finalized_in-append xs ys)
   finalized_in-append (output.Store entries ∷ xs) ys = finalized_in-append xs ys
@@ -29,13 +29,13 @@ module _ {S D J K G C : Type 0} where
   finalized_in-append (output.Work work ∷ xs) ys = finalized_in-append xs ys
 
 module _ (S J K C : Type 0) {D G : Type 0} where
-  votes_tell_none : (votes : List (Vote D G)) → finalized_in {S = S} {J = J} {K = K} {C = C} (map output.Vote votes) ≡ []
+  votes_tell_none : (votes : List (Vote D G)) → finals_in {S = S} {J = J} {K = K} {C = C} (map output.Vote votes) ≡ []
   votes_tell_none [] = refl
   votes_tell_none (v ∷ vs) = votes_tell_none vs
 
 -- entries, and the votes behind them
-pub storing_tells_none : {S D K G C : Type 0} (J : Type 0) (entries : Vec (Artifact S D K G C) Global) → finalized_in {J = J} (storing entries) ≡ []
-storing_tells_none {S = S} {K = K} {C = C} J entries = votes_tell_none S J K C (votes_in entries.items)
+pub storing_tells_none : {S D K G C : Type 0} (J : Type 0) (entries : Vec (Artifact S D K G C) Global) → finals_in {J = J} (storing entries) ≡ []
+storing_tells_none {S = S} {K = K} {C = C} J entries = votes_tell_none S J K C (votes_of_entries entries.items)
 
 max_above : (m n : ℕ) → nat_lt m n ≡ true → max m n ≡ n
 max_above m n e = grind (arith, nat_tests, e)
@@ -44,7 +44,7 @@ max_below : (m n : ℕ) → nat_lt m n ≡ false → max m n ≡ m
 max_below m n e = grind (arith, nat_tests, e)
 
 module _ {D : Type 0} where
-  pub finalized_by-append : (xs ys : List (TraceEvent D)) → finalized_by (xs ++ ys) ≡ finalized_by xs ++ finalized_by ys
+  pub finalized_by-append : (xs ys : List (TraceEvent D)) → finals_by (xs ++ ys) ≡ finals_by xs ++ finals_by ys
   finalized_by-append [] ys = refl
   finalized_by-append (Accepts (subject.Finalize p) ∷ xs) ys = ap (λ ps. p ∷ ps) (finalized_by-append xs ys)
   finalized_by-append (Accepts (subject.Notarize p) ∷ xs) ys = finalized_by-append xs ys
@@ -52,13 +52,13 @@ module _ {D : Type 0} where
   finalized_by-append (Signs signer vote ∷ xs) ys = finalized_by-append xs ys
 
   -- where no certificate is accepted
-  pub none_finalized : (events : List (TraceEvent D)) → All (IsDoneOn None) events → finalized_by events ≡ []
+  pub none_finalized : (events : List (TraceEvent D)) → All (IsDoneOn None) events → finals_by events ≡ []
   none_finalized [] none = refl
   none_finalized (Accepts certificate ∷ rest) none = absurd (All-head (IsDoneOn None) (Accepts certificate) rest none)
   none_finalized (Signs signer vote ∷ rest) none = none_finalized rest (All-tail (IsDoneOn None) (Signs signer vote) rest none)
 
   -- one more, above all
-  pub rising_further : (view : ℕ) (xs : List (Proposal D)) (p : Proposal D) → AreRising xs → EndsAt view xs → view < p.round.view → AreRising (xs ++ p ∷ [])
+  pub rising_further : (view : ℕ) (xs : List (Proposal D)) (p : Proposal D) → RiseByView xs → EndsAt view xs → view < p.round.view → RiseByView (xs ++ p ∷ [])
   rising_further view [] p rise ends above = tt
   rising_further view (x ∷ []) p rise ends above = (rw ends above, tt)
   rising_further view (x ∷ y ∷ rest) p rise ends above = (rise.0, rising_further view (y ∷ rest) p rise.1 ends above)
@@ -69,36 +69,36 @@ module _ {D : Type 0} where
   ends_with (x ∷ y ∷ rest) p = ends_with (y ∷ rest) p
 
   -- the first of those that rise
-  pub rising_first : (xs ys : List (Proposal D)) → AreRising (xs ++ ys) → AreRising xs
+  pub rising_first : (xs ys : List (Proposal D)) → RiseByView (xs ++ ys) → RiseByView xs
   rising_first [] ys rise = tt
   rising_first (x ∷ []) ys rise = tt
   rising_first (x ∷ y ∷ rest) ys rise = (rise.0, rising_first (y ∷ rest) ys rise.1)
 
-  pub highest-append : (view : ℕ) (xs ys : List (Proposal D)) → highest view (xs ++ ys) ≡ highest (highest view xs) ys
+  pub highest-append : (view : ℕ) (xs ys : List (Proposal D)) → raised_to view (xs ++ ys) ≡ raised_to (raised_to view xs) ys
   highest-append view [] ys = refl
   highest-append view (x ∷ xs) ys = highest-append (max view x.round.view) xs ys
 
-  pub rising_above-append : (view : ℕ) (xs ys : List (Proposal D)) → rising_above view (xs ++ ys) ≡ rising_above view xs ++ rising_above (highest view xs) ys
+  pub rising_above-append : (view : ℕ) (xs ys : List (Proposal D)) → rising_above view (xs ++ ys) ≡ rising_above view xs ++ rising_above (raised_to view xs) ys
   rising_above-append view [] ys = refl
   rising_above-append view (x ∷ xs) ys = by_test (λ v. rising_above-append v xs ys) (nat_lt view x.round.view) refl
     where
-      by_test : ((v : ℕ) → rising_above v (xs ++ ys) ≡ rising_above v xs ++ rising_above (highest v xs) ys) → (t : Bool) → nat_lt view x.round.view ≡ t
+      by_test : ((v : ℕ) → rising_above v (xs ++ ys) ≡ rising_above v xs ++ rising_above (raised_to v xs) ys) → (t : Bool) → nat_lt view x.round.view ≡ t
           → cond t (x ∷ rising_above x.round.view (xs ++ ys)) (rising_above view (xs ++ ys))
-          ≡ cond t (x ∷ rising_above x.round.view xs) (rising_above view xs) ++ rising_above (highest (max view x.round.view) xs) ys
-      by_test rest true e = ap (λ ps. x ∷ ps) (rest x.round.view ∙ ap (λ v. rising_above x.round.view xs ++ rising_above (highest v xs) ys) (sym (max_above view x.round.view e)))
-      by_test rest false e = rest view ∙ ap (λ v. rising_above view xs ++ rising_above (highest v xs) ys) (sym (max_below view x.round.view e))
+          ≡ cond t (x ∷ rising_above x.round.view xs) (rising_above view xs) ++ rising_above (raised_to (max view x.round.view) xs) ys
+      by_test rest true e = ap (λ ps. x ∷ ps) (rest x.round.view ∙ ap (λ v. rising_above x.round.view xs ++ rising_above (raised_to v xs) ys) (sym (max_above view x.round.view e)))
+      by_test rest false e = rest view ∙ ap (λ v. rising_above view xs ++ rising_above (raised_to v xs) ys) (sym (max_below view x.round.view e))
 
 module _ {S D J K G C : Type 0} where
   -- nothing is told
-  pub tells_none : (old new : Outbox S D J K G C) → finalized_in new.queue.items ≡ finalized_in old.queue.items → new.told ≡ old.told → TellsRising [] old new
-  tells_none old new queued told = record { queued = queued ∙ sym (append-nil (finalized_in old.queue.items)); told = told }
+  pub tells_none : (old new : Outbox S D J K G C) → finals_in new.queue.items ≡ finals_in old.queue.items → new.told ≡ old.told → TellsRising [] old new
+  tells_none old new queued told = record { queued = queued ∙ sym (append-nil (finals_in old.queue.items)); told = told }
 
   pub stayed_tells : (old new : Outbox S D J K G C) → HasStayed old new → TellsRising [] old new
-  stayed_tells old new stayed = tells_none old new (ap finalized_in stayed.0) stayed.2
+  stayed_tells old new stayed = tells_none old new (ap finals_in stayed.0) stayed.2
 
-  pub become_tells : (more : List (Output S D J K G C)) (repeat : Option (Vote D G)) (old new : Outbox S D J K G C) → finalized_in more ≡ [] → HasBecome more repeat old new → TellsRising [] old new
+  pub become_tells : (more : List (Output S D J K G C)) (repeat : Option (Vote D G)) (old new : Outbox S D J K G C) → finals_in more ≡ [] → HasBecome more repeat old new → TellsRising [] old new
   become_tells more repeat old new none become = record {
-    queued = ap finalized_in become.queue ∙ finalized_in-append old.queue.items more ∙ ap (λ ps. finalized_in old.queue.items ++ ps) none;
+    queued = ap finals_in become.queue ∙ finalized_in-append old.queue.items more ∙ ap (λ ps. finals_in old.queue.items ++ ps) none;
     told = become.told_is;
   }
 
@@ -108,23 +108,23 @@ module _ {S D J K G C : Type 0} where
     queued =
         second.queued
         ∙ ap (λ ps. ps ++ rising_above b.told ys) first.queued
-        ∙ append_assoc (finalized_in a.queue.items) (rising_above a.told xs) (rising_above b.told ys)
-        ∙ ap (λ ps. finalized_in a.queue.items ++ ps)
+        ∙ append_assoc (finals_in a.queue.items) (rising_above a.told xs) (rising_above b.told ys)
+        ∙ ap (λ ps. finals_in a.queue.items ++ ps)
         (ap (λ v. rising_above a.told xs ++ rising_above v ys) first.told ∙ sym (rising_above-append a.told xs ys));
-    told = second.told ∙ ap (λ v. highest v ys) first.told ∙ sym (highest-append a.told xs ys);
+    told = second.told ∙ ap (λ v. raised_to v ys) first.told ∙ sym (highest-append a.told xs ys);
   }
 
   told_where : (p : Proposal D) (old new : Outbox S D J K G C) (t : Bool) → nat_lt old.told p.round.view ≡ t → IsToldWhere t p old new → TellsRising (p ∷ []) old new
   told_where p old new true e is = record {
     queued =
-        ap finalized_in is.0 ∙ finalized_in-append old.queue.items (output.Finalized p ∷ [])
-        ∙ sym (ap (λ t. finalized_in old.queue.items ++ cond t (p ∷ []) []) e);
+        ap finals_in is.0 ∙ finalized_in-append old.queue.items (output.Finalized p ∷ [])
+        ∙ sym (ap (λ t. finals_in old.queue.items ++ cond t (p ∷ []) []) e);
     told = is.2 ∙ sym (max_above old.told p.round.view e);
   }
   told_where p old new false e is = record {
     queued =
-        ap finalized_in is.0 ∙ sym (append-nil (finalized_in old.queue.items))
-        ∙ sym (ap (λ t. finalized_in old.queue.items ++ cond t (p ∷ []) []) e);
+        ap finals_in is.0 ∙ sym (append-nil (finals_in old.queue.items))
+        ∙ sym (ap (λ t. finals_in old.queue.items ++ cond t (p ∷ []) []) e);
     told = is.2 ∙ sym (max_below old.told p.round.view e);
   }
 
@@ -138,7 +138,7 @@ module _ {S D J K G C : Type 0} where
   tells_no_more finals out a b c none first second =
       let nothing : TellsRising [] a b = subst (λ ps. TellsRising ps a b) none first in
       record {
-        queued = sym (nothing.queued ∙ append-nil (finalized_in a.queue.items)) ∙ second.queued;
+        queued = sym (nothing.queued ∙ append-nil (finals_in a.queue.items)) ∙ second.queued;
         told = second.told ∙ nothing.told;
       }
 

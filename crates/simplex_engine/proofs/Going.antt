@@ -18,7 +18,7 @@ use Rattle.simplex_laws.specs.Traces.{TraceEvent, Accepts, Signs}
 use Rattle.simplex_laws.specs.Living.{HasDone, DoesMore}
 use Rattle.simplex_engine.specs.declared.journaled.Journaled.{Journaled}
 use Rattle.simplex_engine.specs.Doing.{IsDoneOn}
-use Rattle.simplex_engine.specs.Finals.{TellsRising, TellsNoMore, finalized_by}
+use Rattle.simplex_engine.specs.Finals.{TellsRising, TellsNoMore, finals_by}
 use Rattle.simplex_engine.specs.declared.output.Output.{Output}
 use Rattle.simplex_engine.specs.Going.{IsKept, GoesOn, DoesMoreOn, HasGivenOut, HasRisen}
 use Rattle.simplex_engine.proofs.Finals.{finalized_by-append, none_finalized, tells_none, tells_further, tells_no_more, tells_nothing}
@@ -64,7 +64,7 @@ module _ {S L D K G C : Type 0} {same : D → D → Bool} {elect : Elect L} {byt
         (second.done term_length i (all ++ first.more) (first.done term_length i all done));
     told =
         subst (λ ps. TellsRising ps a.outbox c.outbox) (sym (finalized_by-append first.more second.more))
-        (tells_further (finalized_by first.more) (finalized_by second.more) a.outbox b.outbox c.outbox first.told second.told);
+        (tells_further (finals_by first.more) (finals_by second.more) a.outbox b.outbox c.outbox first.told second.told);
     risen = risen_further a.member.facts b.member.facts c.member.facts first.risen second.risen;
   }
 
@@ -97,10 +97,10 @@ does_nothing_more {same = same} {elect = elect} {taken = taken} a b is =
 -- no more is told as final than was queued, where no certificate is accepted
 module _ {S L D K G C : Type 0} {same : D → D → Bool} {elect : Elect L} {bytes_of : C → List ℕ} (a b : Journaled S L D K G C) (went : GoesOn same elect bytes_of None a b) where
   pub tells_no_other : TellsNoMore [] a.outbox b.outbox
-  tells_no_other = tells_nothing (finalized_by went.more) a.outbox b.outbox (none_finalized went.more went.on_this) went.told
+  tells_no_other = tells_nothing (finals_by went.more) a.outbox b.outbox (none_finalized went.more went.on_this) went.told
 
   pub tells_no_other_then : (c : Journaled S L D K G C) (out : List (Output S D Stored K G C)) → TellsNoMore out b.outbox c.outbox → TellsNoMore out a.outbox c.outbox
-  tells_no_other_then c out = tells_no_more (finalized_by went.more) out a.outbox b.outbox c.outbox (none_finalized went.more went.on_this) went.told
+  tells_no_other_then c out = tells_no_more (finals_by went.more) out a.outbox b.outbox c.outbox (none_finalized went.more went.on_this) went.told
 
 -- what holds of an answer
 pub where_ok : {X E : Type 0} (r : Result X E) {P Q : X → Type 0} → IfOk r P → ((x : X) → P x → Q x) → IfOk r Q

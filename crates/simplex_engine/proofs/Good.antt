@@ -14,7 +14,7 @@ use Rattle.simplex_engine.specs.declared.batcher.Counted.TheVariants.{Refused, K
 use Rattle.simplex_engine.specs.declared.batcher.poll.Ballot.{Ballot}
 use Rattle.simplex_engine.specs.declared.votes.Vote.{Vote}
 use Rattle.simplex_engine.specs.Subjects.{same_subject}
-use Rattle.simplex_engine.specs.Polls.{ballot_of, signature_in, signatures_on}
+use Rattle.simplex_engine.specs.Polls.{ballot_of, signature_on, signatures_on}
 use Rattle.simplex_assembly.specs.Quorums.{quorum_of, AreSigned, IsSignedByQuorum}
 use Rattle.simplex_engine.specs.Counting.{certificate_of}
 use Rattle.simplex_engine.specs.Batching.{kind_of, held, AreGiven, AreGood, is_found_good, IsGoodIfCertified, IsCounted}
@@ -46,7 +46,7 @@ module _ {D : Type 0} (same : D → D → Bool) (law : (d e : D) → same d e �
     abbrev IsGoodOf : ℕ → Option (Ballot D G) → Type 0
     IsGoodOf member held = (ballot : Ballot D G) → held ≡ Some ballot → (key : K) × (slice_get keys member ≡ Some key) × is_signature key ballot.subject ballot.signature
 
-    one_signed : (member : ℕ) (held : Option (Ballot D G)) → IsGoodOf member held → AreSigned is_signature keys on (signature_in same on member held)
+    one_signed : (member : ℕ) (held : Option (Ballot D G)) → IsGoodOf member held → AreSigned is_signature keys on (signature_on same on member held)
     one_signed member None good = tt
     one_signed member (Some ballot) good = by_test (same_subject same ballot.subject on) refl
       where
@@ -58,7 +58,7 @@ module _ {D : Type 0} (same : D → D → Bool) (law : (d e : D) → same d e �
 
     signed_on : (member : ℕ) (slots : List (Option (Ballot D G))) → ((m : ℕ) → IsGoodOf m (ballot_of slots m)) → AreSigned is_signature keys on (signatures_on same on member slots)
     signed_on zero slots good = tt
-    signed_on (suc member) slots good = signed_behind (signatures_on same on member slots) (signature_in same on member (ballot_of slots member)) (signed_on member slots good) (one_signed member (ballot_of slots member) (good member))
+    signed_on (suc member) slots good = signed_behind (signatures_on same on member slots) (signature_on same on member (ballot_of slots member)) (signed_on member slots good) (one_signed member (ballot_of slots member) (good member))
 
     -- just a quorum of the votes that are held, each of which is good
     pub quorum_signed : (slots : List (Option (Ballot D G))) → ((m : ℕ) → IsGoodOf m (ballot_of slots m)) → length (signatures_on same on (length keys) slots) ≡ quorum_of (length keys) → IsSignedByQuorum is_signature keys on (signatures_on same on (length keys) slots)

@@ -18,7 +18,7 @@ use Rattle.simplex_member.specs.declared.member.journal.Stored.{Stored}
 use Rattle.simplex_engine.specs.declared.output.Output.{Output}
 use Rattle.simplex_engine.specs.declared.output.Output.TheVariants as output
 use Rattle.simplex_engine.specs.declared.votes.Vote.{Vote}
-use Rattle.simplex_engine.specs.Entries.{votes_in, AreCopies}
+use Rattle.simplex_engine.specs.Entries.{votes_of_entries, AreCopies}
 use Rattle.simplex_engine.specs.Outputs.{storing}
 use Rattle.simplex_engine.specs.Journals.{Journal, empty_journal, written, written_all, journal_of, IsRecordOf, IsBeginningOf}
 
@@ -39,7 +39,7 @@ module _ {S D J K G C : Type 0} where
   pub stored_behind : (outs : List (Output S D J K G C)) (entries : Vec (Artifact S D K G C) Global) → journal_of (outs ++ storing entries) ≡ record { entries = (journal_of outs).entries ++ entries.items; beside = (journal_of outs).beside }
   stored_behind outs entries =
       behind_others outs (storing entries)
-      ∙ votes_unwritten (written (journal_of outs) (output.Store entries)) (votes_in entries.items)
+      ∙ votes_unwritten (written (journal_of outs) (output.Store entries)) (votes_of_entries entries.items)
 
 -- the vote of an entry with its signature
 signed_as : {D G : Type 0} → ArtifactFacts D → Option G → List (SignedVote D G)

@@ -23,7 +23,7 @@ use Rattle.simplex_engine.specs.declared.output.Work.{Work}
 use Rattle.simplex_engine.specs.declared.votes.Vote.{Vote}
 use Rattle.simplex_engine.specs.Doing.{IsDoneOn}
 use Rattle.simplex_engine.specs.Finals.{TellsRising}
-use Rattle.simplex_engine.specs.Outboxes.{IsLawful, HasBecome, HasStayed, IsStored, IsReplaced, IsRepeated, IsToldWhere, IsTold}
+use Rattle.simplex_engine.specs.Outboxes.{IsLawfulOutbox, HasBecome, HasStayed, IsStored, IsReplaced, IsRepeated, IsToldWhere, IsTold}
 use Rattle.simplex_engine.specs.Outputs.{storing}
 use Rattle.simplex_engine.specs.Journals.{journal_of, IsBeginningOf}
 use Rattle.simplex_engine.specs.Going.{IsKept, GoesOn, HasRisen}
@@ -63,7 +63,7 @@ module _ {S L D K G C : Type 0} (bytes_of : C → List ℕ) (old new : Journaled
   -- a call, and what is told as final by it
   pub called : new.stored ≡ old.stored → new.failed ≡ old.failed → HasGrown old.member.facts new.member.facts
       → (votes : List (SignedVote D G)) → new.member.votes ≡ old.member.votes ++ votes → stored_of new.member.facts ≡ stored_of old.member.facts
-      → ((given : List (Output S D Stored K G C)) → IsLawful given old.outbox → IsLawful given new.outbox)
+      → ((given : List (Output S D Stored K G C)) → IsLawfulOutbox given old.outbox → IsLawfulOutbox given new.outbox)
       → (finalized : Option (Proposal D)) → IsTold finalized old.outbox new.outbox → (HasToldLast old → HasToldLast new) → Keeps
   called same_stored same_failed grown votes voted same lawful finalized tells last given kept = record {
     lawful = lawful given kept.lawful;
@@ -75,7 +75,7 @@ module _ {S L D K G C : Type 0} (bytes_of : C → List ℕ) (old new : Journaled
   }
 
   -- the same journal
-  same_journal : (given : List (Output S D Stored K G C)) → IsKept bytes_of given old → new.member ≡ old.member → new.stored ≡ old.stored → new.failed ≡ old.failed → journal_of (given ++ new.outbox.queue.items) ≡ journal_of (before given) → IsLawful given new.outbox → HasToldLast new → IsKept bytes_of given new
+  same_journal : (given : List (Output S D Stored K G C)) → IsKept bytes_of given old → new.member ≡ old.member → new.stored ≡ old.stored → new.failed ≡ old.failed → journal_of (given ++ new.outbox.queue.items) ≡ journal_of (before given) → IsLawfulOutbox given new.outbox → HasToldLast new → IsKept bytes_of given new
   same_journal given kept same_member same_stored same_failed same lawful last = record {
     lawful = lawful;
     stored = λ lives.
@@ -85,7 +85,7 @@ module _ {S L D K G C : Type 0} (bytes_of : C → List ℕ) (old new : Journaled
     told = last;
   }
 
-  module _ (same_member : new.member ≡ old.member) (same_stored : new.stored ≡ old.stored) (same_failed : new.failed ≡ old.failed) (lawful : (given : List (Output S D Stored K G C)) → IsLawful given old.outbox → IsLawful given new.outbox) where
+  module _ (same_member : new.member ≡ old.member) (same_stored : new.stored ≡ old.stored) (same_failed : new.failed ≡ old.failed) (lawful : (given : List (Output S D Stored K G C)) → IsLawfulOutbox given old.outbox → IsLawfulOutbox given new.outbox) where
     -- nothing was queued
     pub kept_as_it_was : HasStayed old.outbox new.outbox → Keeps
     kept_as_it_was stayed given kept = same_journal given kept same_member same_stored same_failed (ap (λ q. journal_of (given ++ q)) stayed.0) (lawful given kept.lawful)
@@ -130,7 +130,7 @@ module _ {S L D K G C : Type 0} (bytes_of : C → List ℕ) (old new : Journaled
   replaced_tells all beside is = become_tells (output.Replace is.0 beside ∷ []) _ old.outbox new.outbox refl is.2
 
   -- what the record has grown by was
-  pub stored : new.member ≡ old.member → new.failed ≡ old.failed → ((given : List (Output S D Stored K G C)) → IsLawful given old.outbox → IsLawful given new.outbox)
+  pub stored : new.member ≡ old.member → new.failed ≡ old.failed → ((given : List (Output S D Stored K G C)) → IsLawfulOutbox given old.outbox → IsLawfulOutbox given new.outbox)
       → (all fresh : List (Artifact S D K G C)) → new.stored ≡ length all → entries_of bytes_of all ≡ old.member.facts.entries → votes_of all ≡ old.member.votes
       → entries_of bytes_of fresh ≡ drop old.stored old.member.facts.entries → votes_of fresh ≡ votes_since old.stored old.member → IsStored bytes_of fresh old.outbox new.outbox → Keeps
   stored same_member same_failed lawful all fresh counted all_entries all_votes fresh_entries fresh_votes is given kept = record {
@@ -145,7 +145,7 @@ module _ {S L D K G C : Type 0} (bytes_of : C → List ℕ) (old new : Journaled
   }
 
   -- a whole record was
-  pub replaced : ((given : List (Output S D Stored K G C)) → IsLawful given old.outbox → IsLawful given new.outbox)
+  pub replaced : ((given : List (Output S D Stored K G C)) → IsLawfulOutbox given old.outbox → IsLawfulOutbox given new.outbox)
       → (all : List (Artifact S D K G C)) → new.stored ≡ length all → entries_of bytes_of all ≡ new.member.facts.entries → votes_of all ≡ new.member.votes
       → IsReplaced bytes_of all (stored_of new.member.facts) old.outbox new.outbox → (HasToldLast old → HasToldLast new) → Keeps
   replaced lawful all counted all_entries all_votes is last given kept = record {
@@ -159,7 +159,7 @@ module _ {S L D K G C : Type 0} (bytes_of : C → List ℕ) (old new : Journaled
   }
 
   -- nothing more is given out
-  pub ended : new.failed ≡ true → ((given : List (Output S D Stored K G C)) → IsLawful given old.outbox → IsLawful given new.outbox) → (HasToldLast old → HasToldLast new) → Keeps
+  pub ended : new.failed ≡ true → ((given : List (Output S D Stored K G C)) → IsLawfulOutbox given old.outbox → IsLawfulOutbox given new.outbox) → (HasToldLast old → HasToldLast new) → Keeps
   ended failed lawful last given kept = record { lawful = lawful given kept.lawful; stored = λ lives. cc; told = last kept.told }
 
 -- nothing is done

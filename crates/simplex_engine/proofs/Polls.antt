@@ -2,7 +2,7 @@
 use Rattle.std.proofs.Common.{◌≡◌, ℕ, zero, suc, ◌+◌, ◌≤◌, Bool, true, false, cond, List, [], ◌∷◌, ◌++◌, Option, Some, None, length, refl, ap, ◌∙◌, get_or, arith, add-one, length-append, append-nil}
 use Rattle.simplex_types.specs.declared.types.messages.Subject.{Subject}
 use Rattle.simplex_engine.specs.declared.batcher.poll.Ballot.{Ballot}
-use Rattle.simplex_engine.specs.Polls.{ballot_of, is_on, signature_in, signatures_on}
+use Rattle.simplex_engine.specs.Polls.{ballot_of, is_on, signature_on, signatures_on}
 use Rattle.simplex_assembly.specs.Quorums.{AreRising}
 use Rattle.simplex_engine.specs.Subjects.{same_subject}
 
@@ -15,22 +15,22 @@ held_more (x ∷ xs) (suc member) = held_more xs member
 
 module _ {D G : Type 0} (same : D → D → Bool) (subject : Subject D) where
   -- a vote on the subject has one signature
-  pub one_on : (member : ℕ) (ballot : Option (Ballot D G)) → is_on same subject ballot ≡ true → length (signature_in same subject member ballot) ≡ 1
+  pub one_on : (member : ℕ) (ballot : Option (Ballot D G)) → is_on same subject ballot ≡ true → length (signature_on same subject member ballot) ≡ 1
   one_on member None on = cc
   one_on member (Some b) on = rw on refl
 
   -- any other has none
-  pub none_on : (member : ℕ) (ballot : Option (Ballot D G)) → is_on same subject ballot ≡ false → signature_in same subject member ballot ≡ []
+  pub none_on : (member : ℕ) (ballot : Option (Ballot D G)) → is_on same subject ballot ≡ false → signature_on same subject member ballot ≡ []
   none_on member None on = refl
   none_on member (Some b) on = rw on refl
 
   -- one more member
-  pub more_on : (member : ℕ) (slots : List (Option (Ballot D G))) → signatures_on same subject (member + 1) slots ≡ signatures_on same subject member slots ++ signature_in same subject member (ballot_of slots member)
+  pub more_on : (member : ℕ) (slots : List (Option (Ballot D G))) → signatures_on same subject (member + 1) slots ≡ signatures_on same subject member slots ++ signature_on same subject member (ballot_of slots member)
   more_on member slots = rw add-one refl
 
   -- who voted for it
   pub more_yes : (member : ℕ) (slots : List (Option (Ballot D G))) → is_on same subject (ballot_of slots member) ≡ true → length (signatures_on same subject (member + 1) slots) ≡ length (signatures_on same subject member slots) + 1
-  more_yes member slots on = ap length (more_on member slots) ∙ length-append (signatures_on same subject member slots) (signature_in same subject member (ballot_of slots member)) ∙ ap (λ n. length (signatures_on same subject member slots) + n) (one_on member (ballot_of slots member) on)
+  more_yes member slots on = ap length (more_on member slots) ∙ length-append (signatures_on same subject member slots) (signature_on same subject member (ballot_of slots member)) ∙ ap (λ n. length (signatures_on same subject member slots) + n) (one_on member (ballot_of slots member) on)
 
   -- who did not
   pub more_no : (member : ℕ) (slots : List (Option (Ballot D G))) → is_on same subject (ballot_of slots member) ≡ false → signatures_on same subject (member + 1) slots ≡ signatures_on same subject member slots
@@ -45,7 +45,7 @@ module _ {D G : Type 0} (same : D → D → Bool) (subject : Subject D) where
   wider low member [] rising = tt
   wider low member (x ∷ xs) rising = (rising.0, omega (arith, rising.1), wider (x.0 + 1) member xs rising.2)
 
-  grown : (member : ℕ) (ballot : Option (Ballot D G)) (xs : List (ℕ × G)) → AreRising member 0 xs → AreRising (suc member) 0 (xs ++ signature_in same subject member ballot)
+  grown : (member : ℕ) (ballot : Option (Ballot D G)) (xs : List (ℕ × G)) → AreRising member 0 xs → AreRising (suc member) 0 (xs ++ signature_on same subject member ballot)
   grown member None xs rising = rw append-nil (wider 0 member xs rising)
   grown member (Some b) xs rising =
       elim (same_subject same b.subject subject) as (λ v. AreRising (suc member) 0 (xs ++ cond v ((member, b.signature) ∷ []) [])) [

@@ -23,18 +23,18 @@ use Rattle.simplex_engine.specs.declared.input.Input.{Input}
 use Rattle.simplex_engine.specs.declared.input.Input.TheVariants as input
 use Rattle.simplex_engine.specs.declared.journaled.Journaled.{Journaled}
 use Rattle.simplex_engine.specs.declared.votes.Vote.{Vote}
-use Rattle.simplex_engine.specs.Acting.{hands_in, verification_of, HasDone, IsBlockTaken, IsHandedIn, IsCountFollowed, IsActedOn}
+use Rattle.simplex_engine.specs.Acting.{hands_in, verification_of, HasDoneTask, IsBlockTaken, IsHandedIn, IsCountFollowed, IsActedOn}
 use Rattle.simplex_engine.specs.Admitting.{admits_votes, is_so, is_admitted, IsTurnedAway, ignoring}
-use Rattle.simplex_engine.specs.Backing.{votes_in, TakesVotes, IsBacked, IsBackedInput}
+use Rattle.simplex_engine.specs.Backing.{votes_of_input, TakesVotes, IsBacked, IsBackedInput}
 use Rattle.simplex_engine.specs.Batching.{AreGiven, HoldsAllTheSame, HoldsUpTo, held, IsCounted}
 use Rattle.simplex_engine.specs.Bounds.{StaysBounded}
 use Rattle.simplex_engine.specs.Building.{is_asked_in}
-use Rattle.simplex_engine.specs.Dropping.{is_refused, says_nothing, IsLeftBy, IsLeftByInput}
+use Rattle.simplex_engine.specs.Dropping.{is_refused, says_nothing, IsLeftByCall, IsLeftByInput}
 use Rattle.simplex_engine.specs.Going.{GoesOn}
 use Rattle.simplex_engine.specs.Inputs.{subject_in, subject_made}
 use Rattle.simplex_engine.specs.Polls.{ballot_of}
 use Rattle.simplex_engine.specs.Subjects.{subject_round}
-use Rattle.simplex_engine.specs.Taking.{IsTaken}
+use Rattle.simplex_engine.specs.Taking.{IsInputTaken}
 use Rattle.simplex_engine.specs.Tasks.{call_of}
 use Rattle.simplex_engine.proofs.Backing.{takes_same, takes_anyway, takes_then, backed_by_none, certified_given}
 use Rattle.simplex_engine.proofs.Bounds.{bounded_still, bounded_further, bounded_counted}
@@ -56,11 +56,11 @@ module _ {S D K G C : Type 0} (a b : Batcher S D K G C) where
 
 module _ {K L D : Type 0} (same : D → D → Bool) (elect : Elect L) (now : ℕ) where
   -- a task of no use
-  asked_left : (asked : Task D) (m left : MemberFacts K L D) (is_of_use : Bool) → HasDone same elect asked now m left is_of_use → IsFalse is_of_use → IsLeftBy (call_of asked now) m left
+  asked_left : (asked : Task D) (m left : MemberFacts K L D) (is_of_use : Bool) → HasDoneTask same elect asked now m left is_of_use → IsFalse is_of_use → IsLeftByCall (call_of asked now) m left
   asked_left asked m left is_of_use done vain =
       dropped_left same elect m left (call_of asked now) done.answer done.answered (not-false (says_nothing done.answer) (sym done.told ∙ vain))
 
-  verified_left : (is_valid : Bool) (view : ℕ) (m left : MemberFacts K L D) (is_of_use : Bool) → HasDone same elect (verification_of is_valid view) now m left is_of_use → IsFalse is_of_use → left ≡ m
+  verified_left : (is_valid : Bool) (view : ℕ) (m left : MemberFacts K L D) (is_of_use : Bool) → HasDoneTask same elect (verification_of is_valid view) now m left is_of_use → IsFalse is_of_use → left ≡ m
   verified_left true view = asked_left (task.Verified view)
   verified_left false view = asked_left (task.VerificationFailed view)
 
@@ -158,14 +158,14 @@ module _ {S L D K G C : Type 0} (same : D → D → Bool) (elect : Elect L) (byt
 
   -- what it leaves follows from how it was acted on
   taken : {E : Type 0} (what : Input S D K G C) (old new : Engine S L D K G C) (answer : Result Bool E)
-      → GoesOn same elect bytes_of (subject_in bytes_of what) old.core new.core → TakesVotes (votes_in what) old.batcher new.batcher
+      → GoesOn same elect bytes_of (subject_in bytes_of what) old.core new.core → TakesVotes (votes_of_input what) old.batcher new.batcher
       → IsBackedInput same elect bytes_of (length (keys_of old.batcher.scheme)) what old.batcher old.core new.core
       → StaysBounded keys_of old.core old.batcher new.core new.batcher
       → IfOk answer (λ is_of_use. IsFalse is_of_use → HoldsAllTheSame old.batcher new.batcher)
       → (IsFalse (is_admitted bytes_of (facts_of old) what) → IfOk answer (λ is_of_use. IsFalse is_of_use × IsTurnedAway what old new))
       → (IsTrue (is_admitted bytes_of (facts_of old) what)
       → IfOk answer (IsActedOn same elect bytes_of IsMadeOf keys_of now what old (facts_of new) new.batcher new.plan.steps.items))
-      → IsTaken same elect bytes_of IsMadeOf keys_of now what old old new answer
+      → IsInputTaken same elect bytes_of IsMadeOf keys_of now what old old new answer
   taken what old new answer went votes backed bounded kept unadmitted acted = record {
     goes_on = went;
     votes = votes;
@@ -187,9 +187,9 @@ module _ {S L D K G C : Type 0} (same : D → D → Bool) (elect : Elect L) (byt
       → (IsFalse (is_admitted bytes_of (facts_of old) what) → IfOk answer (λ is_of_use. IsFalse is_of_use × IsTurnedAway what old new))
       → (IsTrue (is_admitted bytes_of (facts_of old) what)
       → IfOk answer (IsActedOn same elect bytes_of IsMadeOf keys_of now what old (facts_of new) new.batcher new.plan.steps.items))
-      → IsTaken same elect bytes_of IsMadeOf keys_of now told old old new answer
+      → IsInputTaken same elect bytes_of IsMadeOf keys_of now told old old new answer
   taken_alone told what old new answer is went kept backed unadmitted acted =
-      subst (λ input. IsTaken same elect bytes_of IsMadeOf keys_of now input old old new answer) (sym is)
+      subst (λ input. IsInputTaken same elect bytes_of IsMadeOf keys_of now input old old new answer) (sym is)
       (taken what old new answer went (takes_anyway (takes_same kept)) backed (bounded_still keys_of went (takes_same kept))
       (always_ok answer (λ is_of_use vain. held_same old.batcher new.batcher kept)) unadmitted acted)
 
@@ -204,7 +204,7 @@ module _ {S L D K G C : Type 0} (same : D → D → Bool) (elect : Elect L) (byt
       → IsCounted same (IsMadeOf old.batcher.scheme) (length (keys_of old.batcher.scheme)) true old.batcher vote batcher counted
       → GoesOn same elect bytes_of (subject_made bytes_of counted) old.core new.core → new.batcher ≡ batcher
       → IfOk answer (IsCountFollowed same elect bytes_of now counted old.plan.steps.items (facts_of old) new.plan.steps.items (facts_of new))
-      → IsTaken same elect bytes_of IsMadeOf keys_of now (input.Vote vote) old old new answer
+      → IsInputTaken same elect bytes_of IsMadeOf keys_of now (input.Vote vote) old old new answer
   taken_counted law vote old new answer batcher counted admits given_by within scheme counts went kept followed =
       let made = IsMadeOf old.batcher.scheme in
       let members = length (keys_of old.batcher.scheme) in
@@ -223,7 +223,7 @@ module _ {S L D K G C : Type 0} (same : D → D → Bool) (elect : Elect L) (byt
 
   -- where it is not of no use, it was not turned away
   pub taken_otherwise : {E : Type 0} (what : Input S D K G C) (old passed new : Engine S L D K G C) (answer : Result Bool E) → answer ≢ Ok false
-      → IsTaken same elect bytes_of IsMadeOf keys_of now what old old new answer → IsTaken same elect bytes_of IsMadeOf keys_of now what old passed new answer
+      → IsInputTaken same elect bytes_of IsMadeOf keys_of now what old old new answer → IsInputTaken same elect bytes_of IsMadeOf keys_of now what old passed new answer
   taken_otherwise what old passed new answer otherwise turns = record {
     goes_on = turns.goes_on;
     votes = turns.votes;
@@ -249,11 +249,11 @@ module _ {S L D K G C : Type 0} (same : D → D → Bool) (elect : Elect L) (byt
   turned_ignored (input.GivenUp view reason) old new turned = ap ignoring turned
 
   -- that it was not, which is counted
-  pub taken_of_no_use : {E : Type 0} (what : Input S D K G C) (old mid new : Engine S L D K G C) (answer : Result Bool E) → answer ≡ Ok false → new ≡ ignoring mid → IsTaken same elect bytes_of IsMadeOf keys_of now what old old mid answer
-      → IsTaken {E = E} same elect bytes_of IsMadeOf keys_of now what old (ignoring old) new (Ok false)
+  pub taken_of_no_use : {E : Type 0} (what : Input S D K G C) (old mid new : Engine S L D K G C) (answer : Result Bool E) → answer ≡ Ok false → new ≡ ignoring mid → IsInputTaken same elect bytes_of IsMadeOf keys_of now what old old mid answer
+      → IsInputTaken {E = E} same elect bytes_of IsMadeOf keys_of now what old (ignoring old) new (Ok false)
   taken_of_no_use {E = E} what old mid new answer is ignored was =
-      let taken = subst (IsTaken same elect bytes_of IsMadeOf keys_of now what old old mid) is was in
-      subst (λ engine. IsTaken {E = E} same elect bytes_of IsMadeOf keys_of now what old (ignoring old) engine (Ok false)) (sym ignored)
+      let taken = subst (IsInputTaken same elect bytes_of IsMadeOf keys_of now what old old mid) is was in
+      subst (λ engine. IsInputTaken {E = E} same elect bytes_of IsMadeOf keys_of now what old (ignoring old) engine (Ok false)) (sym ignored)
       (record {
         goes_on = taken.goes_on;
         votes = taken.votes;

@@ -19,7 +19,7 @@ use Rattle.simplex_voter.specs.Serving.{nullification_of}
 use Rattle.simplex_engine.specs.declared.fetches.Fetch.{Fetch}
 use Rattle.simplex_engine.specs.declared.fetches.FetchKind.{FetchKind}
 use Rattle.simplex_engine.specs.declared.fetches.FetchKind.TheVariants.{Notarization, Nullification, Decision}
-use Rattle.simplex_engine.specs.Fetches.{same_kind, is_of, is_within, is_open, fresh, opened, closed, passed}
+use Rattle.simplex_engine.specs.Fetches.{same_kind, is_of, is_within, is_fetch_open, fresh, opened, closed, passed}
 use Rattle.simplex_engine.specs.Wanted.{after_effect, after_effects, fetching, AsksForWanted, holds, is_held, is_lacking, AsksForTheLacking}
 
 or_none : (b : Bool) → (b || false) ≡ b
@@ -62,32 +62,32 @@ a_nullification Decision is = absurd (false≢true is)
 
 -- one more
 
-open_more : (kind : FetchKind) (view : ℕ) (xs : List Fetch) (more : Fetch) → is_open kind view (xs ++ more ∷ []) ≡ (is_open kind view xs || is_of kind view more)
+open_more : (kind : FetchKind) (view : ℕ) (xs : List Fetch) (more : Fetch) → is_fetch_open kind view (xs ++ more ∷ []) ≡ (is_fetch_open kind view xs || is_of kind view more)
 open_more kind view [] more = or_none (is_of kind view more)
 open_more kind view (x ∷ xs) more =
-    ap (λ b. is_of kind view x || b) (open_more kind view xs more) ∙ or_joined (is_of kind view x) (is_open kind view xs) (is_of kind view more)
+    ap (λ b. is_of kind view x || b) (open_more kind view xs more) ∙ or_joined (is_of kind view x) (is_fetch_open kind view xs) (is_of kind view more)
 
 -- one that is opened is open
-open_now : (v view moment : ℕ) (xs : List Fetch) → is_open Nullification v (opened Nullification view 0 moment xs) ≡ (is_open Nullification v xs || eqb v view)
-open_now v view moment xs = by_test (is_open Nullification view xs) refl
+open_now : (v view moment : ℕ) (xs : List Fetch) → is_fetch_open Nullification v (opened Nullification view 0 moment xs) ≡ (is_fetch_open Nullification v xs || eqb v view)
+open_now v view moment xs = by_test (is_fetch_open Nullification view xs) refl
   where
     more : List Fetch
     more = xs ++ fresh Nullification view 0 moment ∷ []
 
-    known : (t : Bool) → eqb v view ≡ t → is_open Nullification view xs ≡ true → is_open Nullification v xs ≡ (is_open Nullification v xs || t)
-    known true same is = let here = ap (λ w. is_open Nullification w xs) (eqb-true v view same) ∙ is in here ∙ ap (λ b. b || true) (sym here)
-    known false same is = sym (or_none (is_open Nullification v xs))
+    known : (t : Bool) → eqb v view ≡ t → is_fetch_open Nullification view xs ≡ true → is_fetch_open Nullification v xs ≡ (is_fetch_open Nullification v xs || t)
+    known true same is = let here = ap (λ w. is_fetch_open Nullification w xs) (eqb-true v view same) ∙ is in here ∙ ap (λ b. b || true) (sym here)
+    known false same is = sym (or_none (is_fetch_open Nullification v xs))
 
-    by_test : (t : Bool) → is_open Nullification view xs ≡ t → is_open Nullification v (cond t xs more) ≡ (is_open Nullification v xs || eqb v view)
+    by_test : (t : Bool) → is_fetch_open Nullification view xs ≡ t → is_fetch_open Nullification v (cond t xs more) ≡ (is_fetch_open Nullification v xs || eqb v view)
     by_test true is = known (eqb v view) refl is
     by_test false is =
-        open_more Nullification v xs (fresh Nullification view 0 moment) ∙ ap (λ b. is_open Nullification v xs || b) (views_alike view v)
+        open_more Nullification v xs (fresh Nullification view 0 moment) ∙ ap (λ b. is_fetch_open Nullification v xs || b) (views_alike view v)
 
 -- what was open is
-pub open_still : (v : ℕ) (kind : FetchKind) (view first moment : ℕ) (xs : List Fetch) → is_open Nullification v xs ≡ true → is_open Nullification v (opened kind view first moment xs) ≡ true
-open_still v kind view first moment xs is = by_test (is_open kind view xs)
+pub open_still : (v : ℕ) (kind : FetchKind) (view first moment : ℕ) (xs : List Fetch) → is_fetch_open Nullification v xs ≡ true → is_fetch_open Nullification v (opened kind view first moment xs) ≡ true
+open_still v kind view first moment xs is = by_test (is_fetch_open kind view xs)
   where
-    by_test : (t : Bool) → is_open Nullification v (cond t xs (xs ++ fresh kind view first moment ∷ [])) ≡ true
+    by_test : (t : Bool) → is_fetch_open Nullification v (cond t xs (xs ++ fresh kind view first moment ∷ [])) ≡ true
     by_test true = is
     by_test false =
         open_more Nullification v xs (fresh kind view first moment) ∙ ap (λ b. b || is_of Nullification v (fresh kind view first moment)) is
@@ -104,13 +104,13 @@ module _ (p : Fetch → Bool) (kind : FetchKind) (view : ℕ) (keep : Bool) (eac
   left_out true b left is one = is ∙ ap (λ k. b && k) (sym (one refl)) ∙ and_none b ∙ one refl
 
   -- those of a kind and view stand or fall together
-  open_kept : (xs : List Fetch) → is_open kind view (filter p xs) ≡ (is_open kind view xs && keep)
+  open_kept : (xs : List Fetch) → is_fetch_open kind view (filter p xs) ≡ (is_fetch_open kind view xs && keep)
   open_kept [] = refl
   open_kept (x ∷ xs) = by_test (open_kept xs) (p x) refl
     where
-      by_test : is_open kind view (filter p xs) ≡ (is_open kind view xs && keep) → (t : Bool) → p x ≡ t → is_open kind view (cond t (x ∷ filter p xs) (filter p xs)) ≡ (is_open kind view (x ∷ xs) && keep)
-      by_test rest true is = kept_one (is_of kind view x) (is_open kind view xs) (is_open kind view (filter p xs)) rest (λ e. sym is ∙ each x e)
-      by_test rest false is = left_out (is_of kind view x) (is_open kind view xs) (is_open kind view (filter p xs)) rest (λ e. sym is ∙ each x e)
+      by_test : is_fetch_open kind view (filter p xs) ≡ (is_fetch_open kind view xs && keep) → (t : Bool) → p x ≡ t → is_fetch_open kind view (cond t (x ∷ filter p xs) (filter p xs)) ≡ (is_fetch_open kind view (x ∷ xs) && keep)
+      by_test rest true is = kept_one (is_of kind view x) (is_fetch_open kind view xs) (is_fetch_open kind view (filter p xs)) rest (λ e. sym is ∙ each x e)
+      by_test rest false is = left_out (is_of kind view x) (is_fetch_open kind view xs) (is_fetch_open kind view (filter p xs)) rest (λ e. sym is ∙ each x e)
 
 module _ (v : ℕ) (x : Fetch) (is : is_of Nullification v x ≡ true) where
   kind_is : same_kind x.kind Nullification ≡ true
@@ -146,18 +146,18 @@ one_of o f = ap (λ b. b || f) (sym (and_all o))
 none_of : (o s : Bool) → (o && not s) ≡ ((o && not s) || false)
 none_of o s = sym (or_none (o && not s))
 
-effect_is : (v moment : ℕ) (e : Effect) (xs : List Fetch) → is_open Nullification v (after_effect moment e xs) ≡ ((is_open Nullification v xs && not (settles v e)) || fetches v e)
-effect_is v moment (effect.Fetch view cause reason) xs = open_now v view moment xs ∙ one_of (is_open Nullification v xs) (eqb v view)
+effect_is : (v moment : ℕ) (e : Effect) (xs : List Fetch) → is_fetch_open Nullification v (after_effect moment e xs) ≡ ((is_fetch_open Nullification v xs && not (settles v e)) || fetches v e)
+effect_is v moment (effect.Fetch view cause reason) xs = open_now v view moment xs ∙ one_of (is_fetch_open Nullification v xs) (eqb v view)
 effect_is v moment (effect.Settled kind.Notarization start end) xs =
-    open_kept (λ x. not (is_within Notarization start end x)) Nullification v true (λ x is. no_notarization_within v x is start end) xs ∙ none_of (is_open Nullification v xs) false
+    open_kept (λ x. not (is_within Notarization start end x)) Nullification v true (λ x is. no_notarization_within v x is start end) xs ∙ none_of (is_fetch_open Nullification v xs) false
 effect_is v moment (effect.Settled kind.Nullification start end) xs =
     open_kept (λ x. not (is_within Nullification start end x)) Nullification v (not (nat_le start v && nat_le v end)) (λ x is. nullification_within v x is start end) xs
-    ∙ none_of (is_open Nullification v xs) (nat_le start v && nat_le v end)
+    ∙ none_of (is_fetch_open Nullification v xs) (nat_le start v && nat_le v end)
 effect_is v moment (effect.Finalized view) xs =
-    open_kept (λ x. nat_lt view x.view) Nullification v (not (nat_le v view)) (λ x is. above v x is view) xs ∙ none_of (is_open Nullification v xs) (nat_le v view)
+    open_kept (λ x. nat_lt view x.view) Nullification v (not (nat_le v view)) (λ x is. above v x is view) xs ∙ none_of (is_fetch_open Nullification v xs) (nat_le v view)
 effect_is v moment (effect.Raised view) xs =
     open_kept (λ x. not (is_within Nullification 0 view x)) Nullification v (not (nat_le v view)) (λ x is. nullification_within v x is 0 view ∙ ap (λ b. not (b && nat_le v view)) (from_zero v)) xs
-    ∙ none_of (is_open Nullification v xs) (nat_le v view)
+    ∙ none_of (is_fetch_open Nullification v xs) (nat_le v view)
 
 joined : (o s f t out : Bool) → ((((o && not s) || f) && not t) || out) ≡ ((o && not (s || t)) || ((f && not t) || out))
 joined false s f t out = refl
@@ -168,12 +168,12 @@ joined true false f false out = refl
 
 -- what they leave open: what was and is settled by none, and what was fetched and not settled behind that
 effects_are : (v moment : ℕ) (es : List Effect) (xs : List Fetch)
-    → is_open Nullification v (after_effects moment es xs) ≡ ((is_open Nullification v xs && not (list_any (settles v) es)) || is_outstanding es v)
-effects_are v moment [] xs = sym (or_none (is_open Nullification v xs && true) ∙ and_all (is_open Nullification v xs))
+    → is_fetch_open Nullification v (after_effects moment es xs) ≡ ((is_fetch_open Nullification v xs && not (list_any (settles v) es)) || is_outstanding es v)
+effects_are v moment [] xs = sym (or_none (is_fetch_open Nullification v xs && true) ∙ and_all (is_fetch_open Nullification v xs))
 effects_are v moment (e ∷ es) xs =
     effects_are v moment es (after_effect moment e xs)
     ∙ ap (λ o. (o && not (list_any (settles v) es)) || is_outstanding es v) (effect_is v moment e xs)
-    ∙ joined (is_open Nullification v xs) (settles v e) (fetches v e) (list_any (settles v) es) (is_outstanding es v)
+    ∙ joined (is_fetch_open Nullification v xs) (settles v e) (fetches v e) (list_any (settles v) es) (is_outstanding es v)
 
 follows : (h o n out : Bool) → (h ≡ true → o ≡ true) → ((h && n) || out) ≡ true → ((o && n) || out) ≡ true
 follows true o n out asked is = ap (λ b. (b && n) || out) (asked refl) ∙ is
@@ -188,7 +188,7 @@ pub asks_after : (finalized moment : ℕ) (old new : List ℕ) (es : List Effect
     → IsApplied old es new → AsksForWanted finalized old xs → AsksForWanted finalized new (after_effects moment es xs)
 asks_after finalized moment old new es xs applied asks v is high =
     effects_are v moment es xs
-    ∙ follows (has old v) (is_open Nullification v xs) (not (list_any (settles v) es)) (is_outstanding es v) (λ was. asks v was high) (sym (applied v) ∙ is)
+    ∙ follows (has old v) (is_fetch_open Nullification v xs) (not (list_any (settles v) es)) (is_outstanding es v) (λ was. asks v was high) (sym (applied v) ∙ is)
 
 module _ (finalized : ℕ) (wanted : List ℕ) (xs : List Fetch) (asks : AsksForWanted finalized wanted xs) where
   -- once one is opened
@@ -198,14 +198,14 @@ module _ (finalized : ℕ) (wanted : List ℕ) (xs : List Fetch) (asks : AsksFor
   -- once a notarization came
   pub asks_notarized : (view : ℕ) → AsksForWanted finalized wanted (closed Notarization view xs)
   asks_notarized view v is high =
-      open_kept (λ x. not (is_of Notarization view x)) Nullification v true (λ x of. no_notarization_of v x of view) xs ∙ and_all (is_open Nullification v xs) ∙ asks v is high
+      open_kept (λ x. not (is_of Notarization view x)) Nullification v true (λ x of. no_notarization_of v x of view) xs ∙ and_all (is_fetch_open Nullification v xs) ∙ asks v is high
 
   -- once a view is final: above each higher one
   pub asks_passed : (later higher : ℕ) → finalized ≤ higher → later ≤ higher → AsksForWanted higher wanted (passed later xs)
   asks_passed later higher before up v is high =
       open_kept (λ x. nat_lt later x.view) Nullification v true
       (λ x of. ap (λ w. nat_lt later w) (view_is v x of) ∙ lt-ltb later v (omega (arith, up, high))) xs
-      ∙ and_all (is_open Nullification v xs) ∙ asks v is (omega (arith, before, high))
+      ∙ and_all (is_fetch_open Nullification v xs) ∙ asks v is (omega (arith, before, high))
 
   -- once those are closed of what is not lacking
   pub asks_lacking : {K L D : Type 0} (x : StateFacts K L D) → finalized ≤ x.finalized → AsksForTheLacking wanted x (filter (is_lacking wanted x) xs)
@@ -217,7 +217,7 @@ module _ (finalized : ℕ) (wanted : List ℕ) (xs : List Fetch) (asks : AsksFor
         (λ f of.
         ap (λ w. nat_lt x.finalized w && not (is_held wanted x f)) (view_is v f of) ∙ ap (λ b. b && not (is_held wanted x f)) (lt-ltb x.finalized v high)
         ∙ ap not (not_held v f of is)) xs
-        ∙ and_all (is_open Nullification v xs) ∙ asks v is (omega (arith, before, high));
+        ∙ and_all (is_fetch_open Nullification v xs) ∙ asks v is (omega (arith, before, high));
   }
     where
       not_held : (v : ℕ) (f : Fetch) → is_of Nullification v f ≡ true → has wanted v ≡ true → is_held wanted x f ≡ false
@@ -228,10 +228,10 @@ module _ (finalized : ℕ) (wanted : List ℕ) (xs : List Fetch) (asks : AsksFor
 -- views that are left to be opened
 
 -- one is opened
-pub opened_so_far : (v view moment : ℕ) (views : List ℕ) (xs : List Fetch) → (has (view ∷ views) v || is_open Nullification v xs) ≡ true
-    → (has views v || is_open Nullification v (opened Nullification view 0 moment xs)) ≡ true
+pub opened_so_far : (v view moment : ℕ) (views : List ℕ) (xs : List Fetch) → (has (view ∷ views) v || is_fetch_open Nullification v xs) ≡ true
+    → (has views v || is_fetch_open Nullification v (opened Nullification view 0 moment xs)) ≡ true
 opened_so_far v view moment views xs is =
-    ap (λ b. has views v || b) (open_now v view moment xs) ∙ turned (eqb v view) (has views v) (is_open Nullification v xs) is
+    ap (λ b. has views v || b) (open_now v view moment xs) ∙ turned (eqb v view) (has views v) (is_fetch_open Nullification v xs) is
   where
     turned : (here rest asked : Bool) → ((here || rest) || asked) ≡ true → (rest || (asked || here)) ≡ true
     turned here true asked is = refl

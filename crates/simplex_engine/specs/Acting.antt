@@ -44,12 +44,12 @@ module _ {K L D : Type 0} (same : D → D → Bool) (elect : Elect L) where
     pub told : is_of_use ≡ not (has_nothing answer)
 
   -- so it was by a task, at a moment
-  abbrev pub HasDone : Task D → ℕ → MemberFacts K L D → MemberFacts K L D → Bool → Type 0
-  HasDone asked now = HasAsked says_nothing (call_of asked now)
+  abbrev pub HasDoneTask : Task D → ℕ → MemberFacts K L D → MemberFacts K L D → Bool → Type 0
+  HasDoneTask asked now = HasAsked says_nothing (call_of asked now)
 
   -- a block is handed in that the application was asked for; any other is of no use
   abbrev pub IsBlockTaken : (is_asked : Bool) → ℕ → D → ℕ → MemberFacts K L D → MemberFacts K L D → Bool → Type 0
-  IsBlockTaken true view payload now m left is_of_use = HasDone (task.Proposed view payload) now m left is_of_use
+  IsBlockTaken true view payload now m left is_of_use = HasDoneTask (task.Proposed view payload) now m left is_of_use
   IsBlockTaken false view payload now m left is_of_use = (is_of_use ≡ false) × (left ≡ m)
 
 module _ {S L D K G C : Type 0} (same : D → D → Bool) (elect : Elect L) (bytes_of : C → List ℕ) (now : ℕ) where
@@ -82,11 +82,11 @@ module _ {S L D K G C : Type 0} (same : D → D → Bool) (elect : Elect L) (byt
   -- an input: the member is asked what the input stands for
   abbrev pub IsActedOn : Input S D K G C → Engine S L D K G C → MemberFacts K L D → Batcher S D K G C → List (Step S D K G C) → Bool → Type 0
   IsActedOn (input.Proposal from proposal) old left held steps =
-      HasDone same elect (task.SetProposal proposal.round.view proposal) now old.core.member.facts left
+      HasDoneTask same elect (task.SetProposal proposal.round.view proposal) now old.core.member.facts left
   IsActedOn (input.Vote vote) old left held steps = IsVoteCounted vote old left held steps
   IsActedOn (input.Certificate certificate) old left held steps = IsHandedIn same elect bytes_of now certificate old.core.member.facts left
-  IsActedOn (input.Verified view is_valid) old left held steps = HasDone same elect (verification_of is_valid view) now old.core.member.facts left
+  IsActedOn (input.Verified view is_valid) old left held steps = HasDoneTask same elect (verification_of is_valid view) now old.core.member.facts left
   IsActedOn (input.Built context payload) old left held steps =
       IsBlockTaken same elect (list_any (is_asked_in same context) old.plan.builds.items) context.round.view payload now old.core.member.facts left
-  IsActedOn (input.Certified view success) old left held steps = HasDone same elect (task.Certified view success) now old.core.member.facts left
-  IsActedOn (input.GivenUp view reason) old left held steps = HasDone same elect (task.GiveUp view reason) now old.core.member.facts left
+  IsActedOn (input.Certified view success) old left held steps = HasDoneTask same elect (task.Certified view success) now old.core.member.facts left
+  IsActedOn (input.GivenUp view reason) old left held steps = HasDoneTask same elect (task.GiveUp view reason) now old.core.member.facts left

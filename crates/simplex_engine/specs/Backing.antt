@@ -12,9 +12,9 @@ use Rattle.simplex_assembly.specs.Quorums.{quorum_of, AreRising}
 use Rattle.simplex_engine.specs.Going.{GoesOn}
 
 -- the votes that an input hands in
-abbrev pub votes_in : {S D K G C : Type 0} → Input S D K G C → List (Vote D G)
-votes_in (input.Vote vote) = vote ∷ []
-votes_in _ = []
+abbrev pub votes_of_input : {S D K G C : Type 0} → Input S D K G C → List (Vote D G)
+votes_of_input (input.Vote vote) = vote ∷ []
+votes_of_input _ = []
 
 module _ {S D K G C : Type 0} where
   -- each vote that is held is one of those that were handed in, with these behind them; the members are the same

@@ -49,16 +49,16 @@ module _ {K L D : Type 0} where
 
   -- what a call leaves that was of no use: all as it was; or else a reason to give a view up leaves its moment, and so does a
   -- verdict, for which nothing waits any more
-  abbrev pub IsLeftBy : CallFacts D → MemberFacts K L D → MemberFacts K L D → Type 0
-  IsLeftBy (TriggerTimeout _ _ now) m left = (left ≡ m) ⊎ IsNoted now m left
-  IsLeftBy (Certified view _ now) m left = (left ≡ m) ⊎ IsNoted now (without_offer_at view m) left
-  IsLeftBy _ m left = left ≡ m
+  abbrev pub IsLeftByCall : CallFacts D → MemberFacts K L D → MemberFacts K L D → Type 0
+  IsLeftByCall (TriggerTimeout _ _ now) m left = (left ≡ m) ⊎ IsNoted now m left
+  IsLeftByCall (Certified view _ now) m left = (left ≡ m) ⊎ IsNoted now (without_offer_at view m) left
+  IsLeftByCall _ m left = left ≡ m
 
 module _ {S L D K G C : Type 0} where
   -- the same of an input
   abbrev pub IsLeftByInput : ℕ → Input S D K G C → MemberFacts K L D → MemberFacts K L D → Type 0
-  IsLeftByInput now (input.GivenUp view reason) m left = IsLeftBy (TriggerTimeout view reason now) m left
-  IsLeftByInput now (input.Certified view success) m left = IsLeftBy (Certified view success now) m left
+  IsLeftByInput now (input.GivenUp view reason) m left = IsLeftByCall (TriggerTimeout view reason now) m left
+  IsLeftByInput now (input.Certified view success) m left = IsLeftByCall (Certified view success now) m left
   IsLeftByInput now _ m left = left ≡ m
 
   -- an input was of no use to the member, and no vote was taken

@@ -16,9 +16,9 @@ module _ {S D K G C : Type 0} where
   vote_in _ = None
 
   -- the votes that entries record, in order
-  abbrev pub votes_in : List (Artifact S D K G C) → List (Vote D G)
-  votes_in [] = []
-  votes_in (entry ∷ rest) = option_to_list (vote_in entry) ++ votes_in rest
+  abbrev pub votes_of_entries : List (Artifact S D K G C) → List (Vote D G)
+  votes_of_entries [] = []
+  votes_of_entries (entry ∷ rest) = option_to_list (vote_in entry) ++ votes_of_entries rest
 
   -- the vote to nullify that an entry records
   abbrev pub nullify_in : Artifact S D K G C → Option (Vote D G)

@@ -1,4 +1,4 @@
--- Fetches that are open, and of whom they are asked.
+-- Fetches that are open, and of whom they are asked_again.
 use Rattle.std.specs.Prelude.{◌≡◌, ℕ, ◌≤◌, ◌+◌, ◌-◌, ◌%◌, ◌^◌, Bool, true, false, ◌&&◌, ◌==◌, nat_le, nat_lt, min, List, [], ◌∷◌, ◌++◌, not, All, Any, Option, Some, None, MatchOption, if◌then◌else◌, position, filter}
 use Rattle.std.specs.List.{list_any}
 use Rattle.simplex_types.specs.declared.reasons.Kind.{Kind}
@@ -29,21 +29,21 @@ abbrev pub is_within : FetchKind → ℕ → ℕ → Fetch → Bool
 is_within kind first last fetch = same_kind fetch.kind kind && nat_le first fetch.view && nat_le fetch.view last
 
 -- it is open
-abbrev pub is_open : FetchKind → ℕ → List Fetch → Bool
-is_open kind view fetches = list_any (is_of kind view) fetches
+abbrev pub is_fetch_open : FetchKind → ℕ → List Fetch → Bool
+is_fetch_open kind view fetches = list_any (is_of kind view) fetches
 
 -- each is open once: none is of the kind and view of another
 abbrev pub each_once : List Fetch → Bool
 each_once [] = true
-each_once (fetch ∷ rest) = not (is_open fetch.kind fetch.view rest) && each_once rest
+each_once (fetch ∷ rest) = not (is_fetch_open fetch.kind fetch.view rest) && each_once rest
 
--- one that was never asked for, and is to be at once
+-- one that was never asked_again for, and is to be at once
 abbrev pub fresh : FetchKind → ℕ → ℕ → ℕ → Fetch
 fresh kind view first now = record { kind = kind; view = view; first = first; count = 0; moment = now }
 
 -- a fetch is opened, where it is not open
 abbrev pub opened : FetchKind → ℕ → ℕ → ℕ → List Fetch → List Fetch
-opened kind view first moment fetches = if is_open kind view fetches then fetches else fetches ++ fresh kind view first moment ∷ []
+opened kind view first moment fetches = if is_fetch_open kind view fetches then fetches else fetches ++ fresh kind view first moment ∷ []
 
 -- it is closed
 abbrev pub closed : FetchKind → ℕ → List Fetch → List Fetch
@@ -57,9 +57,9 @@ passed finalized fetches = filter (λ (fetch : Fetch). nat_lt finalized fetch.vi
 abbrev pub settled : FetchKind → ℕ → ℕ → List Fetch → List Fetch
 settled kind first last fetches = filter (λ fetch. not (is_within kind first last fetch)) fetches
 
--- one that was asked for once more, and is to be again after the retry interval; both numbers stop at 2^64 - 1
-abbrev pub asked : ℕ → ℕ → Fetch → Fetch
-asked now retry fetch = record fetch { count = min (fetch.count + 1) (2 ^ 64 - 1); moment = min (now + retry) (2 ^ 64 - 1) }
+-- one that was asked_again for once more, and is to be again after the retry interval; both numbers stop at 2^64 - 1
+abbrev pub asked_again : ℕ → ℕ → Fetch → Fetch
+asked_again now retry fetch = record fetch { count = min (fetch.count + 1) (2 ^ 64 - 1); moment = min (now + retry) (2 ^ 64 - 1) }
 
 -- the place of the first one whose moment has come
 abbrev pub due_at : ℕ → List Fetch → Option ℕ

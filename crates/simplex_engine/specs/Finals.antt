@@ -8,22 +8,22 @@ use Rattle.simplex_engine.specs.declared.output.Output.{Output}
 use Rattle.simplex_engine.specs.declared.output.Output.TheVariants.{Finalized}
 
 -- the proposals that outputs tell as final, in order
-abbrev pub finalized_in : {S D J K G C : Type 0} → List (Output S D J K G C) → List (Proposal D)
-finalized_in [] = []
-finalized_in (Finalized proposal ∷ rest) = proposal ∷ finalized_in rest
-finalized_in (_ ∷ rest) = finalized_in rest
+abbrev pub finals_in : {S D J K G C : Type 0} → List (Output S D J K G C) → List (Proposal D)
+finals_in [] = []
+finals_in (Finalized proposal ∷ rest) = proposal ∷ finals_in rest
+finals_in (_ ∷ rest) = finals_in rest
 
 module _ {D : Type 0} where
   -- the proposals of the finalizations that were accepted, in order
-  abbrev pub finalized_by : List (TraceEvent D) → List (Proposal D)
-  finalized_by [] = []
-  finalized_by (Accepts (Finalize proposal) ∷ rest) = proposal ∷ finalized_by rest
-  finalized_by (_ ∷ rest) = finalized_by rest
+  abbrev pub finals_by : List (TraceEvent D) → List (Proposal D)
+  finals_by [] = []
+  finals_by (Accepts (Finalize proposal) ∷ rest) = proposal ∷ finals_by rest
+  finals_by (_ ∷ rest) = finals_by rest
 
   -- the views rise
-  abbrev pub AreRising : List (Proposal D) → Type 0
-  AreRising (p ∷ q ∷ rest) = (p.round.view < q.round.view) × AreRising (q ∷ rest)
-  AreRising _ = Unit {0}
+  abbrev pub RiseByView : List (Proposal D) → Type 0
+  RiseByView (p ∷ q ∷ rest) = (p.round.view < q.round.view) × RiseByView (q ∷ rest)
+  RiseByView _ = Unit {0}
 
   -- the last, where there is one, is of this view
   abbrev pub EndsAt : ℕ → List (Proposal D) → Type 0
@@ -36,18 +36,18 @@ module _ {D : Type 0} where
   rising_above view [] = []
   rising_above view (p ∷ rest) = if nat_lt view p.round.view then p ∷ rising_above p.round.view rest else rising_above view rest
 
-  -- the highest of this view and theirs
-  abbrev pub highest : ℕ → List (Proposal D) → ℕ
-  highest view [] = view
-  highest view (p ∷ rest) = highest (max view p.round.view) rest
+  -- the raised_to of this view and theirs
+  abbrev pub raised_to : ℕ → List (Proposal D) → ℕ
+  raised_to view [] = view
+  raised_to view (p ∷ rest) = raised_to (max view p.round.view) rest
 
 module _ {S D J K G C : Type 0} where
   -- of these proposals each that is of a view above all that were told is queued to be told as final, and nothing else is
   pub record TellsRising (finals : List (Proposal D)) (old new : Outbox S D J K G C) : Type 0 where
-    pub queued : finalized_in new.queue.items ≡ finalized_in old.queue.items ++ rising_above old.told finals
-    pub told : new.told ≡ highest old.told finals
+    pub queued : finals_in new.queue.items ≡ finals_in old.queue.items ++ rising_above old.told finals
+    pub told : new.told ≡ raised_to old.told finals
 
   -- these were given out, and no other proposal is queued to be told as final
   pub record TellsNoMore (out : List (Output S D J K G C)) (old new : Outbox S D J K G C) : Type 0 where
-    pub queued : finalized_in old.queue.items ≡ finalized_in (out ++ new.queue.items)
+    pub queued : finals_in old.queue.items ≡ finals_in (out ++ new.queue.items)
     pub told : new.told ≡ old.told

@@ -30,7 +30,7 @@ use Rattle.simplex_engine.specs.declared.output.Work.TheVariants as work
 use Rattle.simplex_engine.specs.Building.{all_but_at, asking_for, HasBuilds, IsEnded, IsStopped}
 use Rattle.simplex_engine.specs.declared.fetches.FetchKind.TheVariants as fetch
 use Rattle.simplex_engine.specs.declared.repair.Repair.{Repair}
-use Rattle.simplex_engine.specs.Fetches.{fetch_kind, is_open, closed}
+use Rattle.simplex_engine.specs.Fetches.{fetch_kind, is_fetch_open, closed}
 use Rattle.simplex_engine.specs.Planning.{HasPlanned, touching}
 use Rattle.simplex_engine.specs.Repairing.{HasFetches, IsRepaired}
 use Rattle.simplex_engine.specs.Wanted.{after_effects, fetching}
@@ -71,7 +71,7 @@ module _ {S D K G C : Type 0} where
 
   -- a certificate is lacking for a proposal, and is asked for unless it is already
   abbrev pub lacking : FetchKind → ℕ → ℕ → List Fetch → List (Step S D K G C)
-  lacking kind view proposal wanted = if is_open kind view wanted then [] else Resolve kind view proposal ∷ []
+  lacking kind view proposal wanted = if is_fetch_open kind view wanted then [] else Resolve kind view proposal ∷ []
 
   -- a proposal is verified, or a certificate is lacking for one
   abbrev pub IsVerifyFollowed : Verify D K → Plan S D K G C → Plan S D K G C → Type 0

@@ -9,8 +9,8 @@ use Rattle.simplex_laws.specs.Living.{DoesMore}
 use Rattle.simplex_laws.specs.LifeLaws.{NeverFalls, WhileAlive}
 use Rattle.simplex_engine.specs.declared.journaled.Journaled.{Journaled}
 use Rattle.simplex_engine.specs.declared.output.Output.{Output}
-use Rattle.simplex_engine.specs.Finals.{finalized_in, finalized_by, TellsRising}
-use Rattle.simplex_engine.specs.Outboxes.{IsLawful}
+use Rattle.simplex_engine.specs.Finals.{finals_in, finals_by, TellsRising}
+use Rattle.simplex_engine.specs.Outboxes.{IsLawfulOutbox}
 use Rattle.simplex_engine.specs.Journals.{journal_of, IsBeginningOf}
 use Rattle.simplex_engine.specs.Doing.{IsDoneOn}
 
@@ -21,14 +21,14 @@ module _ {S L D K G C : Type 0} where
 
   -- no proposal is queued to be told as final
   abbrev pub TellsNothing : Journaled S L D K G C → Type 0
-  TellsNothing member = finalized_in member.outbox.queue.items ≡ []
+  TellsNothing member = finals_in member.outbox.queue.items ≡ []
 
 module _ {S L D K G C : Type 0} (bytes_of : C → List ℕ) where
   -- over all that was given out and what is queued: each vote stands behind an output that stores it, and the proposals that are told
   -- as final rise; until the engine fails, a journal that carries them out holds a beginning of the record; and the last finalized
   -- view of the member is the highest one that was told
   pub record IsKept (given : List (Output S D Stored K G C)) (member : Journaled S L D K G C) : Type 0 where
-    pub lawful : IsLawful given member.outbox
+    pub lawful : IsLawfulOutbox given member.outbox
     pub stored : member.failed ≡ false → IsBeginningOf bytes_of member.member member.stored (journal_of (given ++ member.outbox.queue.items))
     pub told : IfSome member.member.facts.life (λ x. member.outbox.told ≡ x.finalized)
 
@@ -54,7 +54,7 @@ module _ {S L D K G C : Type 0} (same : D → D → Bool) (elect : Elect L) (byt
     pub more : List (TraceEvent D)
     pub on_this : All (IsDoneOn taken) more
     pub done : DoesMore same elect old.member.facts more new.member.facts
-    pub told : TellsRising (finalized_by more) old.outbox new.outbox
+    pub told : TellsRising (finals_by more) old.outbox new.outbox
     pub risen : WhileAlive HasRisen old.member.facts.life new.member.facts.life
 
 module _ {S L D K G C : Type 0} (bytes_of : C → List ℕ) where

@@ -9,18 +9,18 @@ use Rattle.simplex_engine.specs.declared.outbox.Outbox.{Outbox}
 use Rattle.simplex_engine.specs.declared.output.Output.{Output}
 use Rattle.simplex_engine.specs.declared.output.Output.TheVariants as output
 use Rattle.simplex_engine.specs.declared.votes.Vote.{Vote}
-use Rattle.simplex_engine.specs.Entries.{votes_in, newest_from, AreCopies}
-use Rattle.simplex_engine.specs.Finals.{finalized_in, AreRising, EndsAt}
+use Rattle.simplex_engine.specs.Entries.{votes_of_entries, newest_from, AreCopies}
+use Rattle.simplex_engine.specs.Finals.{finals_in, RiseByView, EndsAt}
 use Rattle.simplex_engine.specs.Outputs.{stored_in, storing, AreBehind}
 
 module _ {S D J K G C : Type 0} where
   -- over all that was given out and what is queued each vote stands behind an output that stores it, and so would the vote that
   -- may be repeated; and the views of the proposals that are told as final rise, up to the highest one that was told
-  pub record IsLawful (given : List (Output S D J K G C)) (box : Outbox S D J K G C) : Type 0 where
+  pub record IsLawfulOutbox (given : List (Output S D J K G C)) (box : Outbox S D J K G C) : Type 0 where
     pub behind : AreBehind [] (given ++ box.queue.items)
-    pub repeat : IfSome box.repeat (λ vote. Contains (votes_in (stored_in (given ++ box.queue.items))) vote)
-    pub rising : AreRising (finalized_in (given ++ box.queue.items))
-    pub told : EndsAt box.told (finalized_in (given ++ box.queue.items))
+    pub repeat : IfSome box.repeat (λ vote. Contains (votes_of_entries (stored_in (given ++ box.queue.items))) vote)
+    pub rising : RiseByView (finals_in (given ++ box.queue.items))
+    pub told : EndsAt box.told (finals_in (given ++ box.queue.items))
 
   -- these stand behind what was queued, and this vote may be repeated
   pub record HasBecome (more : List (Output S D J K G C)) (repeat : Option (Vote D G)) (old new : Outbox S D J K G C) : Type 0 where

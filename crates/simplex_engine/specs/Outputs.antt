@@ -4,7 +4,7 @@ use Rattle.std.specs.declared.alloc.Global.{Global}
 use Rattle.simplex_types.specs.declared.types.messages.Artifact.{Artifact}
 use Rattle.simplex_engine.specs.declared.output.Output.{Output}
 use Rattle.simplex_engine.specs.declared.output.Output.TheVariants.{Store, Replace, Vote}
-use Rattle.simplex_engine.specs.Entries.{votes_in}
+use Rattle.simplex_engine.specs.Entries.{votes_of_entries}
 
 module _ {S D J K G C : Type 0} where
   -- the entries that an output stores
@@ -20,7 +20,7 @@ module _ {S D J K G C : Type 0} where
 
   -- a vote is among what was stored before
   abbrev pub IsBehind : List (Artifact S D K G C) → Output S D J K G C → Type 0
-  IsBehind stored (Vote vote) = Contains (votes_in stored) vote
+  IsBehind stored (Vote vote) = Contains (votes_of_entries stored) vote
   IsBehind stored _ = Unit {0}
 
   -- each vote stands behind an output that stores it, where this was stored before
@@ -30,4 +30,4 @@ module _ {S D J K G C : Type 0} where
 
   -- entries to be stored, and behind them each vote among them
   abbrev pub storing : Vec (Artifact S D K G C) Global → List (Output S D J K G C)
-  storing entries = Store entries ∷ map Vote (votes_in entries.items)
+  storing entries = Store entries ∷ map Vote (votes_of_entries entries.items)

@@ -22,16 +22,16 @@ module _ {S D K G C : Type 0} where
     pub same : new ≡ record old { steps = new.steps }
 
   -- to ask for this member's votes on the view
-  abbrev pub for_votes : ℕ → List (Step S D K G C)
-  for_votes view = Ask (Notarize view) ∷ Ask (Finalize view) ∷ []
+  abbrev pub asking_for_votes : ℕ → List (Step S D K G C)
+  asking_for_votes view = Ask (Notarize view) ∷ Ask (Finalize view) ∷ []
 
   -- for the certificates of the view that were not handed out yet
-  abbrev pub for_certificates : ℕ → List (Step S D K G C)
-  for_certificates view = Ask (BroadcastNotarization view) ∷ Ask (BroadcastNullification view) ∷ Ask (BroadcastFinalization view) ∷ []
+  abbrev pub asking_for_certificates : ℕ → List (Step S D K G C)
+  asking_for_certificates view = Ask (BroadcastNotarization view) ∷ Ask (BroadcastNullification view) ∷ Ask (BroadcastFinalization view) ∷ []
 
   -- for both
   abbrev pub touching : ℕ → List (Step S D K G C)
-  touching view = for_votes view ++ for_certificates view
+  touching view = asking_for_votes view ++ asking_for_certificates view
 
 -- a proposal of the view may be kept beside so many: the view is one of the eight after the current one, and fewer than eight are kept
 abbrev pub may_keep : ℕ → ℕ → ℕ → Bool

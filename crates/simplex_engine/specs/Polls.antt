@@ -33,11 +33,11 @@ module _ {D G : Type 0} (same : D → D → Bool) (subject : Subject D) where
   is_on (Some ballot) = same_subject same ballot.subject subject
 
   -- the member's signature, where its vote is on the subject
-  abbrev pub signature_in : ℕ → Option (Ballot D G) → List (ℕ × G)
-  signature_in member None = []
-  signature_in member (Some ballot) = if same_subject same ballot.subject subject then (member, ballot.signature) ∷ [] else []
+  abbrev pub signature_on : ℕ → Option (Ballot D G) → List (ℕ × G)
+  signature_on member None = []
+  signature_on member (Some ballot) = if same_subject same ballot.subject subject then (member, ballot.signature) ∷ [] else []
 
   -- the signatures on the subject that are held of the first so many members, by rising member
   abbrev pub signatures_on : ℕ → List (Option (Ballot D G)) → List (ℕ × G)
   signatures_on zero slots = []
-  signatures_on (suc member) slots = signatures_on member slots ++ signature_in member (ballot_of slots member)
+  signatures_on (suc member) slots = signatures_on member slots ++ signature_on member (ballot_of slots member)

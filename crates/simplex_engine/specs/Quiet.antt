@@ -35,8 +35,8 @@ module _ {D : Type 0} where
   for_all view = for_work ++ for_votes view ++ for_certificates view
 
 -- the current view, while the member has not failed
-abbrev pub current_view : {K L D : Type 0} → MemberFacts K L D → Option ℕ
-current_view member = option_map (λ state. state.current) member.life
+abbrev pub view_in_life : {K L D : Type 0} → MemberFacts K L D → Option ℕ
+view_in_life member = option_map (λ state. state.current) member.life
 
 module _ {K L D : Type 0} (same : D → D → Bool) (elect : Elect L) where
   -- a call has such an answer
@@ -53,6 +53,6 @@ module _ {K L D : Type 0} (same : D → D → Bool) (elect : Elect L) where
   -- the last calls were those for all that may be due while a view is the current one, which it is; and none had anything new
   pub record HasNothingNew (now : MemberFacts K L D) : Type 0 where
     pub view : ℕ
-    pub current : current_view now ≡ Some view
+    pub current : view_in_life now ≡ Some view
     pub before : MemberFacts K L D
     pub asked : AnswerNothing before (for_all view) now

@@ -9,7 +9,7 @@ use Rattle.simplex_voter.specs.Serving.{notarization_of, nullification_of}
 use Rattle.simplex_engine.specs.declared.fetches.Fetch.{Fetch}
 use Rattle.simplex_engine.specs.declared.fetches.FetchKind.{FetchKind}
 use Rattle.simplex_engine.specs.declared.fetches.FetchKind.TheVariants.{Notarization, Nullification, Decision}
-use Rattle.simplex_engine.specs.Fetches.{fetch_kind, is_open, opened, passed, settled}
+use Rattle.simplex_engine.specs.Fetches.{fetch_kind, is_fetch_open, opened, passed, settled}
 
 -- what an effect makes of the open fetches; what is lacking is asked for from this moment on
 abbrev pub after_effect : ℕ → Effect → List Fetch → List Fetch
@@ -30,7 +30,7 @@ fetching now (first ∷ rest) fetches = fetching now rest (opened Notarization f
 
 -- of each view above the last finalized one that the resolver has open, a nullification is asked for
 abbrev pub AsksForWanted : ℕ → List ℕ → List Fetch → Type 0
-AsksForWanted finalized wanted fetches = (v : ℕ) → has wanted v ≡ true → finalized < v → is_open Nullification v fetches ≡ true
+AsksForWanted finalized wanted fetches = (v : ℕ) → has wanted v ≡ true → finalized < v → is_fetch_open Nullification v fetches ≡ true
 
 module _ {K L D : Type 0} where
   -- the state holds the certificate; of a view that the resolver has open a nullification is lacking all the same

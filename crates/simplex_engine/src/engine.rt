@@ -55,13 +55,13 @@ impl<S: Assembly<D>, L: Elector<S>, D: Digest> Engine<S, L, D> {
     ghost use Rattle.simplex_laws.specs.Lawful.{IsLawful};
     ghost use Rattle.simplex_laws.specs.Living.{OfAllDone, MayBeDoneBy};
     ghost use Rattle.simplex_engine.specs.Outputs.{AreBehind};
-    ghost use Rattle.simplex_engine.specs.Finals.{finalized_in, AreRising, EndsAt, TellsNoMore};
+    ghost use Rattle.simplex_engine.specs.Finals.{finals_in, RiseByView, EndsAt, TellsNoMore};
     ghost use Rattle.simplex_engine.specs.Journals.{journal_of, IsRecordOf};
     ghost use Rattle.simplex_engine.specs.Going.{IsKept, IsWhole, GoesOn, DoesMoreOn, HasGivenOut, has_failed};
     ghost use Rattle.simplex_engine.specs.Settled.{IsSettled, IsWake};
     ghost use Rattle.simplex_engine.specs.Planning.{IsIdle};
     ghost use Rattle.simplex_engine.specs.Inputs.{subject_in, given_out};
-    ghost use Rattle.simplex_engine.specs.Backing.{votes_in, TakesVotes, TakesNone, IsBackedInput};
+    ghost use Rattle.simplex_engine.specs.Backing.{votes_of_input, TakesVotes, TakesNone, IsBackedInput};
     ghost use Rattle.simplex_engine.specs.Bounds.{HoldsFromKept, HoldsNoneAhead, StaysBounded, HoldsAdmitted};
     ghost use Rattle.simplex_engine.specs.Repairing.{AsksForItsLacking};
     ghost use Rattle.simplex_engine.specs.Dropping.{IsDropped};
@@ -93,7 +93,7 @@ impl<S: Assembly<D>, L: Elector<S>, D: Digest> Engine<S, L, D> {
     /// `OutOfMemory` fails the engine. After it each call answers `Failed`.
     pub fn handle(&mut self, input: Input<S, D>, now: u64) -> Result<bool, Fault>
         ensures goes_on { GoesOn D.eq L.elect S.certificate_bytes (subject_in S.certificate_bytes input) self.old.core self.new.core }
-        ensures votes { TakesVotes (votes_in input) self.old.batcher self.new.batcher }
+        ensures votes { TakesVotes (votes_of_input input) self.old.batcher self.new.batcher }
         ensures backed { IsBackedInput D.eq L.elect S.certificate_bytes (length (S.participants self.old.batcher.scheme))
             input self.old.batcher self.old.core self.new.core }
         ensures dropped { IfOk result (λ is_of_use. IsFalse is_of_use → IsDropped now input self.old self.new) }
@@ -247,9 +247,9 @@ impl<S: Assembly<D>, L: Elector<S>, D: Digest> Engine<S, L, D> {
         ensures stored { (given : _) → IsKept S.certificate_bytes given self.now.core → self.now.core.failed ≡ false
             → IsWhole S.certificate_bytes self.now.core
             → IsRecordOf S.certificate_bytes self.now.core.member (journal_of (given ++ self.now.core.outbox.queue.items)) }
-        ensures rising { (given : _) → IsKept S.certificate_bytes given self.now.core → AreRising (finalized_in given) }
+        ensures rising { (given : _) → IsKept S.certificate_bytes given self.now.core → RiseByView (finals_in given) }
         ensures last { (given : _) → IsKept S.certificate_bytes given self.now.core → IfSome self.now.core.member.facts.life (λ x.
-            EndsAt x.finalized (finalized_in (given ++ self.now.core.outbox.queue.items))) }
+            EndsAt x.finalized (finals_in (given ++ self.now.core.outbox.queue.items))) }
         ensures lawful { OfAllDone D.eq L.elect self.now.core.member.facts (λ term_length i all. IsLawful term_length all) }
         ensures ran { OfAllDone D.eq L.elect self.now.core.member.facts (MayBeDoneBy S.PublicKey D.eq L.elect) }
     {

@@ -5,7 +5,7 @@
 //! asking. Moments are milliseconds, and do not fall.
 
 ghost use Rattle.std.specs.Prelude.{◌≡◌, ◌≢◌, ◌≤◌, ℕ, [], ◌++◌, ◌∷◌, true, not, filter, is_some, length, nat_lt, IfOk, OnOk, OnErr, IfSome, IsTrue, if◌then◌else◌};
-ghost use Rattle.simplex_engine.specs.Fetches.{fetch_kind, same_kind, is_of, is_within, is_open, each_once, due_at, fresh, asked, first_of, peers_of, place_of, whose_turn, IsEarliest};
+ghost use Rattle.simplex_engine.specs.Fetches.{fetch_kind, same_kind, is_of, is_within, is_fetch_open, each_once, due_at, fresh, asked_again, first_of, peers_of, place_of, whose_turn, IsEarliest};
 
 mod applying;
 mod lacking;
@@ -153,9 +153,9 @@ impl Fetches {
         of: Option<Participant>,
         now: u64,
     ) -> Result<bool, AllocError>
-        ensures opened { IfOk result (λ opened. opened ≡ not (is_open kind view self.old.wanted.items)) }
+        ensures opened { IfOk result (λ opened. opened ≡ not (is_fetch_open kind view self.old.wanted.items)) }
         ensures after { OnOk result (self.new.wanted.items
-            ≡ (if is_open kind view self.old.wanted.items then self.old.wanted.items
+            ≡ (if is_fetch_open kind view self.old.wanted.items then self.old.wanted.items
             else self.old.wanted.items ++ fresh kind view (place_of self.old.peers of) now ∷ [])) }
         ensures refused { OnErr result (self.new.wanted.items ≡ self.old.wanted.items) }
         ensures same { (self.new.peers ≡ self.old.peers) × (self.new.retry ≡ self.old.retry) }
@@ -201,8 +201,8 @@ impl Fetches {
     /// The first fetch whose moment has come, and of whom it is asked. It is to be asked for again, of the next peer, after the
     /// retry interval. An engine asks until there is none.
     pub fn ask(&mut self, now: u64) -> Option<Ask>
-        ensures asked { IsAsking now self.old result self.new }
-        ensures still { (kind : _) (view : ℕ) → is_open kind view self.new.wanted.items ≡ is_open kind view self.old.wanted.items }
+        ensures asked_again { IsAsking now self.old result self.new }
+        ensures still { (kind : _) (view : ℕ) → is_fetch_open kind view self.new.wanted.items ≡ is_fetch_open kind view self.old.wanted.items }
     {
         let place = due_at(&self.wanted, now)?;
         let fetch = self.wanted[place];
@@ -225,7 +225,7 @@ impl Fetches {
 
     /// Whether the fetch is open.
     pub fn is_open(&self, kind: FetchKind, view: View) -> bool
-        ensures { result ≡ is_open kind view self.now.wanted.items }
+        ensures { result ≡ is_fetch_open kind view self.now.wanted.items }
     {
         is_among(&self.wanted, kind, view)
     }
@@ -270,7 +270,7 @@ impl Fetch {
 
     /// The same once it was asked for.
     fn asked(&self, now: u64, retry: u64) -> Fetch
-        ensures { result ≡ asked now retry self.now }
+        ensures { result ≡ asked_again now retry self.now }
     {
         Fetch {
             kind: self.kind,
@@ -284,7 +284,7 @@ impl Fetch {
 
 /// Whether the fetch is open.
 fn is_among(fetches: &[Fetch], kind: FetchKind, view: View) -> bool
-    ensures { result ≡ is_open kind view fetches.now }
+    ensures { result ≡ is_fetch_open kind view fetches.now }
 {
     fetches.iter().any(|fetch| fetch.is_of(kind, view))
 }

@@ -13,7 +13,7 @@ ghost use Rattle.simplex_laws.specs.Shown.{certificates_in};
 ghost use Rattle.simplex_member.specs.Calls.{asked};
 ghost use Rattle.simplex_engine.specs.Acting.{hands_in};
 ghost use Rattle.simplex_engine.specs.Doing.{IsDoneOn, final_by};
-ghost use Rattle.simplex_engine.specs.Finals.{finalized_by};
+ghost use Rattle.simplex_engine.specs.Finals.{finals_by};
 
 use crate::outbox::Outbox;
 use crate::output::{Output, Work};
@@ -51,10 +51,10 @@ impl<S: Scheme<D>, L: Elector<S>, D: Digest> Journaled<S, L, D> {
     ghost use Rattle.simplex_member.specs.Journal.{stored_of};
     ghost use Rattle.simplex_engine.specs.Outputs.{AreBehind};
     ghost use Rattle.simplex_engine.specs.Outboxes.{HasRoom};
-    ghost use Rattle.simplex_engine.specs.Finals.{finalized_in, AreRising, EndsAt, TellsNoMore};
+    ghost use Rattle.simplex_engine.specs.Finals.{finals_in, RiseByView, EndsAt, TellsNoMore};
     ghost use Rattle.simplex_engine.specs.Journals.{journal_of, IsRecordOf};
     ghost use Rattle.simplex_engine.specs.Going.{IsKept, IsWhole, GoesOn, TellsNothing, has_failed};
-    ghost use Rattle.simplex_engine.specs.Dropping.{is_refused, says_nothing, IsLeftBy};
+    ghost use Rattle.simplex_engine.specs.Dropping.{is_refused, says_nothing, IsLeftByCall};
 
     /// A life begins: the whole record is to be stored in place of all that is stored, before anything else. What is final already is
     /// never told.
@@ -90,14 +90,14 @@ impl<S: Scheme<D>, L: Elector<S>, D: Digest> Journaled<S, L, D> {
     /// - `refused`: a call that is refused, and not for want of memory, changes nothing.
     /// - `dropped`: what a call leaves that was of no use.
     pub fn call(&mut self, call: Call<S, D>) -> Reply<S, D>
-        ensures goes_on { (taken : _) → All (IsDoneOn taken) (certificates_in call) → finalized_by (certificates_in call) ≡ []
+        ensures goes_on { (taken : _) → All (IsDoneOn taken) (certificates_in call) → finals_by (certificates_in call) ≡ []
             → GoesOn D.eq L.elect S.certificate_bytes taken self.old self.new }
         ensures quiet { certificates_in call ≡ [] → GoesOn D.eq L.elect S.certificate_bytes None self.old self.new }
         ensures answered { IsCall D.eq L.elect self.old.member.facts (asked S.certificate_bytes call)
             (told S.certificate_bytes result) self.new.member.facts }
         ensures refused { IsTrue (is_refused (told S.certificate_bytes result)) → self.new.member.facts ≡ self.old.member.facts }
         ensures dropped { IsTrue (says_nothing (told S.certificate_bytes result))
-            → IsLeftBy (asked S.certificate_bytes call) self.old.member.facts self.new.member.facts }
+            → IsLeftByCall (asked S.certificate_bytes call) self.old.member.facts self.new.member.facts }
         ensures outbox { self.new.outbox ≡ self.old.outbox }
     {
         self.member.call(call)
@@ -273,9 +273,9 @@ impl<S: Scheme<D>, L: Elector<S>, D: Digest> Journaled<S, L, D> {
         ensures behind { (given : _) → IsKept S.certificate_bytes given self.now → AreBehind [] given }
         ensures stored { (given : _) → IsKept S.certificate_bytes given self.now → self.now.failed ≡ false → IsWhole S.certificate_bytes self.now
             → IsRecordOf S.certificate_bytes self.now.member (journal_of (given ++ self.now.outbox.queue.items)) }
-        ensures rising { (given : _) → IsKept S.certificate_bytes given self.now → AreRising (finalized_in given) }
+        ensures rising { (given : _) → IsKept S.certificate_bytes given self.now → RiseByView (finals_in given) }
         ensures last { (given : _) → IsKept S.certificate_bytes given self.now → IfSome self.now.member.facts.life (λ x.
-            EndsAt x.finalized (finalized_in (given ++ self.now.outbox.queue.items))) }
+            EndsAt x.finalized (finals_in (given ++ self.now.outbox.queue.items))) }
         ensures lawful { OfAllDone D.eq L.elect self.now.member.facts (λ term_length i all. IsLawful term_length all) }
         ensures ran { OfAllDone D.eq L.elect self.now.member.facts (MayBeDoneBy S.PublicKey D.eq L.elect) }
     {
@@ -299,7 +299,7 @@ fn last_finalized<S: Scheme<D>, L: Elector<S>, D: Digest>(member: &LawfulMember<
 fn finalized_by<S: CertificateScheme, D: Digest>(
     certificate: &Certificate<S, D>,
 ) -> Option<Proposal<D>>
-    ensures { finalized_by (Accepts (certificate_subject (certificate_facts S.certificate_bytes certificate.now)) ∷ []) ≡ option_to_list result }
+    ensures { finals_by (Accepts (certificate_subject (certificate_facts S.certificate_bytes certificate.now)) ∷ []) ≡ option_to_list result }
 {
     match certificate {
         Certificate::Finalization(finalization) => Some(finalization.proposal),

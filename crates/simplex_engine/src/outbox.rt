@@ -32,15 +32,15 @@ pub struct Outbox<S: CertificateScheme, D, J> {
 
 impl<S: CertificateScheme, D: Digest, J: Drop> Outbox<S, D, J> {
     ghost use Rattle.simplex_engine.specs.Outputs.{AreBehind};
-    ghost use Rattle.simplex_engine.specs.Finals.{finalized_in, AreRising};
-    ghost use Rattle.simplex_engine.specs.Outboxes.{IsLawful, HasBecome, HasStayed, IsStored, IsReplaced, IsRepeated, HasRoom, IsToldWhere, IsTold};
+    ghost use Rattle.simplex_engine.specs.Finals.{finals_in, RiseByView};
+    ghost use Rattle.simplex_engine.specs.Outboxes.{IsLawfulOutbox, HasBecome, HasStayed, IsStored, IsReplaced, IsRepeated, HasRoom, IsToldWhere, IsTold};
 
     /// Nothing is to be carried out, and no proposal of this view or below is ever told as final.
     ///
     /// - `begins`: nothing was given out.
     pub fn new(alloc: Global, told: View) -> Outbox<S, D, J>
         ensures empty { (result.queue.items ≡ []) × (result.repeat ≡ None) × (result.told ≡ told) }
-        ensures begins { IsLawful [] result }
+        ensures begins { IsLawfulOutbox [] result }
     {
         Outbox {
             alloc,
@@ -55,7 +55,7 @@ impl<S: CertificateScheme, D: Digest, J: Drop> Outbox<S, D, J> {
     pub fn store(&mut self, fresh: &[Artifact<S, D>]) -> Result<(), AllocError>
         ensures queued { OnOk result (IsStored S.certificate_bytes fresh.now self.old self.new) }
         ensures kept { OnErr result (HasStayed self.old self.new) }
-        ensures goes_on { (given : _) → IsLawful given self.old → IsLawful given self.new }
+        ensures goes_on { (given : _) → IsLawfulOutbox given self.old → IsLawfulOutbox given self.new }
     {
         self.queue_entries(fresh)
     }
@@ -65,7 +65,7 @@ impl<S: CertificateScheme, D: Digest, J: Drop> Outbox<S, D, J> {
     pub fn replace(&mut self, all: &[Artifact<S, D>], beside: J) -> Result<(), AllocError>
         ensures queued { OnOk result (IsReplaced S.certificate_bytes all.now beside self.old self.new) }
         ensures kept { OnErr result (HasStayed self.old self.new) }
-        ensures goes_on { (given : _) → IsLawful given self.old → IsLawful given self.new }
+        ensures goes_on { (given : _) → IsLawfulOutbox given self.old → IsLawfulOutbox given self.new }
     {
         self.queue_record(all, beside)
     }
@@ -75,7 +75,7 @@ impl<S: CertificateScheme, D: Digest, J: Drop> Outbox<S, D, J> {
     pub fn repeat(&mut self, view: View) -> Result<bool, AllocError>
         ensures queued { IfOk result (λ sent. IsRepeated view self.old.repeat sent self.old self.new) }
         ensures kept { OnErr result (HasStayed self.old self.new) }
-        ensures goes_on { (given : _) → IsLawful given self.old → IsLawful given self.new }
+        ensures goes_on { (given : _) → IsLawfulOutbox given self.old → IsLawfulOutbox given self.new }
     {
         self.queue_repeat(view)
     }
@@ -84,7 +84,7 @@ impl<S: CertificateScheme, D: Digest, J: Drop> Outbox<S, D, J> {
     pub fn push(&mut self, work: Work<S, D>) -> Result<(), AllocError>
         ensures queued { OnOk result (HasBecome (output.Work work ∷ []) self.old.repeat self.old self.new) }
         ensures kept { OnErr result (HasStayed self.old self.new) }
-        ensures goes_on { (given : _) → IsLawful given self.old → IsLawful given self.new }
+        ensures goes_on { (given : _) → IsLawfulOutbox given self.old → IsLawfulOutbox given self.new }
     {
         self.queue_work(work)
     }
@@ -93,7 +93,7 @@ impl<S: CertificateScheme, D: Digest, J: Drop> Outbox<S, D, J> {
     pub fn make_room(&mut self) -> Result<(), AllocError>
         ensures room { OnOk result (HasRoom self.new) }
         ensures kept { HasStayed self.old self.new }
-        ensures goes_on { (given : _) → IsLawful given self.old → IsLawful given self.new }
+        ensures goes_on { (given : _) → IsLawfulOutbox given self.old → IsLawfulOutbox given self.new }
     {
         self.queue.reserve(1)
     }
@@ -102,7 +102,7 @@ impl<S: CertificateScheme, D: Digest, J: Drop> Outbox<S, D, J> {
     pub fn tell(&mut self, finalized: Option<Proposal<D>>)
         requires { HasRoom self.old }
         ensures told { IsTold finalized self.old self.new }
-        ensures goes_on { (given : _) → IsLawful given self.old → IsLawful given self.new }
+        ensures goes_on { (given : _) → IsLawfulOutbox given self.old → IsLawfulOutbox given self.new }
     {
         self.queue_final(finalized)
     }
@@ -115,7 +115,7 @@ impl<S: CertificateScheme, D: Digest, J: Drop> Outbox<S, D, J> {
         ensures none { IsNone result → self.new.queue.items ≡ [] }
         ensures repeat { self.new.repeat ≡ self.old.repeat }
         ensures told { self.new.told ≡ self.old.told }
-        ensures goes_on { (given : _) → IsLawful given self.old → IsLawful (given ++ option_to_list result) self.new }
+        ensures goes_on { (given : _) → IsLawfulOutbox given self.old → IsLawfulOutbox (given ++ option_to_list result) self.new }
     {
         self.queue.pop_front()
     }
@@ -130,8 +130,8 @@ impl<S: CertificateScheme, D: Digest, J: Drop> Outbox<S, D, J> {
     /// The law of all that it gave out so far: each vote stands behind an output that stores it, and the views of the proposals
     /// rise that are told as final. It does nothing: its contract is the law.
     pub fn keeps_the_law(&self)
-        ensures behind { (given : _) → IsLawful given self.now → AreBehind [] given }
-        ensures rising { (given : _) → IsLawful given self.now → AreRising (finalized_in given) }
+        ensures behind { (given : _) → IsLawfulOutbox given self.now → AreBehind [] given }
+        ensures rising { (given : _) → IsLawfulOutbox given self.now → RiseByView (finals_in given) }
     {}
 
     /// Queues entries, and behind them the votes among them.

@@ -12,7 +12,7 @@ use Rattle.simplex_host.specs.Host.{certificate_bytes, host_keys}
 use Rattle.simplex_engine.specs.Acting.{IsActedOn}
 use Rattle.simplex_engine.specs.declared.output.Output.TheVariants as output
 use Rattle.simplex_engine.specs.Admitting.{IsTurnedAway, ignoring, is_admitted}
-use Rattle.simplex_engine.specs.Backing.{IsBackedInput, TakesNone, TakesVotes, votes_in}
+use Rattle.simplex_engine.specs.Backing.{IsBackedInput, TakesNone, TakesVotes, votes_of_input}
 use Rattle.simplex_engine.specs.Bounds.{HoldsAdmitted, HoldsFromKept, HoldsNoneAhead, StaysBounded}
 use Rattle.simplex_engine.specs.Repairing.{AsksForItsLacking}
 use Rattle.simplex_engine.specs.Dropping.{IsDropped}
@@ -68,7 +68,7 @@ pub record IsTaken (now : ℕ) (input : HostInput) (old : HeldEngine) (r : FlatT
       (IsActedOn same_host_payload host_leader certificate_bytes AreTheSignatures host_keys now input old.engine
       new.engine.core.member.facts new.engine.batcher new.engine.plan.steps.items)
   pub goes_on : GoesOn same_host_payload host_leader certificate_bytes (subject_in certificate_bytes input) old.engine.core new.engine.core
-  pub votes : TakesVotes (votes_in input) old.engine.batcher new.engine.batcher
+  pub votes : TakesVotes (votes_of_input input) old.engine.batcher new.engine.batcher
   pub backed : IsBackedInput same_host_payload host_leader certificate_bytes (length (host_keys old.engine.batcher.scheme)) input old.engine.batcher
       old.engine.core new.engine.core
   pub bounded : StaysBounded host_keys old.engine.core old.engine.batcher new.engine.core new.engine.batcher

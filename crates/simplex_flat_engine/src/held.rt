@@ -50,7 +50,7 @@ impl HeldEngine {
     ghost use Rattle.simplex_laws.specs.Lawful.{IsLawful};
     ghost use Rattle.simplex_laws.specs.Living.{OfAllDone, MayBeDoneBy};
     ghost use Rattle.simplex_engine.specs.Outputs.{AreBehind};
-    ghost use Rattle.simplex_engine.specs.Finals.{finalized_in, AreRising};
+    ghost use Rattle.simplex_engine.specs.Finals.{finals_in, RiseByView};
     ghost use Rattle.simplex_flat.specs.Serving.{host_leader, same_host_payload};
     ghost use Rattle.simplex_host.specs.declared.scheme.HostKey.{HostKey};
 
@@ -224,7 +224,7 @@ impl HeldEngine {
     pub fn keeps_the_laws(&self)
         ensures behind { (given : _) → IsAllGiven given self.now → self.now.is_lost ≡ false → AreBehind [] given }
         ensures stored { (given : _) → IsAllGiven given self.now → self.now.is_lost ≡ false → HoldsRecord given self.now }
-        ensures rising { (given : _) → IsAllGiven given self.now → self.now.is_lost ≡ false → AreRising (finalized_in given) }
+        ensures rising { (given : _) → IsAllGiven given self.now → self.now.is_lost ≡ false → RiseByView (finals_in given) }
         ensures lawful { OfAllDone same_host_payload host_leader self.now.engine.core.member.facts (λ term_length i all. IsLawful term_length all) }
         ensures ran { OfAllDone same_host_payload host_leader self.now.engine.core.member.facts (MayBeDoneBy HostKey same_host_payload host_leader) }
     {

@@ -2,7 +2,7 @@
 
 ghost use Rattle.std.specs.Prelude.{◌≡◌, ◌≢◌, ◌≤◌, ◌<◌, ◌^◌, ℕ, length, IfOk, OnOk, OnErr, MatchOption, Some, None, vec_len};
 ghost use Rattle.std.specs.Option.{option_copied};
-ghost use Rattle.simplex_engine.specs.Polls.{ballot_of, is_on, signature_in, signatures_on, signed_by, HoldsTheSame};
+ghost use Rattle.simplex_engine.specs.Polls.{ballot_of, is_on, signature_on, signatures_on, signed_by, HoldsTheSame};
 ghost use Rattle.simplex_assembly.specs.Quorums.{quorum_of};
 ghost use Rattle.simplex_engine.specs.Counting.{certificate_of, IsCountedIn, ShowsBoth};
 
@@ -82,7 +82,7 @@ fn signature_on<S: CertificateScheme, D: Digest>(
     subject: &Subject<D>,
 ) -> Result<Option<S::Signature>, AllocError>
     ensures { IfOk result (λ signature. signed_by member signature
-        ≡ signature_in D.eq subject.now member (ballot_of slots.now member)) }
+        ≡ signature_on D.eq subject.now member (ballot_of slots.now member)) }
 {
     match find(slots, member as usize) {
         Some(ballot) => copy_on::<S, D>(alloc, ballot, subject),
@@ -97,7 +97,7 @@ fn copy_on<S: CertificateScheme, D: Digest>(
     subject: &Subject<D>,
 ) -> Result<Option<S::Signature>, AllocError>
     ensures { (member : ℕ) → IfOk result (λ signature. signed_by member signature
-        ≡ signature_in D.eq subject.now member (Some ballot.now)) }
+        ≡ signature_on D.eq subject.now member (Some ballot.now)) }
 {
     if is_same_subject(&ballot.subject, subject) {
         Ok(Some(S::copy_signature(alloc, &ballot.signature)?))

@@ -20,7 +20,7 @@ impl<S: Assembly<D>, L: Elector<S>, D: Digest> Engine<S, L, D> {
     ghost use Rattle.simplex_engine.specs.Going.{GoesOn};
     ghost use Rattle.simplex_engine.specs.Alone.{GoesOnAlone};
     ghost use Rattle.simplex_engine.specs.Quiet.{for_all, for_work, for_votes, for_certificates, AnswersNothing, AnswerNothing};
-    ghost use Rattle.simplex_engine.specs.Acting.{HasDone};
+    ghost use Rattle.simplex_engine.specs.Acting.{HasDoneTask};
 
     /// Asks for all that may be due while the view is the current one. Whether there is nothing new.
     pub(super) fn is_quiet(&mut self, view: View, now: u64) -> Result<bool, Fault>
@@ -106,7 +106,7 @@ impl<S: Assembly<D>, L: Elector<S>, D: Digest> Engine<S, L, D> {
     pub(super) fn ask(&mut self, task: Task<D>, now: u64) -> Result<bool, Fault>
         ensures goes_on { GoesOn D.eq L.elect S.certificate_bytes None self.old.core self.new.core }
         ensures batcher { self.new.batcher ≡ self.old.batcher }
-        ensures acted { IfOk result (HasDone D.eq L.elect task now self.old.core.member.facts self.new.core.member.facts) }
+        ensures acted { IfOk result (HasDoneTask D.eq L.elect task now self.old.core.member.facts self.new.core.member.facts) }
     {
         let reply = self.core.call(task.call(now));
         self.follow(task, reply, now)

@@ -24,7 +24,7 @@ impl<S: Assembly<D>, L: Elector<S>, D: Digest> Engine<S, L, D> {
     ghost use Rattle.simplex_engine.specs.Inputs.{subject_made};
     ghost use Rattle.simplex_engine.specs.Subjects.{subject_round};
     ghost use Rattle.simplex_engine.specs.Acting.{IsHandedIn, IsCountFollowed};
-    ghost use Rattle.simplex_engine.specs.Taking.{IsTaken};
+    ghost use Rattle.simplex_engine.specs.Taking.{IsInputTaken};
     ghost use Rattle.simplex_engine.specs.declared.input.Input.TheVariants as input;
     ghost use Rattle.simplex_engine.specs.Admitting.{is_so};
 
@@ -41,7 +41,7 @@ impl<S: Assembly<D>, L: Elector<S>, D: Digest> Engine<S, L, D> {
 
     /// Counts a vote whose round takes votes.
     pub(super) fn count(&mut self, vote: Vote<D, S::Signature>, now: u64) -> Result<bool, Fault>
-        ensures { IsTaken D.eq L.elect S.certificate_bytes S.IsMadeOf S.participants now (input.Vote vote) self.old self.old self.new result }
+        ensures { IsInputTaken D.eq L.elect S.certificate_bytes S.IsMadeOf S.participants now (input.Vote vote) self.old self.old self.new result }
     {
         if !self.admits_votes(round_of(&vote.subject)) {
             return Ok(false);
@@ -52,7 +52,7 @@ impl<S: Assembly<D>, L: Elector<S>, D: Digest> Engine<S, L, D> {
     /// Counts a vote whose round takes votes, and takes the certificate that it completes.
     fn count_admitted(&mut self, vote: Vote<D, S::Signature>, now: u64) -> Result<bool, Fault>
         requires { IsTrue (is_so (λ x. admits_votes x (subject_round vote.subject)) self.old.core.member.facts) }
-        ensures { IsTaken D.eq L.elect S.certificate_bytes S.IsMadeOf S.participants now (input.Vote vote) self.old self.old self.new result }
+        ensures { IsInputTaken D.eq L.elect S.certificate_bytes S.IsMadeOf S.participants now (input.Vote vote) self.old self.old self.new result }
     {
         match self.batcher.count(vote, true) {
             Ok(counted) => self.follow_counted(counted, now),

@@ -20,14 +20,14 @@ use simplex_voter::voter::State;
 
 impl<S: Assembly<D>, L: Elector<S>, D: Digest> Engine<S, L, D> {
     ghost use Rattle.simplex_engine.specs.Going.{GoesOn};
-    ghost use Rattle.simplex_engine.specs.Taking.{IsTaken};
+    ghost use Rattle.simplex_engine.specs.Taking.{IsInputTaken};
     ghost use Rattle.simplex_engine.specs.Building.{is_asked_in};
-    ghost use Rattle.simplex_engine.specs.Acting.{HasDone, IsBlockTaken};
+    ghost use Rattle.simplex_engine.specs.Acting.{HasDoneTask, IsBlockTaken};
     ghost use Rattle.simplex_engine.specs.Admitting.{is_so, ignoring};
 
     /// Takes what came in, while the engine has not failed, and counts what is of no use.
     pub(super) fn take(&mut self, input: Input<S, D>, now: u64) -> Result<bool, Fault>
-        ensures { IsTaken D.eq L.elect S.certificate_bytes S.IsMadeOf S.participants now input self.old (ignoring self.old) self.new result }
+        ensures { IsInputTaken D.eq L.elect S.certificate_bytes S.IsMadeOf S.participants now input self.old (ignoring self.old) self.new result }
     {
         let answer = self.take_in(input, now);
         if is_in_vain(&answer) {
@@ -39,7 +39,7 @@ impl<S: Assembly<D>, L: Elector<S>, D: Digest> Engine<S, L, D> {
 
     /// Takes what came in.
     fn take_in(&mut self, input: Input<S, D>, now: u64) -> Result<bool, Fault>
-        ensures { IsTaken D.eq L.elect S.certificate_bytes S.IsMadeOf S.participants now input self.old self.old self.new result }
+        ensures { IsInputTaken D.eq L.elect S.certificate_bytes S.IsMadeOf S.participants now input self.old self.old self.new result }
     {
         match input {
             Input::Proposal(from, proposal) => self.offer(from, proposal, now),
@@ -65,7 +65,7 @@ impl<S: Assembly<D>, L: Elector<S>, D: Digest> Engine<S, L, D> {
         ensures unadmitted { IsFalse (is_so (λ x. admits_proposal x from proposal.round) self.old.core.member.facts) → IfOk result (λ is_of_use.
             IsFalse is_of_use × (self.new ≡ record self.old { plan = record (self.old.plan) { early = self.new.plan.early } })) }
         ensures acted { IsTrue (is_so (λ x. admits_proposal x from proposal.round) self.old.core.member.facts) → IfOk result
-            (HasDone D.eq L.elect (SetProposal proposal.round.view proposal) now self.old.core.member.facts self.new.core.member.facts) }
+            (HasDoneTask D.eq L.elect (SetProposal proposal.round.view proposal) now self.old.core.member.facts self.new.core.member.facts) }
     {
         if self.admits_proposal(from, proposal.round) {
             return self.ask(Task::SetProposal(proposal.view(), proposal), now);

@@ -8,7 +8,7 @@ mod working;
 ghost use Rattle.std.specs.Prelude.{◌≡◌, ◌≢◌, ◌+◌, ◌-◌, ◌^◌, ℕ, min, max, true, false, [], ◌∷◌, ◌++◌, Some, Ok, IfOk, OnOk, IsOk, IsNone, IsTrue, ◌↔◌};
 ghost use Rattle.simplex_engine.specs.Settled.{IsWake};
 ghost use Rattle.simplex_engine.specs.Wanted.{AsksForTheLacking};
-ghost use Rattle.simplex_engine.specs.Planning.{IsIdle, HasPlanned, for_votes, for_certificates, touching};
+ghost use Rattle.simplex_engine.specs.Planning.{IsIdle, HasPlanned, asking_for_votes, asking_for_certificates, touching};
 ghost use Rattle.simplex_engine.specs.declared.engine.plan.Step.TheVariants.{Ask, Push};
 
 use super::task::Task;
@@ -291,7 +291,7 @@ impl<S: CertificateScheme, D: Digest> Plan<S, D> {
 
     /// Plans to ask for the votes on the view.
     fn ask_for_votes(&mut self, view: View) -> Result<(), Fault>
-        ensures { OnOk result (HasPlanned (for_votes view) self.old self.new) }
+        ensures { OnOk result (HasPlanned (asking_for_votes view) self.old self.new) }
     {
         self.ask(Task::Notarize(view))?;
         self.ask(Task::Finalize(view))
@@ -299,7 +299,7 @@ impl<S: CertificateScheme, D: Digest> Plan<S, D> {
 
     /// Plans to ask for the certificates of the view that are to be handed out.
     fn ask_for_certificates(&mut self, view: View) -> Result<(), Fault>
-        ensures { OnOk result (HasPlanned (for_certificates view) self.old self.new) }
+        ensures { OnOk result (HasPlanned (asking_for_certificates view) self.old self.new) }
     {
         self.ask(Task::BroadcastNotarization(view))?;
         self.ask(Task::BroadcastNullification(view))?;

@@ -13,7 +13,7 @@ use simplex_types::types::{Digest, Elector, Fault, View};
 impl<S: Assembly<D>, L: Elector<S>, D: Digest> Engine<S, L, D> {
     ghost use Rattle.simplex_engine.specs.Going.{IsWhole};
     ghost use Rattle.simplex_engine.specs.Alone.{GoesOnAlone};
-    ghost use Rattle.simplex_engine.specs.Quiet.{current_view, HasNothingNew};
+    ghost use Rattle.simplex_engine.specs.Quiet.{view_in_life, HasNothingNew};
     ghost use Rattle.simplex_engine.specs.Planning.{IsIdle};
     ghost use Rattle.simplex_engine.specs.Bounds.{HoldsFromKept};
     ghost use Rattle.simplex_engine.specs.Repairing.{AsksForItsLacking};
@@ -108,7 +108,7 @@ impl<S: Assembly<D>, L: Elector<S>, D: Digest> Engine<S, L, D> {
 
     /// The current view. A member that has failed since found no memory.
     fn current_view(&self) -> Result<View, Fault>
-        ensures { IfOk result (λ view. current_view self.now.core.member.facts ≡ Some view) }
+        ensures { IfOk result (λ view. view_in_life self.now.core.member.facts ≡ Some view) }
     {
         match self.core.state() {
             Some(state) => Ok(state.current_view()),
@@ -118,7 +118,7 @@ impl<S: Assembly<D>, L: Elector<S>, D: Digest> Engine<S, L, D> {
 
     /// Whether the view is the current one.
     fn is_current(&self, view: View) -> bool
-        ensures { IsTrue result → current_view self.now.core.member.facts ≡ Some view }
+        ensures { IsTrue result → view_in_life self.now.core.member.facts ≡ Some view }
     {
         match self.core.state() {
             Some(state) => state.current_view() == view,

@@ -2,7 +2,7 @@
 
 ghost use Rattle.std.specs.Prelude.{◌≡◌, ℕ, true, OnOk};
 ghost use Rattle.simplex_resolver.specs.Repair.{has};
-ghost use Rattle.simplex_engine.specs.Fetches.{is_open};
+ghost use Rattle.simplex_engine.specs.Fetches.{is_fetch_open};
 ghost use Rattle.simplex_engine.specs.Wanted.{after_effect, after_effects};
 ghost use Rattle.simplex_engine.specs.declared.fetches.FetchKind.TheVariants.{Nullification};
 
@@ -42,7 +42,7 @@ impl Fetches {
 
     /// Opens the fetch of a nullification of each view, which is to be asked for at once.
     pub fn open_all(&mut self, views: &BTreeSet<View>) -> Result<(), AllocError>
-        ensures each { OnOk result ((v : ℕ) → has views.now.keys v ≡ true → is_open Nullification v self.new.wanted.items ≡ true) }
+        ensures each { OnOk result ((v : ℕ) → has views.now.keys v ≡ true → is_fetch_open Nullification v self.new.wanted.items ≡ true) }
         ensures same { (self.new.peers ≡ self.old.peers) × (self.new.retry ≡ self.old.retry) }
     {
         let mut rest = views.iter();

@@ -2,7 +2,7 @@
 
 ghost use Rattle.std.specs.Prelude.{◌≡◌, ◌++◌, map, IfOk, OnOk, None, Some, option_to_list};
 ghost use Rattle.std.specs.Option.{option_map_or};
-ghost use Rattle.simplex_engine.specs.Entries.{vote_in, votes_in, nullify_in, newest_from, AreCopies};
+ghost use Rattle.simplex_engine.specs.Entries.{vote_in, votes_of_entries, nullify_in, newest_from, AreCopies};
 ghost use Rattle.simplex_engine.specs.declared.output.Output.TheVariants as output;
 
 use crate::output::Output;
@@ -74,7 +74,7 @@ pub(super) fn votes_of<S: CertificateScheme, D: Digest, J: Drop>(
     alloc: Global,
     entries: &[Artifact<S, D>],
 ) -> Result<VecDeque<Output<S, D, J>>, AllocError>
-    ensures { IfOk result (λ votes. votes.items ≡ map output.Vote (votes_in entries.now)) }
+    ensures { IfOk result (λ votes. votes.items ≡ map output.Vote (votes_of_entries entries.now)) }
 {
     let mut votes = VecDeque::new(alloc);
     for entry in entries {

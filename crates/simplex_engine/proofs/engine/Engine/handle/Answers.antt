@@ -3,7 +3,7 @@ use Rattle.std.proofs.Common.{length, refl, sym, subst, ap, ◌∙◌}
 use Rattle.std.proofs.lemmas.Bool.{false≢true}
 use Rattle.simplex_engine.specs.Admitting.{ignoring}
 use Rattle.simplex_engine.specs.Going.{has_failed}
-use Rattle.simplex_engine.specs.Taking.{IsTaken}
+use Rattle.simplex_engine.specs.Taking.{IsInputTaken}
 use Rattle.simplex_engine.proofs.Going.{stays, goes_further, goes_on_anyway}
 use Rattle.simplex_engine.proofs.Backing.{input_backed_by_none, input_backed_then, takes_nothing, takes_anyway}
 use Rattle.simplex_engine.proofs.Bounds.{bounded_still, bounded_further, bounded_same}
@@ -29,7 +29,7 @@ pub returns-in-Ok : goal.returns-in-Ok
 returns-in-Ok g c =
     let engine = c.args.self.now in
     let taken =
-    subst (IsTaken g.D.PartialEq.eq g.L.Elector.elect g.S.CertificateScheme.certificate_bytes g.S.Assembly.IsMadeOf g.S.CertificateScheme.participants c.args.now
+    subst (IsInputTaken g.D.PartialEq.eq g.L.Elector.elect g.S.CertificateScheme.certificate_bytes g.S.Assembly.IsMadeOf g.S.CertificateScheme.participants c.args.now
     c.args.input engine (ignoring engine) c.take.new.self) c.in-Ok.is c.take.ensures
     in
     record {

@@ -3,7 +3,7 @@ use Rattle.std.proofs.Common.{refl, ap, sym, ◌∙◌, None, subst}
 use Rattle.std.proofs.lemmas.Bool.{false≢true}
 use Rattle.std.specs.Prelude.{IfOk}
 use Rattle.simplex_engine.specs.declared.engine.task.Task.TheVariants.{SetProposal}
-use Rattle.simplex_engine.specs.Acting.{HasDone}
+use Rattle.simplex_engine.specs.Acting.{HasDoneTask}
 use Rattle.simplex_engine.specs.Going.{GoesOn}
 use Rattle.simplex_engine.proofs.Going.{stays}
 use Rattle.simplex_engine.proofs.engine.Engine.offer.Goals as goal
@@ -13,7 +13,7 @@ returns-then-admits_proposal g c = record {
   goes_on = c.ask.ensures.goes_on;
   batcher = c.ask.ensures.batcher;
   unadmitted = λ no. absurd (false≢true (sym no ∙ sym c.admits_proposal.ensures ∙ c.if-admits_proposal.true));
-  acted = λ _. subst (λ view. IfOk c.ask.result (HasDone g.D.PartialEq.eq g.L.Elector.elect (SetProposal view c.args.proposal) c.args.now
+  acted = λ _. subst (λ view. IfOk c.ask.result (HasDoneTask g.D.PartialEq.eq g.L.Elector.elect (SetProposal view c.args.proposal) c.args.now
       c.args.self.now.core.member.facts c.ask.new.self.core.member.facts)) c.view.ensures c.ask.ensures.acted;
 }
 

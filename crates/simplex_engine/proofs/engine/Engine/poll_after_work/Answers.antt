@@ -19,10 +19,10 @@ returns-in-Ok-clause-does g c = does_more c.args.self.now.core c.work.new.self.c
 
 pub returns-in-Ok-clause-told : goal.returns-in-Ok-clause-told
 returns-in-Ok-clause-told g c =
-    tells_no_other_then c.args.self.now.core c.work.new.self.core c.work.ensures.goes_on c.next.new.self (option_to_list c.next.result) c.next.ensures.told
+    tells_no_other_then c.args.self.now.core c.work.new.self.core c.work.ensures.alone.goes_on c.next.new.self (option_to_list c.next.result) c.next.ensures.told
 
 pub returns-in-Err-clause-told : goal.returns-in-Err-clause-told
-returns-in-Err-clause-told g c = tells_no_other c.args.self.now.core c.fail.new.self (goes_further c.work.ensures.goes_on c.fail.ensures.goes_on)
+returns-in-Err-clause-told g c = tells_no_other c.args.self.now.core c.fail.new.self (goes_further c.work.ensures.alone.goes_on c.fail.ensures.goes_on)
 
 pub returns-in-Ok-clause-none : goal.returns-in-Ok-clause-none
 returns-in-Ok-clause-none g c = λ none. record {

@@ -3,9 +3,9 @@ use Rattle.std.proofs.Common.{refl, sym, subst}
 use Rattle.std.specs.Prelude.{IfOk, IsFalse}
 use Rattle.std.proofs.lemmas.Bool.{false≢true}
 use Rattle.simplex_engine.specs.declared.input.Input.TheVariants as input
-use Rattle.simplex_engine.specs.Acting.{HasDone}
+use Rattle.simplex_engine.specs.Acting.{HasDoneTask}
 use Rattle.simplex_engine.specs.Admitting.{IsTurnedAway}
-use Rattle.simplex_engine.specs.Taking.{IsTaken}
+use Rattle.simplex_engine.specs.Taking.{IsInputTaken}
 use Rattle.simplex_engine.proofs.Taking.{taken_alone}
 use Rattle.simplex_engine.proofs.engine.Engine.take_in.Goals as goal
 
@@ -17,7 +17,7 @@ returns-in-Proposal g c =
 
 pub returns-in-Vote : goal.returns-in-Vote
 returns-in-Vote g c =
-    subst (λ what. IsTaken g.D.PartialEq.eq g.L.Elector.elect g.S.CertificateScheme.certificate_bytes g.S.Assembly.IsMadeOf g.S.CertificateScheme.participants c.args.now what
+    subst (λ what. IsInputTaken g.D.PartialEq.eq g.L.Elector.elect g.S.CertificateScheme.certificate_bytes g.S.Assembly.IsMadeOf g.S.CertificateScheme.participants c.args.now what
     c.args.self.now c.args.self.now c.count.new.self c.count.result) (sym c.in-Vote.is) c.count.ensures
 
 pub returns-in-Certificate : goal.returns-in-Certificate
@@ -30,7 +30,7 @@ pub returns-in-Verified : goal.returns-in-Verified
 returns-in-Verified g c =
     taken_alone g.D.PartialEq.eq g.L.Elector.elect g.S.CertificateScheme.certificate_bytes g.S.Assembly.IsMadeOf g.S.CertificateScheme.participants c.args.now
     c.args.input (input.Verified c.in-Verified.view c.in-Verified.is_valid) c.args.self.now c.ask.new.self c.ask.result c.in-Verified.is c.ask.ensures.goes_on c.ask.ensures.batcher tt
-    (λ no. absurd (false≢true (sym no))) (λ _. subst (λ task. IfOk c.ask.result (HasDone g.D.PartialEq.eq g.L.Elector.elect task c.args.now c.args.self.now.core.member.facts c.ask.new.self.core.member.facts))
+    (λ no. absurd (false≢true (sym no))) (λ _. subst (λ task. IfOk c.ask.result (HasDoneTask g.D.PartialEq.eq g.L.Elector.elect task c.args.now c.args.self.now.core.member.facts c.ask.new.self.core.member.facts))
     c.verification.ensures c.ask.ensures.acted)
 
 pub returns-in-Built : goal.returns-in-Built

@@ -1,7 +1,7 @@
 use Rattle.std.proofs.Common.{◌≡◌, ap, sym, subst, ◌∙◌, [], ◌∷◌, ◌++◌, length, arith}
 use Rattle.std.specs.Prelude.{IfSome}
 use Rattle.simplex_engine.specs.declared.output.Output.TheVariants as output
-use Rattle.simplex_engine.specs.Finals.{finalized_in}
+use Rattle.simplex_engine.specs.Finals.{finals_in}
 use Rattle.simplex_engine.specs.Outboxes.{IsReplaced}
 use Rattle.simplex_engine.proofs.Begun.{begun}
 use Rattle.simplex_engine.proofs.Kept.{counted}
@@ -25,4 +25,4 @@ returns-clause-whole g c =
 
 pub returns-clause-told : goal.returns-clause-told
 returns-clause-told g c =
-    ap finalized_in (c.in_ok-replace.ensures.queued.2.queue ∙ ap (λ q. q ++ output.Replace c.in_ok-replace.ensures.queued.0 c.stored.result ∷ []) c.new-outbox.ensures.empty.0)
+    ap finals_in (c.in_ok-replace.ensures.queued.2.queue ∙ ap (λ q. q ++ output.Replace c.in_ok-replace.ensures.queued.0 c.stored.result ∷ []) c.new-outbox.ensures.empty.0)

@@ -5,7 +5,7 @@ use Rattle.simplex_member.specs.Calls.{asked, told}
 use Rattle.simplex_member.specs.Signed.{signed_reply}
 use Rattle.simplex_laws.specs.Shown.{votes_in, taken_by}
 use Rattle.simplex_engine.specs.Doing.{IsDoneOn}
-use Rattle.simplex_engine.specs.Finals.{finalized_by, highest, TellsRising}
+use Rattle.simplex_engine.specs.Finals.{finals_by, raised_to, TellsRising}
 use Rattle.simplex_engine.proofs.Doing.{call_on}
 use Rattle.simplex_engine.proofs.Dropping.{refused_left, dropped_left}
 use Rattle.simplex_engine.proofs.Finalizing.{told_by_call, final_none}
@@ -23,7 +23,7 @@ returns-clause-goes_on g c taken may no_final =
       kept = called bytes_of old (record old { member = c.call.new.self }) refl refl c.call.ensures.grown (signed_reply c.call.result) c.call.ensures.votes c.call.ensures.stored
           (λ given lawful. lawful) None (refl, refl, refl)
           (λ last. told_by_call g.D.PartialEq.eq g.L.Elector.elect bytes_of old.member.facts c.call.new.self.facts c.args.call c.call.result c.call.ensures.answered
-          old.outbox.told old.outbox.told last (sym (ap (highest old.outbox.told) none)));
+          old.outbox.told old.outbox.told last (sym (ap (raised_to old.outbox.told) none)));
       more = taken_by c.args.call c.call.result ++ votes_in c.call.result;
       on_this = call_on taken c.args.call c.call.result may;
       done = c.call.ensures.goes_on;
@@ -32,7 +32,7 @@ returns-clause-goes_on g c taken may no_final =
     }
 
 pub returns-clause-quiet : goal.returns-clause-quiet
-returns-clause-quiet g c none = returns-clause-goes_on g c None (subst (All (IsDoneOn None)) (sym none) (All-nil (IsDoneOn None))) (ap finalized_by none)
+returns-clause-quiet g c none = returns-clause-goes_on g c None (subst (All (IsDoneOn None)) (sym none) (All-nil (IsDoneOn None))) (ap finals_by none)
 
 pub returns-clause-refused : goal.returns-clause-refused
 returns-clause-refused g c refused =

@@ -2,7 +2,7 @@ use Rattle.std.proofs.Common.{◌≡◌, ℕ, List, Option, Some, None, ◌++◌
 use Rattle.std.specs.Prelude.{IfSome}
 use Rattle.simplex_types.specs.declared.types.messages.Proposal.{Proposal}
 use Rattle.simplex_voter.specs.Facts.{StateFacts}
-use Rattle.simplex_engine.specs.Finals.{finalized_in, EndsAt}
+use Rattle.simplex_engine.specs.Finals.{finals_in, EndsAt}
 use Rattle.simplex_engine.specs.Journals.{journal_of}
 use Rattle.simplex_engine.proofs.Journals.{is_record}
 use Rattle.simplex_engine.proofs.journaled.Journaled.keeps_the_laws.Goals as goal
@@ -21,4 +21,4 @@ returns-clause-stored g c given kept lives whole =
 pub returns-clause-last : goal.returns-clause-last
 returns-clause-last g c given kept =
     let it = c.args.self.now in
-    ends_last (finalized_in (given ++ it.outbox.queue.items)) it.member.facts.life it.outbox.told kept.told kept.lawful.told
+    ends_last (finals_in (given ++ it.outbox.queue.items)) it.member.facts.life it.outbox.told kept.told kept.lawful.told

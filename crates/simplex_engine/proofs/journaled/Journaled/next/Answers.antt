@@ -1,7 +1,7 @@
 -- That what is given out was queued in front.
 use Rattle.std.proofs.Common.{◌≡◌, ◌++◌, ap, sym, subst, ◌∙◌, append_assoc}
 use Rattle.std.specs.Prelude.{IfSome, option_to_list}
-use Rattle.simplex_engine.specs.Finals.{finalized_in}
+use Rattle.simplex_engine.specs.Finals.{finals_in}
 use Rattle.simplex_engine.specs.Journals.{journal_of, IsBeginningOf}
 use Rattle.simplex_engine.proofs.journaled.Journaled.next.Goals as goal
 
@@ -19,4 +19,4 @@ returns-clause-kept g c = λ given kept.
     }
 
 pub returns-clause-told : goal.returns-clause-told
-returns-clause-told g c = record { queued = ap finalized_in c.next.ensures.front; told = c.next.ensures.told }
+returns-clause-told g c = record { queued = ap finals_in c.next.ensures.front; told = c.next.ensures.told }

@@ -10,7 +10,7 @@ use Rattle.simplex_member.specs.Signed.{signed_reply}
 use Rattle.simplex_laws.specs.Shown.{votes_in, taken_by}
 use Rattle.simplex_laws.specs.Traces.{Accepts}
 use Rattle.simplex_engine.specs.Doing.{IsDoneOn, final_by}
-use Rattle.simplex_engine.specs.Finals.{finalized_by, TellsRising}
+use Rattle.simplex_engine.specs.Finals.{finals_by, TellsRising}
 use Rattle.simplex_engine.specs.Outboxes.{IsTold}
 use Rattle.simplex_engine.proofs.Doing.{call_on}
 use Rattle.simplex_engine.proofs.Dropping.{refused_left}
@@ -31,10 +31,10 @@ returns-clause-goes_on g c =
     let answer = c.call-reply.result in
     let tells = final_by c.finalized_by-finalized.result answer in
     let more = taken_by call answer ++ votes_in answer in
-    let finals : finalized_by more ≡ option_to_list tells =
-    final_events call answer c.finalized_by-finalized.result (ap finalized_by c.handing_in.ensures.hands ∙ c.finalized_by-finalized.ensures) in
+    let finals : finals_by more ≡ option_to_list tells =
+    final_events call answer c.finalized_by-finalized.result (ap finals_by c.handing_in.ensures.hands ∙ c.finalized_by-finalized.ensures) in
     let is_told : IsTold tells old.outbox c.tell.new.self = subst (λ f. IsTold f old.outbox c.tell.new.self) c.final_by.ensures c.tell.ensures.told in
-    let rising : TellsRising (finalized_by more) old.outbox c.tell.new.self =
+    let rising : TellsRising (finals_by more) old.outbox c.tell.new.self =
     subst (λ ps. TellsRising ps old.outbox c.tell.new.self) (sym finals) (told_tells tells old.outbox c.tell.new.self is_told) in
     record {
       kept = called bytes_of old (record old { member = c.call-reply.new.self; outbox = c.tell.new.self }) refl refl c.call-reply.ensures.grown (signed_reply answer)

@@ -1,5 +1,5 @@
 use Rattle.std.proofs.Common.{[], subst}
-use Rattle.simplex_engine.specs.Finals.{finalized_in, AreRising}
+use Rattle.simplex_engine.specs.Finals.{finals_in, RiseByView}
 use Rattle.simplex_engine.proofs.Behind.{beginning}
 use Rattle.simplex_engine.proofs.Finals.{finalized_in-append, rising_first}
 use Rattle.simplex_engine.proofs.outbox.Outbox.keeps_the_law.Goals as goal
@@ -10,4 +10,4 @@ returns-clause-behind g c = λ given lawful. beginning [] given c.args.self.now.
 pub returns-clause-rising : goal.returns-clause-rising
 returns-clause-rising g c = λ given lawful.
     let queued = c.args.self.now.queue.items in
-    rising_first (finalized_in given) (finalized_in queued) (subst AreRising (finalized_in-append given queued) lawful.rising)
+    rising_first (finals_in given) (finals_in queued) (subst RiseByView (finalized_in-append given queued) lawful.rising)
