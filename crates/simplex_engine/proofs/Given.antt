@@ -1,5 +1,5 @@
 -- What is held was given.
-use Rattle.std.proofs.Common.{◌≡◌, ◌⊎◌, ℕ, Bool, true, false, cond, eqb, List, [], ◌∷◌, ◌++◌, Option, Some, None, Result, Ok, Err, refl, ap, sym, ◌∙◌, subst, inl, inr, leb}
+use Rattle.std.proofs.Common.{◌≡◌, ◌≢◌, ◌⊎◌, ℕ, Bool, true, false, cond, eqb, List, [], ◌∷◌, ◌++◌, Option, Some, None, Result, Ok, Err, refl, ap, sym, ◌∙◌, subst, inl, inr, leb}
 use Rattle.std.specs.Prelude.{Contains, IfOk, OnErr}
 use Rattle.std.specs.FinMap as map
 use Rattle.std.specs.Option.{option_map_or}
@@ -29,6 +29,19 @@ same_or_not Nullifies Finalizes = inr (λ e. cc)
 same_or_not Finalizes Notarizes = inr (λ e. cc)
 same_or_not Finalizes Nullifies = inr (λ e. cc)
 same_or_not Finalizes Finalizes = inl refl
+
+-- what holds of the kind and view of a subject, and of all others, holds of each
+pub where_else : {D : Type 0} (on : Subject D) (P : Kind → ℕ → Type 0) → P (kind_of on) (subject_view on)
+    → ((kind : Kind) (view : ℕ) → (kind ≡ kind_of on → view ≢ subject_view on) → P kind view) → (kind : Kind) (view : ℕ) → P kind view
+where_else on P here there kind view = by_kind (same_or_not kind (kind_of on))
+  where
+    by_view : kind ≡ kind_of on → (t : Bool) → eqb view (subject_view on) ≡ t → P kind view
+    by_view e true t = subst (P kind) (sym (eqb-true view (subject_view on) t)) (subst (λ k. P k (subject_view on)) (sym e) here)
+    by_view e false t = there kind view (λ _ same. false≢true (sym t ∙ eq-eqb view (subject_view on) same))
+
+    by_kind : (kind ≡ kind_of on) ⊎ (kind ≡ kind_of on → ⊥) → P kind view
+    by_kind (inl e) = by_view e (eqb view (subject_view on)) refl
+    by_kind (inr apart) = there kind view (λ e. absurd (apart e))
 
 module _ {D G : Type 0} where
   -- the vote of a member that a ballot is
@@ -72,18 +85,11 @@ module _ {S D K G C : Type 0} (given : List (Vote D G)) (old new : Batcher S D K
     either member ballot (inl is) = contains_left given (vote ∷ []) (vote_by member ballot) (are (kind_of vote.subject) (subject_view vote.subject) member ballot is)
     either member ballot (inr is) = subst (Contains (given ++ vote ∷ [])) (sym is) (contains_seam given vote [])
 
-    by_view : (kind : Kind) (view member : ℕ) (ballot : Ballot D G) → kind ≡ kind_of vote.subject → ballot_of (held new kind view) member ≡ Some ballot → (t : Bool) → eqb view (subject_view vote.subject) ≡ t → Contains (given ++ vote ∷ []) (vote_by member ballot)
-    by_view kind view member ballot e is true t =
-        either member ballot (here member ballot (ap (λ k. ballot_of (held new k (subject_view vote.subject)) member) (sym e) ∙ ap (λ v. ballot_of (held new kind v) member) (sym (eqb-true view (subject_view vote.subject) t)) ∙ is))
-    by_view kind view member ballot e is false t =
-        there kind view member ballot (others kind view (λ _ same. false≢true (sym t ∙ eq-eqb view (subject_view vote.subject) same))) is
-
-    by_kind : (kind : Kind) (view member : ℕ) (ballot : Ballot D G) → ballot_of (held new kind view) member ≡ Some ballot → (kind ≡ kind_of vote.subject) ⊎ (kind ≡ kind_of vote.subject → ⊥) → Contains (given ++ vote ∷ []) (vote_by member ballot)
-    by_kind kind view member ballot is (inl e) = by_view kind view member ballot e is (eqb view (subject_view vote.subject)) refl
-    by_kind kind view member ballot is (inr apart) = there kind view member ballot (others kind view (λ e. absurd (apart e))) is
-
     pub among_given : AreGiven (given ++ vote ∷ []) new
-    among_given kind view member ballot is = by_kind kind view member ballot is (same_or_not kind (kind_of vote.subject))
+    among_given =
+        where_else vote.subject
+        (λ kind view. (member : ℕ) (ballot : Ballot D G) → ballot_of (held new kind view) member ≡ Some ballot → Contains (given ++ vote ∷ []) (vote_by member ballot))
+        (λ member ballot is. either member ballot (here member ballot is)) (λ kind view apart member ballot. there kind view member ballot (others kind view apart))
 
   module _ (same : D → D → Bool) (IsMadeOf : Subject D → List (ℕ × G) → C → Type 0) (members : ℕ) (is_admitted : Bool) (vote : Vote D G) where
     counted_among : (r : Counted S D K G C) → IsCountedAmong same IsMadeOf members is_admitted old vote new r → AreGiven (given ++ vote ∷ []) new
@@ -118,17 +124,9 @@ module _ {S D K G C : Type 0} (old new : Batcher S D K G C) where
   -- the same are held of the kind and view of a vote, and of all others
   pub all_the_same : (on : Subject D) → KeepsOthers on old new
       → ((member : ℕ) → ballot_of (held new (kind_of on) (subject_view on)) member ≡ ballot_of (held old (kind_of on) (subject_view on)) member) → HoldsAllTheSame old new
-  all_the_same on others here kind view member = by_kind (same_or_not kind (kind_of on))
-    where
-      by_view : kind ≡ kind_of on → (t : Bool) → eqb view (subject_view on) ≡ t → ballot_of (held new kind view) member ≡ ballot_of (held old kind view) member
-      by_view e true t =
-          subst (λ v. ballot_of (held new kind v) member ≡ ballot_of (held old kind v) member) (sym (eqb-true view (subject_view on) t))
-          (subst (λ k. ballot_of (held new k (subject_view on)) member ≡ ballot_of (held old k (subject_view on)) member) (sym e) (here member))
-      by_view e false t = ap (λ slots. ballot_of slots member) (others kind view (λ _ same. false≢true (sym t ∙ eq-eqb view (subject_view on) same)))
-
-      by_kind : (kind ≡ kind_of on) ⊎ (kind ≡ kind_of on → ⊥) → ballot_of (held new kind view) member ≡ ballot_of (held old kind view) member
-      by_kind (inl e) = by_view e (eqb view (subject_view on)) refl
-      by_kind (inr apart) = ap (λ slots. ballot_of slots member) (others kind view (λ e. absurd (apart e)))
+  all_the_same on others here =
+      where_else on (λ kind view. (member : ℕ) → ballot_of (held new kind view) member ≡ ballot_of (held old kind view) member) here
+      (λ kind view apart member. ap (λ slots. ballot_of slots member) (others kind view apart))
 
 module _ {S D K G C : Type 0} where
   -- nothing is held

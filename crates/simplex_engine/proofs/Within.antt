@@ -17,7 +17,7 @@ use Rattle.simplex_engine.specs.declared.batcher.poll.Ballot.{Ballot}
 use Rattle.simplex_engine.specs.declared.votes.Vote.{Vote}
 use Rattle.simplex_engine.specs.Polls.{ballot_of, slots_at}
 use Rattle.simplex_engine.specs.Batching.{Kind, Notarizes, Nullifies, Finalizes, kind_of, held, EachVote, HoldsUpTo, HoldsFrom, HoldsNoOther, HoldsAllTheSame, KeepsOthers, IsForgotten, IsCounted, IsCountedAmong}
-use Rattle.simplex_engine.proofs.Given.{same_or_not, vote_by, IsOldOr, counted_by}
+use Rattle.simplex_engine.proofs.Given.{where_else, vote_by, IsOldOr, counted_by}
 
 module _ {S D K G C : Type 0} (Holds : ℕ → ℕ → Type 0) (old new : Batcher S D K G C) (each : EachVote Holds old) where
   each_same : HoldsAllTheSame old new → EachVote Holds new
@@ -33,20 +33,10 @@ module _ {S D K G C : Type 0} (Holds : ℕ → ℕ → Type 0) (old new : Batche
     either member ballot (inl is) = each (kind_of vote.subject) (subject_view vote.subject) member ballot is
     either member ballot (inr is) = subst (Holds (subject_view vote.subject)) (ap (λ v. v.signer) (sym is)) this
 
-    by_view : (kind : Kind) (view member : ℕ) (ballot : Ballot D G) → kind ≡ kind_of vote.subject → ballot_of (held new kind view) member ≡ Some ballot → (t : Bool) → eqb view (subject_view vote.subject) ≡ t → Holds view member
-    by_view kind view member ballot e is true t =
-        let at = eqb-true view (subject_view vote.subject) t in
-        subst (λ v. Holds v member) (sym at)
-        (either member ballot (here member ballot (ap (λ k. ballot_of (held new k (subject_view vote.subject)) member) (sym e) ∙ ap (λ v. ballot_of (held new kind v) member) (sym at) ∙ is)))
-    by_view kind view member ballot e is false t =
-        there kind view member ballot (others kind view (λ _ same. false≢true (sym t ∙ eq-eqb view (subject_view vote.subject) same))) is
-
-    by_kind : (kind : Kind) (view member : ℕ) (ballot : Ballot D G) → ballot_of (held new kind view) member ≡ Some ballot → (kind ≡ kind_of vote.subject) ⊎ (kind ≡ kind_of vote.subject → ⊥) → Holds view member
-    by_kind kind view member ballot is (inl e) = by_view kind view member ballot e is (eqb view (subject_view vote.subject)) refl
-    by_kind kind view member ballot is (inr apart) = there kind view member ballot (others kind view (λ e. absurd (apart e))) is
-
     each_or_this : EachVote Holds new
-    each_or_this kind view member ballot is = by_kind kind view member ballot is (same_or_not kind (kind_of vote.subject))
+    each_or_this =
+        where_else vote.subject (λ kind view. (member : ℕ) (ballot : Ballot D G) → ballot_of (held new kind view) member ≡ Some ballot → Holds view member)
+        (λ member ballot is. either member ballot (here member ballot is)) (λ kind view apart member ballot. there kind view member ballot (others kind view apart))
 
 module _ {S D K G C : Type 0} (same : D → D → Bool) (IsMadeOf : Subject D → List (ℕ × G) → C → Type 0) (members : ℕ) (is_admitted : Bool)
     (old new : Batcher S D K G C) (vote : Vote D G) (highest : ℕ) (admits : is_admitted ≡ true → (1 ≤ subject_view vote.subject) × (subject_view vote.subject ≤ highest))
