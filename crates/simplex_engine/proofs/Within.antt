@@ -1,13 +1,6 @@
 -- Votes that are held once one is counted are of the views and members that they were of, or this one's.
-use Rattle.std.proofs.Common.{◌≡◌, ◌≢◌, ◌⊎◌, ℕ, ◌≤◌, ◌<◌, Bool, true, false, cond, eqb, leb, List, [], length, Option, Some, None, Result, Ok, Err, Vec, refl, ap, sym, ◌∙◌, subst, inl, inr}
+use Rattle.std.proofs.Common.{◌≡◌, ℕ, ◌≤◌, ◌<◌, Bool, true, cond, List, Some, Result, Ok, Err, ap, sym, ◌∙◌, subst, inl, inr}
 use Rattle.std.specs.Prelude.{IfOk, OnErr}
-use Rattle.std.specs.FinMap as map
-use Rattle.std.specs.Option.{option_map_or}
-use Rattle.std.specs.Ordering.{nat_cmp}
-use Rattle.std.specs.declared.alloc.Global.{Global}
-use Rattle.std.proofs.lemmas.Bool.{eq-eqb, eqb-true, leb-true, false≢true}
-use Rattle.simplex_sorted.proofs.Maps.{get-kept}
-use Rattle.simplex_sorted.specs.Tracked.{at_or_above}
 use Rattle.simplex_types.specs.declared.types.messages.Subject.{Subject}
 use Rattle.simplex_types.specs.Viewed.{subject_view}
 use Rattle.simplex_engine.specs.declared.batcher.Batcher.{Batcher}
@@ -15,9 +8,9 @@ use Rattle.simplex_engine.specs.declared.batcher.Counted.{Counted}
 use Rattle.simplex_engine.specs.declared.batcher.Counted.TheVariants.{Refused, Known, Taken, Certified, Equivocated}
 use Rattle.simplex_engine.specs.declared.batcher.poll.Ballot.{Ballot}
 use Rattle.simplex_engine.specs.declared.votes.Vote.{Vote}
-use Rattle.simplex_engine.specs.Polls.{ballot_of, slots_at}
-use Rattle.simplex_engine.specs.Batching.{Kind, Notarizes, Nullifies, Finalizes, kind_of, held, EachVote, HoldsUpTo, HoldsFrom, HoldsNoOther, HoldsAllTheSame, KeepsOthers, IsForgotten, IsCounted, IsCountedAmong}
-use Rattle.simplex_engine.proofs.Given.{where_else, vote_by, IsOldOr, counted_by}
+use Rattle.simplex_engine.specs.Polls.{ballot_of}
+use Rattle.simplex_engine.specs.Batching.{Kind, kind_of, held, EachVote, HoldsUpTo, HoldsAllTheSame, KeepsOthers, IsCounted, IsCountedAmong}
+use Rattle.simplex_engine.proofs.Given.{where_else, IsOldOr, counted_by}
 
 module _ {S D K G C : Type 0} (Holds : ℕ → ℕ → Type 0) (old new : Batcher S D K G C) (each : EachVote Holds old) where
   each_same : HoldsAllTheSame old new → EachVote Holds new
