@@ -8,7 +8,7 @@ use std::alloc::{AllocError, Global};
 impl SchemeCodec for SealScheme {
     ghost use Rattle.example_engine.specs.Sealing.{signature_encoding, signature_from_bytes};
 
-    ghost signature_encoding = { signature_encoding };
+    ghost signature_bytes = { signature_encoding };
 
     ghost signature_of = { signature_from_bytes };
 
