@@ -75,7 +75,7 @@ abbrev pub HasOutputOf : HostOutput → FlatOutput → Type 0
 HasOutputOf (output.Store entries) f = f.kind ≡ 1
 HasOutputOf (output.Replace entries beside) f = f.kind ≡ 2
 HasOutputOf (output.Vote v) f = (f.kind ≡ 3) × IsVoteOf f.subject v
-HasOutputOf (output.Finalized q) f = (f.kind ≡ 10) × IsProposal f.subject.proposal q
+HasOutputOf (output.Finalized q) f = (f.kind ≡ 10) × IsFlatProposal f.subject.proposal q
 HasOutputOf (output.Work w) f = IsWork w f
 
 -- the bytes of a certificate
