@@ -4,7 +4,7 @@ use Rattle.std.specs.List.{range_with_len}
 use Rattle.std.proofs.lemmas.Bool.Decides.{nat_tests}
 use Rattle.std.proofs.lemmas.Bool.{cond-true, cond-false, cases_lt}
 use Rattle.simplex_types.specs.Terms.{term_start, term_end, next_term_start}
-use Rattle.simplex_sorted.specs.ByTerm.{is_covered, ByTermFacts}
+use Rattle.simplex_sorted.specs.ByTerm.{has_covering, ByTermFacts}
 use Rattle.simplex_types.specs.declared.reasons.FetchReason.TheVariants.{MissingNullification}
 use Rattle.simplex_resolver.specs.declared.resolver.effect.Effect.{Effect}
 use Rattle.simplex_resolver.specs.declared.resolver.effect.Effect.TheVariants.{Fetch}
@@ -80,28 +80,28 @@ anchors-none t a end h = ap (filter (λ v. (v == term_start t v) || v == a)) (ra
 
 -- one turn of a scan
 pub uncovered-next : (m : ByTermFacts (List ℕ)) (a end : ℕ) → 0 < m.term_length → 1 ≤ a → a < end
-    → uncovered_anchors m a end ≡ cond (not (is_covered m a)) (a ∷ uncovered_anchors m (next_term_start m.term_length a) end) (uncovered_anchors m (next_term_start m.term_length a) end)
-uncovered-next m a end h low more = ap (filter (λ v. not (is_covered m v))) (anchors-next m.term_length a end h low more)
+    → uncovered_anchors m a end ≡ cond (not (has_covering m a)) (a ∷ uncovered_anchors m (next_term_start m.term_length a) end) (uncovered_anchors m (next_term_start m.term_length a) end)
+uncovered-next m a end h low more = ap (filter (λ v. not (has_covering m v))) (anchors-next m.term_length a end h low more)
 
 pub uncovered-none : (m : ByTermFacts (List ℕ)) (a end : ℕ) → end ≤ a → uncovered_anchors m a end ≡ []
-uncovered-none m a end h = ap (filter (λ v. not (is_covered m v))) (anchors-none m.term_length a end h)
+uncovered-none m a end h = ap (filter (λ v. not (has_covering m v))) (anchors-none m.term_length a end h)
 
 pub end_of_scan-next : (t a end : ℕ) → 0 < t → 1 ≤ a → a < end → end_of_scan t (next_term_start t a) end ≡ end_of_scan t a end
 end_of_scan-next t a end h low more = end-next (term_start t) (term_end t) (terms t h) a end low more
 
 -- one turn of the loop of a scan: what it has and what is to come stays the same
 pub turn : (bare : Bool) (cause a next end : ℕ) (m : ByTermFacts (List ℕ)) (items items' all : List Effect) → 0 < m.term_length → 1 ≤ a → a < end
-    → next ≡ next_term_start m.term_length a → not (is_covered m a) ≡ bare → items' ≡ items ++ cond bare (Fetch a cause MissingNullification ∷ []) []
+    → next ≡ next_term_start m.term_length a → not (has_covering m a) ≡ bare → items' ≡ items ++ cond bare (Fetch a cause MissingNullification ∷ []) []
     → items ++ missing_fetches cause (uncovered_anchors m a end) ≡ all
     → items' ++ missing_fetches cause (uncovered_anchors m next end) ≡ all
 turn true cause a next end m items items' all h low more to is grown before =
     ap (λ xs. xs ++ missing_fetches cause (uncovered_anchors m next end)) grown
     ∙ append_assoc items (Fetch a cause MissingNullification ∷ []) _
     ∙ ap (λ n. items ++ (Fetch a cause MissingNullification ∷ missing_fetches cause (uncovered_anchors m n end))) to
-    ∙ ap (λ vs. items ++ missing_fetches cause vs) (sym (uncovered-next m a end h low more ∙ cond-true (not (is_covered m a)) _ _ is))
+    ∙ ap (λ vs. items ++ missing_fetches cause vs) (sym (uncovered-next m a end h low more ∙ cond-true (not (has_covering m a)) _ _ is))
     ∙ before
 turn false cause a next end m items items' all h low more to is grown before =
     ap (λ xs. xs ++ missing_fetches cause (uncovered_anchors m next end)) (grown ∙ append-nil items)
     ∙ ap (λ n. items ++ missing_fetches cause (uncovered_anchors m n end)) to
-    ∙ ap (λ vs. items ++ missing_fetches cause vs) (sym (uncovered-next m a end h low more ∙ cond-false (not (is_covered m a)) _ _ is))
+    ∙ ap (λ vs. items ++ missing_fetches cause vs) (sym (uncovered-next m a end h low more ∙ cond-false (not (has_covering m a)) _ _ is))
     ∙ before

@@ -7,7 +7,7 @@ use Rattle.std.specs.FinMap as finmap
 use Rattle.std.proofs.lemmas.Bool.Decides.{nat_tests}
 use Rattle.std.proofs.lemmas.Bool.{cases_eq, cases_lt, false≢true}
 use Rattle.simplex_types.specs.Terms.{term_start, term_end, covers}
-use Rattle.simplex_sorted.specs.ByTerm.{ByTermFacts, is_covered, covering}
+use Rattle.simplex_sorted.specs.ByTerm.{ByTermFacts, has_covering, covering}
 use Rattle.simplex_types.specs.declared.reasons.Kind.{Kind}
 use Rattle.simplex_types.specs.declared.reasons.Kind.TheVariants.{Nullification as OfNullification, Notarization as OfNotarization}
 use Rattle.simplex_resolver.specs.Facts.{ResolverFacts, empty, term_length, last_finalized, covering_encoding, certified_encoding}
@@ -189,7 +189,7 @@ last_resort false false false t4 s1 s2 s3 s4 is = rw is (search rules)
 
 module _ (t : ℕ) (calls : List Call) (x : ResolverFacts) (long : 0 < t) (named : AllByRecursion NamesAView calls) (st : FollowsCalls t calls x) (k : Comes t calls x) where
   settled_at : (v : ℕ) (kind : Kind) → is_settled x v kind ≡ is_settled_by t calls v kind
-  settled_at v OfNullification = let final = st.final in let covered = st.covered v in by_cases (last_finalized x) (finalized_of calls) v (is_covered x.nullifications v) (list_any (is_covering t v) calls) final covered
+  settled_at v OfNullification = let final = st.final in let covered = st.covered v in by_cases (last_finalized x) (finalized_of calls) v (has_covering x.nullifications v) (list_any (is_covering t v) calls) final covered
     where
       by_cases : (last fin v : ℕ) (a b : Bool) → last ≡ fin → (last < v → a ≡ b) → (nat_le v last || a) ≡ (nat_le v fin || b)
       by_cases last fin v a b same above = grind (arith, nat_tests, same, above)

@@ -5,16 +5,16 @@ use Rattle.std.specs.Option.{option_map_or}
 use Rattle.std.specs.FinMap as finmap
 use Rattle.std.proofs.lemmas.Bool.Decides.{nat_tests}
 use Rattle.simplex_types.specs.Terms.{term_end, covers}
-use Rattle.simplex_sorted.specs.ByTerm.{is_covered}
+use Rattle.simplex_sorted.specs.ByTerm.{has_covering}
 use Rattle.simplex_types.specs.declared.reasons.Kind.TheVariants.{Nullification as OfNullification, Notarization as OfNotarization}
 use Rattle.simplex_resolver.specs.declared.resolver.effect.Effect.{Effect}
 use Rattle.simplex_resolver.specs.declared.resolver.effect.Effect.TheVariants.{Settled, Finalized, Raised}
-use Rattle.simplex_resolver.specs.Facts.{ResolverFacts, term_length, last_finalized, is_term_start}
+use Rattle.simplex_resolver.specs.Facts.{ResolverFacts, term_length, last_finalized, starts_term}
 use Rattle.simplex_resolver.specs.Steps.{Call, Nullification, Notarization, Finalization, Verdict, Replayed, insert_new, with_kept_nullification, with_kept_finalization, without_finalized, after_raise, raise_effects, before_scan, settle_effects}
 use Rattle.simplex_resolver.specs.Received.{finalized_view, floor_raised_to, current_view, is_covering, is_false_verdict, is_notarizing, is_replayed, NamesAView}
 use Rattle.simplex_resolver.specs.Repair.{fetches, settles, is_outstanding}
 use Rattle.simplex_resolver.proofs.Terms.{covers_upto}
-use Rattle.simplex_resolver.proofs.Maps.{any_key-insert_new, contains-insert, contains-insert_new, contains-at_or_above, is_covered-not_ended}
+use Rattle.simplex_resolver.proofs.Maps.{any_key-insert_new, contains-insert, contains-insert_new, contains-at_or_above, has_covering-not_ended}
 
 -- from x to y by the call c, which settles what s says
 pub record Changed (x : ResolverFacts) (c : Call) (y : ResolverFacts) (s : List Effect) : Type 0 where
@@ -23,12 +23,12 @@ pub record Changed (x : ResolverFacts) (c : Call) (y : ResolverFacts) (s : List 
   pub floor : y.floor ≡ max (floor_raised_to c) x.floor
   pub final : last_finalized y ≡ max (finalized_view c) (last_finalized x)
   -- above the last finalized view
-  pub covered : (v : ℕ) → last_finalized y < v → is_covered y.nullifications v ≡ (is_covering (term_length x) v c || is_covered x.nullifications v)
+  pub covered : (v : ℕ) → last_finalized y < v → has_covering y.nullifications v ≡ (is_covering (term_length x) v c || has_covering x.nullifications v)
   pub failed : (v : ℕ) → last_finalized y < v → finmap.contains_key y.uncertifiable v ≡ (is_false_verdict v c || finmap.contains_key x.uncertifiable v)
   pub notarized : (v : ℕ) → last_finalized y < v → finmap.contains_key y.notarizations v ≡ (is_notarizing v c || finmap.contains_key x.notarizations v)
   pub replaying : y.replaying ≡ (not (is_replayed c) && x.replaying)
   -- the next scan begins where it would have, or just above the floor
-  pub pulled_back : ((y.scanned ≡ x.scanned) × ((y.floor ≡ x.floor) ⊎ (is_term_start (term_length x) (y.floor + 1) ≡ true))) ⊎ (y.scanned ≤ y.floor + 1)
+  pub pulled_back : ((y.scanned ≡ x.scanned) × ((y.floor ≡ x.floor) ⊎ (starts_term (term_length x) (y.floor + 1) ≡ true))) ⊎ (y.scanned ≤ y.floor + 1)
   pub still_zero : x.scanned ≡ 0 → y.scanned ≡ 0
   -- the effects
   pub settled : (v : ℕ) → y.floor < v → list_any (settles v) s ≡ is_covering (term_length x) v c
@@ -69,7 +69,7 @@ by_nullification false x u b long named final is = record {
   current = omega arith;
   floor = omega arith;
   final = omega arith;
-  covered = λ v above. ap (λ c. c || is_covered x.nullifications v) (sym (beyond u v (term_end (term_length x) u) (last_finalized x) _ (covers_upto (term_length x) u v long named) is above));
+  covered = λ v above. ap (λ c. c || has_covering x.nullifications v) (sym (beyond u v (term_end (term_length x) u) (last_finalized x) _ (covers_upto (term_length x) u v long named) is above));
   failed = λ v above. refl;
   notarized = λ v above. refl;
   replaying = refl;
@@ -142,14 +142,14 @@ record Lifts (x : ResolverFacts) (y : ResolverFacts) (u : ℕ) (c : Call) (e : E
   fails_none : (v : ℕ) → is_false_verdict v c ≡ false
   live : is_replayed c ≡ false
   final : last_finalized y ≡ max (finalized_view c) (last_finalized x)
-  covered : (v : ℕ) → last_finalized y < v → is_covered y.nullifications v ≡ is_covered x.nullifications v
+  covered : (v : ℕ) → last_finalized y < v → has_covering y.nullifications v ≡ has_covering x.nullifications v
   failed : (v : ℕ) → last_finalized y < v → finmap.contains_key y.uncertifiable v ≡ finmap.contains_key x.uncertifiable v
   notarized : (v : ℕ) → last_finalized y < v → finmap.contains_key y.notarizations v ≡ (is_notarizing v c || finmap.contains_key x.notarizations v)
   settled : (v : ℕ) → max u x.floor < v → settles v e ≡ false
   unfetched : (v : ℕ) → fetches v e ≡ false
 
-pulled : (starts : Bool) (t scanned scanned' u floor : ℕ) → scanned' ≡ scanned → starts ≡ is_term_start t (u + 1)
-    → ((cond starts scanned' (min scanned' (u + 1)) ≡ scanned) × ((u ≡ floor) ⊎ (is_term_start t (u + 1) ≡ true))) ⊎ (cond starts scanned' (min scanned' (u + 1)) ≤ u + 1)
+pulled : (starts : Bool) (t scanned scanned' u floor : ℕ) → scanned' ≡ scanned → starts ≡ starts_term t (u + 1)
+    → ((cond starts scanned' (min scanned' (u + 1)) ≡ scanned) × ((u ≡ floor) ⊎ (starts_term t (u + 1) ≡ true))) ⊎ (cond starts scanned' (min scanned' (u + 1)) ≤ u + 1)
 pulled true t scanned scanned' u floor same is = inl (same, inr (sym is))
 pulled false t scanned scanned' u floor same is = inr (omega arith)
 
@@ -159,20 +159,20 @@ pulled-zero false scanned u none = omega arith
 
 by_raise : (rises : Bool) (x y : ResolverFacts) (u : ℕ) (c : Call) (e : Effect) → rises ≡ nat_lt y.floor u → Lifts x y u c e
     → Changed x c
-    (cond rises (record y { floor = u; scanned = cond (is_term_start (term_length y) (u + 1)) y.scanned (min y.scanned (u + 1)) }) y)
+    (cond rises (record y { floor = u; scanned = cond (starts_term (term_length y) (u + 1)) y.scanned (min y.scanned (u + 1)) }) y)
     (e ∷ cond rises (Raised u ∷ []) [])
 by_raise true x y u c e is l = record {
   length = l.length;
   current = l.current;
   floor = grind (arith, nat_tests, is, l.floor, l.under);
   final = l.final;
-  covered = λ v above. l.covered v above ∙ ap (λ b. b || is_covered x.nullifications v) (sym (l.covers_none v));
+  covered = λ v above. l.covered v above ∙ ap (λ b. b || has_covering x.nullifications v) (sym (l.covers_none v));
   failed = λ v above. l.failed v above ∙ ap (λ b. b || finmap.contains_key x.uncertifiable v) (sym (l.fails_none v));
   notarized = l.notarized;
   replaying = grind (arith, l.replaying, l.live);
   pulled_back = let same : term_length y ≡ term_length x = l.length in
-      pulled (is_term_start (term_length y) (u + 1)) (term_length x) x.scanned y.scanned u x.floor l.scanned (ap (λ t. is_term_start t (u + 1)) same);
-  still_zero = λ none. pulled-zero (is_term_start (term_length y) (u + 1)) y.scanned u (l.scanned ∙ none);
+      pulled (starts_term (term_length y) (u + 1)) (term_length x) x.scanned y.scanned u x.floor l.scanned (ap (λ t. starts_term t (u + 1)) same);
+  still_zero = λ none. pulled-zero (starts_term (term_length y) (u + 1)) y.scanned u (l.scanned ∙ none);
   settled = λ v above. grind (arith, nat_tests, is, l.floor, l.covers_none v, l.settled v);
   settled_low = λ v above low. grind (arith, nat_tests);
   unfetched = λ v. grind (arith, l.unfetched v);
@@ -182,7 +182,7 @@ by_raise false x y u c e is l = record {
   current = l.current;
   floor = grind (arith, nat_tests, is, l.floor, l.under);
   final = l.final;
-  covered = λ v above. l.covered v above ∙ ap (λ b. b || is_covered x.nullifications v) (sym (l.covers_none v));
+  covered = λ v above. l.covered v above ∙ ap (λ b. b || has_covering x.nullifications v) (sym (l.covers_none v));
   failed = λ v above. l.failed v above ∙ ap (λ b. b || finmap.contains_key x.uncertifiable v) (sym (l.fails_none v));
   notarized = l.notarized;
   replaying = grind (arith, l.replaying, l.live);
@@ -213,7 +213,7 @@ lifted_finalization x u b long low =
       fails_none = λ v. refl;
       live = refl;
       final = last;
-      covered = λ v above. is_covered-not_ended x.nullifications finalized v long (omega (arith, last, above));
+      covered = λ v above. has_covering-not_ended x.nullifications finalized v long (omega (arith, last, above));
       failed = λ v above. contains-at_or_above x.uncertifiable finalized v (omega (arith, last, above));
       notarized = λ v above. contains-at_or_above x.notarizations finalized v (omega (arith, last, above));
       settled = λ v above. grind (arith, nat_tests);

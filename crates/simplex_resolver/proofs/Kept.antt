@@ -9,7 +9,7 @@ use Rattle.std.proofs.lemmas.Bool.{cases_eq, eq-eqb, ne_eqb, false≢true}
 use Rattle.simplex_types.specs.Terms.{term_end}
 use Rattle.simplex_sorted.specs.Tracked.{at_or_above}
 use Rattle.simplex_sorted.proofs.Maps.{get-insert, get-kept}
-use Rattle.simplex_resolver.specs.Facts.{ResolverFacts, term_length, last_finalized, certified_encoding, is_term_start}
+use Rattle.simplex_resolver.specs.Facts.{ResolverFacts, term_length, last_finalized, certified_encoding, starts_term}
 use Rattle.simplex_resolver.specs.Steps.{Call, Nullification, Notarization, Finalization, Verdict, Replayed, insert_new, with_kept_nullification, with_kept_finalization, without_finalized, before_scan}
 use Rattle.simplex_resolver.specs.Received.{is_true_verdict, is_false_verdict}
 use Rattle.simplex_resolver.proofs.Maps.{contains-insert, contains-insert_new, contains-kept}
@@ -262,10 +262,10 @@ kept x (Nullification u b) = kept_nullification (nat_lt (last_finalized x) (term
 kept x (Notarization u) = kept_notarization (nat_lt (last_finalized x) u) x u refl
 kept x (Finalization u b) =
     let y = without_finalized (with_kept_finalization x u b) (max (last_finalized x) u) in
-    kept_raise (nat_lt y.floor u) x (Finalization u b) y u (cond (is_term_start (term_length y) (u + 1)) y.scanned (min y.scanned (u + 1))) (kept_finalization x u b)
+    kept_raise (nat_lt y.floor u) x (Finalization u b) y u (cond (starts_term (term_length y) (u + 1)) y.scanned (min y.scanned (u + 1))) (kept_finalization x u b)
 kept x (Verdict u b true) =
     let y = cond (nat_lt (last_finalized x) u) (record x { notarizations = finmap.insert x.notarizations u (Some b) }) x in
-    kept_raise (nat_lt y.floor u) x (Verdict u b true) y u (cond (is_term_start (term_length y) (u + 1)) y.scanned (min y.scanned (u + 1))) (kept_success (nat_lt (last_finalized x) u) x u b refl)
+    kept_raise (nat_lt y.floor u) x (Verdict u b true) y u (cond (starts_term (term_length y) (u + 1)) y.scanned (min y.scanned (u + 1))) (kept_success (nat_lt (last_finalized x) u) x u b refl)
 kept x (Verdict u b false) = kept_failure (nat_lt (last_finalized x) u) x u b refl
 kept x Replayed = record {
   final = λ f e at. inl at;

@@ -11,7 +11,7 @@ use Rattle.std.proofs.lemmas.Option.{slice_get-get_or}
 use Rattle.std.proofs.lemmas.Bool.Decides.{nat_tests}
 use Rattle.simplex_types.specs.Terms.{term_end, term_start, covers}
 use Rattle.simplex_sorted.specs.Tracked.{at_or_above, last_entry}
-use Rattle.simplex_sorted.specs.ByTerm.{is_covered, ByTermFacts, not_ended, covering}
+use Rattle.simplex_sorted.specs.ByTerm.{has_covering, ByTermFacts, not_ended, covering}
 use Rattle.simplex_sorted.proofs.Maps.{get-insert, get-kept, entries-retain_keys, is_eq-nat_cmp, made_empty}
 use Rattle.simplex_resolver.specs.Steps.{insert_new}
 use Rattle.simplex_resolver.specs.Repair.{has}
@@ -128,7 +128,7 @@ module _ {V : Type 0} where
   any_key-insert_new p m u x = any_by_new (finmap.contains_key m u) p m u x refl
 
 -- a view is covered exactly where there is a nullification to serve for it
-pub some_covering : (m : ByTermFacts (List ℕ)) (v : ℕ) → is_some (covering m v) ≡ is_covered m v
+pub some_covering : (m : ByTermFacts (List ℕ)) (v : ℕ) → is_some (covering m v) ≡ has_covering m v
 some_covering m v = some_last_key (λ u. covers m.term_length u v) m.by_view
 
 -- a nullification that covers a view above f is in a term that ends above f
@@ -136,9 +136,9 @@ outlasts : (first last : ℕ → ℕ) → AreTerms first last → (f u v : ℕ) 
     → (nat_lt f (last u) && (nat_le u v && (first u == first v))) ≡ (nat_le u v && (first u == first v))
 outlasts first last ts f u v h = let there = ts.within u v in grind (arith, nat_tests, there)
 
-pub is_covered-not_ended : (m : ByTermFacts (List ℕ)) (f v : ℕ) → 0 < m.term_length → f < v
-    → is_covered (record m { by_view = not_ended m f }) v ≡ is_covered m v
-is_covered-not_ended m f v long h =
+pub has_covering-not_ended : (m : ByTermFacts (List ℕ)) (f v : ℕ) → 0 < m.term_length → f < v
+    → has_covering (record m { by_view = not_ended m f }) v ≡ has_covering m v
+has_covering-not_ended m f v long h =
     let t = m.term_length in
     any_key-kept (λ u. covers t u v) (λ u. nat_lt f (term_end t u)) m.by_view
     ∙ any_alike _ (λ u. covers t u v) (finmap.keys m.by_view) (λ u. outlasts (term_start t) (term_end t) (terms t long) f u v h)

@@ -9,8 +9,8 @@ use Rattle.simplex_types.specs.Terms.{term_start, term_end, covers}
 use Rattle.simplex_types.specs.declared.reasons.FetchReason.TheVariants.{MissingNullification, CertificationFailed}
 use Rattle.simplex_resolver.specs.declared.resolver.effect.Effect.{Effect}
 use Rattle.simplex_resolver.specs.declared.resolver.effect.Effect.TheVariants.{Fetch}
-use Rattle.simplex_sorted.specs.ByTerm.{is_covered}
-use Rattle.simplex_resolver.specs.Facts.{ResolverFacts, term_length, last_finalized, empty, anchors, is_term_start}
+use Rattle.simplex_sorted.specs.ByTerm.{has_covering}
+use Rattle.simplex_resolver.specs.Facts.{ResolverFacts, term_length, last_finalized, empty, anchors, starts_term}
 use Rattle.simplex_resolver.specs.Steps.{Call, Nullification, Notarization, Finalization, Verdict, Replayed, before_scan, settle_effects, after, effects, scan_start, scan_end, missing, needs_nullification, failing, failure_fetches}
 use Rattle.simplex_resolver.specs.Received.{finalized_view, current_view, floor_raised_to, finalized_of, current_of, floor_of, is_covering, is_false_verdict, is_notarizing, is_replayed, NamesAView}
 use Rattle.simplex_resolver.specs.Repair.{has, settles, is_outstanding, facts_of, effects_of, OutstandingIsWanted}
@@ -22,24 +22,24 @@ use Rattle.simplex_resolver.proofs.Changes.{Changed, changed}
 
 -- what stands between two calls
 abbrev IsBetweenCalls : ResolverFacts → (ℕ → Bool) → Type 0
-IsBetweenCalls x out = (v : ℕ) → IsBetweenCallsAt x.floor x.current x.scanned v (is_term_start (term_length x) v) (is_covered x.nullifications v) (finmap.contains_key x.uncertifiable v) (out v)
+IsBetweenCalls x out = (v : ℕ) → IsBetweenCallsAt x.floor x.current x.scanned v (starts_term (term_length x) v) (has_covering x.nullifications v) (finmap.contains_key x.uncertifiable v) (out v)
 
 -- what stands before a scan
 abbrev Ready : ResolverFacts → (ℕ → Bool) → Type 0
-Ready x out = (v : ℕ) → ReadyAt x.floor x.current x.scanned v (is_term_start (term_length x) v) (is_covered x.nullifications v) (finmap.contains_key x.uncertifiable v) (out v)
+Ready x out = (v : ℕ) → ReadyAt x.floor x.current x.scanned v (starts_term (term_length x) v) (has_covering x.nullifications v) (finmap.contains_key x.uncertifiable v) (out v)
 
 abbrev found : ResolverFacts → ℕ → Bool
-found x v = is_found_by (scan_start x) x.current v (is_term_start (term_length x) v) (is_covered x.nullifications v)
+found x v = is_found_by (scan_start x) x.current v (starts_term (term_length x) v) (has_covering x.nullifications v)
 
 -- a false verdict stands at v and needs a nullification
 abbrev unmet : ResolverFacts → ℕ → Bool
-unmet x v = (finmap.contains_key x.uncertifiable v && nat_lt x.floor v) && not (is_covered x.nullifications v)
+unmet x v = (finmap.contains_key x.uncertifiable v && nat_lt x.floor v) && not (has_covering x.nullifications v)
 
 has-missing : (x : ResolverFacts) (v : ℕ) → has (missing x) v ≡ found x v
 has-missing x v =
     let first = scan_start x in
-    let outer = has-filter (λ u. not (is_covered x.nullifications u)) (anchors (term_length x) first x.current) v in
-    let inner = has-filter (λ u. is_term_start (term_length x) u || u == first) (range_with_len first (x.current - first)) v in
+    let outer = has-filter (λ u. not (has_covering x.nullifications u)) (anchors (term_length x) first x.current) v in
+    let inner = has-filter (λ u. starts_term (term_length x) u || u == first) (range_with_len first (x.current - first)) v in
     let range = has-range first (x.current - first) v in cc
 
 has-unmet : (x : ResolverFacts) (v : ℕ) → has (filter (needs_nullification x) (finmap.keys x.uncertifiable)) v ≡ unmet x v
@@ -70,7 +70,7 @@ scanned : (y : ResolverFacts) (out out' : ℕ → Bool) → 0 < term_length y �
     → IsBetweenCalls (record y { scanned = scan_end y }) out'
 scanned y out out' long ready is v =
     let t = term_length y in
-    quiet_after_scan y.floor y.current y.scanned (scan_end y) v (is_term_start t v) (is_covered y.nullifications v) (finmap.contains_key y.uncertifiable v) (out v) (out' v) (ready v)
+    quiet_after_scan y.floor y.current y.scanned (scan_end y) v (starts_term t v) (has_covering y.nullifications v) (finmap.contains_key y.uncertifiable v) (out v) (out' v) (ready v)
     (ends_by (nat_lt (scan_start y) y.current) (term_start t) (term_end t) (terms t long) (scan_start y) y.current v (omega arith) refl) (is v)
 
 -- effects that end by fetches of `us`
@@ -97,8 +97,8 @@ adds_failed es fs us v none =
 -- a call that is no false verdict, on a live resolver
 module _ (x : ResolverFacts) (c : Call) (y : ResolverFacts) (s : List Effect) (out : ℕ → Bool) (low : last_finalized y ≤ y.floor)
     (h : Changed x c y s) (fails_none : (v : ℕ) → is_false_verdict v c ≡ false) (q : IsBetweenCalls x out) where
-  change_at : (v : ℕ) → ChangesAt x.floor y.floor x.current y.current x.scanned y.scanned v (is_term_start (term_length x) v)
-      (is_covered x.nullifications v) (is_covered y.nullifications v) (finmap.contains_key x.uncertifiable v) (finmap.contains_key y.uncertifiable v) (out v) (list_any (settles v) s)
+  change_at : (v : ℕ) → ChangesAt x.floor y.floor x.current y.current x.scanned y.scanned v (starts_term (term_length x) v)
+      (has_covering x.nullifications v) (has_covering y.nullifications v) (finmap.contains_key x.uncertifiable v) (finmap.contains_key y.uncertifiable v) (out v) (list_any (settles v) s)
   change_at v = record {
     floor_rises = omega (arith, h.floor);
     current_rises = omega (arith, h.current);
@@ -107,7 +107,7 @@ module _ (x : ResolverFacts) (c : Call) (y : ResolverFacts) (s : List Effect) (o
         kept.0,
         elim kept.1 [
           | inl floor ↦ inl floor
-          | inr start ↦ inr (λ at. subst (λ u. is_term_start (term_length x) u ≡ true) (sym at) start)
+          | inr start ↦ inr (λ at. subst (λ u. starts_term (term_length x) u ≡ true) (sym at) start)
         ],
       )
       | inr back ↦ inr back
@@ -125,13 +125,13 @@ module _ (x : ResolverFacts) (c : Call) (y : ResolverFacts) (s : List Effect) (o
   -- the same by y's terms, which are x's
   live_ready : Ready y (λ v. out v && not (list_any (settles v) s))
   live_ready v =
-      subst (λ t. ReadyAt y.floor y.current y.scanned v (is_term_start t v) (is_covered y.nullifications v) (finmap.contains_key y.uncertifiable v) (out v && not (list_any (settles v) s))) (sym h.length)
-      (ready_after_change x.floor y.floor x.current y.current x.scanned y.scanned v (is_term_start (term_length x) v)
-      (is_covered x.nullifications v) (is_covered y.nullifications v) (finmap.contains_key x.uncertifiable v) (finmap.contains_key y.uncertifiable v) (out v) (list_any (settles v) s) (q v) (change_at v))
+      subst (λ t. ReadyAt y.floor y.current y.scanned v (starts_term t v) (has_covering y.nullifications v) (finmap.contains_key y.uncertifiable v) (out v && not (list_any (settles v) s))) (sym h.length)
+      (ready_after_change x.floor y.floor x.current y.current x.scanned y.scanned v (starts_term (term_length x) v)
+      (has_covering x.nullifications v) (has_covering y.nullifications v) (finmap.contains_key x.uncertifiable v) (finmap.contains_key y.uncertifiable v) (out v) (list_any (settles v) s) (q v) (change_at v))
 
   live_unmet : (v : ℕ) → unmet y v ≡ true → (out v && not (list_any (settles v) s)) ≡ true
-  live_unmet v = failed_after_change x.floor y.floor x.current y.current x.scanned y.scanned v (is_term_start (term_length x) v)
-      (is_covered x.nullifications v) (is_covered y.nullifications v) (finmap.contains_key x.uncertifiable v) (finmap.contains_key y.uncertifiable v) (out v) (list_any (settles v) s) (q v) (change_at v)
+  live_unmet v = failed_after_change x.floor y.floor x.current y.current x.scanned y.scanned v (starts_term (term_length x) v)
+      (has_covering x.nullifications v) (has_covering y.nullifications v) (finmap.contains_key x.uncertifiable v) (finmap.contains_key y.uncertifiable v) (out v) (list_any (settles v) s) (q v) (change_at v)
 
 -- ---- one call
 
@@ -143,7 +143,7 @@ pub record FollowsCalls (t : ℕ) (calls : List Call) (x : ResolverFacts) : Type
   pub final : last_finalized x ≡ finalized_of calls
   pub low : last_finalized x ≤ x.floor
   -- above the last finalized view
-  pub covered : (v : ℕ) → last_finalized x < v → is_covered x.nullifications v ≡ list_any (is_covering t v) calls
+  pub covered : (v : ℕ) → last_finalized x < v → has_covering x.nullifications v ≡ list_any (is_covering t v) calls
   pub failed : (v : ℕ) → last_finalized x < v → finmap.contains_key x.uncertifiable v ≡ list_any (is_false_verdict v) calls
   pub notarized : (v : ℕ) → last_finalized x < v → finmap.contains_key x.notarizations v ≡ list_any (is_notarizing v) calls
   pub replaying : x.replaying ≡ not (list_any is_replayed calls)
@@ -239,7 +239,7 @@ pub fails : (x : ResolverFacts) (u : ℕ) (b : List ℕ) → Fails x (before_sca
 fails x u b = fails-if (nat_lt (last_finalized x) u) x _ (record { floor = refl; current = refl; scanned = refl; nullifications = refl; replaying = refl })
 
 quiet_alike : (x y : ResolverFacts) (out : ℕ → Bool) → Fails x y
-    → ((v : ℕ) → IsBetweenCallsAt x.floor x.current x.scanned v (is_term_start (term_length x) v) (is_covered x.nullifications v) (finmap.contains_key y.uncertifiable v) (out v))
+    → ((v : ℕ) → IsBetweenCallsAt x.floor x.current x.scanned v (starts_term (term_length x) v) (has_covering x.nullifications v) (finmap.contains_key y.uncertifiable v) (out v))
     → IsBetweenCalls y out
 quiet_alike x y out f q v = rw (f.floor, f.current, f.scanned, f.nullifications) (q v)
 
@@ -262,10 +262,10 @@ next_failure x es u b low st h =
       quiet = λ runs.
           let was = sym f.replaying ∙ runs in
           quiet_alike x y (is_outstanding (es ++ effects x c)) f
-          (λ v. let cover : v ≡ u → is_covered x.nullifications u ≡ is_covered x.nullifications v = λ e. ap (is_covered x.nullifications) (sym e) in
-          quiet_after_failure x.floor x.current x.scanned v u (is_term_start (term_length x) v) (is_covered x.nullifications v) (finmap.contains_key x.uncertifiable v) (finmap.contains_key y.uncertifiable v)
+          (λ v. let cover : v ≡ u → has_covering x.nullifications u ≡ has_covering x.nullifications v = λ e. ap (has_covering x.nullifications) (sym e) in
+          quiet_after_failure x.floor x.current x.scanned v u (starts_term (term_length x) v) (has_covering x.nullifications v) (finmap.contains_key x.uncertifiable v) (finmap.contains_key y.uncertifiable v)
           (is_outstanding es v) (is_outstanding (es ++ effects x c) v) true (st.quiet was v) (λ above. h.failed v (omega (arith, low, above)))
-          (failing_at x.floor v u x.replaying (is_covered x.nullifications v) (is_covered x.nullifications u) (is_outstanding es v)
+          (failing_at x.floor v u x.replaying (has_covering x.nullifications v) (has_covering x.nullifications u) (is_outstanding es v)
           (is_outstanding (es ++ effects x c) v) (has (failing x u) v) (sum v) (fetched v) was cover));
     }
   where
@@ -366,8 +366,8 @@ next t calls x c long named st =
       final = same ∙ h.final ∙ ap (max (finalized_view c)) st.final;
       low = omega (arith, k.floor, same, low);
       covered = λ v above.
-          ap (λ m. is_covered m v) k.nullifications ∙ h.covered v (now v above)
-          ∙ ap (λ n. is_covering n v c || is_covered x.nullifications v) st.length
+          ap (λ m. has_covering m v) k.nullifications ∙ h.covered v (now v above)
+          ∙ ap (λ n. is_covering n v c || has_covering x.nullifications v) st.length
           ∙ ap (λ b. is_covering t v c || b) (st.covered v (was v (now v above)));
       failed = λ v above.
           ap (λ us. finmap.contains_key us v) k.uncertifiable ∙ h.failed v (now v above) ∙ ap (λ b. is_false_verdict v c || b) (st.failed v (was v (now v above)));
@@ -412,7 +412,7 @@ outstanding_is_wanted t calls long named replayed v =
     let x = facts_of t calls in
     let live : x.replaying ≡ false = st.replaying ∙ ap not replayed in
     let wanted = ((all_fetched t calls long named).quiet live v).wanted in
-    by_tests x.floor (floor_of calls) x.current (current_of calls) v (is_term_start t v) (is_covered x.nullifications v) (list_any (is_covering t v) calls)
+    by_tests x.floor (floor_of calls) x.current (current_of calls) v (starts_term t v) (has_covering x.nullifications v) (list_any (is_covering t v) calls)
     (finmap.contains_key x.uncertifiable v) (list_any (is_false_verdict v) calls) (is_outstanding (effects_of t calls) v) st.floor st.current
     (λ above. st.covered v (omega (arith, st.low, above))) (λ above. st.failed v (omega (arith, st.low, above)))
-    (subst (λ n. is_outstanding (effects_of t calls) v ≡ is_wanted_by x.floor x.current v (is_term_start n v) (is_covered x.nullifications v) (finmap.contains_key x.uncertifiable v)) st.length wanted)
+    (subst (λ n. is_outstanding (effects_of t calls) v ≡ is_wanted_by x.floor x.current v (starts_term n v) (has_covering x.nullifications v) (finmap.contains_key x.uncertifiable v)) st.length wanted)

@@ -8,7 +8,7 @@ use base.Stored.{coded_unit}
 use Rattle.std.specs.FinMap as map
 use Rattle.std.specs.FinMap.{FinMap}
 use Rattle.simplex_types.specs.Terms.{term_start, next_term_start}
-use Rattle.simplex_sorted.specs.ByTerm.{ByTermFacts, by_term_code, is_covered}
+use Rattle.simplex_sorted.specs.ByTerm.{ByTermFacts, by_term_code, has_covering}
 use Rattle.simplex_sorted.specs.ByTerm as by_term
 
 -- all that a resolver's later answers and effects depend on
@@ -57,20 +57,20 @@ certified_encoding m v = option_and_then (λ e. e) (map.get m v)
 -- ---- anchors
 
 -- the view is the first one of its term
-abbrev pub is_term_start : ℕ → ℕ → Bool
-is_term_start t v = v == term_start t v
+abbrev pub starts_term : ℕ → ℕ → Bool
+starts_term t v = v == term_start t v
 
 -- v is its term's lowest view above the floor
 abbrev pub is_anchor : ℕ → ℕ → ℕ → Bool
-is_anchor t floor v = nat_lt floor v && (is_term_start t v || v == floor + 1)
+is_anchor t floor v = nat_lt floor v && (starts_term t v || v == floor + 1)
 
 -- first, and the term starts behind it, below end
 abbrev pub anchors : ℕ → ℕ → ℕ → List ℕ
-anchors t first end = filter (λ v. is_term_start t v || v == first) (range_with_len first (end - first))
+anchors t first end = filter (λ v. starts_term t v || v == first) (range_with_len first (end - first))
 
 -- the anchors among these that no nullification covers
 abbrev pub uncovered_anchors : ByTermFacts (List ℕ) → ℕ → ℕ → List ℕ
-uncovered_anchors m first end = filter (λ v. not (is_covered m v)) (anchors m.term_length first end)
+uncovered_anchors m first end = filter (λ v. not (has_covering m v)) (anchors m.term_length first end)
 
 -- where a scan ends: at the first anchor that is not below end
 abbrev pub end_of_scan : ℕ → ℕ → ℕ → ℕ

@@ -4,12 +4,12 @@ use Rattle.std.specs.Option.{option_and_then}
 use Rattle.std.specs.FinMap as map
 use Rattle.simplex_types.specs.declared.reasons.Kind.{Kind}
 use Rattle.simplex_types.specs.declared.reasons.Kind.TheVariants.{Nullification as OfNullification, Notarization as OfNotarization}
-use Rattle.simplex_sorted.specs.ByTerm.{is_covered}
+use Rattle.simplex_sorted.specs.ByTerm.{has_covering}
 use Rattle.simplex_resolver.specs.Facts.{ResolverFacts, last_finalized, covering_encoding, certified_encoding}
 
 -- nothing is left to be asked for of the kind at v
 abbrev pub is_settled : ResolverFacts → ℕ → Kind → Bool
-is_settled x v OfNullification = nat_le v (last_finalized x) || is_covered x.nullifications v
+is_settled x v OfNullification = nat_le v (last_finalized x) || has_covering x.nullifications v
 is_settled x v OfNotarization = nat_le v (last_finalized x) || map.contains_key x.notarizations v
 
 -- the first, if there is one, else the second

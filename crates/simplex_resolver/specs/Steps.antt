@@ -5,7 +5,7 @@ use Rattle.std.specs.FinMap as map
 use Rattle.std.specs.FinMap.{FinMap}
 use Rattle.simplex_types.specs.Terms.{term_end}
 use Rattle.simplex_sorted.specs.Tracked.{at_or_above}
-use Rattle.simplex_sorted.specs.ByTerm.{not_ended, is_covered}
+use Rattle.simplex_sorted.specs.ByTerm.{not_ended, has_covering}
 use Rattle.simplex_types.specs.Certificates.{CertificateFacts, ProposalFacts, Notarized, Nullified, Finalized as FinalizedOf}
 use Rattle.simplex_types.specs.Encoding.{encoding}
 use Rattle.simplex_types.specs.declared.types.messages.Proposal.{Proposal}
@@ -17,7 +17,7 @@ use Rattle.simplex_types.specs.declared.reasons.Kind.TheVariants.{Nullification 
 use Rattle.simplex_types.specs.declared.reasons.FetchReason.TheVariants.{MissingNullification, CertificationFailed}
 use Rattle.simplex_resolver.specs.declared.resolver.effect.Effect.{Effect}
 use Rattle.simplex_resolver.specs.declared.resolver.effect.Effect.TheVariants.{Fetch, Settled, Finalized, Raised}
-use Rattle.simplex_resolver.specs.Facts.{ResolverFacts, term_length, last_finalized, uncovered_anchors, is_term_start, end_of_scan}
+use Rattle.simplex_resolver.specs.Facts.{ResolverFacts, term_length, last_finalized, uncovered_anchors, starts_term, end_of_scan}
 
 -- what a resolver is told: a certificate of a view with its encoding, a verdict on a notarization,
 -- or the end of the replay. Of a notarization the view alone matters until a verdict brings it again
@@ -70,7 +70,7 @@ after_scan x = if x.replaying then x else record x { scanned = scan_end x }
 abbrev pub after_raise : ResolverFacts → ℕ → ResolverFacts
 after_raise x v =
     if nat_lt x.floor v
-    then record x { floor = v; scanned = if is_term_start (term_length x) (v + 1) then x.scanned else min x.scanned (v + 1) }
+    then record x { floor = v; scanned = if starts_term (term_length x) (v + 1) then x.scanned else min x.scanned (v + 1) }
     else x
 
 -- the floor rises, where the view is above it
@@ -158,7 +158,7 @@ after_failure x v =
 
 -- v is above the floor and uncovered
 abbrev pub needs_nullification : ResolverFacts → ℕ → Bool
-needs_nullification x v = nat_lt x.floor v && not (is_covered x.nullifications v)
+needs_nullification x v = nat_lt x.floor v && not (has_covering x.nullifications v)
 
 -- the fetches of failed views
 abbrev pub failure_fetches : List ℕ → List Effect

@@ -12,7 +12,7 @@ use Rattle.std.proofs.Math.Nat.{lt-div-mul-add}
 use Rattle.std.proofs.lemmas.Nat.{div-mul-add}
 use Rattle.simplex_sorted.specs.Tracked.{below, last_entry}
 use Rattle.simplex_types.specs.Terms.{term_start, next_term_start, covers}
-use Rattle.simplex_sorted.specs.ByTerm.{ByTermFacts, is_covered, Gapless}
+use Rattle.simplex_sorted.specs.ByTerm.{ByTermFacts, has_covering, Gapless}
 use Rattle.simplex_types.proofs.Covers.{same_start}
 use Rattle.simplex_sorted.proofs.Maps.{entries-retain_keys}
 
@@ -68,10 +68,10 @@ raised u c w b up h = grind (arith, nat_tests)
 
 module _ {V : Type 0} (m : ByTermFacts V) where
   -- a view that covers one covers the rest of its term
-  pub covered_on : (c w : ℕ) → 1 ≤ c → c ≤ w → w < next_term_start m.term_length c → is_covered m c ≡ true → is_covered m w ≡ true
+  pub covered_on : (c w : ℕ) → 1 ≤ c → c ≤ w → w < next_term_start m.term_length c → has_covering m c ≡ true → has_covering m w ≡ true
   covered_on c w one up below h = any_on (λ u. covers m.term_length u c) (λ u. covers m.term_length u w) (fin.keys m.by_view) (λ u covered. rw (same_start m.term_length c w one up below) (raised u c w _ up covered)) h
 
-  pub gapless_on : (p c : ℕ) → p < c → Gapless m p c → is_covered m c ≡ true → Gapless m p (next_term_start m.term_length c)
+  pub gapless_on : (p c : ℕ) → p < c → Gapless m p c → has_covering m c ≡ true → Gapless m p (next_term_start m.term_length c)
   gapless_on p c up before here w low high = elim (cases_lt w c) [
     | inl below ↦ before w low below
     | inr above ↦ covered_on c w (omega arith) above high here

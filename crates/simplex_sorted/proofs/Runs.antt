@@ -9,7 +9,7 @@ use Rattle.std.proofs.lemmas.Bool.{cases_eq, cases_lt, le-leb, lt-ltb, eq-eqb, n
 use Rattle.simplex_sorted.specs.Tracked.{after_insert, at_or_above}
 use Rattle.simplex_types.specs.declared.types.fault.AllocFailed.{AllocFailed}
 use Rattle.simplex_types.specs.Terms.{next_term_start, term_end, covers}
-use Rattle.simplex_sorted.specs.ByTerm.{ByTermFacts, is_covered, not_ended}
+use Rattle.simplex_sorted.specs.ByTerm.{ByTermFacts, has_covering, not_ended}
 use Rattle.simplex_sorted.specs.Runs.{AreIn}
 use Rattle.simplex_sorted.proofs.Maps.{find_at_key, find_other, stood, get-insert, get-kept}
 use Rattle.simplex_sorted.proofs.Terms.{start_monotone}
@@ -42,7 +42,7 @@ module _ {V : Type 0} (p : ℕ → Bool) where
 
 module _ {V : Type 0} (m : ByTermFacts V) where
   -- a view stays covered where what covers it stays
-  still_covered : (b : FinMap nat_cmp V) (w : ℕ) → ((u : ℕ) → covers m.term_length u w ≡ true → is_some (fin.get m.by_view u) ≡ true → is_some (fin.get b u) ≡ true) → is_covered m w ≡ true → is_covered (record m { by_view = b }) w ≡ true
+  still_covered : (b : FinMap nat_cmp V) (w : ℕ) → ((u : ℕ) → covers m.term_length u w ≡ true → is_some (fin.get m.by_view u) ≡ true → is_some (fin.get b u) ≡ true) → has_covering m w ≡ true → has_covering (record m { by_view = b }) w ≡ true
   still_covered b w stays h =
       let found = passing (λ u. covers m.term_length u w) (fin.entries m.by_view) h in
       let there = stays found.0 found.2 (ap is_some (fin.get-entries m.by_view found.0) ∙ found.1) in
@@ -57,7 +57,7 @@ module _ {V : Type 0} (m : ByTermFacts V) where
   inserted_there v x (Err refused) u there = there
 
   -- an insert covers what was covered
-  pub inserted_covers : (v : ℕ) (x : V) (r : Result (Option V) (AllocFailed V)) (w : ℕ) → is_covered m w ≡ true → is_covered (record m { by_view = after_insert m.by_view v x r }) w ≡ true
+  pub inserted_covers : (v : ℕ) (x : V) (r : Result (Option V) (AllocFailed V)) (w : ℕ) → has_covering m w ≡ true → has_covering (record m { by_view = after_insert m.by_view v x r }) w ≡ true
   inserted_covers v x r w h = still_covered (after_insert m.by_view v x r) w (λ u _ there. inserted_there v x r u there) h
 
   stands : (v : ℕ) (x : V) (back : Option V) → back ≡ cond (fin.contains_key m.by_view v) (Some x) None → is_some (fin.get (after_insert m.by_view v x (Ok back)) v) ≡ true
@@ -65,12 +65,12 @@ module _ {V : Type 0} (m : ByTermFacts V) where
   stands v x (Some y) is = stood _ y x is
 
   -- and the rest of the view's term
-  pub insert_covers : (v : ℕ) (x : V) (back : Option V) → 1 ≤ v → back ≡ cond (fin.contains_key m.by_view v) (Some x) None → AreIn (is_covered (record m { by_view = after_insert m.by_view v x (Ok back) })) v (next_term_start m.term_length v)
+  pub insert_covers : (v : ℕ) (x : V) (back : Option V) → 1 ≤ v → back ≡ cond (fin.contains_key m.by_view v) (Some x) None → AreIn (has_covering (record m { by_view = after_insert m.by_view v x (Ok back) })) v (next_term_start m.term_length v)
   insert_covers v x back one is w low high =
       let n : ByTermFacts V = record m { by_view = after_insert m.by_view v x (Ok back) } in
       let b = fin.entries n.by_view in
       let there = sym (ap is_some (fin.get-entries n.by_view v)) ∙ stands v x back is in
-      let here : is_covered n v ≡ true = passed (λ u. covers m.term_length u v) b v there (covers_from m.term_length v v (omega arith) refl) in
+      let here : has_covering n v ≡ true = passed (λ u. covers m.term_length u v) b v there (covers_from m.term_length v v (omega arith) refl) in
       covered_on n v w one low high here
 
 -- what covers a view behind a term stands behind that term too
@@ -87,13 +87,13 @@ kept_some b o keep there = rw keep there
 
 module _ {V : Type 0} (m : ByTermFacts V) (v : ℕ) (some : 0 < m.term_length) where
   -- views behind the term stay covered
-  pub ended_covers : (w : ℕ) → next_term_start m.term_length v ≤ w → is_covered m w ≡ true → is_covered (record m { by_view = not_ended m v }) w ≡ true
+  pub ended_covers : (w : ℕ) → next_term_start m.term_length v ≤ w → has_covering m w ≡ true → has_covering (record m { by_view = not_ended m v }) w ≡ true
   ended_covers w behind h = still_covered m (not_ended m v) w (λ u covered there.
       let above = covers_behind m.term_length v u w some behind covered in
       let ends : v < term_end m.term_length u = omega (arith, above, end_above m.term_length u some (omega (arith, above))) in
       ap is_some (get-kept m.by_view (λ k. ltb v (term_end m.term_length k)) u) ∙ kept_some (ltb v (term_end m.term_length u)) _ (lt-ltb v _ ends) there) h
 
-  pub lowered_covers : (w : ℕ) → next_term_start m.term_length v ≤ w → is_covered m w ≡ true → is_covered (record m { by_view = at_or_above m.by_view v }) w ≡ true
+  pub lowered_covers : (w : ℕ) → next_term_start m.term_length v ≤ w → has_covering m w ≡ true → has_covering (record m { by_view = at_or_above m.by_view v }) w ≡ true
   lowered_covers w behind h = still_covered m (at_or_above m.by_view v) w (λ u covered there.
       let above = covers_behind m.term_length v u w some behind covered in
       ap is_some (get-kept m.by_view (λ k. leb v k) u) ∙ kept_some (leb v u) _ (le-leb v u (omega (arith, above))) there) h

@@ -31,13 +31,13 @@ abbrev pub not_ended : {V : Type 0} → ByTermFacts V → ℕ → FinMap nat_cmp
 not_ended m view = retain_keys m.by_view (λ u. nat_lt view (term_end m.term_length u))
 
 -- a view there covers w
-abbrev pub is_covered : {V : Type 0} → ByTermFacts V → ℕ → Bool
-is_covered m w = list_any (λ u. covers m.term_length u w) (keys m.by_view)
+abbrev pub has_covering : {V : Type 0} → ByTermFacts V → ℕ → Bool
+has_covering m w = list_any (λ u. covers m.term_length u w) (keys m.by_view)
 
 -- each view strictly between is covered
 abbrev pub Gapless : {V : Type 0} → ByTermFacts V → ℕ → ℕ → Type 0
-Gapless m p v = (w : ℕ) → p < w → w < v → is_covered m w ≡ true
+Gapless m p v = (w : ℕ) → p < w → w < v → has_covering m w ≡ true
 
 -- w is the least view strictly between that is not covered
-abbrev pub IsFirstGap : {V : Type 0} → ByTermFacts V → ℕ → ℕ → ℕ → Type 0
-IsFirstGap m p v w = (p < w) × (w < v) × (is_covered m w ≡ false) × Gapless m p w
+abbrev pub IsFirstUncovered : {V : Type 0} → ByTermFacts V → ℕ → ℕ → ℕ → Type 0
+IsFirstUncovered m p v w = (p < w) × (w < v) × (has_covering m w ≡ false) × Gapless m p w

@@ -4,7 +4,7 @@ ghost use Rattle.std.specs.Prelude.{◌≡◌, ◌≤◌, ◌<◌, ◌+◌, ◌^
 ghost use Rattle.std.specs.Option.{option_copied};
 ghost use Rattle.std.specs.FinMap as map;
 ghost use Rattle.simplex_sorted.specs.Tracked.{after_insert, at_or_above};
-ghost use Rattle.simplex_sorted.specs.ByTerm.{covering, covering_below, not_ended, Gapless, IsFirstGap};
+ghost use Rattle.simplex_sorted.specs.ByTerm.{covering, covering_below, not_ended, Gapless, IsFirstUncovered};
 
 use crate::run::Run;
 use crate::term_table::TermTable;
@@ -21,7 +21,7 @@ pub struct ByTerm<V> {
 }
 
 impl<V> Model for ByTerm<V> {
-    ghost use Rattle.simplex_sorted.specs.ByTerm.{ByTermFacts, by_term_code, is_covered};
+    ghost use Rattle.simplex_sorted.specs.ByTerm.{ByTermFacts, by_term_code, has_covering};
     ghost use Rattle.simplex_sorted.specs.Runs.{AreIn};
 
     ghost Value = { ByTermFacts V };
@@ -30,7 +30,7 @@ impl<V> Model for ByTerm<V> {
 
     ghost view = { λ t. t.table };
 
-    ghost invariant = { λ t. AreIn (is_covered t.table) t.run.first t.run.end };
+    ghost invariant = { λ t. AreIn (has_covering t.table) t.run.first t.run.end };
 }
 
 impl<V> ByTerm<V> {
@@ -68,7 +68,7 @@ impl<V> ByTerm<V> {
     ///
     /// It looks at the terms before the run and behind it.
     pub fn first_uncovered(&self, after: View, before: View) -> Option<View>
-        ensures { MatchOption result (Gapless self.now after before) (IsFirstGap self.now after before) }
+        ensures { MatchOption result (Gapless self.now after before) (IsFirstUncovered self.now after before) }
     {
         let gap = self
             .table

@@ -5,7 +5,7 @@ ghost use Rattle.std.specs.Option.{option_copied};
 ghost use Rattle.std.specs.FinMap as map;
 ghost use Rattle.simplex_sorted.specs.Tracked.{after_insert, at_or_above};
 ghost use Rattle.simplex_types.specs.Terms.{term_start, next_term_start};
-ghost use Rattle.simplex_sorted.specs.ByTerm.{covering, covering_below, not_ended, is_covered, Gapless, IsFirstGap};
+ghost use Rattle.simplex_sorted.specs.ByTerm.{covering, covering_below, not_ended, has_covering, Gapless, IsFirstUncovered};
 ghost use Rattle.simplex_sorted.specs.Runs.{AreIn};
 
 use crate::run::{REACH, Run};
@@ -77,8 +77,8 @@ impl<V> TermTable<V> {
     }
 
     /// Whether a view is covered.
-    fn is_covered(&self, view: View) -> bool
-        ensures { result ≡ is_covered self.now view }
+    fn has_covering(&self, view: View) -> bool
+        ensures { result ≡ has_covering self.now view }
     {
         self.covering(view).is_some()
     }
@@ -107,7 +107,7 @@ impl<V> TermTable<V> {
     /// A run with the views behind it, as far as its reach, that are covered too.
     pub(super) fn grown(&self, run: Run) -> Run
         ensures first { result.first ≡ run.first }
-        ensures behind { AreIn (is_covered self.now) run.end result.end }
+        ensures behind { AreIn (has_covering self.now) run.end result.end }
     {
         let Some(last) = run.end.previous() else {
             return run;
@@ -134,14 +134,14 @@ impl<V> TermTable<V> {
     ///
     /// It goes from term to term, by one look-up each.
     pub(super) fn first_uncovered(&self, after: View, before: View) -> Option<View>
-        ensures { MatchOption result (Gapless self.now after before) (IsFirstGap self.now after before) }
+        ensures { MatchOption result (Gapless self.now after before) (IsFirstUncovered self.now after before) }
     {
         if before <= after {
             return None;
         }
         let mut cursor = after.next();
         while cursor < before {
-            if !self.is_covered(cursor) {
+            if !self.has_covering(cursor) {
                 return Some(cursor);
             }
             cursor = self.end_of_term(cursor);

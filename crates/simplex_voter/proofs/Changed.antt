@@ -16,7 +16,7 @@ use Rattle.simplex_round.specs.Round.{RoundFacts, new_round, leader_at, token_of
 use Rattle.simplex_types.specs.declared.types.messages.Proposal.{Proposal}
 use Rattle.simplex_types.specs.Certificates.{ProposalFacts}
 use Rattle.simplex_round.specs.declared.round.Leader.{Leader}
-use Rattle.simplex_voter.specs.Rounds.{RoundsFacts, round_at, round_of, round_number, is_tracked, with_round, with_change, with_change_in_place, largest_tracked, is_explicit, IsRoundKept, AreKept, IsQuietBelow, IsWider}
+use Rattle.simplex_voter.specs.Rounds.{RoundsFacts, find_round, round_in, round_id, has_round, put_round, with_change, with_change_in_place, largest_tracked, is_explicit, IsRoundKept, AreKept, IsQuietBelow, IsWider}
 use Rattle.simplex_voter.specs.declared.voter.rounds.Bounds.{Bounds}
 use Rattle.simplex_voter.proofs.Containers.{entries-insert}
 use Rattle.simplex_voter.proofs.RoundsKept.{find_entries, insert-same}
@@ -45,48 +45,48 @@ module _ {V : Type 0} where
 module _ {K D : Type 0} (x : RoundsFacts K D) where
   module _ (m : map.FinMap nat_cmp (RoundFacts K D)) (shown : x.by_view ≡ map.entries m) where
     -- the map and the facts have the same round of a view
-    pub found_at : (v : ℕ) → round_at x v ≡ map.get m v
+    pub found_at : (v : ℕ) → find_round x v ≡ map.get m v
     found_at v = ap (find nat_cmp v) shown ∙ find_entries m v
 
-    pub put_shown : (v : ℕ) (r : RoundFacts K D) → record x { by_view = map.entries (map.insert m v r) } ≡ with_round x v r
+    pub put_shown : (v : ℕ) (r : RoundFacts K D) → record x { by_view = map.entries (map.insert m v r) } ≡ put_round x v r
     put_shown v r = ap (λ es. record x { by_view = es }) (entries-insert m v r ∙ ap (put nat_cmp v r) (sym shown))
 
     -- what is lent from the map is the view's round
-    pub lent : (v : ℕ) (r : RoundFacts K D) → Some r ≡ map.get m v → r ≡ round_of x v
-    lent v r here = ap (λ found. unwrap_or found (new_round x.me x.members (round_number x v))) (here ∙ sym (found_at v))
+    pub lent : (v : ℕ) (r : RoundFacts K D) → Some r ≡ map.get m v → r ≡ round_in x v
+    lent v r here = ap (λ found. unwrap_or found (new_round x.me x.members (round_id x v))) (here ∙ sym (found_at v))
 
-    pub is_there : (v : ℕ) (r : RoundFacts K D) → Some r ≡ map.get m v → is_tracked x v ≡ true
+    pub is_there : (v : ℕ) (r : RoundFacts K D) → Some r ≡ map.get m v → has_round x v ≡ true
     is_there v r here = ap is_some (found_at v ∙ sym here)
 
     -- a view that is tracked already stays as it is, and another goes in with nothing known
-    pub stays : (v : ℕ) → is_some (map.get m v) ≡ true → x ≡ with_round x v (round_of x v)
+    pub stays : (v : ℕ) → is_some (map.get m v) ≡ true → x ≡ put_round x v (round_in x v)
     stays v some = by_found (map.get m v) refl some
       where
-        by_found : (o : Option (RoundFacts K D)) → map.get m v ≡ o → is_some o ≡ true → x ≡ with_round x v (round_of x v)
+        by_found : (o : Option (RoundFacts K D)) → map.get m v ≡ o → is_some o ≡ true → x ≡ put_round x v (round_in x v)
         by_found None is some = absurd (false≢true some)
         by_found (Some r) is some =
             ap (λ es. record x { by_view = es }) (shown ∙ ap map.entries (sym (insert-same m v r is)))
-            ∙ put_shown v r ∙ ap (with_round x v) (lent v r (sym is))
+            ∙ put_shown v r ∙ ap (put_round x v) (lent v r (sym is))
 
-    pub goes_in : (v : ℕ) (new : map.FinMap nat_cmp (RoundFacts K D)) (fresh : RoundFacts K D) → is_some (map.get m v) ≡ false → new ≡ map.insert m v fresh → fresh ≡ new_round x.me x.members (round_number x v) → record x { by_view = map.entries new } ≡ with_round x v (round_of x v)
+    pub goes_in : (v : ℕ) (new : map.FinMap nat_cmp (RoundFacts K D)) (fresh : RoundFacts K D) → is_some (map.get m v) ≡ false → new ≡ map.insert m v fresh → fresh ≡ new_round x.me x.members (round_id x v) → record x { by_view = map.entries new } ≡ put_round x v (round_in x v)
     goes_in v new fresh none is nothing =
         ap (λ n. record x { by_view = map.entries n }) is ∙ put_shown v fresh
-        ∙ ap (with_round x v) (nothing ∙ by_found (map.get m v) refl none)
+        ∙ ap (put_round x v) (nothing ∙ by_found (map.get m v) refl none)
       where
-        by_found : (o : Option (RoundFacts K D)) → map.get m v ≡ o → is_some o ≡ false → new_round x.me x.members (round_number x v) ≡ round_of x v
-        by_found None is none = sym (ap (λ found. unwrap_or found (new_round x.me x.members (round_number x v))) (found_at v ∙ is))
+        by_found : (o : Option (RoundFacts K D)) → map.get m v ≡ o → is_some o ≡ false → new_round x.me x.members (round_id x v) ≡ round_in x v
+        by_found None is none = sym (ap (λ found. unwrap_or found (new_round x.me x.members (round_id x v))) (found_at v ∙ is))
         by_found (Some r) is none = absurd (false≢true (sym none))
 
     -- a change of a tracked round, and none of another
     pub changed_there : (v : ℕ) (r s : RoundFacts K D) (change : RoundFacts K D → RoundFacts K D) → Some r ≡ map.get m v → s ≡ change r → record x { by_view = map.entries (map.insert m v s) } ≡ with_change_in_place x v change
     changed_there v r s change here is =
-        put_shown v s ∙ ap (with_round x v) (is ∙ ap change (lent v r here)) ∙ sym (ap (λ b. cond b (with_change x v change) x) (is_there v r here))
+        put_shown v s ∙ ap (put_round x v) (is ∙ ap change (lent v r here)) ∙ sym (ap (λ b. cond b (with_change x v change) x) (is_there v r here))
 
     pub untouched : (v : ℕ) (change : RoundFacts K D → RoundFacts K D) → None ≡ map.get m v → x ≡ with_change_in_place x v change
     untouched v change none = sym (ap (λ b. cond b (with_change x v change) x) (ap is_some (found_at v ∙ sym none)))
 
   -- what is kept of each round, within bounds
-  pub kept_put : {h : Bounds} → AreKept h x → (v : ℕ) (r : RoundFacts K D) → IsRoundKept h x v r → AreKept h (with_round x v r)
+  pub kept_put : {h : Bounds} → AreKept h x → (v : ℕ) (r : RoundFacts K D) → IsRoundKept h x v r → AreKept h (put_round x v r)
   kept_put {h} kept v r here q s found = elim (cases_eq q v) [
     | inl at ↦
         let same : r ≡ s = some_is r s (sym (rw at (found_put v r x.by_view)) ∙ found) in
@@ -94,7 +94,7 @@ module _ {K D : Type 0} (x : RoundsFacts K D) where
     | inr other ↦ on (kept q s (sym (found_other q v other r x.by_view) ∙ found))
   ]
     where
-      on : IsRoundKept h x q s → IsRoundKept h (with_round x v r) q s
+      on : IsRoundKept h x q s → IsRoundKept h (put_round x v r) q s
       on k = record { me = k.me; members = k.members; round = k.round; in_range = k.in_range; notarized = k.notarized; leader = k.leader; explicit = k.explicit; under_way = k.under_way; refused = k.refused }
 
   pub alike_kept : {h : Bounds} (v : ℕ) (r s : RoundFacts K D) → IsRoundKept h x v r → IsAlike h v r s → IsRoundKept h x v s
@@ -135,18 +135,18 @@ module _ {K D : Type 0} (x : RoundsFacts K D) where
         refused = λ is. wider.refused v (k.refused is);
       }
 
-  pub none_explicit_above : {h : Bounds} → AreKept h x → (v : ℕ) (r : RoundFacts K D) → h.explicit < v → round_at x v ≡ Some r → is_explicit r ≡ false
+  pub none_explicit_above : {h : Bounds} → AreKept h x → (v : ℕ) (r : RoundFacts K D) → h.explicit < v → find_round x v ≡ Some r → is_explicit r ≡ false
   none_explicit_above {h} kept v r above found = by_test (is_explicit r) refl
     where
       by_test : (b : Bool) → is_explicit r ≡ b → b ≡ false
       by_test true is = absurd (omega (arith, (kept v r found).explicit is, above))
       by_test false is = refl
 
-  pub fresh_kept : {h : Bounds} (v : ℕ) → v ≤ largest_tracked → IsRoundKept h x v (new_round x.me x.members (round_number x v))
+  pub fresh_kept : {h : Bounds} (v : ℕ) → v ≤ largest_tracked → IsRoundKept h x v (new_round x.me x.members (round_id x v))
   fresh_kept v within = record { me = refl; members = refl; round = refl; in_range = within; notarized = λ some. absurd (false≢true some); leader = tt; explicit = λ some. absurd (false≢true some); under_way = λ some. absurd (false≢true some); refused = λ some. absurd (false≢true some) }
 
   -- a leader is a member
-  pub leader_member : {h : Bounds} → AreKept h x → (v : ℕ) (r : RoundFacts K D) (l : Leader K) → Some r ≡ round_at x v → Some l ≡ r.leader → l.idx < length x.members
+  pub leader_member : {h : Bounds} → AreKept h x → (v : ℕ) (r : RoundFacts K D) (l : Leader K) → Some r ≡ find_round x v → Some l ≡ r.leader → l.idx < length x.members
   leader_member kept v r l here is = subst (λ o. IfSome o (λ l. l.idx < length x.members)) (sym is) (kept v r (sym here)).leader
 
   module _ (m : map.FinMap nat_cmp (RoundFacts K D)) (shown : x.by_view ≡ map.entries m) {h : Bounds} (kept : AreKept h x) where
@@ -177,7 +177,7 @@ module _ {K D : Type 0} (x : RoundsFacts K D) where
         by_key None = tt
         by_key (Some k) = within
 
-    pub kept_in : (v : ℕ) (new : map.FinMap nat_cmp (RoundFacts K D)) (fresh : RoundFacts K D) → v ≤ largest_tracked → new ≡ map.insert m v fresh → fresh ≡ new_round x.me x.members (round_number x v) → AreKept h (record x { by_view = map.entries new })
+    pub kept_in : (v : ℕ) (new : map.FinMap nat_cmp (RoundFacts K D)) (fresh : RoundFacts K D) → v ≤ largest_tracked → new ≡ map.insert m v fresh → fresh ≡ new_round x.me x.members (round_id x v) → AreKept h (record x { by_view = map.entries new })
     kept_in v new fresh within is nothing =
         subst (λ n. AreKept h (record x { by_view = map.entries n })) (sym is) (kept_insert v fresh (rw nothing (fresh_kept v within)))
 
@@ -194,46 +194,46 @@ module _ {K D : Type 0} (x : RoundsFacts K D) where
         by_test false is = refl
 
 -- after a view is tracked: y is what is known then
-module _ {K D : Type 0} (x y : RoundsFacts K D) (v : ℕ) (tracked : y ≡ with_round x v (round_of x v)) (m : map.FinMap nat_cmp (RoundFacts K D)) (shown : y.by_view ≡ map.entries m) where
-  found_tracked : map.get m v ≡ Some (round_of x v)
-  found_tracked = sym (found_at y m shown v) ∙ ap (λ z. round_at z v) tracked ∙ found_put v (round_of x v) x.by_view
+module _ {K D : Type 0} (x y : RoundsFacts K D) (v : ℕ) (tracked : y ≡ put_round x v (round_in x v)) (m : map.FinMap nat_cmp (RoundFacts K D)) (shown : y.by_view ≡ map.entries m) where
+  found_tracked : map.get m v ≡ Some (round_in x v)
+  found_tracked = sym (found_at y m shown v) ∙ ap (λ z. find_round z v) tracked ∙ found_put v (round_in x v) x.by_view
 
   pub never_none : None ≡ map.get m v → ⊥
-  never_none none = let bad : None ≡ Some (round_of x v) = none ∙ found_tracked in cc
+  never_none none = let bad : None ≡ Some (round_in x v) = none ∙ found_tracked in cc
 
-  pub lent_tracked : (r : RoundFacts K D) → Some r ≡ map.get m v → r ≡ round_of x v
+  pub lent_tracked : (r : RoundFacts K D) → Some r ≡ map.get m v → r ≡ round_in x v
   lent_tracked r here = some_is _ _ (here ∙ found_tracked)
 
   pub changed_tracked : (r s : RoundFacts K D) (change : RoundFacts K D → RoundFacts K D) → Some r ≡ map.get m v → s ≡ change r → record y { by_view = map.entries (map.insert m v s) } ≡ with_change x v change
   changed_tracked r s change here is =
-      put_shown y m shown v s ∙ ap (λ z. with_round z v s) tracked
-      ∙ ap (λ es. record x { by_view = es }) (put-put v (round_of x v) s x.by_view)
-      ∙ ap (with_round x v) (is ∙ ap change (lent_tracked r here))
+      put_shown y m shown v s ∙ ap (λ z. put_round z v s) tracked
+      ∙ ap (λ es. record x { by_view = es }) (put-put v (round_in x v) s x.by_view)
+      ∙ ap (put_round x v) (is ∙ ap change (lent_tracked r here))
 
 -- no round is known
 pub none_kept : {K D : Type 0} {h : Bounds} (x : RoundsFacts K D) → x.by_view ≡ [] → AreKept h x
 none_kept x none v r found = let bad : None ≡ Some r = sym (ap (find nat_cmp v) none) ∙ found in cc
 
 -- a view with a notarization is tracked
-pub notarized_there : {K D : Type 0} (x : RoundsFacts K D) (m : map.FinMap nat_cmp (RoundFacts K D)) → x.by_view ≡ map.entries m → (v : ℕ) → is_some (option_and_then (λ (r : RoundFacts K D). r.notarization) (round_at x v)) ≡ true → None ≡ map.get m v → ⊥
+pub notarized_there : {K D : Type 0} (x : RoundsFacts K D) (m : map.FinMap nat_cmp (RoundFacts K D)) → x.by_view ≡ map.entries m → (v : ℕ) → is_some (option_and_then (λ (r : RoundFacts K D). r.notarization) (find_round x v)) ≡ true → None ≡ map.get m v → ⊥
 notarized_there x m shown v notarized none = false≢true (ap (λ (found : Option (RoundFacts _ _)). is_some (option_and_then (λ (r : RoundFacts _ _). r.notarization) found)) (none ∙ sym (found_at x m shown v)) ∙ notarized)
 
 -- and below 2 ^ 63
-pub notarized_small : {K D : Type 0} (x : RoundsFacts K D) (h : Bounds) → AreKept h x → (v : ℕ) → is_some (option_and_then (λ (r : RoundFacts K D). r.notarization) (round_at x v)) ≡ true → v < 2 ^ 63
-notarized_small {K} {D} x h kept v notarized = by_value (round_at x v) refl notarized
+pub notarized_small : {K D : Type 0} (x : RoundsFacts K D) (h : Bounds) → AreKept h x → (v : ℕ) → is_some (option_and_then (λ (r : RoundFacts K D). r.notarization) (find_round x v)) ≡ true → v < 2 ^ 63
+notarized_small {K} {D} x h kept v notarized = by_value (find_round x v) refl notarized
   where
-    by_value : (o : Option (RoundFacts K D)) → round_at x v ≡ o → is_some (option_and_then (λ (r : RoundFacts K D). r.notarization) o) ≡ true → v < 2 ^ 63
+    by_value : (o : Option (RoundFacts K D)) → find_round x v ≡ o → is_some (option_and_then (λ (r : RoundFacts K D). r.notarization) o) ≡ true → v < 2 ^ 63
     by_value None is some = absurd (false≢true some)
     by_value (Some r) is some = (kept v r is).notarized some
 
 -- a view that can be finalized is tracked
-pub finalizable_there : {K D : Type 0} (x : RoundsFacts K D) (m : map.FinMap nat_cmp (RoundFacts K D)) → x.by_view ≡ map.entries m → (v : ℕ) → can_finalize (round_of x v) ≡ true → None ≡ map.get m v → ⊥
-finalizable_there x m shown v can none = false≢true (ap (λ found. can_finalize (unwrap_or found (new_round x.me x.members (round_number x v)))) (none ∙ sym (found_at x m shown v)) ∙ can)
+pub finalizable_there : {K D : Type 0} (x : RoundsFacts K D) (m : map.FinMap nat_cmp (RoundFacts K D)) → x.by_view ≡ map.entries m → (v : ℕ) → can_finalize (round_in x v) ≡ true → None ≡ map.get m v → ⊥
+finalizable_there x m shown v can none = false≢true (ap (λ found. can_finalize (unwrap_or found (new_round x.me x.members (round_id x v)))) (none ∙ sym (found_at x m shown v)) ∙ can)
 
 -- the round of a tracked view is changed; y is how the fields show what is known
 pub changed_there_always : {K D : Type 0} (x y : RoundsFacts K D) → y ≡ x → (m : map.FinMap nat_cmp (RoundFacts K D)) → y.by_view ≡ map.entries m → (v : ℕ) (r s : RoundFacts K D) (change : RoundFacts K D → RoundFacts K D) → Some r ≡ map.get m v → s ≡ change r → record y { by_view = map.entries (map.insert m v s) } ≡ with_change x v change
 changed_there_always x y is m shown v r s change here same =
-    put_shown y m shown v s ∙ ap (with_round y v) (same ∙ ap change (lent y m shown v r here)) ∙ ap (λ z. with_change z v change) is
+    put_shown y m shown v s ∙ ap (put_round y v) (same ∙ ap change (lent y m shown v r here)) ∙ ap (λ z. with_change z v change) is
 
 -- what is left of the rounds
 pub left_kept : {K D : Type 0} {h : Bounds} (x : RoundsFacts K D) (m : map.FinMap nat_cmp (RoundFacts K D)) → x.by_view ≡ map.entries m → (v : ℕ) (n : map.FinMap nat_cmp (RoundFacts K D)) → n ≡ at_or_above m v → (left : Bounds) → left ≡ record h { refused = at_or_above h.refused v } → AreKept h x → AreKept left (record x { by_view = map.entries n })

@@ -12,7 +12,7 @@ use Rattle.simplex_voter.specs.Facts as facts
 use Rattle.simplex_voter.specs.Facts.{StateFacts, with_tracked}
 use Rattle.simplex_voter.specs.Entering.{at_moment}
 use Rattle.simplex_voter.specs.Refusals.{is_past_u64}
-use Rattle.simplex_voter.specs.Rounds.{RoundsFacts, round_at, round_of, round_number}
+use Rattle.simplex_voter.specs.Rounds.{RoundsFacts, find_round, round_in, round_id}
 use Rattle.simplex_voter.proofs.RoundsKept.{insert-same}
 use Rattle.simplex_voter.proofs.Gaps.{cases_bool}
 
@@ -43,8 +43,8 @@ module _ {K D A : Type 0} where
   poll_refused (Ok a) x m shown v r s here late same = tt
   poll_refused (Err e) x m shown v r s here late same = (late, ap (λ n. record x { by_view = map.entries n }) (ap (map.insert m v) same ∙ insert-same m v r (sym here)) ∙ ap (λ es. record x { by_view = es }) (sym shown))
 
-pub late_untracked : {K D : Type 0} (x : RoundsFacts K D) (v now retry : ℕ) → None ≡ round_at x v → false ≡ (awaits_retry (round_of x v) && is_past_u64 (now + retry))
-late_untracked x v now retry none = ap (λ found. awaits_retry (unwrap_or found (new_round x.me x.members (round_number x v))) && is_past_u64 (now + retry)) none
+pub late_untracked : {K D : Type 0} (x : RoundsFacts K D) (v now retry : ℕ) → None ≡ find_round x v → false ≡ (awaits_retry (round_in x v) && is_past_u64 (now + retry))
+late_untracked x v now retry none = ap (λ found. awaits_retry (unwrap_or found (new_round x.me x.members (round_id x v))) && is_past_u64 (now + retry)) none
 
 -- what a poll answers, by the round of the view
 pub answer_shown : {K D : Type 0} (found : Option (RoundFacts K D)) (fresh : RoundFacts K D) → fresh ≡ new_round fresh.me fresh.members fresh.round → (now retry : ℕ) (allow : Bool) → option_and_then (λ (r : RoundFacts K D). round_timeout (with_retry r now retry) allow) found ≡ round_timeout (with_retry (unwrap_or found fresh) now retry) allow

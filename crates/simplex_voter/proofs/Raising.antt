@@ -9,7 +9,7 @@ use Rattle.simplex_sorted.specs.Tracked.{at_or_above}
 use Rattle.simplex_round.specs.Round.{RoundFacts, token_of, after_abort}
 use Rattle.simplex_voter.specs.Facts.{StateFacts}
 use Rattle.simplex_voter.specs.Certification.{without_token, with_finalized_view}
-use Rattle.simplex_voter.specs.Rounds.{RoundsFacts, round_at, IsRoundKept, AreKept, IsQuietBelow}
+use Rattle.simplex_voter.specs.Rounds.{RoundsFacts, find_round, IsRoundKept, AreKept, IsQuietBelow}
 use Rattle.simplex_voter.specs.declared.voter.rounds.Bounds.{Bounds}
 use Rattle.simplex_voter.proofs.Shown.{with_rounds}
 use Rattle.simplex_voter.proofs.RoundsKept.{keys-kept}
@@ -51,7 +51,7 @@ module _ {K D : Type 0} where
 
 -- where certifications at or below a view end, none is under way there
 pub ended_kept : {K D : Type 0} {h : Bounds} (x : RoundsFacts K D) (v : ℕ) (es : List (ℕ × RoundFacts K D)) (after : Bounds) → after ≡ record h { under_way = max h.under_way (v + 1) } → es ≡ map_list (λ e. (e.0, cond (leb e.0 v) (without_token e.1) e.1)) x.by_view → AreKept h x → AreKept after (record x { by_view = es })
-ended_kept {K} {D} {h} x v es after is' is kept = rw is' (subst (λ (fs : List (ℕ × RoundFacts K D)). AreKept ended (record x { by_view = fs })) (sym is) (λ q r found. by_value q (round_at x q) refl r (sym (find-changed (λ u (s : RoundFacts K D). cond (leb u v) (without_token s) s) q x.by_view) ∙ found)))
+ended_kept {K} {D} {h} x v es after is' is kept = rw is' (subst (λ (fs : List (ℕ × RoundFacts K D)). AreKept ended (record x { by_view = fs })) (sym is) (λ q r found. by_value q (find_round x q) refl r (sym (find-changed (λ u (s : RoundFacts K D). cond (leb u v) (without_token s) s) q x.by_view) ∙ found)))
   where
     ended : Bounds
     ended = record h { under_way = max h.under_way (v + 1) }
@@ -73,6 +73,6 @@ ended_kept {K} {D} {h} x v es after is' is kept = rw is' (subst (λ (fs : List (
       | inr lower ↦ rw (le-leb q v lower) (at_or_below q s k)
     ]
 
-    by_value : (q : ℕ) (s : Option (RoundFacts K D)) → round_at x q ≡ s → (r : RoundFacts K D) → option_map (λ (t : RoundFacts K D). cond (leb q v) (without_token t) t) s ≡ Some r → IsRoundKept ended changed q r
+    by_value : (q : ℕ) (s : Option (RoundFacts K D)) → find_round x q ≡ s → (r : RoundFacts K D) → option_map (λ (t : RoundFacts K D). cond (leb q v) (without_token t) t) s ≡ Some r → IsRoundKept ended changed q r
     by_value q None is r e = let bad : None ≡ Some r = e in cc
     by_value q (Some s) is r e = rw (← some_is _ r e) (by_test q s (kept q s is))

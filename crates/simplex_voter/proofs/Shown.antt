@@ -9,7 +9,7 @@ use Rattle.std.specs.Prelude.{IfErr}
 use Rattle.std.specs.Option.{option_map_or}
 use Rattle.simplex_voter.specs.Setup.{HasSameSetup, deadlines_at}
 use Rattle.simplex_round.specs.declared.round.Leader.{Leader}
-use Rattle.simplex_voter.specs.Rounds.{RoundsFacts, HasSameOrigin, with_round, with_change, with_entry}
+use Rattle.simplex_voter.specs.Rounds.{RoundsFacts, HasSameOrigin, put_round, with_change, with_entry}
 use Rattle.simplex_voter.specs.Entering.{with_view_entered}
 use Rattle.simplex_voter.specs.declared.voter.rounds.Deadlines.{Deadlines}
 use Rattle.simplex_types.specs.declared.types.window.Terms.{Terms}
@@ -66,9 +66,9 @@ module _ {K L D : Type 0} where
       ∙ ap (λ e. record (facts.with_round y v (with_entry (facts.round_of y v) now e)) { current = v }) deadlines)
 
   -- a leader goes on to a view that has none
-  pub handed_on : (y x : StateFacts K L D) → y ≡ x → (leader : Option (Leader K)) (b : Bool) (lead : ℕ → RoundFacts K D) (v : ℕ) (r t : RoundsFacts K D) → r ≡ option_map_or (λ (l : Leader K). cond b t (with_round t v (lead l.idx))) leader t → with_rounds y t ≡ y → with_rounds y r ≡ option_map_or (λ (l : Leader K). cond b y (with_rounds y (with_round t v (lead l.idx)))) leader y
+  pub handed_on : (y x : StateFacts K L D) → y ≡ x → (leader : Option (Leader K)) (b : Bool) (lead : ℕ → RoundFacts K D) (v : ℕ) (r t : RoundsFacts K D) → r ≡ option_map_or (λ (l : Leader K). cond b t (put_round t v (lead l.idx))) leader t → with_rounds y t ≡ y → with_rounds y r ≡ option_map_or (λ (l : Leader K). cond b y (with_rounds y (put_round t v (lead l.idx)))) leader y
   handed_on y x is None b lead v r t same stays = ap (with_rounds y) same ∙ stays
-  handed_on y x is (Some l) b lead v r t same stays = where_false y x is b r (with_round t v (lead l.idx)) t same stays
+  handed_on y x is (Some l) b lead v r t same stays = where_false y x is b r (put_round t v (lead l.idx)) t same stays
 
   abbrev rounds_of : StateFacts K L D → RoundsFacts K D
   rounds_of y = record { me = y.me; members = y.members; epoch = y.settings.epoch; by_view = y.rounds }

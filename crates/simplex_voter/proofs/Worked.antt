@@ -13,7 +13,7 @@ use Rattle.simplex_round.specs.Round.{RoundFacts, new_round, is_nullify, should_
 use Rattle.simplex_voter.specs.Verifying.{with_mark, verifying_round}
 use Rattle.simplex_voter.specs.Proposing.{proposal_of, proposed_round}
 use Rattle.simplex_voter.specs.declared.voter.rounds.Bounds.{Bounds}
-use Rattle.simplex_voter.specs.Rounds.{RoundsFacts, round_of, round_number, with_round}
+use Rattle.simplex_voter.specs.Rounds.{RoundsFacts, round_in, round_id, put_round}
 use Rattle.simplex_voter.proofs.RoundChanges.{IsAlike, unchanged}
 use Rattle.simplex_voter.proofs.Changed.{found_at, lent, put_shown, stays}
 
@@ -35,8 +35,8 @@ module _ {K D : Type 0} where
   pub verifying_alike : {h : Bounds} {v : ℕ} (r s : RoundFacts K D) (d : D) → s ≡ verifying_round r d → IsAlike h v r s
   verifying_alike r s d is = rw is (record { me = refl; members = refl; round = refl; notarization = refl; leader = refl; explicit = inl; under_way = inl; refused = inl })
 
-  pub notarizable_there : (x : RoundsFacts K D) (m : map.FinMap nat_cmp (RoundFacts K D)) → x.by_view ≡ map.entries m → (v : ℕ) → can_notarize (round_of x v) ≡ true → None ≡ map.get m v → ⊥
-  notarizable_there x m shown v can none = false≢true (ap (λ found. can_notarize (unwrap_or found (new_round x.me x.members (round_number x v)))) (none ∙ sym (found_at x m shown v)) ∙ can)
+  pub notarizable_there : (x : RoundsFacts K D) (m : map.FinMap nat_cmp (RoundFacts K D)) → x.by_view ≡ map.entries m → (v : ℕ) → can_notarize (round_in x v) ≡ true → None ≡ map.get m v → ⊥
+  notarizable_there x m shown v can none = false≢true (ap (λ found. can_notarize (unwrap_or found (new_round x.me x.members (round_id x v)))) (none ∙ sym (found_at x m shown v)) ∙ can)
 
   -- a proposal that is given out is the one that was pending
   pub given_is : (r t s : RoundFacts K D) (found : Leader K × Proposal D) (d : D) → Some found ≡ pending_proposal r → t ≡ cond (should_verify r) (record r { slot = record (r.slot) { verify_requested = true } }) r → s ≡ record t { binding = Some (found.1, d) } → s ≡ verifying_round r d
@@ -56,7 +56,7 @@ module _ {K D : Type 0} where
   -- a round that stays as it was is put back
   pub put_back : (x : RoundsFacts K D) (m : map.FinMap nat_cmp (RoundFacts K D)) → x.by_view ≡ map.entries m → (v : ℕ) (r s : RoundFacts K D) → Some r ≡ map.get m v → s ≡ r → record x { by_view = map.entries (map.insert m v s) } ≡ x
   put_back x m shown v r s here is =
-      put_shown x m shown v s ∙ ap (with_round x v) (is ∙ lent x m shown v r here) ∙ sym (stays x m shown v (ap is_some (sym here)))
+      put_shown x m shown v s ∙ ap (put_round x v) (is ∙ lent x m shown v r here) ∙ sym (stays x m shown v (ap is_some (sym here)))
 
   -- the own proposal is recorded and bound
   pub own_is : (same : D → D → Bool) (r t s : RoundFacts K D) (context : Context D K) (payload : D) (p : Proposal D) (now : ℕ) → p ≡ proposal_of context payload → t ≡ record r { slot = after_own (same_proposal same) r.slot p; proposed_at = Some now } → s ≡ record t { binding = Some (p, context.parent.1) } → s ≡ proposed_round same r context payload now

@@ -46,41 +46,41 @@ module _ {K D : Type 0} where
   no_rounds me members epoch = record { me = me; members = members; epoch = epoch; by_view = [] }
 
   -- the round of a tracked view
-  abbrev pub round_at : RoundsFacts K D → ℕ → Option (RoundFacts K D)
-  round_at x v = find nat_cmp v x.by_view
+  abbrev pub find_round : RoundsFacts K D → ℕ → Option (RoundFacts K D)
+  find_round x v = find nat_cmp v x.by_view
 
   -- something is known of the view
-  abbrev pub is_tracked : RoundsFacts K D → ℕ → Bool
-  is_tracked x v = is_some (round_at x v)
+  abbrev pub has_round : RoundsFacts K D → ℕ → Bool
+  has_round x v = is_some (find_round x v)
 
   -- the view in this epoch
-  abbrev pub round_number : RoundsFacts K D → ℕ → Round
-  round_number x v = record { epoch = x.epoch; view = v }
+  abbrev pub round_id : RoundsFacts K D → ℕ → Round
+  round_id x v = record { epoch = x.epoch; view = v }
 
   -- what is known of a view: nothing, where it isn't tracked
-  abbrev pub round_of : RoundsFacts K D → ℕ → RoundFacts K D
-  round_of x v = unwrap_or (round_at x v) (new_round x.me x.members (round_number x v))
+  abbrev pub round_in : RoundsFacts K D → ℕ → RoundFacts K D
+  round_in x v = unwrap_or (find_round x v) (new_round x.me x.members (round_id x v))
 
   -- the rounds with another one at a view, which is tracked from then on
-  abbrev pub with_round : RoundsFacts K D → ℕ → RoundFacts K D → RoundsFacts K D
-  with_round x v r = record x { by_view = put nat_cmp v r x.by_view }
+  abbrev pub put_round : RoundsFacts K D → ℕ → RoundFacts K D → RoundsFacts K D
+  put_round x v r = record x { by_view = put nat_cmp v r x.by_view }
 
   -- the round of a view after a change, tracked from then on
   abbrev pub with_change : RoundsFacts K D → ℕ → (RoundFacts K D → RoundFacts K D) → RoundsFacts K D
-  with_change x v change = with_round x v (change (round_of x v))
+  with_change x v change = put_round x v (change (round_in x v))
 
   -- the same of a view that is tracked; of another nothing changes
   abbrev pub with_change_in_place : RoundsFacts K D → ℕ → (RoundFacts K D → RoundFacts K D) → RoundsFacts K D
-  with_change_in_place x v change = if is_tracked x v then with_change x v change else x
+  with_change_in_place x v change = if has_round x v then with_change x v change else x
 
   -- the member leads the view, unless a leader is set
   abbrev pub rounds_with_leader : RoundsFacts K D → ℕ → ℕ → RoundsFacts K D
   rounds_with_leader x v member =
-      if is_some (round_of x v).leader then x else with_change x v (λ r. record r { leader = leader_at x.members member })
+      if is_some (round_in x v).leader then x else with_change x v (λ r. record r { leader = leader_at x.members member })
 
   -- the leader of one view goes to another
   abbrev pub rounds_with_leader_of : RoundsFacts K D → ℕ → ℕ → RoundsFacts K D
-  rounds_with_leader_of x from to = option_map_or (λ l. rounds_with_leader x to l.idx) (round_of x from).leader x
+  rounds_with_leader_of x from to = option_map_or (λ l. rounds_with_leader x to l.idx) (round_in x from).leader x
 
   -- they are of the same member, members and epoch
   pub record HasSameOrigin (before after : RoundsFacts K D) : Type 0 where
@@ -98,7 +98,7 @@ module _ {K D : Type 0} where
   pub record IsRoundKept (bounds : Bounds) (x : RoundsFacts K D) (v : ℕ) (r : RoundFacts K D) : Type 0 where
     pub me : r.me ≡ x.me
     pub members : r.members ≡ x.members
-    pub round : r.round ≡ round_number x v
+    pub round : r.round ≡ round_id x v
     pub in_range : v ≤ largest_tracked
     pub notarized : is_some r.notarization ≡ true → v < 2 ^ 63
     pub leader : IfSome r.leader (λ l. l.idx < length x.members)
@@ -108,7 +108,7 @@ module _ {K D : Type 0} where
 
   -- each tracked round is so
   abbrev pub AreKept : Bounds → RoundsFacts K D → Type 0
-  AreKept bounds x = (v : ℕ) (r : RoundFacts K D) → round_at x v ≡ Some r → IsRoundKept bounds x v r
+  AreKept bounds x = (v : ℕ) (r : RoundFacts K D) → find_round x v ≡ Some r → IsRoundKept bounds x v r
 
   -- no certification is under way below a view
   abbrev pub IsQuietBelow : map.FinMap nat_cmp (RoundFacts K D) → ℕ → Type 0
@@ -120,7 +120,7 @@ module _ {K D : Type 0} where
     pub entries : es ≡ filter (λ e. nat_lt e.0 end) x.by_view
     pub not_above : end ≤ v
     pub above : (w : ℕ) → end ≤ w → w < v → 0 < w
-    pub rest : (w : ℕ) (r : RoundFacts K D) → end ≤ w → w < v → round_at x w ≡ Some r → is_explicit r ≡ false
+    pub rest : (w : ℕ) (r : RoundFacts K D) → end ≤ w → w < v → find_round x w ≡ Some r → is_explicit r ≡ false
 
 -- a view may have the verdict that the entry of the record is
 abbrev pub MayBeRecalled : {S D P G C : Type 0} → Bounds → ℕ → Artifact S D P G C → Type 0

@@ -3,7 +3,7 @@
 ghost use Rattle.std.specs.Prelude.{◌≡◌, ◌<◌, ◌≤◌, ◌^◌, ◌++◌, filter, not, nat_lt, ◌&&◌, is_some, IfOk, OnOk};
 ghost use Rattle.std.specs.Option.{option_copied};
 ghost use Rattle.std.specs.FinMap as map;
-ghost use Rattle.simplex_sorted.specs.ByTerm.{is_covered};
+ghost use Rattle.simplex_sorted.specs.ByTerm.{has_covering};
 ghost use Rattle.simplex_resolver.specs.Facts.{covering_encoding, uncovered_anchors, end_of_scan};
 ghost use Rattle.simplex_resolver.specs.Steps.{missing_fetches, failure_fetches};
 
@@ -18,7 +18,7 @@ use std::alloc::AllocError;
 /// The encoding of the nullification of the highest view that covers `view`.
 pub(super) fn covering_nullification(nullifications: &ByTerm<Bytes>, view: View) -> Option<&Bytes>
     ensures value { option_copied result ≡ covering_encoding nullifications.now view }
-    ensures found { is_some result ≡ is_covered nullifications.now view }
+    ensures found { is_some result ≡ has_covering nullifications.now view }
 {
     match nullifications.covering(view) {
         Some((_, encoding)) => Some(encoding),
@@ -28,7 +28,7 @@ pub(super) fn covering_nullification(nullifications: &ByTerm<Bytes>, view: View)
 
 /// Whether the view is above the floor and no nullification covers it.
 pub(super) fn needs_nullification(nullifications: &ByTerm<Bytes>, floor: View, view: View) -> bool
-    ensures { result ≡ (nat_lt floor view && not (is_covered nullifications.now view)) }
+    ensures { result ≡ (nat_lt floor view && not (has_covering nullifications.now view)) }
 {
     view > floor && covering_nullification(nullifications, view).is_none()
 }
@@ -73,7 +73,7 @@ pub(super) fn fetch_failures(
     effects: &mut Vec<Effect>,
 ) -> Result<(), AllocError>
     ensures { OnOk result (effects.new.items ≡ effects.old.items ++ failure_fetches
-        (filter (λ v. nat_lt floor v && not (is_covered nullifications.now v)) (map.keys views.now))) }
+        (filter (λ v. nat_lt floor v && not (has_covering nullifications.now v)) (map.keys views.now))) }
 {
     let mut rest = views.iter();
     while let Some(view) = rest.next().copied() {

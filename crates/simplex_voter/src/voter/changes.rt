@@ -17,7 +17,7 @@ use simplex_types::types::{
 };
 
 impl<S: CertificateScheme, D: Digest> Rounds<S, D> {
-    ghost use Rattle.simplex_voter.specs.Rounds.{round_of, with_change, largest_tracked, HasSameOrigin, round_at, with_change_in_place, is_tracked};
+    ghost use Rattle.simplex_voter.specs.Rounds.{round_in, with_change, largest_tracked, HasSameOrigin, find_round, with_change_in_place, has_round};
     ghost use Rattle.simplex_voter.specs.Acceptance.{added_answer};
     ghost use Rattle.simplex_voter.specs.Verifying.{is_new_proposal, with_proposal};
     ghost use Rattle.simplex_round.specs.Round.{once};
@@ -32,7 +32,7 @@ impl<S: CertificateScheme, D: Digest> Rounds<S, D> {
     ) -> Result<(bool, Option<S::PublicKey>), Fault>
         requires { view < 2 ^ 63 }
         ensures added { IfOk result (λ added.
-            added ≡ added_answer D.eq (round_of self.old view).notarization (round_of self.old view) notarization.proposal) }
+            added ≡ added_answer D.eq (round_in self.old view).notarization (round_in self.old view) notarization.proposal) }
         ensures kept { OnOk result (self.new ≡ with_change self.old view (λ r.
             with_notarization (same_proposal D.eq) r (notarization_facts S.certificate_bytes notarization))) }
         ensures refused { IfErr result (λ fault. fault ≡ OutOfMemory) }
@@ -72,7 +72,7 @@ impl<S: CertificateScheme, D: Digest> Rounds<S, D> {
     ) -> Result<(bool, Option<S::PublicKey>), Fault>
         requires { view ≤ largest_tracked }
         ensures added { IfOk result (λ added.
-            added ≡ added_answer D.eq (round_of self.old view).finalization (round_of self.old view) finalization.proposal) }
+            added ≡ added_answer D.eq (round_in self.old view).finalization (round_in self.old view) finalization.proposal) }
         ensures kept { OnOk result (self.new ≡ with_change self.old view (λ r.
             with_finalization (same_proposal D.eq) r (finalization_facts S.certificate_bytes finalization))) }
         ensures refused { IfErr result (λ fault. fault ≡ OutOfMemory) }
@@ -93,7 +93,7 @@ impl<S: CertificateScheme, D: Digest> Rounds<S, D> {
         proposal: &Proposal<D>,
     ) -> Result<bool, Fault>
         requires { view ≤ largest_tracked }
-        ensures first { IfOk result (λ first. first ≡ is_new_proposal (round_of self.old view)) }
+        ensures first { IfOk result (λ first. first ≡ is_new_proposal (round_in self.old view)) }
         ensures taken { OnOk result (self.new ≡ with_change self.old view (λ r. with_proposal D.eq r proposal.now)) }
         ensures refused { IfErr result (λ fault. fault ≡ OutOfMemory) }
         ensures origin { HasSameOrigin self.old self.new }
@@ -112,12 +112,12 @@ impl<S: CertificateScheme, D: Digest> Rounds<S, D> {
     ) -> Result<Option<Notarization<S, D>>, Fault>
         ensures answer { IfOk result (λ c.
             option_map (notarization_facts S.certificate_bytes) c
-            ≡ option_and_then (λ r. once r.notarization_broadcast r.notarization) (round_at self.old view)) }
+            ≡ option_and_then (λ r. once r.notarization_broadcast r.notarization) (find_round self.old view)) }
         ensures handed_out { OnOk result (self.new ≡ with_change_in_place self.old view (λ r.
             record r { notarization_broadcast = r.notarization_broadcast || is_some r.notarization })) }
         ensures refused { IfErr result (λ fault. fault ≡ OutOfMemory) }
         ensures refused_only_a_copy { OnErr result (is_some
-            (option_and_then (λ r. once r.notarization_broadcast r.notarization) (round_at self.old view)) ≡ true) }
+            (option_and_then (λ r. once r.notarization_broadcast r.notarization) (find_round self.old view)) ≡ true) }
         ensures origin { HasSameOrigin self.old self.new }
     {
         let Some(round) = self.by_view.get_mut(view) else {
@@ -133,12 +133,12 @@ impl<S: CertificateScheme, D: Digest> Rounds<S, D> {
     ) -> Result<Option<Nullification<S>>, Fault>
         ensures answer { IfOk result (λ c.
             option_map (nullification_facts S.certificate_bytes) c
-            ≡ option_and_then (λ r. once r.nullification_broadcast r.nullification) (round_at self.old view)) }
+            ≡ option_and_then (λ r. once r.nullification_broadcast r.nullification) (find_round self.old view)) }
         ensures handed_out { OnOk result (self.new ≡ with_change_in_place self.old view (λ r.
             record r { nullification_broadcast = r.nullification_broadcast || is_some r.nullification })) }
         ensures refused { IfErr result (λ fault. fault ≡ OutOfMemory) }
         ensures refused_only_a_copy { OnErr result (is_some
-            (option_and_then (λ r. once r.nullification_broadcast r.nullification) (round_at self.old view)) ≡ true) }
+            (option_and_then (λ r. once r.nullification_broadcast r.nullification) (find_round self.old view)) ≡ true) }
         ensures origin { HasSameOrigin self.old self.new }
     {
         let Some(round) = self.by_view.get_mut(view) else {
@@ -154,12 +154,12 @@ impl<S: CertificateScheme, D: Digest> Rounds<S, D> {
     ) -> Result<Option<Finalization<S, D>>, Fault>
         ensures answer { IfOk result (λ c.
             option_map (finalization_facts S.certificate_bytes) c
-            ≡ option_and_then (λ r. once r.finalization_broadcast r.finalization) (round_at self.old view)) }
+            ≡ option_and_then (λ r. once r.finalization_broadcast r.finalization) (find_round self.old view)) }
         ensures handed_out { OnOk result (self.new ≡ with_change_in_place self.old view (λ r.
             record r { finalization_broadcast = r.finalization_broadcast || is_some r.finalization })) }
         ensures refused { IfErr result (λ fault. fault ≡ OutOfMemory) }
         ensures refused_only_a_copy { OnErr result (is_some
-            (option_and_then (λ r. once r.finalization_broadcast r.finalization) (round_at self.old view)) ≡ true) }
+            (option_and_then (λ r. once r.finalization_broadcast r.finalization) (find_round self.old view)) ≡ true) }
         ensures origin { HasSameOrigin self.old self.new }
     {
         let Some(round) = self.by_view.get_mut(view) else {
@@ -170,8 +170,8 @@ impl<S: CertificateScheme, D: Digest> Rounds<S, D> {
 
     /// Decides the vote to finalize a view, whose round allows that, and answers what is voted for.
     pub(super) fn decide_finalize(&mut self, view: View) -> Option<Proposal<D>>
-        requires { can_finalize (round_of self.old view) ≡ true }
-        ensures vote { result ≡ (round_of self.old view).slot.held }
+        requires { can_finalize (round_in self.old view) ≡ true }
+        ensures vote { result ≡ (round_in self.old view).slot.held }
         ensures decided { self.new ≡ with_change self.old view (λ r. record r { decision = Finalize }) }
         ensures origin { HasSameOrigin self.old self.new }
     {
@@ -183,7 +183,7 @@ impl<S: CertificateScheme, D: Digest> Rounds<S, D> {
 
     /// Keeps the verdict of a view's certification. No contradicting one stands.
     pub(super) fn judge(&mut self, view: View, success: bool) -> Result<(), Fault>
-        requires { option_map_or (λ r. is_judged (not success) r.certification) (round_at self.old view) false ≡ false }
+        requires { option_map_or (λ r. is_judged (not success) r.certification) (find_round self.old view) false ≡ false }
         ensures judged { OnOk result (self.new ≡ with_change_in_place self.old view (λ r. certified_round r success)) }
         ensures refused { IfErr result (λ fault. fault ≡ OutOfMemory) }
         ensures origin { HasSameOrigin self.old self.new }
@@ -198,7 +198,7 @@ impl<S: CertificateScheme, D: Digest> Rounds<S, D> {
 
     /// Latches an explicit timeout of a view, and answers whether it did: the first one stays.
     pub(super) fn latch(&mut self, view: View, now: u64, reason: TimeoutReason) -> bool
-        ensures answer { result ≡ (is_tracked self.old view && awaits_latch (round_of self.old view)) }
+        ensures answer { result ≡ (has_round self.old view && awaits_latch (round_in self.old view)) }
         ensures latched { self.new ≡ with_change_in_place self.old view (λ r. with_latch r now reason) }
         ensures origin { HasSameOrigin self.old self.new }
     {
@@ -217,11 +217,11 @@ impl<S: CertificateScheme, D: Digest> Rounds<S, D> {
         retry: u64,
         allow_latched: bool,
     ) -> Result<Option<(u64, TimeoutReason)>, Fault>
-        ensures late { is_err result ≡ (awaits_retry (round_of self.old view) && is_past_u64 (now + retry)) }
+        ensures late { is_err result ≡ (awaits_retry (round_in self.old view) && is_past_u64 (now + retry)) }
         ensures refused { IfErr result (λ fault. (fault ≡ TimeOverflow) × (self.new ≡ self.old)) }
         ensures polled { OnOk result (self.new ≡ with_change_in_place self.old view (λ r. with_retry r now retry)) }
         ensures answer { IfOk result (λ timeout.
-            timeout ≡ option_and_then (λ r. round_timeout (with_retry r now retry) allow_latched) (round_at self.old view)) }
+            timeout ≡ option_and_then (λ r. round_timeout (with_retry r now retry) allow_latched) (find_round self.old view)) }
         ensures origin { HasSameOrigin self.old self.new }
     {
         let Some(round) = self.by_view.get_mut(view) else {

@@ -66,7 +66,7 @@ fn is_too_large<S: CertificateScheme, D: Digest>(artifact: &Artifact<S, D>) -> b
 }
 
 impl<S: CertificateScheme, D: Digest> Rounds<S, D> {
-    ghost use Rattle.simplex_voter.specs.Rounds.{round_of, with_change, largest_tracked, HasSameOrigin};
+    ghost use Rattle.simplex_voter.specs.Rounds.{round_in, with_change, largest_tracked, HasSameOrigin};
 
     /// The round of a view takes an entry of the record, with a binding where there is one. The view is tracked from then
     /// on.
@@ -77,7 +77,7 @@ impl<S: CertificateScheme, D: Digest> Rounds<S, D> {
         binding: Option<(Proposal<D>, D)>,
     ) -> Result<(), Fault>
         requires in_range { view ≤ largest_tracked }
-        requires taken { TakesArtifact (round_of self.old view) artifact.now }
+        requires taken { TakesArtifact (round_in self.old view) artifact.now }
         ensures recalled { OnOk result (self.new ≡ with_change self.old view (λ r. bound_again (after_replay (same_proposal D.eq) r artifact.now) binding)) }
         ensures refused { IfErr result (λ fault. fault ≡ OutOfMemory) }
         ensures origin { HasSameOrigin self.old self.new }

@@ -130,7 +130,7 @@ impl<S: CertificateScheme, D> Model for Rounds<S, D> {
 }
 
 impl<S: CertificateScheme, D: Digest> Rounds<S, D> {
-    ghost use Rattle.simplex_voter.specs.Rounds.{no_rounds, round_at, round_of, with_round, with_change, rounds_with_leader, rounds_with_leader_of, with_entry, largest_tracked, HasSameOrigin};
+    ghost use Rattle.simplex_voter.specs.Rounds.{no_rounds, find_round, round_in, put_round, with_change, rounds_with_leader, rounds_with_leader_of, with_entry, largest_tracked, HasSameOrigin};
 
     /// No view is tracked.
     pub(super) fn new(alloc: Global, scheme: S, epoch: Epoch) -> Rounds<S, D>
@@ -162,7 +162,7 @@ impl<S: CertificateScheme, D: Digest> Rounds<S, D> {
 
     /// The round of a tracked view.
     pub(super) fn get(&self, view: View) -> Option<&Round<S, D>>
-        ensures round { option_copied result ≡ round_at self.now view }
+        ensures round { option_copied result ≡ find_round self.now view }
         ensures in_range { OnSome result (view ≤ largest_tracked) }
     {
         self.by_view.get(view)
@@ -171,7 +171,7 @@ impl<S: CertificateScheme, D: Digest> Rounds<S, D> {
     /// Tracks a view from now on.
     pub(super) fn track(&mut self, view: View) -> Result<(), Fault>
         requires { view ≤ largest_tracked }
-        ensures tracked { OnOk result (self.new ≡ with_round self.old view (round_of self.old view)) }
+        ensures tracked { OnOk result (self.new ≡ put_round self.old view (round_in self.old view)) }
         ensures refused { IfErr result (λ fault. (fault ≡ OutOfMemory) × (self.new ≡ self.old)) }
         ensures origin { HasSameOrigin self.old self.new }
     {
@@ -224,7 +224,7 @@ impl<S: CertificateScheme, D: Digest> Rounds<S, D> {
 
     /// The index of the leader of a view, once it is known.
     fn leader(&self, view: View) -> Option<Participant>
-        ensures leader { result ≡ option_map (λ l. l.idx) (round_of self.now view).leader }
+        ensures leader { result ≡ option_map (λ l. l.idx) (round_in self.now view).leader }
         ensures member { IfSome result (λ leader. leader < length self.now.members) }
     {
         // that leaders are members is known of the fields
@@ -235,7 +235,7 @@ impl<S: CertificateScheme, D: Digest> Rounds<S, D> {
 
     /// The view after a notarized one.
     pub(super) fn after_notarized(&self, view: View) -> View
-        requires { is_some (option_and_then (λ r. r.notarization) (round_at self.now view)) ≡ true }
+        requires { is_some (option_and_then (λ r. r.notarization) (find_round self.now view)) ≡ true }
         ensures next { result ≡ view + 1 }
         ensures in_range { view < 2 ^ 63 }
     {
@@ -247,7 +247,7 @@ impl<S: CertificateScheme, D: Digest> Rounds<S, D> {
 
     /// Whether a leader of the view is set.
     fn has_leader(&self, view: View) -> bool
-        ensures { result ≡ is_some (round_of self.now view).leader }
+        ensures { result ≡ is_some (round_in self.now view).leader }
     {
         match self.get(view) {
             Some(round) => round.leader().is_some(),

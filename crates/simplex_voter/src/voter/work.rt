@@ -22,13 +22,13 @@ fn proposal_of<D: Digest, P: Copy>(context: &Context<D, P>, payload: D) -> Propo
 }
 
 impl<S: CertificateScheme, D: Digest> Rounds<S, D> {
-    ghost use Rattle.simplex_voter.specs.Rounds.{round_at, round_of, with_change, with_change_in_place, HasSameOrigin};
+    ghost use Rattle.simplex_voter.specs.Rounds.{find_round, round_in, with_change, with_change_in_place, HasSameOrigin};
     ghost use Rattle.simplex_voter.specs.Proposing.{build_requested, proposed_round};
     ghost use Rattle.simplex_voter.specs.Verifying.{with_request, verifying_round, with_mark, with_nothing_bound};
 
     /// Sets the request to build a proposal in a view that is ready for it.
     pub(super) fn ask_to_build(&mut self, view: View)
-        requires { should_propose (round_of self.old view) ≡ true }
+        requires { should_propose (round_in self.old view) ≡ true }
         ensures asked { self.new ≡ with_change_in_place self.old view (λ r. record r { slot = build_requested true r.slot }) }
         ensures origin { HasSameOrigin self.old self.new }
     {
@@ -51,7 +51,7 @@ impl<S: CertificateScheme, D: Digest> Rounds<S, D> {
 
     /// Gives the proposal of a view out to be verified, bound to its parent's payload.
     pub(super) fn give_out(&mut self, view: View, payload: D)
-        requires { is_some (pending_proposal (round_of self.old view)) ≡ true }
+        requires { is_some (pending_proposal (round_in self.old view)) ≡ true }
         ensures given { self.new ≡ with_change_in_place self.old view (λ r. verifying_round r payload) }
         ensures origin { HasSameOrigin self.old self.new }
     {
@@ -67,7 +67,7 @@ impl<S: CertificateScheme, D: Digest> Rounds<S, D> {
 
     /// Marks the held proposal of a view as verified, and answers whether it did.
     pub(super) fn mark(&mut self, view: View) -> bool
-        ensures first { result ≡ option_map_or (λ r. not (is_nullify r.decision) && is_unverified r.slot) (round_at self.old view) false }
+        ensures first { result ≡ option_map_or (λ r. not (is_nullify r.decision) && is_unverified r.slot) (find_round self.old view) false }
         ensures marked { self.new ≡ with_change_in_place self.old view with_mark }
         ensures origin { HasSameOrigin self.old self.new }
     {
@@ -98,7 +98,7 @@ impl<S: CertificateScheme, D: Digest> Rounds<S, D> {
     ) -> bool
         ensures recorded { result ≡ option_map_or
             (λ r. not (is_nullify r.decision) && holds_or_empty (same_proposal D.eq) r.slot (proposal_of context.now payload))
-            (round_at self.old context.now.round.view) false }
+            (find_round self.old context.now.round.view) false }
         ensures after { self.new ≡ (if result
             then with_change self.old context.now.round.view (λ r. proposed_round D.eq r context.now payload now)
             else self.old) }
@@ -117,8 +117,8 @@ impl<S: CertificateScheme, D: Digest> Rounds<S, D> {
 
     /// Decides the vote to notarize a view, whose round allows that, and answers what is voted for.
     pub(super) fn decide_notarize(&mut self, view: View) -> Option<Proposal<D>>
-        requires { can_notarize (round_of self.old view) ≡ true }
-        ensures vote { result ≡ (round_of self.old view).slot.held }
+        requires { can_notarize (round_in self.old view) ≡ true }
+        ensures vote { result ≡ (round_in self.old view).slot.held }
         ensures decided { self.new ≡ with_change self.old view (λ r. record r { notarize_decided = true }) }
         ensures origin { HasSameOrigin self.old self.new }
     {

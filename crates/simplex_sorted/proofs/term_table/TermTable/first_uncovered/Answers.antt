@@ -9,7 +9,7 @@ loop-before-preserved g c =
     let below = lt_yes c.loop-before.cursor c.args.before c.loop-before-test.ensures in
     let end = c.end_of_term-cursor.ensures.end in
     let up = next_above c.args.self.now.term_length c.loop-before.cursor c.end_of_term-cursor.ensures.positive (omega (arith, above)) in
-    let on = gapless_on c.args.self.now c.args.after c.loop-before.cursor above c.loop-before.invariant.covered (sym c.if-not-is_covered.ensures) in
+    let on = gapless_on c.args.self.now c.args.after c.loop-before.cursor above c.loop-before.invariant.covered (sym c.if-not-has_covering.ensures) in
     record {
       above = grind (arith, above, below, end, up);
       covered = λ w low high. on w low (grind (arith, high, end));

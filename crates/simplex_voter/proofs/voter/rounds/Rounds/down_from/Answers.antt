@@ -2,7 +2,7 @@
 use Rattle.std.proofs.Common.{◌+◌, ◌<◌, nat_lt, filter, ap, ◌∙◌, arith}
 use Rattle.simplex_sorted.proofs.Gaps.{lt_yes}
 use Rattle.simplex_sorted.proofs.Maps.{entries-retain_keys}
-use Rattle.simplex_voter.specs.Rounds.{round_at}
+use Rattle.simplex_voter.specs.Rounds.{find_round}
 use Rattle.simplex_voter.proofs.Changed.{none_explicit_above}
 use Rattle.simplex_voter.proofs.voter.rounds.Rounds.down_from.Goals as goal
 
@@ -15,7 +15,7 @@ returns-then-lt g c =
       entries = c.up_to.ensures ∙ entries-retain_keys c.self.inside.by_view (λ u. nat_lt u end) ∙ ap (λ x. filter (λ e. nat_lt e.0 end) x.by_view) c.self.view_is;
       not_above = omega (arith, above);
       above = λ w low high. omega arith;
-      rest = λ w r low high found. none_explicit_above _ c.self.invariant w r (omega (arith, low)) (ap (λ x. round_at x w) c.self.view_is ∙ found);
+      rest = λ w r low high found. none_explicit_above _ c.self.invariant w r (omega (arith, low)) (ap (λ x. find_round x w) c.self.view_is ∙ found);
     }
 
 pub returns-else-lt : goal.returns-else-lt

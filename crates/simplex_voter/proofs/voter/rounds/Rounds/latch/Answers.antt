@@ -2,7 +2,7 @@
 use Rattle.std.proofs.Common.{refl, ap, sym, ◌∙◌, inl}
 use Rattle.std.specs.Prelude.{◌&&◌, is_some, unwrap_or}
 use Rattle.simplex_round.specs.Round.{awaits_latch, new_round, with_latch}
-use Rattle.simplex_voter.specs.Rounds.{round_number}
+use Rattle.simplex_voter.specs.Rounds.{round_id}
 use Rattle.simplex_voter.proofs.Changed.{found_at, kept_changed, changed_there, untouched}
 use Rattle.simplex_voter.proofs.voter.rounds.Rounds.latch.Goals as goal
 
@@ -19,10 +19,10 @@ pub returns-in_default-clause-answer : goal.returns-in_default-clause-answer
 returns-in_default-clause-answer g c =
     let x = c.args.self.now in
     let here = c.in_default.ensures.value ∙ sym (found_at x _ (sym (ap (λ x. x.by_view) c.self.view_is)) c.args.view) in
-    ap (λ found. is_some found && awaits_latch (unwrap_or found (new_round x.me x.members (round_number x c.args.view)))) here
+    ap (λ found. is_some found && awaits_latch (unwrap_or found (new_round x.me x.members (round_id x c.args.view)))) here
 
 pub returns-clause-answer : goal.returns-clause-answer
 returns-clause-answer g c =
     let x = c.args.self.now in
     let here = c.in-Some.ensures.value ∙ sym (found_at x _ (sym (ap (λ x. x.by_view) c.self.view_is)) c.args.view) in
-    c.latch_timeout.ensures.answer ∙ ap (λ found. is_some found && awaits_latch (unwrap_or found (new_round x.me x.members (round_number x c.args.view)))) here
+    c.latch_timeout.ensures.answer ∙ ap (λ found. is_some found && awaits_latch (unwrap_or found (new_round x.me x.members (round_id x c.args.view)))) here

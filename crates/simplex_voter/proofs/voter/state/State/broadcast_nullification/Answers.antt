@@ -2,7 +2,7 @@
 use Rattle.std.proofs.Common.{refl}
 use Rattle.simplex_voter.proofs.Shown.{where_true, same_setup, kept_with_rounds}
 use Rattle.simplex_voter.proofs.Faults.{failed_now}
-use Rattle.simplex_voter.specs.Rounds.{is_tracked}
+use Rattle.simplex_voter.specs.Rounds.{has_round}
 use Rattle.simplex_voter.proofs.voter.state.State.broadcast_nullification.Goals as goal
 
 pub invariant_of-self : goal.invariant_of-self
@@ -12,7 +12,7 @@ pub returns-in-Ok-clause-answer : goal.returns-in-Ok-clause-answer
 returns-in-Ok-clause-answer g c = rw (← c.self.view_is) c.in-Ok.ensures.answer
 
 pub returns-in-Ok-clause-after : goal.returns-in-Ok-clause-after
-returns-in-Ok-clause-after g c = rw (← c.self.view_is) (where_true _ _ c.self.view_is (is_tracked c.self.inside.rounds c.args.view) _ _ c.self.inside.rounds c.in-Ok.ensures.handed_out refl)
+returns-in-Ok-clause-after g c = rw (← c.self.view_is) (where_true _ _ c.self.view_is (has_round c.self.inside.rounds c.args.view) _ _ c.self.inside.rounds c.in-Ok.ensures.handed_out refl)
 
 pub returns-in-Err-clause-out_of_memory : goal.returns-in-Err-clause-out_of_memory
 returns-in-Err-clause-out_of_memory g c none =

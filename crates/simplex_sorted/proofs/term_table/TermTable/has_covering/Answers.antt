@@ -1,9 +1,9 @@
--- How the contract of `is_covered` follows: some entry covers the view just where the last one up to it does.
+-- How the contract of `has_covering` follows: some entry covers the view just where the last one up to it does.
 use Rattle.std.proofs.Common.{ap, ◌∙◌}
 use Rattle.std.specs.Option.{is_some}
 use Rattle.simplex_types.specs.Terms.{covers}
 use Rattle.simplex_sorted.proofs.Gaps.{any_last, some_mapped}
-use Rattle.simplex_sorted.proofs.term_table.TermTable.is_covered.Goals as goal
+use Rattle.simplex_sorted.proofs.term_table.TermTable.has_covering.Goals as goal
 
 pub returns : goal.returns
 returns g c =
