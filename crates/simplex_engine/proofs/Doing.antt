@@ -1,6 +1,6 @@
 -- For the code of the engine.
 -- What a member does by a call.
-use Rattle.std.proofs.Common.{List, [], ◌++◌, Option, Some, None}
+use Rattle.std.proofs.Common.{[], ◌++◌, Option, Some}
 use Rattle.std.specs.Prelude.{All}
 use Rattle.std.proofs.lemmas.List.Elements.{All-append, All-cons, All-nil}
 use Rattle.simplex_types.specs.declared.types.messages.Subject.{Subject}

@@ -1,11 +1,11 @@
 -- What calls of no use leave of a member.
-use Rattle.std.proofs.Common.{◌≡◌, ◌⊎◌, refl, ap, sym, subst, ◌∙◌, ℕ, eqb, Bool, true, false, not, ◌&&◌, cond, List, [], ◌∷◌, ◌++◌, append-nil, Option, Some, None, is_some, unwrap_or, inl, inr}
+use Rattle.std.proofs.Common.{◌≡◌, refl, ap, sym, ◌∙◌, ℕ, eqb, Bool, true, false, not, ◌&&◌, cond, ◌++◌, append-nil, Option, Some, None, is_some, unwrap_or, inl, inr}
 use Rattle.std.specs.Option.{option_map_or}
 use Rattle.std.specs.Prelude.{option_and_then}
 use Rattle.std.specs.Cmp.{nat_cmp_total}
 use Rattle.std.specs.FinMap.Entries.{find, put, find-put}
 use Rattle.std.specs.Ordering.{nat_cmp}
-use Rattle.std.proofs.lemmas.Bool.{false≢true, eqb-true, eq-eqb, ne_eqb}
+use Rattle.std.proofs.lemmas.Bool.{false≢true, eqb-true}
 use Rattle.simplex_types.specs.Certificates.{ProposalFacts, Verdict}
 use Rattle.simplex_types.specs.declared.reasons.TimeoutReason.{TimeoutReason}
 use Rattle.simplex_types.specs.declared.types.fault.Fault.{Fault}
@@ -21,7 +21,7 @@ use Rattle.simplex_voter.specs.Timeouts.{can_trigger, trigger_answer, after_trig
 use Rattle.simplex_voter.proofs.Gaps.{and_parts, not_true}
 use Rattle.simplex_member.specs.Allowed.{is_allowed, fault_of}
 use Rattle.simplex_member.specs.CallSemantics.{answer, if_new}
-use Rattle.simplex_member.specs.Calls.{CallFacts, Told, Refused, NotAllowed, Judged, TryPropose, TriggerTimeout, Certified}
+use Rattle.simplex_member.specs.Calls.{CallFacts, Told, NotAllowed, Judged, TryPropose, TriggerTimeout, Certified}
 use Rattle.simplex_member.specs.Lives.{MemberFacts, IsCall, AnswersAlive, unless_refused, unless_kept, with_call}
 use Rattle.simplex_member.specs.OutstandingWork.{OutstandingWork, without_offer}
 use Rattle.simplex_engine.specs.Dropping.{is_refused, says_nothing, HasNoted, IsNoted, without_offer_at, IsLeftByCall}

@@ -23,6 +23,7 @@ use Rattle.simplex_engine.specs.declared.output.Output.{Output}
 use Rattle.simplex_engine.specs.Going.{IsKept, GoesOn, DoesMoreOn, HasGivenOut, HasRisen}
 use Rattle.simplex_engine.proofs.Finals.{finalized_by-append, none_finalized, tells_none, tells_further, tells_no_more, tells_nothing}
 use Rattle.simplex_engine.specs.Counting.{certificate_of}
+use Rattle.simplex_engine.proofs.Queued.{queues_none, queues_further}
 
 module _ {K L D : Type 0} {same : D → D → Bool} {elect : Elect L} where
   -- nothing is done
@@ -51,7 +52,7 @@ module _ {K L D : Type 0} where
 module _ {S L D K G C : Type 0} {same : D → D → Bool} {elect : Elect L} {bytes_of : C → List ℕ} {taken : Option (Subject D)} where
   -- nothing has changed
   pub stays : (a : Journaled S L D K G C) → GoesOn same elect bytes_of taken a a
-  stays a = record { kept = λ given kept. kept; more = []; on_this = All-nil (IsDoneOn taken); done = does_nothing a.member.facts; told = tells_none a.outbox a.outbox refl refl; risen = risen_not a.member.facts }
+  stays a = record { kept = λ given kept. kept; more = []; on_this = All-nil (IsDoneOn taken); done = does_nothing a.member.facts; told = tells_none a.outbox a.outbox refl refl; queued = queues_none a.outbox; risen = risen_not a.member.facts }
 
   -- from one moment to a later one, and on to one later still
   pub goes_further : {a b c : Journaled S L D K G C} → GoesOn same elect bytes_of taken a b → GoesOn same elect bytes_of taken b c → GoesOn same elect bytes_of taken a c
@@ -65,12 +66,13 @@ module _ {S L D K G C : Type 0} {same : D → D → Bool} {elect : Elect L} {byt
     told =
         subst (λ ps. TellsRising ps a.outbox c.outbox) (sym (finalized_by-append first.more second.more))
         (tells_further (finals_by first.more) (finals_by second.more) a.outbox b.outbox c.outbox first.told second.told);
+    queued = queues_further first.queued second.queued;
     risen = risen_further a.member.facts b.member.facts c.member.facts first.risen second.risen;
   }
 
   -- where no certificate is accepted
   pub goes_on_anyway : {a b : Journaled S L D K G C} → GoesOn same elect bytes_of None a b → GoesOn same elect bytes_of taken a b
-  goes_on_anyway went = record { kept = went.kept; more = went.more; on_this = λ k d less. anyway _ (went.on_this k d less); done = went.done; told = went.told; risen = went.risen }
+  goes_on_anyway went = record { kept = went.kept; more = went.more; on_this = λ k d less. anyway _ (went.on_this k d less); done = went.done; told = went.told; queued = went.queued; risen = went.risen }
     where
       anyway : (event : TraceEvent D) → IsDoneOn None event → IsDoneOn taken event
       anyway (Signs _ _) is = tt

@@ -23,7 +23,7 @@ use Rattle.simplex_engine.specs.declared.output.Work.{Work}
 use Rattle.simplex_engine.specs.declared.votes.Vote.{Vote}
 use Rattle.simplex_engine.specs.Doing.{IsDoneOn}
 use Rattle.simplex_engine.specs.Finals.{TellsRising}
-use Rattle.simplex_engine.specs.Outboxes.{IsLawfulOutbox, HasBecome, HasStayed, IsStored, IsReplaced, IsRepeated, IsToldWhere, IsTold}
+use Rattle.simplex_engine.specs.Outboxes.{IsLawfulOutbox, HasBecome, HasStayed, IsStored, IsReplaced, IsRepeated, IsToldWhere, IsTold, QueuesMore}
 use Rattle.simplex_engine.specs.Outputs.{storing}
 use Rattle.simplex_engine.specs.Journals.{journal_of, IsBeginningOf}
 use Rattle.simplex_engine.specs.Going.{IsKept, GoesOn, HasRisen}
@@ -163,13 +163,14 @@ module _ {S L D K G C : Type 0} (bytes_of : C → List ℕ) (old new : Journaled
   ended failed lawful last given kept = record { lawful = lawful given kept.lawful; stored = λ lives. cc; told = last kept.told }
 
 -- nothing is done
-pub does_no_more : {S L D K G C : Type 0} {same : D → D → Bool} {elect : Elect L} {bytes_of : C → List ℕ} {taken : Option (Subject D)} (old new : Journaled S L D K G C) → new.member ≡ old.member → Keeps bytes_of old new → TellsRising [] old.outbox new.outbox → GoesOn same elect bytes_of taken old new
-does_no_more {same = same} {elect = elect} {taken = taken} old new same_member keeps tells = record {
+pub does_no_more : {S L D K G C : Type 0} {same : D → D → Bool} {elect : Elect L} {bytes_of : C → List ℕ} {taken : Option (Subject D)} (old new : Journaled S L D K G C) → new.member ≡ old.member → Keeps bytes_of old new → TellsRising [] old.outbox new.outbox → QueuesMore old.outbox new.outbox → GoesOn same elect bytes_of taken old new
+does_no_more {same = same} {elect = elect} {taken = taken} old new same_member keeps tells queues = record {
   kept = keeps;
   more = [];
   on_this = All-nil (IsDoneOn taken);
   done = subst (λ m. DoesMore same elect old.member.facts [] m.facts) (sym same_member) (does_nothing old.member.facts);
   told = tells;
+  queued = queues;
   risen = subst (λ m. WhileAlive HasRisen old.member.facts.life m.facts.life) (sym same_member) (risen_not old.member.facts);
 }
 

@@ -13,6 +13,7 @@ mod Lawfully
 mod Finalizing
 mod Given
 mod Good
+mod Queued
 mod Going
 mod Journals
 mod Doing
@@ -30,3 +31,6 @@ mod Planned
 mod Accepting
 mod Taking
 mod Following
+mod Duties
+mod Telling
+mod Tells

@@ -1,5 +1,5 @@
 -- Plans in which a block is of no use any more.
-use Rattle.std.proofs.Common.{◌≡◌, refl, ap, sym, ◌∙◌, ℕ, Bool, List, [], ◌∷◌, ◌++◌, length, length-append, arith, Result, Ok, Err, OnOk}
+use Rattle.std.proofs.Common.{◌≡◌, ap, sym, ◌∙◌, ℕ, Bool, [], ◌∷◌, ◌++◌, length, length-append, arith, Result, Ok, Err, OnOk}
 use Rattle.std.specs.List.{list_any}
 use Rattle.simplex_engine.specs.declared.engine.plan.Plan.{Plan}
 use Rattle.simplex_engine.specs.declared.engine.plan.Step.{Step}

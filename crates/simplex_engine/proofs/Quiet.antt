@@ -1,5 +1,5 @@
 -- Calls that have nothing new, one behind the other.
-use Rattle.std.proofs.Common.{◌≡◌, Bool, List, [], ◌∷◌, ◌++◌, subst}
+use Rattle.std.proofs.Common.{Bool, List, [], ◌∷◌, ◌++◌, subst}
 use Rattle.simplex_voter.specs.Facts.{Elect}
 use Rattle.simplex_member.specs.Calls.{CallFacts}
 use Rattle.simplex_member.specs.Lives.{MemberFacts}

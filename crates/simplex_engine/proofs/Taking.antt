@@ -1,7 +1,7 @@
 -- For `Engine::handle` and what it calls.
 -- What comes of an input follows from what the member is asked for it, and from the votes that are held.
 use Rattle.std.proofs.Common.{◌≡◌, ◌≢◌, ℕ, ◌≤◌, Bool, true, false, List, [], ◌∷◌, ◌++◌, length, Some, Result, Ok, Err, refl, ap, sym, subst, ◌∙◌, inl, inr}
-use Rattle.std.specs.Prelude.{IfOk, IsTrue, IsFalse}
+use Rattle.std.specs.Prelude.{IfOk, OnOk, IsTrue, IsFalse}
 use Rattle.std.specs.List.{list_any}
 use Rattle.std.proofs.lemmas.Bool.{false≢true, not-false}
 use Rattle.std.proofs.lemmas.Result.{IfOk-weaker}
@@ -30,6 +30,7 @@ use Rattle.simplex_engine.specs.Batching.{AreGiven, HoldsAllTheSame, HoldsUpTo, 
 use Rattle.simplex_engine.specs.Bounds.{StaysBounded}
 use Rattle.simplex_engine.specs.Building.{is_asked_in}
 use Rattle.simplex_engine.specs.Dropping.{is_refused, says_nothing, IsLeftByCall, IsLeftByInput}
+use Rattle.simplex_engine.specs.Duties.{KeepsTelling}
 use Rattle.simplex_engine.specs.Going.{GoesOn}
 use Rattle.simplex_engine.specs.Inputs.{subject_in, subject_made}
 use Rattle.simplex_engine.specs.Polls.{ballot_of}
@@ -161,12 +162,12 @@ module _ {S L D K G C : Type 0} (same : D → D → Bool) (elect : Elect L) (byt
       → GoesOn same elect bytes_of (subject_in bytes_of what) old.core new.core → TakesVotes (votes_of_input what) old.batcher new.batcher
       → IsBackedInput same elect bytes_of (length (keys_of old.batcher.scheme)) what old.batcher old.core new.core
       → StaysBounded keys_of old.core old.batcher new.core new.batcher
-      → IfOk answer (λ is_of_use. IsFalse is_of_use → HoldsAllTheSame old.batcher new.batcher)
+      → IfOk answer (λ is_of_use. IsFalse is_of_use → HoldsAllTheSame old.batcher new.batcher) → OnOk answer (KeepsTelling old new)
       → (IsFalse (is_admitted bytes_of (facts_of old) what) → IfOk answer (λ is_of_use. IsFalse is_of_use × IsTurnedAway what old new))
       → (IsTrue (is_admitted bytes_of (facts_of old) what)
       → IfOk answer (IsActedOn same elect bytes_of IsMadeOf keys_of now what old (facts_of new) new.batcher new.plan.steps.items))
       → IsInputTaken same elect bytes_of IsMadeOf keys_of now what old old new answer
-  taken what old new answer went votes backed bounded kept unadmitted acted = record {
+  taken what old new answer went votes backed bounded kept duties unadmitted acted = record {
     goes_on = went;
     votes = votes;
     backed = backed;
@@ -174,6 +175,7 @@ module _ {S L D K G C : Type 0} (same : D → D → Bool) (elect : Elect L) (byt
     unadmitted = unadmitted;
     bounded = bounded;
     acted = acted;
+    duties = duties;
   }
     where
       by_test : (b : Bool) → is_admitted bytes_of (facts_of old) what ≡ b → IfOk answer (λ is_of_use. IsFalse is_of_use → IsLeftByInput now what (facts_of old) (facts_of new))
@@ -183,15 +185,15 @@ module _ {S L D K G C : Type 0} (same : D → D → Bool) (elect : Elect L) (byt
   -- an input of which no vote is taken
   pub taken_alone : {E : Type 0} (told what : Input S D K G C) (old new : Engine S L D K G C) (answer : Result Bool E) → told ≡ what
       → GoesOn same elect bytes_of (subject_in bytes_of what) old.core new.core → new.batcher ≡ old.batcher
-      → IsBackedInput same elect bytes_of (length (keys_of old.batcher.scheme)) what old.batcher old.core new.core
+      → IsBackedInput same elect bytes_of (length (keys_of old.batcher.scheme)) what old.batcher old.core new.core → OnOk answer (KeepsTelling old new)
       → (IsFalse (is_admitted bytes_of (facts_of old) what) → IfOk answer (λ is_of_use. IsFalse is_of_use × IsTurnedAway what old new))
       → (IsTrue (is_admitted bytes_of (facts_of old) what)
       → IfOk answer (IsActedOn same elect bytes_of IsMadeOf keys_of now what old (facts_of new) new.batcher new.plan.steps.items))
       → IsInputTaken same elect bytes_of IsMadeOf keys_of now told old old new answer
-  taken_alone told what old new answer is went kept backed unadmitted acted =
+  taken_alone told what old new answer is went kept backed duties unadmitted acted =
       subst (λ input. IsInputTaken same elect bytes_of IsMadeOf keys_of now input old old new answer) (sym is)
       (taken what old new answer went (takes_anyway (takes_same kept)) backed (bounded_still keys_of went (takes_same kept))
-      (always_ok answer (λ is_of_use vain. held_same old.batcher new.batcher kept)) unadmitted acted)
+      (always_ok answer (λ is_of_use vain. held_same old.batcher new.batcher kept)) duties unadmitted acted)
 
   -- a vote that is counted
   pub taken_counted : {E : Type 0} (law : (d e : D) → same d e ≡ true → d ≡ e) (vote : Vote D G) (old new : Engine S L D K G C) (answer : Result Bool E)
@@ -204,8 +206,9 @@ module _ {S L D K G C : Type 0} (same : D → D → Bool) (elect : Elect L) (byt
       → IsCounted same (IsMadeOf old.batcher.scheme) (length (keys_of old.batcher.scheme)) true old.batcher vote batcher counted
       → GoesOn same elect bytes_of (subject_made bytes_of counted) old.core new.core → new.batcher ≡ batcher
       → IfOk answer (IsCountFollowed same elect bytes_of now counted old.plan.steps.items (facts_of old) new.plan.steps.items (facts_of new))
+      → OnOk answer (KeepsTelling old new)
       → IsInputTaken same elect bytes_of IsMadeOf keys_of now (input.Vote vote) old old new answer
-  taken_counted law vote old new answer batcher counted admits given_by within scheme counts went kept followed =
+  taken_counted law vote old new answer batcher counted admits given_by within scheme counts went kept followed duties =
       let made = IsMadeOf old.batcher.scheme in
       let members = length (keys_of old.batcher.scheme) in
       taken (input.Vote vote) old new answer (goes_counted made members old.batcher batcher vote old.core new.core counted counts went)
@@ -213,7 +216,7 @@ module _ {S L D K G C : Type 0} (same : D → D → Bool) (elect : Elect L) (byt
       (backed_counted made members old.batcher batcher vote old.core new.core law given_by counted counts went)
       (bounded_further keys_of (bounded_counted keys_of old.core old.batcher batcher vote.subject within scheme admits) (bounded_still keys_of went (takes_same kept)))
       (IfOk-weaker answer _ _ (λ is_of_use follows vain. subst (HoldsAllTheSame old.batcher) (sym kept)
-      (counted_same same elect bytes_of now made members old.batcher batcher vote counted old.plan.steps.items (facts_of old) new.plan.steps.items (facts_of new) is_of_use counts follows vain)) followed)
+      (counted_same same elect bytes_of now made members old.batcher batcher vote counted old.plan.steps.items (facts_of old) new.plan.steps.items (facts_of new) is_of_use counts follows vain)) followed) duties
       (λ vain. absurd (false≢true (sym vain ∙ admits)))
       (λ _. IfOk-weaker answer _ _ (λ is_of_use follows. record {
         counted = counted;
@@ -232,6 +235,7 @@ module _ {S L D K G C : Type 0} (same : D → D → Bool) (elect : Elect L) (byt
     unadmitted = λ vain. never _ _ answer otherwise (turns.unadmitted vain);
     bounded = turns.bounded;
     acted = turns.acted;
+    duties = turns.duties;
   }
     where
       never : {E : Type 0} (P Q : Bool → Type 0) (r : Result Bool E) → r ≢ Ok false → IfOk r (λ is_of_use. IsFalse is_of_use × P is_of_use) → IfOk r Q
@@ -262,4 +266,5 @@ module _ {S L D K G C : Type 0} (same : D → D → Bool) (elect : Elect L) (byt
         unadmitted = λ vain. (refl, turned_ignored what old mid (taken.unadmitted vain).1);
         bounded = taken.bounded;
         acted = taken.acted;
+        duties = record { stays = taken.duties.stays };
       })

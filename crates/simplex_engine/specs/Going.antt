@@ -10,7 +10,7 @@ use Rattle.simplex_laws.specs.LifeLaws.{NeverFalls, WhileAlive}
 use Rattle.simplex_engine.specs.declared.journaled.Journaled.{Journaled}
 use Rattle.simplex_engine.specs.declared.output.Output.{Output}
 use Rattle.simplex_engine.specs.Finals.{finals_in, finals_by, TellsRising}
-use Rattle.simplex_engine.specs.Outboxes.{IsLawfulOutbox}
+use Rattle.simplex_engine.specs.Outboxes.{IsLawfulOutbox, QueuesMore}
 use Rattle.simplex_engine.specs.Journals.{journal_of, IsBeginningOf}
 use Rattle.simplex_engine.specs.Doing.{IsDoneOn}
 
@@ -46,15 +46,16 @@ pub record HasRisen {K L D : Type 0} (first last : StateFacts K L D) : Type 0 wh
   pub views : NeverFalls first last
 
 module _ {S L D K G C : Type 0} (same : D → D → Bool) (elect : Elect L) (bytes_of : C → List ℕ) (taken : Option (Subject D)) where
-  -- what was kept stays kept, and what the member has done stays done; besides it accepts certificates on this subject alone,
-  -- and signs votes; of the finalizations that it accepts each of a view above all that were told is told; and while it has not
-  -- failed, its views do not fall
+  -- what was kept stays kept, what was queued stays queued, and what the member has done stays done; besides it accepts certificates
+  -- on this subject alone, and signs votes; of the finalizations that it accepts each of a view above all that were told is told; and
+  -- while it has not failed, its views do not fall
   pub record GoesOn (old new : Journaled S L D K G C) : Type 0 where
     pub kept : (given : List (Output S D Stored K G C)) → IsKept bytes_of given old → IsKept bytes_of given new
     pub more : List (TraceEvent D)
     pub on_this : All (IsDoneOn taken) more
     pub done : DoesMore same elect old.member.facts more new.member.facts
     pub told : TellsRising (finals_by more) old.outbox new.outbox
+    pub queued : QueuesMore old.outbox new.outbox
     pub risen : WhileAlive HasRisen old.member.facts.life new.member.facts.life
 
 module _ {S L D K G C : Type 0} (bytes_of : C → List ℕ) where

@@ -27,3 +27,4 @@ pub mod Dropping
 pub mod Admitting
 pub mod Acting
 pub mod Taking
+pub mod Duties

@@ -32,6 +32,11 @@ module _ {S D J K G C : Type 0} where
   abbrev pub HasStayed : Outbox S D J K G C → Outbox S D J K G C → Type 0
   HasStayed old new = (new.queue.items ≡ old.queue.items) × (new.repeat ≡ old.repeat) × (new.told ≡ old.told)
 
+  -- what was queued stays, with more behind it
+  pub record QueuesMore (old new : Outbox S D J K G C) : Type 0 where
+    pub more : List (Output S D J K G C)
+    pub queue_is : new.queue.items ≡ old.queue.items ++ more
+
   -- copies of the entries are to be stored, and each vote among them leaves behind them
   abbrev pub IsStored : (C → List ℕ) → List (Artifact S D K G C) → Outbox S D J K G C → Outbox S D J K G C → Type 0
   IsStored bytes_of fresh old new =

@@ -1,5 +1,5 @@
 -- What comes of an input.
-use Rattle.std.specs.Prelude.{ℕ, Bool, List, length, Result, IfOk, IsTrue, IsFalse}
+use Rattle.std.specs.Prelude.{ℕ, Bool, List, length, Result, IfOk, OnOk, IsTrue, IsFalse}
 use Rattle.simplex_types.specs.declared.types.messages.Subject.{Subject}
 use Rattle.simplex_voter.specs.Facts.{Elect}
 use Rattle.simplex_engine.specs.declared.engine.Engine.{Engine}
@@ -9,6 +9,7 @@ use Rattle.simplex_engine.specs.Admitting.{is_admitted, IsTurnedAway}
 use Rattle.simplex_engine.specs.Backing.{votes_of_input, TakesVotes, IsBackedInput}
 use Rattle.simplex_engine.specs.Bounds.{StaysBounded}
 use Rattle.simplex_engine.specs.Dropping.{IsDropped}
+use Rattle.simplex_engine.specs.Duties.{KeepsTelling}
 use Rattle.simplex_engine.specs.Going.{GoesOn}
 use Rattle.simplex_engine.specs.Inputs.{subject_in}
 
@@ -24,3 +25,4 @@ pub record IsInputTaken {S L D K G C E : Type 0} (same : D → D → Bool) (elec
   pub bounded : StaysBounded keys_of old.core old.batcher new.core new.batcher
   pub acted : IsTrue (is_admitted bytes_of old.core.member.facts what)
       → IfOk answer (IsActedOn same elect bytes_of IsMadeOf keys_of now what old new.core.member.facts new.batcher new.plan.steps.items)
+  pub duties : OnOk answer (KeepsTelling old new)

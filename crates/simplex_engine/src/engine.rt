@@ -3,7 +3,7 @@
 //! It holds no network, clock, disk or key but its scheme. Moments are milliseconds that are handed in, and do not fall.
 #![tactic(auto, using(crate::proofs::Going::stays, crate::proofs::Going::goes_further, crate::proofs::Backing::takes_nothing, crate::proofs::Backing::takes_no_more, crate::proofs::Backing::takes_anyway))]
 
-ghost use Rattle.std.specs.Prelude.{◌≡◌, ◌++◌, [], length, None, Err, IfOk, IfSome, OnErr, IsNone, IsFalse, IsTrue, true, false};
+ghost use Rattle.std.specs.Prelude.{◌≡◌, ◌++◌, [], length, None, Err, IfOk, IfSome, OnOk, OnErr, IsNone, IsFalse, IsTrue, true, false};
 ghost use Rattle.std.specs.Option.{option_copied};
 ghost use Rattle.simplex_types.specs.declared.types.fault.Fault.TheVariants.{Failed};
 
@@ -67,6 +67,7 @@ impl<S: Assembly<D>, L: Elector<S>, D: Digest> Engine<S, L, D> {
     ghost use Rattle.simplex_engine.specs.Dropping.{IsDropped};
     ghost use Rattle.simplex_engine.specs.Admitting.{is_admitted, IsTurnedAway, ignoring};
     ghost use Rattle.simplex_engine.specs.Acting.{IsActedOn};
+    ghost use Rattle.simplex_engine.specs.Duties.{KeepsTelling, HasTold, AllIsGivenOut};
 
     /// Tells what came in. Answers whether it was of use: what is not is dropped, and changes nothing.
     ///
@@ -85,6 +86,8 @@ impl<S: Assembly<D>, L: Elector<S>, D: Digest> Engine<S, L, D> {
     ///   inputs were; a proposal that comes early may be kept.
     /// - `acted`: one that is admitted is acted on: the member is asked what it stands for, or the vote is counted, and what follows
     ///   from that is of use exactly where the answer has anything.
+    /// - `duties`: what the member waits for stays told: each proposal to verify and each to certify was given out to the application,
+    ///   is queued to be, or is planned.
     /// - `bounded`: where each vote that is held was a member's, and of no view above those whose votes are taken, each still is.
     /// - `failed`, `refused`: after an error it has failed; one that has failed answers `Failed`, and nothing changes.
     ///
@@ -102,6 +105,7 @@ impl<S: Assembly<D>, L: Elector<S>, D: Digest> Engine<S, L, D> {
         ensures bounded { StaysBounded S.participants self.old.core self.old.batcher self.new.core self.new.batcher }
         ensures acted { IsTrue (is_admitted S.certificate_bytes self.old.core.member.facts input) → IfOk result (IsActedOn D.eq L.elect S.certificate_bytes
             S.IsMadeOf S.participants now input self.old self.new.core.member.facts self.new.batcher self.new.plan.steps.items) }
+        ensures duties { OnOk result (KeepsTelling self.old self.new) }
         ensures failed { OnErr result (has_failed self.new.core ≡ true) }
         ensures refused { has_failed self.old.core ≡ true → (result ≡ Err Failed) × (self.new ≡ self.old) }
     {
@@ -125,6 +129,8 @@ impl<S: Assembly<D>, L: Elector<S>, D: Digest> Engine<S, L, D> {
     /// - `votes`, `bounded`, `failed`, `refused`: as of `handle`.
     /// - `none`: where nothing is answered, all of the record was given out to be stored, and the member was asked last for all
     ///   its work, its votes on the current view and the certificates of it, and had nothing new.
+    /// - `duties`: as of `handle`, with what is answered given out.
+    /// - `waiting`: so where nothing is answered, all that the member waits for was given out.
     /// - `idle`: where nothing is answered, nothing is to be done at the moment: no step is queued, the timeout was asked for, and
     ///   no fetch is due.
     /// - `lowest`: where nothing is answered, no vote is held of a view below the lowest one that is kept.
@@ -148,6 +154,8 @@ impl<S: Assembly<D>, L: Elector<S>, D: Digest> Engine<S, L, D> {
             → IfOk result (λ out. IsNone out → HoldsAdmitted S.participants self.new.core self.new.batcher) }
         ensures votes { TakesNone self.old.batcher self.new.batcher }
         ensures bounded { StaysBounded S.participants self.old.core self.old.batcher self.new.core self.new.batcher }
+        ensures duties { OnOk result ((given : _) → HasTold given self.old → HasTold (given ++ given_out result) self.new) }
+        ensures waiting { IfOk result (λ out. IsNone out → (given : _) → HasTold given self.old → AllIsGivenOut given self.new) }
         ensures failed { OnErr result (has_failed self.new.core ≡ true) }
         ensures refused { has_failed self.old.core ≡ true → (result ≡ Err Failed) × (self.new ≡ self.old) }
     {
@@ -171,6 +179,8 @@ impl<S: Assembly<D>, L: Elector<S>, D: Digest> Engine<S, L, D> {
         ensures lacking { IfOk result (λ out. IsNone out → AsksForItsLacking self.new.core self.new.plan.repair) }
         ensures votes { TakesNone self.old.batcher self.new.batcher }
         ensures bounded { StaysBounded S.participants self.old.core self.old.batcher self.new.core self.new.batcher }
+        ensures duties { OnOk result ((given : _) → HasTold given self.old → HasTold (given ++ given_out result) self.new) }
+        ensures waiting { IfOk result (λ out. IsNone out → (given : _) → HasTold given self.old → AllIsGivenOut given self.new) }
         ensures failed { OnErr result (has_failed self.new.core ≡ true) }
     {
         match self.work(now) {

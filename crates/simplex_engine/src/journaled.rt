@@ -14,6 +14,7 @@ ghost use Rattle.simplex_member.specs.Calls.{asked};
 ghost use Rattle.simplex_engine.specs.Acting.{hands_in};
 ghost use Rattle.simplex_engine.specs.Doing.{IsDoneOn, final_by};
 ghost use Rattle.simplex_engine.specs.Finals.{finals_by};
+ghost use Rattle.simplex_engine.specs.declared.output.Output.TheVariants as output;
 
 use crate::outbox::Outbox;
 use crate::output::{Output, Work};
@@ -163,8 +164,10 @@ impl<S: Scheme<D>, L: Elector<S>, D: Digest> Journaled<S, L, D> {
     /// fails: what is stored is no longer the record.
     ///
     /// - `whole`: all of the record is queued.
+    /// - `waiting`: what the member waits for is the same.
     pub fn prune_record(&mut self) -> Result<(), AllocError>
         ensures goes_on { GoesOn D.eq L.elect S.certificate_bytes None self.old self.new }
+        ensures waiting { self.new.member.facts.outstanding_work ≡ self.old.member.facts.outstanding_work }
         ensures whole { OnOk result (IsWhole S.certificate_bytes self.new) }
     {
         self.member.prune_record();
@@ -184,10 +187,11 @@ impl<S: Scheme<D>, L: Elector<S>, D: Digest> Journaled<S, L, D> {
         }
     }
 
-    /// Queues other work. Without memory nothing has changed.
+    /// Queues other work, behind all that is queued. Without memory nothing has changed.
     pub fn push(&mut self, work: Work<S, D>) -> Result<(), AllocError>
         ensures goes_on { GoesOn D.eq L.elect S.certificate_bytes None self.old self.new }
         ensures member { self.new.member ≡ self.old.member }
+        ensures queued { OnOk result (self.new.outbox.queue.items ≡ self.old.outbox.queue.items ++ output.Work work ∷ []) }
     {
         self.outbox.push(work)
     }
@@ -204,10 +208,12 @@ impl<S: Scheme<D>, L: Elector<S>, D: Digest> Journaled<S, L, D> {
     ///
     /// - `kept`: what is answered is given out.
     /// - `told`: no other proposal is queued to be told as final.
+    /// - `front`: it was queued in front.
     pub fn next(&mut self) -> Option<Output<S, D, Stored>>
         ensures kept { (given : _) → IsKept S.certificate_bytes given self.old
             → IsKept S.certificate_bytes (given ++ option_to_list result) self.new }
         ensures told { TellsNoMore (option_to_list result) self.old.outbox self.new.outbox }
+        ensures front { self.old.outbox.queue.items ≡ option_to_list result ++ self.new.outbox.queue.items }
         ensures none { IsNone result → self.new.outbox.queue.items ≡ [] }
         ensures same { (self.new.member ≡ self.old.member) × (self.new.stored ≡ self.old.stored) × (self.new.failed ≡ self.old.failed) }
     {

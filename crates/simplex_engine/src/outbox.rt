@@ -33,7 +33,7 @@ pub struct Outbox<S: CertificateScheme, D, J> {
 impl<S: CertificateScheme, D: Digest, J: Drop> Outbox<S, D, J> {
     ghost use Rattle.simplex_engine.specs.Outputs.{AreBehind};
     ghost use Rattle.simplex_engine.specs.Finals.{finals_in, RiseByView};
-    ghost use Rattle.simplex_engine.specs.Outboxes.{IsLawfulOutbox, HasBecome, HasStayed, IsStored, IsReplaced, IsRepeated, HasRoom, IsToldWhere, IsTold};
+    ghost use Rattle.simplex_engine.specs.Outboxes.{IsLawfulOutbox, HasBecome, HasStayed, IsStored, IsReplaced, IsRepeated, HasRoom, IsToldWhere, IsTold, QueuesMore};
 
     /// Nothing is to be carried out, and no proposal of this view or below is ever told as final.
     ///
@@ -55,6 +55,7 @@ impl<S: CertificateScheme, D: Digest, J: Drop> Outbox<S, D, J> {
     pub fn store(&mut self, fresh: &[Artifact<S, D>]) -> Result<(), AllocError>
         ensures queued { OnOk result (IsStored S.certificate_bytes fresh.now self.old self.new) }
         ensures kept { OnErr result (HasStayed self.old self.new) }
+        ensures grown { QueuesMore self.old self.new }
         ensures goes_on { (given : _) → IsLawfulOutbox given self.old → IsLawfulOutbox given self.new }
     {
         self.queue_entries(fresh)
@@ -65,6 +66,7 @@ impl<S: CertificateScheme, D: Digest, J: Drop> Outbox<S, D, J> {
     pub fn replace(&mut self, all: &[Artifact<S, D>], beside: J) -> Result<(), AllocError>
         ensures queued { OnOk result (IsReplaced S.certificate_bytes all.now beside self.old self.new) }
         ensures kept { OnErr result (HasStayed self.old self.new) }
+        ensures grown { QueuesMore self.old self.new }
         ensures goes_on { (given : _) → IsLawfulOutbox given self.old → IsLawfulOutbox given self.new }
     {
         self.queue_record(all, beside)
@@ -75,6 +77,7 @@ impl<S: CertificateScheme, D: Digest, J: Drop> Outbox<S, D, J> {
     pub fn repeat(&mut self, view: View) -> Result<bool, AllocError>
         ensures queued { IfOk result (λ sent. IsRepeated view self.old.repeat sent self.old self.new) }
         ensures kept { OnErr result (HasStayed self.old self.new) }
+        ensures grown { QueuesMore self.old self.new }
         ensures goes_on { (given : _) → IsLawfulOutbox given self.old → IsLawfulOutbox given self.new }
     {
         self.queue_repeat(view)
@@ -84,6 +87,7 @@ impl<S: CertificateScheme, D: Digest, J: Drop> Outbox<S, D, J> {
     pub fn push(&mut self, work: Work<S, D>) -> Result<(), AllocError>
         ensures queued { OnOk result (HasBecome (output.Work work ∷ []) self.old.repeat self.old self.new) }
         ensures kept { OnErr result (HasStayed self.old self.new) }
+        ensures grown { QueuesMore self.old self.new }
         ensures goes_on { (given : _) → IsLawfulOutbox given self.old → IsLawfulOutbox given self.new }
     {
         self.queue_work(work)
@@ -93,6 +97,7 @@ impl<S: CertificateScheme, D: Digest, J: Drop> Outbox<S, D, J> {
     pub fn make_room(&mut self) -> Result<(), AllocError>
         ensures room { OnOk result (HasRoom self.new) }
         ensures kept { HasStayed self.old self.new }
+        ensures grown { QueuesMore self.old self.new }
         ensures goes_on { (given : _) → IsLawfulOutbox given self.old → IsLawfulOutbox given self.new }
     {
         self.queue.reserve(1)
@@ -102,6 +107,7 @@ impl<S: CertificateScheme, D: Digest, J: Drop> Outbox<S, D, J> {
     pub fn tell(&mut self, finalized: Option<Proposal<D>>)
         requires { HasRoom self.old }
         ensures told { IsTold finalized self.old self.new }
+        ensures grown { QueuesMore self.old self.new }
         ensures goes_on { (given : _) → IsLawfulOutbox given self.old → IsLawfulOutbox given self.new }
     {
         self.queue_final(finalized)

@@ -3,6 +3,7 @@ use Rattle.std.proofs.Common.{◌≡◌, List, [], ◌∷◌, ◌++◌, false, i
 use Rattle.std.specs.Prelude.{option_to_list}
 use Rattle.std.proofs.lemmas.Bool.{false≢true}
 use Rattle.simplex_host.specs.Host.{certificate_bytes}
+use Rattle.simplex_engine.specs.Duties.{HasTold}
 use Rattle.simplex_engine.specs.Finals.{TellsNoMore}
 use Rattle.simplex_engine.specs.Going.{HasGivenOut, IsKept}
 use Rattle.simplex_flat.specs.declared.shown.FlatStored.{FlatStored}
@@ -24,3 +25,10 @@ pub tells_no_more : (out : HostOutput) (before : FlatStored) (r : FlatOutput) (o
     → IsGivenOut out before r new → new.is_lost ≡ false → TellsNoMore (option_to_list new.last) old.engine.core.outbox new.engine.core.outbox
 tells_no_more out before r old new tells (inl it) alive = subst (λ last. TellsNoMore (option_to_list last) old.engine.core.outbox new.engine.core.outbox) (sym it.0.last) tells
 tells_no_more out before r old new tells (inr it) alive = absurd (false≢true (sym alive ∙ it.0))
+
+-- what the member waits for stays told
+pub has_told : (out : HostOutput) (before : FlatStored) (r : FlatOutput) (old new : HeldEngine)
+    → ((given : List HostOutput) → HasTold given old.engine → HasTold (given ++ out ∷ []) new.engine) → IsGivenOut out before r new
+    → new.is_lost ≡ false → (given : List HostOutput) → HasTold given old.engine → HasTold (given ++ option_to_list new.last) new.engine
+has_told out before r old new tells (inl it) alive given told = subst (λ last. HasTold (given ++ option_to_list last) new.engine) (sym it.0.last) (tells given told)
+has_told out before r old new tells (inr it) alive given told = absurd (false≢true (sym alive ∙ it.0))

@@ -7,6 +7,7 @@ use Rattle.simplex_member.specs.Journal.{IsResumed}
 use Rattle.simplex_member.specs.declared.member.journal.Stored.{Stored}
 use Rattle.simplex_member.specs.declared.member.resume.ResumeError.TheVariants as resume
 use Rattle.simplex_laws.specs.Living.{HasBegun, HasGoneOn}
+use Rattle.simplex_engine.specs.Duties.{HasTold}
 use Rattle.simplex_engine.specs.declared.engine.begin.StartError.{StartError}
 use Rattle.simplex_engine.specs.declared.engine.begin.StartError.TheVariants as start_error
 use Rattle.simplex_engine.specs.declared.engine.plan.Options.{Options}
@@ -35,13 +36,14 @@ abbrev pub options_of : FlatOptions → Options
 options_of f = record { retry = f.retry; on_its_way = f.on_its_way; long_record = f.long_record }
 
 -- nothing was given out; the whole record is to be stored in place of all that is, no proposal to be told as final, no vote is held,
--- and leaders are drawn as set
+-- the member waits for nothing, and leaders are drawn as set
 pub record HasGivenNothing (f : FlatSettings) (held : HeldEngine) : Type 0 where
   pub kept : IsAllGiven [] held
   pub whole : IsWhole certificate_bytes held.engine.core
   pub told : TellsNothing held.engine.core
   pub votes : AreGiven [] held.engine.batcher
   pub bounded : HoldsNoneAhead host_keys held.engine.core held.engine.batcher
+  pub duties : HasTold [] held.engine
   pub draws : held.draws ≡ f.draws
   pub fresh : HasShownNothing held
 

@@ -1,5 +1,5 @@
 -- How an engine behind a handle is told and asked.
-use Rattle.std.specs.Prelude.{◌≡◌, ◌⊎◌, ◌+◌, ◌-◌, ◌^◌, ◌++◌, min, ℕ, Bool, true, false, List, [], length, Option, Some, None, option_to_list, Result, Ok, Err, OnErr, IfOk, IsFalse, IsTrue}
+use Rattle.std.specs.Prelude.{◌≡◌, ◌⊎◌, ◌+◌, ◌-◌, ◌^◌, ◌++◌, min, ℕ, Bool, true, false, List, [], length, Option, Some, None, option_to_list, Result, Ok, Err, OnErr, OnOk, IfOk, IsFalse, IsTrue}
 use Rattle.simplex_types.specs.declared.types.fault.Fault.{Fault}
 use Rattle.simplex_types.specs.declared.types.fault.Fault.TheVariants.{Failed}
 use Rattle.simplex_types.specs.declared.types.messages.Subject.{Subject}
@@ -16,6 +16,7 @@ use Rattle.simplex_engine.specs.Backing.{IsBackedInput, TakesNone, TakesVotes, v
 use Rattle.simplex_engine.specs.Bounds.{HoldsAdmitted, HoldsFromKept, HoldsNoneAhead, StaysBounded}
 use Rattle.simplex_engine.specs.Repairing.{AsksForItsLacking}
 use Rattle.simplex_engine.specs.Dropping.{IsDropped}
+use Rattle.simplex_engine.specs.Duties.{AllIsGivenOut, HasTold, KeepsTelling}
 use Rattle.simplex_engine.specs.Finals.{TellsNoMore}
 use Rattle.simplex_engine.specs.Going.{DoesMoreOn, GoesOn, IsKept, IsWhole, has_failed}
 use Rattle.simplex_engine.specs.Inputs.{subject_in}
@@ -72,6 +73,8 @@ pub record IsTaken (now : ℕ) (input : HostInput) (old : HeldEngine) (r : FlatT
   pub backed : IsBackedInput same_host_payload host_leader certificate_bytes (length (host_keys old.engine.batcher.scheme)) input old.engine.batcher
       old.engine.core new.engine.core
   pub bounded : StaysBounded host_keys old.engine.core old.engine.batcher new.engine.core new.engine.batcher
+  -- what the member waits for stays told
+  pub duties : OnOk answer (KeepsTelling old.engine new.engine)
   pub rest : new ≡ record old { engine = new.engine }
 
 -- or what it gave out was lost before, and it takes nothing
@@ -156,13 +159,15 @@ HoldsRecord given held =
     held.engine.core.failed ≡ false → held.engine.core.outbox.queue.items ≡ [] → IsWhole certificate_bytes held.engine.core
     → IsRecordOf certificate_bytes held.engine.core.member (journal_of given)
 
--- an engine has nothing more to do at a moment, holds no vote of views that are over, and asks for just what is lacking; where no
--- vote was held above those that are taken, each that is held is a member's, and of a view whose votes are taken
+-- an engine has nothing more to do at a moment, holds no vote of views that are over, and asks for just what is lacking; where each
+-- proposal to verify or certify was told, it was given out; where no vote was held above those that are taken, each that is held is a
+-- member's, and of a view whose votes are taken
 pub record IsAtRest (now : ℕ) (old new : HostEngine) : Type 0 where
   pub settled : IsSettled same_host_payload host_leader certificate_bytes new.core
   pub idle : IsIdle now new.plan
   pub lowest : HoldsFromKept new.core new.batcher
   pub lacking : AsksForItsLacking new.core new.plan.repair
+  pub waiting : (given : List HostOutput) → HasTold given old → AllIsGivenOut given new
   pub admitted : HoldsNoneAhead host_keys old.core old.batcher → HoldsAdmitted host_keys new.core new.batcher
 
 -- what a poll comes to at a moment: something is given out; nothing is left to be done then; or the engine has failed
@@ -182,6 +187,9 @@ pub record IsAsked (now : ℕ) (old : HeldEngine) (r : FlatOutput) (new : HeldEn
   pub does : DoesMoreOn same_host_payload host_leader None old.engine.core.member.facts new.engine.core.member.facts
   pub votes : TakesNone old.engine.batcher new.engine.batcher
   pub bounded : StaysBounded host_keys old.engine.core old.engine.batcher new.engine.core new.engine.batcher
+  -- what the member waits for stays told
+  pub duties : has_failed new.engine.core ≡ false → new.is_lost ≡ false → (given : List HostOutput) → HasTold given old.engine
+      → HasTold (given ++ option_to_list new.last) new.engine
   pub outcome : IsOutcome now old r new
   -- one that had failed tells only that, and stays as it was
   pub refused : has_failed old.engine.core ≡ true → IsNothing 2 r new × (new.engine ≡ old.engine)

@@ -1,7 +1,7 @@
 //! Calls of the member, each with what follows from its answer.
 #![tactic(auto)]
 
-ghost use Rattle.std.specs.Prelude.{◌≡◌, [], None, IfOk, IsTrue, not, false};
+ghost use Rattle.std.specs.Prelude.{◌≡◌, [], None, IfOk, OnOk, IsTrue, not, false};
 ghost use Rattle.simplex_member.specs.Calls.{told, asked};
 ghost use Rattle.simplex_laws.specs.Shown.{certificates_in};
 ghost use Rattle.simplex_engine.specs.Quiet.{is_nothing};
@@ -21,12 +21,14 @@ impl<S: Assembly<D>, L: Elector<S>, D: Digest> Engine<S, L, D> {
     ghost use Rattle.simplex_engine.specs.Alone.{GoesOnAlone};
     ghost use Rattle.simplex_engine.specs.Quiet.{for_all, for_work, for_votes, for_certificates, AnswersNothing, AnswerNothing};
     ghost use Rattle.simplex_engine.specs.Acting.{HasDoneTask};
+    ghost use Rattle.simplex_engine.specs.Duties.{work_of, KeepsPlanned, PlansToo, KeepsTelling};
 
     /// Asks for all that may be due while the view is the current one. Whether there is nothing new.
     pub(super) fn is_quiet(&mut self, view: View, now: u64) -> Result<bool, Fault>
         ensures alone { GoesOnAlone D.eq L.elect S.certificate_bytes self.old self.new }
         ensures quiet { IfOk result (λ quiet. IsTrue quiet
             → AnswerNothing D.eq L.elect self.old.core.member.facts (for_all view) self.new.core.member.facts) }
+        ensures duties { OnOk result (KeepsTelling self.old self.new) }
     {
         let has_no_work = self.has_no_work(now)?;
         let has_no_vote = self.has_no_vote(view, now)?;
@@ -39,6 +41,7 @@ impl<S: Assembly<D>, L: Elector<S>, D: Digest> Engine<S, L, D> {
         ensures alone { GoesOnAlone D.eq L.elect S.certificate_bytes self.old self.new }
         ensures quiet { IfOk result (λ quiet. IsTrue quiet
             → AnswerNothing D.eq L.elect self.old.core.member.facts for_work self.new.core.member.facts) }
+        ensures duties { OnOk result (KeepsTelling self.old self.new) }
     {
         let verifies_nothing = self.asks_nothing(Call::TryVerify, Task::Verify, now)?;
         let builds_nothing = self.asks_nothing(Call::TryPropose, Task::Propose, now)?;
@@ -51,6 +54,7 @@ impl<S: Assembly<D>, L: Elector<S>, D: Digest> Engine<S, L, D> {
         ensures alone { GoesOnAlone D.eq L.elect S.certificate_bytes self.old self.new }
         ensures quiet { IfOk result (λ quiet. IsTrue quiet
             → AnswerNothing D.eq L.elect self.old.core.member.facts (for_votes view) self.new.core.member.facts) }
+        ensures duties { OnOk result (KeepsTelling self.old self.new) }
     {
         let notarizes_nothing = self.asks_nothing(
             Call::ConstructNotarize(view),
@@ -70,6 +74,7 @@ impl<S: Assembly<D>, L: Elector<S>, D: Digest> Engine<S, L, D> {
         ensures alone { GoesOnAlone D.eq L.elect S.certificate_bytes self.old self.new }
         ensures quiet { IfOk result (λ quiet. IsTrue quiet
             → AnswerNothing D.eq L.elect self.old.core.member.facts (for_certificates view) self.new.core.member.facts) }
+        ensures duties { OnOk result (KeepsTelling self.old self.new) }
     {
         let has_no_notarization = self.asks_nothing(
             Call::BroadcastNotarization(view),
@@ -95,6 +100,7 @@ impl<S: Assembly<D>, L: Elector<S>, D: Digest> Engine<S, L, D> {
         ensures alone { GoesOnAlone D.eq L.elect S.certificate_bytes self.old self.new }
         ensures nothing { IfOk result (λ nothing. IsTrue nothing
             → AnswersNothing D.eq L.elect self.old.core.member.facts (asked S.certificate_bytes call) self.new.core.member.facts) }
+        ensures duties { OnOk result (KeepsTelling self.old self.new) }
     {
         let reply = self.core.call(call);
         let is_nothing = is_nothing(&reply);
@@ -107,6 +113,7 @@ impl<S: Assembly<D>, L: Elector<S>, D: Digest> Engine<S, L, D> {
         ensures goes_on { GoesOn D.eq L.elect S.certificate_bytes None self.old.core self.new.core }
         ensures batcher { self.new.batcher ≡ self.old.batcher }
         ensures acted { IfOk result (HasDoneTask D.eq L.elect task now self.old.core.member.facts self.new.core.member.facts) }
+        ensures duties { OnOk result (KeepsTelling self.old self.new) }
     {
         let reply = self.core.call(task.call(now));
         self.follow(task, reply, now)
@@ -117,6 +124,7 @@ impl<S: Assembly<D>, L: Elector<S>, D: Digest> Engine<S, L, D> {
         ensures core { self.new.core ≡ self.old.core }
         ensures batcher { self.new.batcher ≡ self.old.batcher }
         ensures of_use { IfOk result (λ is_of_use. is_of_use ≡ not (says_nothing (told S.certificate_bytes reply))) }
+        ensures planned { OnOk result (PlansToo (work_of (told S.certificate_bytes reply)) self.old.plan self.new.plan) }
     {
         let is_of_use = !says_nothing(&reply);
         self.see()?;
@@ -128,6 +136,7 @@ impl<S: Assembly<D>, L: Elector<S>, D: Digest> Engine<S, L, D> {
     pub(super) fn see(&mut self) -> Result<(), Fault>
         ensures core { self.new.core ≡ self.old.core }
         ensures batcher { self.new.batcher ≡ self.old.batcher }
+        ensures planned { OnOk result (KeepsPlanned self.old.plan self.new.plan) }
     {
         let Some(state) = self.core.state() else {
             return Err(Fault::OutOfMemory);
@@ -149,6 +158,7 @@ impl<S: Assembly<D>, L: Elector<S>, D: Digest> Engine<S, L, D> {
     ) -> Result<(), Fault>
         ensures core { self.new.core ≡ self.old.core }
         ensures batcher { self.new.batcher ≡ self.old.batcher }
+        ensures planned { KeepsPlanned self.old.plan self.new.plan }
     {
         let leader = self.leader_of(proposal);
         self.plan.resolve(kind, view, leader, now)

@@ -72,14 +72,15 @@ impl<S: Assembly<D>, L: Elector<S>, D: Digest> Engine<S, L, D> {
     ghost use Rattle.simplex_member.specs.Start.{started_member};
     ghost use Rattle.simplex_laws.specs.Living.{HasBegun, HasGoneOn};
     ghost use Rattle.simplex_engine.specs.Bounds.{HoldsNoneAhead};
+    ghost use Rattle.simplex_engine.specs.Duties.{HasTold};
 
     /// The engine of a member that begins at a floor, where nothing was stored.
     ///
     /// The elector's members are the scheme's participants.
     /// - `started`: its member is the one that `LawfulMember::start` makes.
     /// - `begins`: it has accepted the floor's finalization, if there is one, and done nothing else.
-    /// - `kept`, `whole`, `told`, `votes`, `bounded`: nothing was given out, the whole record stands to be stored in place of all that
-    ///   is, no proposal to be told as final, and no vote is held.
+    /// - `kept`, `whole`, `told`, `votes`, `bounded`, `duties`: nothing was given out, the whole record stands to be stored in place of
+    ///   all that is, no proposal to be told as final, no vote is held, and the member waits for nothing.
     ///
     /// # Errors
     ///
@@ -94,6 +95,7 @@ impl<S: Assembly<D>, L: Elector<S>, D: Digest> Engine<S, L, D> {
         ensures whole { IfOk result (λ engine. IsWhole S.certificate_bytes engine.core) }
         ensures told { IfOk result (λ engine. TellsNothing engine.core) }
         ensures votes { IfOk result (λ engine. AreGiven [] engine.batcher) }
+        ensures duties { IfOk result (HasTold []) }
         ensures bounded { IfOk result (λ engine. HoldsNoneAhead S.participants engine.core engine.batcher) }
         ensures started { IfOk result (λ engine. engine.core.member.facts ≡ started_member D.eq L.elect
             (set_up S.me S.participants L.terms L.elects_early start.settings)
@@ -113,7 +115,7 @@ impl<S: Assembly<D>, L: Elector<S>, D: Digest> Engine<S, L, D> {
     /// - `resumed`: its member is the one that `LawfulMember::resume` makes.
     /// - `goes_on`: in terms of the same length and with the key of the same member or none, what was done before stays done,
     ///   and the floor's finalization is accepted too.
-    /// - `kept`, `whole`, `told`, `votes`, `bounded`: as of `start`.
+    /// - `kept`, `whole`, `told`, `votes`, `bounded`, `duties`: as of `start`.
     ///
     /// # Errors
     ///
@@ -130,6 +132,7 @@ impl<S: Assembly<D>, L: Elector<S>, D: Digest> Engine<S, L, D> {
         ensures whole { IfOk result (λ engine. IsWhole S.certificate_bytes engine.core) }
         ensures told { IfOk result (λ engine. TellsNothing engine.core) }
         ensures votes { IfOk result (λ engine. AreGiven [] engine.batcher) }
+        ensures duties { IfOk result (HasTold []) }
         ensures bounded { IfOk result (λ engine. HoldsNoneAhead S.participants engine.core engine.batcher) }
         ensures resumed { IfOk result (λ engine. IsResumed D.eq L.elect stored
             (entries_of S.certificate_bytes entries.items)
@@ -180,38 +183,17 @@ fn begin<S: Assembly<D>, L: Elector<S>, D: Digest>(
     ensures member { IfOk result (λ engine. engine.core.member ≡ member) }
 {
     let options = options.with_a_retry();
-    match plan_of(alloc, &member, &company, options) {
-        Ok(plan) => begin_with(alloc, member, company.batcher, plan, options),
-        Err(error) => Err(error),
-    }
-}
-
-/// An engine of its parts.
-fn begin_with<S: Assembly<D>, L: Elector<S>, D: Digest>(
-    alloc: Global,
-    member: LawfulMember<S, L, D>,
-    batcher: Batcher<S, D>,
-    plan: Plan<S, D>,
-    options: Options,
-) -> Result<Engine<S, L, D>, StartError>
-    ensures kept { IfOk result (λ engine. IsKept S.certificate_bytes [] engine.core) }
-    ensures whole { IfOk result (λ engine. IsWhole S.certificate_bytes engine.core) }
-    ensures told { IfOk result (λ engine. TellsNothing engine.core) }
-    ensures votes { AreGiven [] batcher → IfOk result (λ engine. AreGiven [] engine.batcher) }
-    ensures member { IfOk result (λ engine. engine.core.member ≡ member) }
-{
-    match Journaled::begin(alloc, member) {
-        Ok(core) => Ok(Engine {
-            alloc,
-            core,
-            batcher,
-            plan,
-            options,
-            compacted: 0,
-            forgotten: View::zero(),
-        }),
-        Err(refused) => Err(StartError::from(refused)),
-    }
+    let plan = plan_of(alloc, &member, &company, options)?;
+    let core = Journaled::begin(alloc, member)?;
+    Ok(Engine {
+        alloc,
+        core,
+        batcher: company.batcher,
+        plan,
+        options,
+        compacted: 0,
+        forgotten: View::zero(),
+    })
 }
 
 /// What is looked after beside a member that has begun.

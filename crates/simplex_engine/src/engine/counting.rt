@@ -1,7 +1,7 @@
 //! Votes and certificates that came in.
 #![tactic(auto, using(crate::proofs::Going::stays, crate::proofs::Going::goes_further, crate::proofs::Backing::takes_nothing, crate::proofs::Backing::takes_no_more, crate::proofs::Backing::takes_anyway))]
 
-ghost use Rattle.std.specs.Prelude.{◌≡◌, None, Some, IfOk, IsTrue, not, false, ◌==◌, Ok, IsFalse};
+ghost use Rattle.std.specs.Prelude.{◌≡◌, None, Some, IfOk, OnOk, IsTrue, not, false, ◌==◌, Ok, IsFalse};
 ghost use Rattle.simplex_types.specs.Certificates.{certificate_facts};
 ghost use Rattle.simplex_types.specs.Encoding.{certificate_subject};
 ghost use Rattle.simplex_member.specs.Calls.{told};
@@ -25,6 +25,7 @@ impl<S: Assembly<D>, L: Elector<S>, D: Digest> Engine<S, L, D> {
     ghost use Rattle.simplex_engine.specs.Subjects.{subject_round};
     ghost use Rattle.simplex_engine.specs.Acting.{IsHandedIn, IsCountFollowed};
     ghost use Rattle.simplex_engine.specs.Taking.{IsInputTaken};
+    ghost use Rattle.simplex_engine.specs.Duties.{KeepsPlanned, KeepsTelling};
     ghost use Rattle.simplex_engine.specs.declared.input.Input.TheVariants as input;
     ghost use Rattle.simplex_engine.specs.Admitting.{is_so};
 
@@ -66,6 +67,7 @@ impl<S: Assembly<D>, L: Elector<S>, D: Digest> Engine<S, L, D> {
         ensures batcher { self.new.batcher ≡ self.old.batcher }
         ensures followed { IfOk result (IsCountFollowed D.eq L.elect S.certificate_bytes now counted self.old.plan.steps.items
             self.old.core.member.facts self.new.plan.steps.items self.new.core.member.facts) }
+        ensures duties { OnOk result (KeepsTelling self.old self.new) }
     {
         match counted {
             Counted::Certified(certificate) => {
@@ -92,6 +94,7 @@ impl<S: Assembly<D>, L: Elector<S>, D: Digest> Engine<S, L, D> {
             → (result ≡ Ok false) × (self.new ≡ self.old) }
         ensures acted { IsTrue (is_so (λ x. admits x (certificate_facts S.certificate_bytes certificate)) self.old.core.member.facts) → IfOk result
             (IsHandedIn D.eq L.elect S.certificate_bytes now certificate self.old.core.member.facts self.new.core.member.facts) }
+        ensures duties { OnOk result (KeepsTelling self.old self.new) }
     {
         if !self.admits(&certificate) {
             return Ok(false);
@@ -122,6 +125,7 @@ impl<S: Assembly<D>, L: Elector<S>, D: Digest> Engine<S, L, D> {
         ensures votes { TakesNone self.old.batcher self.new.batcher }
         ensures batcher { self.new.batcher ≡ self.old.batcher }
         ensures of_use { IfOk result (λ is_of_use. is_of_use ≡ not (is_refused (told S.certificate_bytes reply.now))) }
+        ensures planned { OnOk result (KeepsPlanned self.old.plan self.new.plan) }
     {
         let is_of_use = !is_refused(reply);
         self.see()?;

@@ -1,7 +1,7 @@
 //! Inputs: what the member is asked for each.
 #![tactic(auto)]
 
-ghost use Rattle.std.specs.Prelude.{◌≡◌, ◌≢◌, None, Ok, IfOk, IsTrue, false, ◌==◌, IsFalse};
+ghost use Rattle.std.specs.Prelude.{◌≡◌, ◌≢◌, None, Ok, IfOk, OnOk, IsTrue, false, ◌==◌, IsFalse};
 ghost use Rattle.std.specs.List.{list_any};
 ghost use Rattle.std.specs.Option.{option_map_or};
 ghost use Rattle.simplex_engine.specs.Acting.{verification_of};
@@ -23,6 +23,7 @@ impl<S: Assembly<D>, L: Elector<S>, D: Digest> Engine<S, L, D> {
     ghost use Rattle.simplex_engine.specs.Taking.{IsInputTaken};
     ghost use Rattle.simplex_engine.specs.Building.{is_asked_in};
     ghost use Rattle.simplex_engine.specs.Acting.{HasDoneTask, IsBlockTaken};
+    ghost use Rattle.simplex_engine.specs.Duties.{KeepsTelling};
     ghost use Rattle.simplex_engine.specs.Admitting.{is_so, ignoring};
 
     /// Takes what came in, while the engine has not failed, and counts what is of no use.
@@ -66,6 +67,7 @@ impl<S: Assembly<D>, L: Elector<S>, D: Digest> Engine<S, L, D> {
             IsFalse is_of_use × (self.new ≡ record self.old { plan = record (self.old.plan) { early = self.new.plan.early } })) }
         ensures acted { IsTrue (is_so (λ x. admits_proposal x from proposal.round) self.old.core.member.facts) → IfOk result
             (HasDoneTask D.eq L.elect (SetProposal proposal.round.view proposal) now self.old.core.member.facts self.new.core.member.facts) }
+        ensures duties { OnOk result (KeepsTelling self.old self.new) }
     {
         if self.admits_proposal(from, proposal.round) {
             return self.ask(Task::SetProposal(proposal.view(), proposal), now);
@@ -113,6 +115,7 @@ impl<S: Assembly<D>, L: Elector<S>, D: Digest> Engine<S, L, D> {
         ensures batcher { self.new.batcher ≡ self.old.batcher }
         ensures acted { IfOk result (IsBlockTaken D.eq L.elect (list_any (is_asked_in D.eq context.now) self.old.plan.builds.items)
             context.now.round.view payload now self.old.core.member.facts self.new.core.member.facts) }
+        ensures duties { OnOk result (KeepsTelling self.old self.new) }
     {
         if !self.plan.is_building(context) {
             return Ok(false);

@@ -5,10 +5,11 @@ mod early;
 mod following;
 mod working;
 
-ghost use Rattle.std.specs.Prelude.{◌≡◌, ◌≢◌, ◌+◌, ◌-◌, ◌^◌, ℕ, min, max, true, false, [], ◌∷◌, ◌++◌, Some, Ok, IfOk, OnOk, IsOk, IsNone, IsTrue, ◌↔◌};
+ghost use Rattle.std.specs.Prelude.{◌≡◌, ◌≢◌, ◌+◌, ◌-◌, ◌^◌, ℕ, min, max, true, false, [], ◌∷◌, ◌++◌, Some, Ok, IfOk, OnOk, IsOk, IsNone, IsTrue, ◌↔◌, option_to_list};
 ghost use Rattle.simplex_engine.specs.Settled.{IsWake};
 ghost use Rattle.simplex_engine.specs.Wanted.{AsksForTheLacking};
 ghost use Rattle.simplex_engine.specs.Planning.{IsIdle, HasPlanned, asking_for_votes, asking_for_certificates, touching};
+ghost use Rattle.simplex_engine.specs.Duties.{AreAmong, KeepsPlanned, work_planned};
 ghost use Rattle.simplex_engine.specs.declared.engine.plan.Step.TheVariants.{Ask, Push};
 
 use super::task::Task;
@@ -204,10 +205,13 @@ impl<S: CertificateScheme, D: Digest> Plan<S, D> {
     /// The next step.
     ///
     /// - `front`: where steps are queued, it is the first of them.
+    /// - `planned`: work that was planned is this step, or planned still.
     /// - `none`: there is none only where nothing is to be done at the moment.
     pub fn next(&mut self, now: u64) -> Result<Option<Step<S, D>>, Fault>
         ensures front { (first : _) (rest : _) → self.old.steps.items ≡ first ∷ rest
             → (result ≡ Ok (Some first)) × (self.new.steps.items ≡ rest) }
+        ensures planned { IfOk result (λ step. AreAmong (work_planned self.old.steps.items)
+            (work_planned (option_to_list step ++ self.new.steps.items))) }
         ensures none { IfOk result (λ step. IsNone step → IsIdle now self.new) }
     {
         self.fill(now)?;
@@ -217,6 +221,7 @@ impl<S: CertificateScheme, D: Digest> Plan<S, D> {
     /// Plans what is due, where no step is queued.
     fn fill(&mut self, now: u64) -> Result<(), Fault>
         ensures queued { self.old.steps.items ≢ [] → IsOk result × (self.new ≡ self.old) }
+        ensures planned { OnOk result (KeepsPlanned self.old self.new) }
         ensures none { OnOk result (self.new.steps.items ≡ [] → IsIdle now self.new) }
     {
         if !self.steps.is_empty() {
@@ -228,7 +233,8 @@ impl<S: CertificateScheme, D: Digest> Plan<S, D> {
 
     /// Plans to ask whether blocks are of use still, where something has changed since that was asked last.
     fn watch(&mut self) -> Result<(), Fault>
-        ensures { OnOk result (self.new.is_watch_due ≡ false) }
+        ensures watched { OnOk result (self.new.is_watch_due ≡ false) }
+        ensures planned { OnOk result (KeepsPlanned self.old self.new) }
     {
         if !self.is_watch_due {
             return Ok(());
@@ -239,7 +245,8 @@ impl<S: CertificateScheme, D: Digest> Plan<S, D> {
 
     /// Plans what is due where no step is queued: first timeouts, then what is dropped, and then what is asked of peers.
     fn plan_more(&mut self, now: u64) -> Result<(), Fault>
-        ensures { OnOk result (self.old.is_watch_due ≡ false → self.new.steps.items ≡ [] → IsIdle now self.new) }
+        ensures none { OnOk result (self.old.is_watch_due ≡ false → self.new.steps.items ≡ [] → IsIdle now self.new) }
+        ensures planned { OnOk result (KeepsPlanned self.old self.new) }
     {
         if !self.steps.is_empty() {
             return Ok(());

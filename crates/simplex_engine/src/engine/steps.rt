@@ -1,7 +1,7 @@
 //! The steps that are due, one after the other, until the member has nothing new.
 #![tactic(auto)]
 
-ghost use Rattle.std.specs.Prelude.{◌≡◌, ℕ, None, Some, OnOk, IfOk, IfSome, IsTrue, false, ◌==◌};
+ghost use Rattle.std.specs.Prelude.{◌≡◌, ℕ, [], ◌∷◌, ◌++◌, None, Some, OnOk, IfOk, IfSome, IsOk, IsTrue, false, ◌==◌};
 
 use super::Engine;
 use super::plan::Step;
@@ -17,6 +17,7 @@ impl<S: Assembly<D>, L: Elector<S>, D: Digest> Engine<S, L, D> {
     ghost use Rattle.simplex_engine.specs.Planning.{IsIdle};
     ghost use Rattle.simplex_engine.specs.Bounds.{HoldsFromKept};
     ghost use Rattle.simplex_engine.specs.Repairing.{AsksForItsLacking};
+    ghost use Rattle.simplex_engine.specs.Duties.{work_planned, KeepsPlanned, TellsBehind, KeepsTelling};
     ghost use Rattle.simplex_voter.specs.Windows.{min_active};
 
     /// Takes all steps that are due, until the member has nothing new, and queues what the record has grown by.
@@ -31,6 +32,7 @@ impl<S: Assembly<D>, L: Elector<S>, D: Digest> Engine<S, L, D> {
         ensures idle { OnOk result (IsIdle now self.new.plan) }
         ensures lowest { OnOk result (HoldsFromKept self.new.core self.new.batcher) }
         ensures lacking { OnOk result (AsksForItsLacking self.new.core self.new.plan.repair) }
+        ensures duties { OnOk result (KeepsTelling self.old self.new) }
     {
         self.prepare(now)?;
         self.finish(now)
@@ -38,7 +40,8 @@ impl<S: Assembly<D>, L: Elector<S>, D: Digest> Engine<S, L, D> {
 
     /// A moment has come; a record that is long is made short before anything else.
     fn prepare(&mut self, now: u64) -> Result<(), Fault>
-        ensures { GoesOnAlone D.eq L.elect S.certificate_bytes self.old self.new }
+        ensures alone { GoesOnAlone D.eq L.elect S.certificate_bytes self.old self.new }
+        ensures duties { OnOk result (KeepsTelling self.old self.new) }
     {
         self.plan.begin();
         if self.is_long() {
@@ -55,6 +58,7 @@ impl<S: Assembly<D>, L: Elector<S>, D: Digest> Engine<S, L, D> {
         ensures idle { OnOk result (IsIdle now self.new.plan) }
         ensures lowest { OnOk result (HoldsFromKept self.new.core self.new.batcher) }
         ensures lacking { OnOk result (AsksForItsLacking self.new.core self.new.plan.repair) }
+        ensures duties { OnOk result (KeepsTelling self.old self.new) }
     {
         self.run_all(now)?;
         self.settle()?;
@@ -69,6 +73,7 @@ impl<S: Assembly<D>, L: Elector<S>, D: Digest> Engine<S, L, D> {
         ensures whole { OnOk result (IsWhole S.certificate_bytes self.new.core) }
         ensures lowest { OnOk result (HoldsFromKept self.new.core self.new.batcher) }
         ensures lacking { OnOk result (AsksForItsLacking self.new.core self.new.plan.repair) }
+        ensures duties { OnOk result (KeepsTelling self.old self.new) }
     {
         self.let_go()?;
         self.core.store()?;
@@ -80,6 +85,7 @@ impl<S: Assembly<D>, L: Elector<S>, D: Digest> Engine<S, L, D> {
         ensures alone { GoesOnAlone D.eq L.elect S.certificate_bytes self.old self.new }
         ensures quiet { OnOk result (HasNothingNew D.eq L.elect self.new.core.member.facts) }
         ensures idle { OnOk result (IsIdle now self.new.plan) }
+        ensures duties { OnOk result (KeepsTelling self.old self.new) }
     {
         for _ in 0..u64::MAX {
             if self.is_settled(now)? {
@@ -94,6 +100,7 @@ impl<S: Assembly<D>, L: Elector<S>, D: Digest> Engine<S, L, D> {
         ensures alone { GoesOnAlone D.eq L.elect S.certificate_bytes self.old self.new }
         ensures quiet { IfOk result (λ settled. IsTrue settled → HasNothingNew D.eq L.elect self.new.core.member.facts) }
         ensures idle { IfOk result (λ settled. IsTrue settled → IsIdle now self.new.plan) }
+        ensures duties { OnOk result (KeepsTelling self.old self.new) }
     {
         self.run(now)?;
         let view = self.current_view()?;
@@ -128,7 +135,8 @@ impl<S: Assembly<D>, L: Elector<S>, D: Digest> Engine<S, L, D> {
 
     /// Takes steps until none is due. A run that had no end would be one of 2^64 steps.
     fn run(&mut self, now: u64) -> Result<(), Fault>
-        ensures { GoesOnAlone D.eq L.elect S.certificate_bytes self.old self.new }
+        ensures alone { GoesOnAlone D.eq L.elect S.certificate_bytes self.old self.new }
+        ensures duties { OnOk result (KeepsTelling self.old self.new) }
     {
         for _ in 0..u64::MAX {
             if !self.step(now)? {
@@ -140,7 +148,8 @@ impl<S: Assembly<D>, L: Elector<S>, D: Digest> Engine<S, L, D> {
 
     /// Takes the next step, where one is due.
     fn step(&mut self, now: u64) -> Result<bool, Fault>
-        ensures { GoesOnAlone D.eq L.elect S.certificate_bytes self.old self.new }
+        ensures alone { GoesOnAlone D.eq L.elect S.certificate_bytes self.old self.new }
+        ensures duties { OnOk result (KeepsTelling self.old self.new) }
     {
         match self.plan.next(now)? {
             Some(step) => self.take_step(step, now),
@@ -150,7 +159,8 @@ impl<S: Assembly<D>, L: Elector<S>, D: Digest> Engine<S, L, D> {
 
     /// Takes a step.
     fn take_step(&mut self, step: Step<S, D>, now: u64) -> Result<bool, Fault>
-        ensures { GoesOnAlone D.eq L.elect S.certificate_bytes self.old self.new }
+        ensures alone { GoesOnAlone D.eq L.elect S.certificate_bytes self.old self.new }
+        ensures duties { OnOk result ((work : _) → TellsBehind (work ++ work_planned (step ∷ [])) self.old → TellsBehind work self.new) }
     {
         match step {
             Step::Ask(task) => taken(self.ask(task, now)),
@@ -163,7 +173,8 @@ impl<S: Assembly<D>, L: Elector<S>, D: Digest> Engine<S, L, D> {
 
     /// Sends the newest vote to nullify once more, where it is one of the view.
     fn repeat(&mut self, view: View) -> Result<bool, Fault>
-        ensures { GoesOnAlone D.eq L.elect S.certificate_bytes self.old self.new }
+        ensures alone { GoesOnAlone D.eq L.elect S.certificate_bytes self.old self.new }
+        ensures duties { OnOk result (KeepsTelling self.old self.new) }
     {
         self.core.repeat(view)?;
         Ok(true)
@@ -171,7 +182,8 @@ impl<S: Assembly<D>, L: Elector<S>, D: Digest> Engine<S, L, D> {
 
     /// Queues work to be carried out.
     fn push(&mut self, work: Work<S, D>) -> Result<bool, Fault>
-        ensures { GoesOnAlone D.eq L.elect S.certificate_bytes self.old self.new }
+        ensures alone { GoesOnAlone D.eq L.elect S.certificate_bytes self.old self.new }
+        ensures duties { OnOk result ((before : _) → TellsBehind (before ++ work ∷ []) self.old → TellsBehind before self.new) }
     {
         self.core.push(work)?;
         Ok(true)
@@ -184,6 +196,7 @@ impl<S: Assembly<D>, L: Elector<S>, D: Digest> Engine<S, L, D> {
         ensures idle { (now : ℕ) → IsIdle now self.old.plan → IsIdle now self.new.plan }
         ensures lowest { OnOk result (HoldsFromKept self.new.core self.new.batcher) }
         ensures lacking { OnOk result (AsksForItsLacking self.new.core self.new.plan.repair) }
+        ensures duties { OnOk result (KeepsTelling self.old self.new) }
     {
         let lowest = self.lowest_kept()?;
         self.tell_forgotten(lowest)?;
@@ -207,6 +220,7 @@ impl<S: Assembly<D>, L: Elector<S>, D: Digest> Engine<S, L, D> {
         ensures batcher { self.new.batcher ≡ self.old.batcher }
         ensures idle { (now : ℕ) → IsIdle now self.old.plan → IsIdle now self.new.plan }
         ensures lacking { OnOk result (AsksForItsLacking self.new.core self.new.plan.repair) }
+        ensures planned { KeepsPlanned self.old.plan self.new.plan }
     {
         match self.core.state() {
             Some(state) => self.plan.let_go(state),
@@ -219,6 +233,7 @@ impl<S: Assembly<D>, L: Elector<S>, D: Digest> Engine<S, L, D> {
         ensures alone { GoesOnAlone D.eq L.elect S.certificate_bytes self.old self.new }
         ensures member { self.new.core.member ≡ self.old.core.member }
         ensures plan { self.new.plan ≡ self.old.plan }
+        ensures duties { OnOk result (KeepsTelling self.old self.new) }
     {
         if lowest <= self.forgotten {
             return Ok(());
@@ -237,7 +252,8 @@ impl<S: Assembly<D>, L: Elector<S>, D: Digest> Engine<S, L, D> {
     /// Makes the record short. The member drops the views that are over first: the entries of a view stay as long as it is tracked, and
     /// at the begin of a life all views of the record are.
     fn prune_record(&mut self, now: u64) -> Result<(), Fault>
-        ensures { GoesOnAlone D.eq L.elect S.certificate_bytes self.old self.new }
+        ensures alone { GoesOnAlone D.eq L.elect S.certificate_bytes self.old self.new }
+        ensures duties { OnOk result (KeepsTelling self.old self.new) }
     {
         self.ask(Task::Prune, now)?;
         self.core.prune_record()?;
@@ -247,7 +263,9 @@ impl<S: Assembly<D>, L: Elector<S>, D: Digest> Engine<S, L, D> {
 }
 
 /// A step was taken, whatever came of it, unless it has failed.
-fn taken<T: Drop>(answer: Result<T, Fault>) -> Result<bool, Fault> {
+fn taken<T: Drop>(answer: Result<T, Fault>) -> Result<bool, Fault>
+    ensures { IsOk result → IsOk answer }
+{
     match answer {
         Ok(_) => Ok(true),
         Err(fault) => Err(fault),

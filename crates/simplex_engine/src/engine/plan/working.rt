@@ -4,6 +4,7 @@ ghost use Rattle.std.specs.List.{list_any};
 ghost use Rattle.std.specs.Prelude.{◌≡◌, ◌+◌, ◌-◌, ◌^◌, min, if◌then◌else◌, [], ◌∷◌, ◌++◌, length, OnOk};
 ghost use Rattle.simplex_engine.specs.Fetches.{opened, place_of};
 ghost use Rattle.simplex_engine.specs.Planning.{may_keep, HasPlanned};
+ghost use Rattle.simplex_engine.specs.Duties.{AreAmong, KeepsPlanned, work_planned};
 ghost use Rattle.simplex_engine.specs.Building.{is_asked_in, is_asked_at, stopping, asking_for, HasBuilds, IsEnded, IsStopped};
 
 use super::super::task::Task;
@@ -21,6 +22,7 @@ impl<S: CertificateScheme, D: Digest> Plan<S, D> {
     /// Asks of each block that is to be built whether it has to be given up.
     pub(super) fn watch_builds(&mut self) -> Result<(), Fault>
         ensures same { self.new ≡ record self.old { steps = self.new.steps } }
+        ensures planned { OnOk result (KeepsPlanned self.old self.new) }
     {
         watch_all(&self.builds, &mut self.steps)?;
         Ok(())
@@ -28,19 +30,35 @@ impl<S: CertificateScheme, D: Digest> Plan<S, D> {
 
     /// The member has come to these views.
     pub fn see(&mut self, views: Views) -> Result<(), Fault>
-        ensures { OnOk result (self.new.views ≡ views) }
+        ensures views { OnOk result (self.new.views ≡ views) }
+        ensures planned { OnOk result (KeepsPlanned self.old self.new) }
     {
-        if self.views.last_finalized < views.last_finalized {
-            self.repair.pass(views.last_finalized);
-        }
+        self.pass(views.last_finalized);
         let is_entered = self.views.current != views.current;
         self.views = views;
-        if is_entered {
-            self.touch(views.current)?;
-            self.build_entered()?;
-            self.offer_early()?;
+        if !is_entered {
+            return Ok(());
         }
-        Ok(())
+        self.enter(views.current)
+    }
+
+    /// Closes the fetches that a finalization passed, where a later view is finalized than before.
+    fn pass(&mut self, finalized: View)
+        ensures { self.new ≡ record self.old { repair = self.new.repair } }
+    {
+        if self.views.last_finalized < finalized {
+            self.repair.pass(finalized);
+        }
+    }
+
+    /// The view is entered: what may be due in it is asked for, and what waited for it.
+    fn enter(&mut self, view: View) -> Result<(), Fault>
+        ensures views { OnOk result (self.new.views ≡ self.old.views) }
+        ensures planned { OnOk result (KeepsPlanned self.old self.new) }
+    {
+        self.touch(view)?;
+        self.build_entered()?;
+        self.offer_early()
     }
 
     /// Keeps a proposal that came before its view, where few are kept: nobody sends it again, and its view would be lost.
@@ -68,7 +86,8 @@ impl<S: CertificateScheme, D: Digest> Plan<S, D> {
 
     /// Offers what came early, and is no longer.
     fn offer_early(&mut self) -> Result<(), Fault>
-        ensures { self.new ≡ record self.old { steps = self.new.steps; early = self.new.early } }
+        ensures same { self.new ≡ record self.old { steps = self.new.steps; early = self.new.early } }
+        ensures planned { OnOk result (KeepsPlanned self.old self.new) }
     {
         let current = self.views.current;
         offer_until(current, self.early.all(), &mut self.steps)?;
@@ -111,7 +130,8 @@ impl<S: CertificateScheme, D: Digest> Plan<S, D> {
 
     /// Asks for the blocks that waited for their view.
     fn build_entered(&mut self) -> Result<(), Fault>
-        ensures { self.new ≡ record self.old { steps = self.new.steps; builds = self.new.builds } }
+        ensures same { self.new ≡ record self.old { steps = self.new.steps; builds = self.new.builds } }
+        ensures planned { OnOk result (KeepsPlanned self.old self.new) }
     {
         tell_entered(self.views.current, &mut self.builds, &mut self.steps)?;
         Ok(())
@@ -178,7 +198,9 @@ fn is_asked_at<D: Digest, P: Copy>(building: &Building<D, P>, view: View) -> boo
 fn watch_all<S: CertificateScheme, D: Digest>(
     builds: &[Building<D, S::PublicKey>],
     steps: &mut VecDeque<Step<S, D>>,
-) -> Result<(), AllocError> {
+) -> Result<(), AllocError>
+    ensures { OnOk result (AreAmong (work_planned steps.old.items) (work_planned steps.new.items)) }
+{
     for building in builds {
         queue(steps, Step::Ask(Task::Abandon(building.context.round.view)))?;
     }
@@ -190,7 +212,9 @@ fn tell_entered<S: CertificateScheme, D: Digest>(
     current: View,
     builds: &mut [Building<D, S::PublicKey>],
     steps: &mut VecDeque<Step<S, D>>,
-) -> Result<(), AllocError> {
+) -> Result<(), AllocError>
+    ensures { OnOk result (AreAmong (work_planned steps.old.items) (work_planned steps.new.items)) }
+{
     for building in builds {
         if !building.is_told && building.context.round.view <= current {
             building.is_told = true;
@@ -205,7 +229,9 @@ fn offer_until<S: CertificateScheme, D: Digest>(
     current: View,
     early: &[Early<D>],
     steps: &mut VecDeque<Step<S, D>>,
-) -> Result<(), AllocError> {
+) -> Result<(), AllocError>
+    ensures { OnOk result (AreAmong (work_planned steps.old.items) (work_planned steps.new.items)) }
+{
     for it in early {
         if it.view <= current {
             queue(steps, Step::Offer(it.from, it.proposal))?;

@@ -5,6 +5,11 @@ use Rattle.std.proofs.lemmas.Result.{IfOk-weaker}
 use Rattle.simplex_types.specs.Certificates.{certificate_facts}
 use Rattle.simplex_types.specs.Encoding.{certificate_subject}
 use Rattle.simplex_engine.specs.Going.{GoesOn}
+use Rattle.simplex_engine.proofs.Tells.{queued_then, tells_handed}
+use Rattle.simplex_engine.proofs.Planning.{on_ok}
+use Rattle.simplex_member.specs.Calls.{told}
+use Rattle.simplex_member.specs.Lives.{IsCall}
+use Rattle.simplex_engine.specs.Acting.{hands_in}
 use Rattle.simplex_engine.proofs.engine.Engine.accept.Goals as goal
 
 pub returns-clause-goes_on : goal.returns-clause-goes_on
@@ -19,3 +24,15 @@ returns-clause-dropped g c =
     IfOk-weaker c.follow_certificate.result _ _ (λ is_of_use told no.
     ap (λ core. core.member.facts) c.follow_certificate.ensures.core ∙ c.in_ok-reply.ensures.refused (not-false _ (sym told ∙ no)))
     c.follow_certificate.ensures.of_use
+
+pub returns-clause-duties : goal.returns-clause-duties
+returns-clause-duties g c =
+    let same = g.D.PartialEq.eq in
+    let elect = g.L.Elector.elect in
+    let bytes_of = g.S.CertificateScheme.certificate_bytes in
+    let handed = certificate_facts bytes_of c.args.certificate in
+    let answer = told bytes_of c.in_ok-reply.reply in
+    on_ok c.follow_certificate.result c.follow_certificate.ensures.planned
+    (tells_handed same elect c.args.self.now c.follow_certificate.new.self handed c.args.now answer
+    (subst (λ core. IsCall same elect c.args.self.now.core.member.facts (hands_in handed c.args.now) answer core.member.facts) (sym c.follow_certificate.ensures.core) c.in_ok-reply.ensures.answered)
+    (queued_then c.args.self.now.core c.hand_in.new.self c.follow_certificate.new.self.core c.hand_in.ensures.goes_on.queued c.follow_certificate.ensures.core))

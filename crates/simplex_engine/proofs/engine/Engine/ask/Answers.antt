@@ -1,10 +1,12 @@
 -- That a task accepts no certificate, and what its answer says.
 use Rattle.std.proofs.Common.{None, sym, subst}
 use Rattle.std.proofs.lemmas.Result.{IfOk-weaker}
-use Rattle.simplex_member.specs.Calls.{told}
+use Rattle.simplex_member.specs.Calls.{told, asked}
 use Rattle.simplex_member.specs.Lives.{IsCall}
 use Rattle.simplex_engine.specs.Going.{GoesOn}
 use Rattle.simplex_engine.specs.Tasks.{call_of}
+use Rattle.simplex_engine.proofs.Tells.{tells_called, queued_on}
+use Rattle.simplex_engine.proofs.Planning.{on_ok}
 use Rattle.simplex_engine.proofs.engine.Engine.ask.Goals as goal
 
 pub returns : goal.returns
@@ -23,4 +25,8 @@ returns g c =
             (subst (λ call. IsCall same elect before call answer c.call-reply.new.self.member.facts) c.call.ensures.asked c.call-reply.ensures.answered);
         told = of_use;
       }) c.follow.ensures.of_use;
+      duties = on_ok c.follow.result c.follow.ensures.planned
+          (tells_called same elect c.args.self.now c.follow.new.self (asked bytes_of c.call.result) answer
+          (subst (λ core. IsCall same elect before (asked bytes_of c.call.result) answer core.member.facts) (sym c.follow.ensures.core) c.call-reply.ensures.answered)
+          (queued_on c.args.self.now.core c.call-reply.new.self c.follow.new.self.core c.call-reply.ensures.outbox c.follow.ensures.core));
     }

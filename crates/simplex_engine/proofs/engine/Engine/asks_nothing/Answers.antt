@@ -4,6 +4,8 @@ use Rattle.simplex_member.specs.Calls.{told, asked}
 use Rattle.simplex_engine.specs.Going.{GoesOn}
 use Rattle.simplex_engine.specs.Quiet.{AnswersNothing}
 use Rattle.simplex_engine.proofs.Alone.{alone_with}
+use Rattle.simplex_engine.proofs.Tells.{tells_called, queued_on}
+use Rattle.simplex_member.specs.Lives.{IsCall}
 use Rattle.simplex_engine.proofs.engine.Engine.asks_nothing.Goals as goal
 
 pub returns-in_err-follow-clause-alone : goal.returns-in_err-follow-clause-alone
@@ -23,4 +25,8 @@ returns g c =
           subst (λ core. AnswersNothing g.D.PartialEq.eq g.L.Elector.elect c.args.self.now.core.member.facts (asked bytes_of c.args.call) core.member.facts)
           (sym c.follow.ensures.core)
           (record { answer = told bytes_of c.call-reply.result; nothing = sym c.is_nothing-is_nothing.ensures ∙ is; answered = c.call-reply.ensures.answered });
+      duties = tells_called g.D.PartialEq.eq g.L.Elector.elect c.args.self.now c.follow.new.self (asked bytes_of c.args.call) (told bytes_of c.call-reply.result)
+          (subst (λ core. IsCall g.D.PartialEq.eq g.L.Elector.elect c.args.self.now.core.member.facts (asked bytes_of c.args.call) (told bytes_of c.call-reply.result) core.member.facts)
+          (sym c.follow.ensures.core) c.call-reply.ensures.answered)
+          (queued_on c.args.self.now.core c.call-reply.new.self c.follow.new.self.core c.call-reply.ensures.outbox c.follow.ensures.core) c.in_ok-follow.ensures.planned;
     }

@@ -3,6 +3,7 @@ use Rattle.std.proofs.Common.{false, refl, sym, subst, ◌∙◌}
 use Rattle.std.proofs.lemmas.Result.{IfOk-weaker}
 use Rattle.simplex_engine.specs.Acting.{IsBlockTaken}
 use Rattle.simplex_engine.proofs.Going.{stays}
+use Rattle.simplex_engine.proofs.Tells.{tells_still}
 use Rattle.simplex_engine.proofs.engine.Engine.build.Goals as goal
 
 pub returns-then-not-is_building : goal.returns-then-not-is_building
@@ -13,6 +14,7 @@ returns-then-not-is_building g c =
       batcher = refl;
       acted = subst (λ is_asked. IsBlockTaken g.D.PartialEq.eq g.L.Elector.elect is_asked c.args.context.now.round.view c.args.payload c.args.now facts facts false)
           (sym c.if-not-is_building.true ∙ c.is_building.ensures) (refl, refl);
+      duties = tells_still c.args.self.now;
     }
 
 pub returns : goal.returns
@@ -25,4 +27,5 @@ returns g c =
       acted = IfOk-weaker c.ask.result _ _ (λ is_of_use done.
           subst (λ is_asked. IsBlockTaken g.D.PartialEq.eq g.L.Elector.elect is_asked c.args.context.now.round.view c.args.payload c.args.now before after is_of_use)
           (sym c.if-not-is_building.false ∙ c.is_building.ensures) done) c.ask.ensures.acted;
+      duties = c.ask.ensures.duties;
     }

@@ -2,6 +2,7 @@
 use Rattle.std.proofs.Common.{sym, subst}
 use Rattle.simplex_engine.specs.Quiet.{HasNothingNew}
 use Rattle.simplex_engine.proofs.Alone.{alone_further}
+use Rattle.simplex_engine.proofs.Tells.{tells_further}
 use Rattle.simplex_engine.proofs.engine.Engine.finish.Goals as goal
 
 pub returns-in_err-run_all-clause-alone : goal.returns-in_err-run_all-clause-alone
@@ -18,4 +19,5 @@ returns g c = record {
   idle = c.settle.ensures.idle c.args.now c.in_ok-run_all.ensures.idle;
   lowest = c.in_ok-settle.ensures.lowest;
   lacking = c.in_ok-settle.ensures.lacking;
+  duties = tells_further c.in_ok-run_all.ensures.duties c.in_ok-settle.ensures.duties;
 }

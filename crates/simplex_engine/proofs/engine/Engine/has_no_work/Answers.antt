@@ -1,6 +1,7 @@
 -- How a member that has no work goes on by the three calls that show it.
 use Rattle.std.proofs.Common.{refl}
 use Rattle.simplex_engine.proofs.Alone.{alone_further}
+use Rattle.simplex_engine.proofs.Tells.{tells_further}
 use Rattle.simplex_engine.proofs.engine.Engine.has_no_work.Goals as goal
 
 pub returns-in_err-verifies_nothing-clause-alone : goal.returns-in_err-verifies_nothing-clause-alone
@@ -34,3 +35,9 @@ pub returns-else-builds_nothing-clause-alone : goal.returns-else-builds_nothing-
 returns-else-builds_nothing-clause-alone g c =
     alone_further c.asks_nothing.ensures.alone
     (alone_further c.asks_nothing-2.ensures.alone c.asks_nothing-3.ensures.alone)
+
+pub returns-then-builds_nothing-clause-duties : goal.returns-then-builds_nothing-clause-duties
+returns-then-builds_nothing-clause-duties g c = tells_further c.in_ok-verifies_nothing.ensures.duties (tells_further c.in_ok-builds_nothing.ensures.duties c.in_ok-certifies_nothing.ensures.duties)
+
+pub returns-else-builds_nothing-clause-duties : goal.returns-else-builds_nothing-clause-duties
+returns-else-builds_nothing-clause-duties g c = tells_further c.in_ok-verifies_nothing.ensures.duties (tells_further c.in_ok-builds_nothing.ensures.duties c.in_ok-certifies_nothing.ensures.duties)

@@ -3,6 +3,7 @@ use Rattle.std.proofs.Common.{◌++◌}
 use Rattle.simplex_engine.specs.Quiet.{for_work, for_votes, for_certificates}
 use Rattle.simplex_engine.proofs.Alone.{alone_further}
 use Rattle.simplex_engine.proofs.Quiet.{nothing_further}
+use Rattle.simplex_engine.proofs.Tells.{tells_further}
 use Rattle.simplex_engine.proofs.engine.Engine.is_quiet.Goals as goal
 
 pub returns-in_err-has_no_vote-clause-alone : goal.returns-in_err-has_no_vote-clause-alone
@@ -39,3 +40,9 @@ returns-then-has_no_vote-clause-quiet g c =
 
 pub returns-in_err-has_no_work-clause-alone : goal.returns-in_err-has_no_work-clause-alone
 returns-in_err-has_no_work-clause-alone g c = c.has_no_work.ensures.alone
+
+pub returns-then-has_no_vote-clause-duties : goal.returns-then-has_no_vote-clause-duties
+returns-then-has_no_vote-clause-duties g c = tells_further c.in_ok-has_no_work.ensures.duties (tells_further c.in_ok-has_no_vote.ensures.duties c.in_ok-has_no_certificate.ensures.duties)
+
+pub returns-else-has_no_vote-clause-duties : goal.returns-else-has_no_vote-clause-duties
+returns-else-has_no_vote-clause-duties g c = tells_further c.in_ok-has_no_work.ensures.duties (tells_further c.in_ok-has_no_vote.ensures.duties c.in_ok-has_no_certificate.ensures.duties)

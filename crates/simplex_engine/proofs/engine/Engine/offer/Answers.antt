@@ -6,6 +6,7 @@ use Rattle.simplex_engine.specs.declared.engine.task.Task.TheVariants.{SetPropos
 use Rattle.simplex_engine.specs.Acting.{HasDoneTask}
 use Rattle.simplex_engine.specs.Going.{GoesOn}
 use Rattle.simplex_engine.proofs.Going.{stays}
+use Rattle.simplex_engine.specs.Duties.{KeepsTelling}
 use Rattle.simplex_engine.proofs.engine.Engine.offer.Goals as goal
 
 pub returns-then-admits_proposal : goal.returns-then-admits_proposal
@@ -15,6 +16,7 @@ returns-then-admits_proposal g c = record {
   unadmitted = λ no. absurd (false≢true (sym no ∙ sym c.admits_proposal.ensures ∙ c.if-admits_proposal.true));
   acted = λ _. subst (λ view. IfOk c.ask.result (HasDoneTask g.D.PartialEq.eq g.L.Elector.elect (SetProposal view c.args.proposal) c.args.now
       c.args.self.now.core.member.facts c.ask.new.self.core.member.facts)) c.view.ensures c.ask.ensures.acted;
+  duties = c.ask.ensures.duties;
 }
 
 pub returns-in_err-keep_early-clause-goes_on : goal.returns-in_err-keep_early-clause-goes_on
@@ -32,4 +34,5 @@ returns g c = record {
   batcher = ap (λ engine. engine.batcher) c.keep_early.ensures;
   unadmitted = λ _. (refl, c.keep_early.ensures);
   acted = λ is. absurd (false≢true (sym c.if-admits_proposal.false ∙ c.admits_proposal.ensures ∙ is));
+  duties = subst (KeepsTelling c.args.self.now) (sym c.keep_early.ensures) (record { stays = λ work told. told });
 }

@@ -1,11 +1,13 @@
 -- That nothing is done where nothing but the next output is taken, and that each vote which is held is of a view that takes votes.
-use Rattle.std.proofs.Common.{refl, subst}
+use Rattle.std.proofs.Common.{refl, subst, ◌++◌, ◌≡◌}
 use Rattle.std.specs.Prelude.{option_to_list}
 use Rattle.simplex_engine.specs.Finals.{TellsNoMore}
 use Rattle.simplex_engine.specs.Inputs.{given_out}
 use Rattle.simplex_engine.proofs.Finals.{tells_still}
 use Rattle.simplex_engine.proofs.Bounds.{bounded_same, bounded_admitted}
 use Rattle.simplex_engine.proofs.Going.{does_nothing_more, where_ok}
+use Rattle.simplex_engine.proofs.Tells.{tells_given, still_told}
+use Rattle.simplex_engine.proofs.Planning.{on_ok}
 use Rattle.simplex_engine.proofs.engine.Engine.poll.Goals as goal
 
 pub returns-then-has_failed-clause-does : goal.returns-then-has_failed-clause-does
@@ -38,3 +40,18 @@ returns-in-None-clause-admitted g c = λ within.
     where_ok c.poll_after_work.result c.poll_after_work.ensures.lowest
     (λ out lowest none. bounded_admitted keys_of c.poll_after_work.new.self.core c.poll_after_work.new.self.batcher
     (c.poll_after_work.ensures.bounded.stays (same.stays within)) (lowest none))
+
+pub returns-in-Some-clause-duties : goal.returns-in-Some-clause-duties
+returns-in-Some-clause-duties g c =
+    tells_given c.args.self.now (record c.args.self.now { core = c.next.new.self }) _ c.next.ensures.same.0 refl
+    (subst (λ out. c.args.self.now.core.outbox.queue.items ≡ option_to_list out ++ c.next.new.self.outbox.queue.items) c.in-Some.is c.next.ensures.front)
+
+pub returns-in-None-clause-duties : goal.returns-in-None-clause-duties
+returns-in-None-clause-duties g c =
+    on_ok c.poll_after_work.result c.poll_after_work.ensures.duties (λ more given told. more given (still_told c.args.self.now c.next.new.self c.next.ensures.same.0
+    (subst (λ out. c.args.self.now.core.outbox.queue.items ≡ option_to_list out ++ c.next.new.self.outbox.queue.items) c.in-None.is c.next.ensures.front) given told))
+
+pub returns-in-None-clause-waiting : goal.returns-in-None-clause-waiting
+returns-in-None-clause-waiting g c =
+    where_ok c.poll_after_work.result c.poll_after_work.ensures.waiting (λ out all none given told. all none given (still_told c.args.self.now c.next.new.self c.next.ensures.same.0
+    (subst (λ out. c.args.self.now.core.outbox.queue.items ≡ option_to_list out ++ c.next.new.self.outbox.queue.items) c.in-None.is c.next.ensures.front) given told))

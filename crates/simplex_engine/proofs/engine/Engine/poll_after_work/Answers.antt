@@ -9,6 +9,8 @@ use Rattle.simplex_engine.specs.Quiet.{HasNothingNew}
 use Rattle.simplex_engine.proofs.Backing.{takes_nothing}
 use Rattle.simplex_engine.proofs.Bounds.{bounded_still, bounded_further, bounded_same}
 use Rattle.simplex_engine.proofs.Going.{goes_further, gives_nothing, does_more, tells_no_other, tells_no_other_then}
+use Rattle.simplex_engine.proofs.Tells.{tells_given, all_left}
+use Rattle.simplex_engine.specs.Duties.{work_in}
 use Rattle.simplex_engine.proofs.engine.Engine.poll_after_work.Goals as goal
 
 pub returns-in-Ok-clause-given : goal.returns-in-Ok-clause-given
@@ -69,3 +71,13 @@ pub returns-in-Err-clause-bounded : goal.returns-in-Err-clause-bounded
 returns-in-Err-clause-bounded g c =
     bounded_further g.S.CertificateScheme.participants (bounded_still g.S.CertificateScheme.participants c.work.ensures.alone.goes_on c.work.ensures.alone.votes)
     (bounded_still g.S.CertificateScheme.participants c.fail.ensures.goes_on (takes_nothing c.work.new.self.batcher))
+
+pub returns-in-Ok-clause-duties : goal.returns-in-Ok-clause-duties
+returns-in-Ok-clause-duties g c = λ given told.
+    tells_given c.work.new.self (record (c.work.new.self) { core = c.next.new.self }) (option_to_list c.next.result) c.next.ensures.same.0 refl c.next.ensures.front given
+    (c.in-Ok.ensures.duties.stays (work_in given) told)
+
+pub returns-in-Ok-clause-waiting : goal.returns-in-Ok-clause-waiting
+returns-in-Ok-clause-waiting g c = λ none given told.
+    all_left c.work.new.self (record (c.work.new.self) { core = c.next.new.self }) c.next.result none c.next.ensures.same.0 (c.next.ensures.none none) c.in-Ok.ensures.idle.steps refl c.next.ensures.front given
+    (c.in-Ok.ensures.duties.stays (work_in given) told)

@@ -1,11 +1,12 @@
 -- That the engine's member is the one that was resumed.
-use Rattle.std.proofs.Common.{sym, subst}
+use Rattle.std.proofs.Common.{sym, subst, ap, ◌∙◌, refl, Ok}
 use Rattle.simplex_record.specs.Entries.{entries_of}
 use Rattle.simplex_record.specs.Start.{start_facts}
 use Rattle.simplex_member.specs.Journal.{IsResumed}
 use Rattle.simplex_laws.specs.Living.{HasGoneOn}
 use Rattle.simplex_engine.proofs.Bounds.{bounded_empty}
 use Rattle.simplex_engine.proofs.Going.{where_ok}
+use Rattle.simplex_engine.proofs.Tells.{restart_waits, tells_none}
 use Rattle.simplex_engine.proofs.engine.Engine.resume.Goals as goal
 
 pub returns-in-Ok-clause-resumed : goal.returns-in-Ok-clause-resumed
@@ -25,3 +26,8 @@ returns-in-Ok-clause-goes_on g c =
 pub returns-in-Ok-clause-bounded : goal.returns-in-Ok-clause-bounded
 returns-in-Ok-clause-bounded g c =
     where_ok c.begin.result (c.begin.ensures.votes c.in_ok-company.ensures) (λ engine none. bounded_empty g.S.CertificateScheme.participants engine.core engine.batcher none)
+
+pub returns-in-Ok-clause-duties : goal.returns-in-Ok-clause-duties
+returns-in-Ok-clause-duties g c =
+    where_ok c.begin.result c.begin.ensures.member
+    (λ engine is. tells_none engine (ap (λ m. m.facts.outstanding_work) is ∙ restart_waits g.D.PartialEq.eq g.L.Elector.elect _ _ (Ok tt) _ refl c.in-Ok.ensures.resumed.restarted))

@@ -1,18 +1,25 @@
 -- That each step goes on from the ones before.
 use Rattle.simplex_engine.proofs.Alone.{alone_still, alone_further}
+use Rattle.simplex_engine.proofs.Tells.{tells_still, tells_further}
 use Rattle.simplex_engine.proofs.engine.Engine.run.Goals as goal
 
-pub returns-in_err-step : goal.returns-in_err-step
-returns-in_err-step g c = alone_further c.loop.invariant c.step.ensures
+pub returns-in_err-step-clause-alone : goal.returns-in_err-step-clause-alone
+returns-in_err-step-clause-alone g c = alone_further c.loop.invariant.alone c.step.ensures.alone
 
 pub returns-then-not-branch : goal.returns-then-not-branch
-returns-then-not-branch g c = alone_further c.loop.invariant c.step.ensures
+returns-then-not-branch g c = record {
+  alone = alone_further c.loop.invariant.alone c.step.ensures.alone;
+  duties = tells_further c.loop.invariant.duties c.in_ok-step.ensures.duties;
+}
 
 pub loop-init : goal.loop-init
-loop-init g c = alone_still c.args.self.now
+loop-init g c = record { alone = alone_still c.args.self.now; duties = tells_still c.args.self.now }
 
 pub loop-preserved : goal.loop-preserved
-loop-preserved g c = alone_further c.loop.invariant c.step.ensures
+loop-preserved g c = record {
+  alone = alone_further c.loop.invariant.alone c.step.ensures.alone;
+  duties = tells_further c.loop.invariant.duties c.in_ok-step.ensures.duties;
+}
 
 pub returns : goal.returns
-returns g c = c.loop.invariant
+returns g c = record { alone = c.loop.invariant.alone; duties = tt }

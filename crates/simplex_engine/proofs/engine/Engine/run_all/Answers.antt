@@ -1,22 +1,27 @@
 -- That each run goes on from the ones before.
 use Rattle.simplex_engine.proofs.Alone.{alone_still, alone_further}
+use Rattle.simplex_engine.proofs.Tells.{tells_still, tells_further}
 use Rattle.simplex_engine.proofs.engine.Engine.run_all.Goals as goal
 
 pub returns-in_err-is_settled-clause-alone : goal.returns-in_err-is_settled-clause-alone
-returns-in_err-is_settled-clause-alone g c = alone_further c.loop.invariant c.is_settled.ensures.alone
+returns-in_err-is_settled-clause-alone g c = alone_further c.loop.invariant.alone c.is_settled.ensures.alone
 
 pub returns-then-branch : goal.returns-then-branch
 returns-then-branch g c = record {
-  alone = alone_further c.loop.invariant c.is_settled.ensures.alone;
+  alone = alone_further c.loop.invariant.alone c.is_settled.ensures.alone;
   quiet = c.in_ok-is_settled.ensures.quiet c.if-branch.true;
   idle = c.in_ok-is_settled.ensures.idle c.if-branch.true;
+  duties = tells_further c.loop.invariant.duties c.in_ok-is_settled.ensures.duties;
 }
 
 pub loop-init : goal.loop-init
-loop-init g c = alone_still c.args.self.now
+loop-init g c = record { alone = alone_still c.args.self.now; duties = tells_still c.args.self.now }
 
 pub loop-preserved : goal.loop-preserved
-loop-preserved g c = alone_further c.loop.invariant c.is_settled.ensures.alone
+loop-preserved g c = record {
+  alone = alone_further c.loop.invariant.alone c.is_settled.ensures.alone;
+  duties = tells_further c.loop.invariant.duties c.in_ok-is_settled.ensures.duties;
+}
 
 pub returns : goal.returns
-returns g c = record { alone = c.loop.invariant; quiet = tt; idle = tt }
+returns g c = record { alone = c.loop.invariant.alone; quiet = tt; idle = tt; duties = tt }

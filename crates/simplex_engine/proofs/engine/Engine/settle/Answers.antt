@@ -1,10 +1,12 @@
 -- That what is left is of views that are kept, and what is asked for is lacking.
-use Rattle.std.proofs.Common.{sym, subst, ◌∙◌}
+use Rattle.std.proofs.Common.{sym, subst, ◌∙◌, ap}
 use Rattle.std.specs.Prelude.{IfSome}
 use Rattle.simplex_voter.specs.Windows.{min_active}
 use Rattle.simplex_engine.specs.Batching.{HoldsFrom}
 use Rattle.simplex_engine.specs.Wanted.{AsksForTheLacking}
 use Rattle.simplex_engine.proofs.Going.{goes_further}
+use Rattle.simplex_engine.proofs.Tells.{tells_further, tells_same}
+use Rattle.simplex_engine.proofs.Duties.{among_still}
 use Rattle.simplex_engine.proofs.engine.Engine.settle.Goals as goal
 
 pub returns-in_err-let_go-clause-alone : goal.returns-in_err-let_go-clause-alone
@@ -36,4 +38,7 @@ returns g c =
       lowest = subst (λ m. IfSome m.facts.life (λ x. HoldsFrom (min_active x) c.let_go.new.self.batcher)) (sym c.store.ensures.member) c.in_ok-let_go.ensures.lowest;
       lacking = subst (λ m. IfSome m.facts.life (λ x. AsksForTheLacking repair.resolver.open_fetches x repair.fetches.wanted.items)) (sym c.store.ensures.member)
           c.in_ok-let_go.ensures.lacking;
+      duties = tells_further c.in_ok-let_go.ensures.duties
+          (tells_same c.let_go.new.self (record (c.let_go.new.self) { core = c.store.new.self }) (ap (λ m. m.facts.outstanding_work) c.store.ensures.member)
+          c.store.ensures.goes_on.queued (among_still _));
     }

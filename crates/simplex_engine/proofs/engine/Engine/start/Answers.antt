@@ -1,11 +1,12 @@
 -- That the engine's member is the one that was started.
-use Rattle.std.proofs.Common.{◌≡◌, sym, subst}
+use Rattle.std.proofs.Common.{◌≡◌, sym, subst, ap, ◌∙◌}
 use Rattle.simplex_types.specs.Config.{floor_facts}
 use Rattle.simplex_record.specs.Start.{set_up}
 use Rattle.simplex_member.specs.Start.{started_member}
 use Rattle.simplex_laws.specs.Living.{HasBegun}
 use Rattle.simplex_engine.proofs.Bounds.{bounded_empty}
 use Rattle.simplex_engine.proofs.Going.{where_ok}
+use Rattle.simplex_engine.proofs.Tells.{tells_none}
 use Rattle.simplex_engine.proofs.engine.Engine.start.Goals as goal
 
 pub returns-in-Ok-clause-started : goal.returns-in-Ok-clause-started
@@ -23,3 +24,8 @@ returns-in-Ok-clause-begins g c =
 pub returns-in-Ok-clause-bounded : goal.returns-in-Ok-clause-bounded
 returns-in-Ok-clause-bounded g c =
     where_ok c.begin.result (c.begin.ensures.votes c.in_ok-company.ensures) (λ engine none. bounded_empty g.S.CertificateScheme.participants engine.core engine.batcher none)
+
+pub returns-in-Ok-clause-duties : goal.returns-in-Ok-clause-duties
+returns-in-Ok-clause-duties g c =
+    where_ok c.begin.result c.begin.ensures.member
+    (λ engine is. tells_none engine (ap (λ m. m.facts.outstanding_work) is ∙ ap (λ m. m.outstanding_work) c.in-Ok.ensures.started))

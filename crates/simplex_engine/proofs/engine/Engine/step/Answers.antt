@@ -1,13 +1,26 @@
 -- That the step which is next is taken.
+use Rattle.std.proofs.Common.{◌++◌, refl, subst}
+use Rattle.std.specs.Prelude.{option_to_list}
+use Rattle.simplex_engine.specs.Duties.{AreAmong, work_planned}
 use Rattle.simplex_engine.proofs.Backing.{takes_nothing}
 use Rattle.simplex_engine.proofs.Going.{stays}
+use Rattle.simplex_engine.proofs.Tells.{tells_planned, tells_taken}
 use Rattle.simplex_engine.proofs.engine.Engine.step.Goals as goal
 
-pub returns-in_err-step : goal.returns-in_err-step
-returns-in_err-step g c = record { goes_on = stays c.args.self.now.core; votes = takes_nothing c.args.self.now.batcher }
+pub returns-in_err-step-clause-alone : goal.returns-in_err-step-clause-alone
+returns-in_err-step-clause-alone g c = record { goes_on = stays c.args.self.now.core; votes = takes_nothing c.args.self.now.batcher }
 
 pub returns-in-Some : goal.returns-in-Some
-returns-in-Some g c = record { goes_on = c.take_step.ensures.goes_on; votes = c.take_step.ensures.votes }
+returns-in-Some g c = record {
+  alone = record { goes_on = c.take_step.ensures.alone.goes_on; votes = c.take_step.ensures.alone.votes };
+  duties = tells_taken c.take_step.result c.in-Some.step c.args.self.now (record c.args.self.now { plan = c.next.new.self }) c.take_step.new.self refl
+      (subst (λ taken. AreAmong (work_planned c.args.self.now.plan.steps.items) (work_planned (option_to_list taken ++ c.next.new.self.steps.items))) c.in-Some.is c.in_ok-step.ensures.planned)
+      c.take_step.ensures.duties;
+}
 
 pub returns-in-None : goal.returns-in-None
-returns-in-None g c = record { goes_on = stays c.args.self.now.core; votes = takes_nothing c.args.self.now.batcher }
+returns-in-None g c = record {
+  alone = record { goes_on = stays c.args.self.now.core; votes = takes_nothing c.args.self.now.batcher };
+  duties = tells_planned c.args.self.now (record c.args.self.now { plan = c.next.new.self }) refl
+      (subst (λ taken. AreAmong (work_planned c.args.self.now.plan.steps.items) (work_planned (option_to_list taken ++ c.next.new.self.steps.items))) c.in-None.is c.in_ok-step.ensures.planned);
+}

@@ -12,6 +12,7 @@ use Rattle.simplex_engine.proofs.Finalizing.{told_by_call, final_none}
 use Rattle.simplex_engine.proofs.Finals.{tells_none}
 use Rattle.simplex_engine.proofs.Going.{call_risen}
 use Rattle.simplex_engine.proofs.Kept.{called}
+use Rattle.simplex_engine.proofs.Queued.{queues_none}
 use Rattle.simplex_engine.proofs.journaled.Journaled.call.Goals as goal
 
 pub returns-clause-goes_on : goal.returns-clause-goes_on
@@ -28,6 +29,7 @@ returns-clause-goes_on g c taken may no_final =
       on_this = call_on taken c.args.call c.call.result may;
       done = c.call.ensures.goes_on;
       told = subst (λ ps. TellsRising ps old.outbox old.outbox) (sym none) (tells_none old.outbox old.outbox refl refl);
+      queued = queues_none old.outbox;
       risen = call_risen g.D.PartialEq.eq g.L.Elector.elect old.member.facts _ _ c.call.new.self.facts c.call.ensures.answered;
     }
 

@@ -12,7 +12,7 @@ returns-in-Ok-clause-goes_on g c =
     let ready = record old { outbox = c.make_room.new.self } in
     goes_further {c = c.take.new.self}
     (does_no_more old ready refl (kept_as_it_was bytes_of old ready refl refl refl c.make_room.ensures.goes_on c.make_room.ensures.kept)
-    (stayed_tells old.outbox ready.outbox c.make_room.ensures.kept)) c.take.ensures.goes_on
+    (stayed_tells old.outbox ready.outbox c.make_room.ensures.kept) c.make_room.ensures.grown) c.take.ensures.goes_on
 
 pub returns-in-Err-clause-goes_on : goal.returns-in-Err-clause-goes_on
 returns-in-Err-clause-goes_on g c =
@@ -20,4 +20,4 @@ returns-in-Err-clause-goes_on g c =
     let old = c.args.self.now in
     let ready = record old { outbox = c.make_room.new.self } in
     does_no_more old ready refl (kept_as_it_was bytes_of old ready refl refl refl c.make_room.ensures.goes_on c.make_room.ensures.kept)
-    (stayed_tells old.outbox ready.outbox c.make_room.ensures.kept)
+    (stayed_tells old.outbox ready.outbox c.make_room.ensures.kept) c.make_room.ensures.grown

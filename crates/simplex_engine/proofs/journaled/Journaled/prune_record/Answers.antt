@@ -1,4 +1,4 @@
-use Rattle.std.proofs.Common.{◌≡◌, ℕ, [], true, None, refl, sym, subst, ◌∙◌, length, arith}
+use Rattle.std.proofs.Common.{◌≡◌, ℕ, [], true, None, refl, ap, sym, subst, ◌∙◌, length, arith}
 use Rattle.std.proofs.lemmas.List.Elements.{All-nil}
 use Rattle.simplex_laws.specs.LifeLaws.{WhileAlive}
 use Rattle.std.specs.Prelude.{IfSome}
@@ -18,6 +18,9 @@ still_told : {K L D : Type 0} (old new : MemberFacts K L D) → new ≡ pruned_m
 still_told old new is before after same last =
     subst (λ t. IfSome new.life (λ x. t ≡ x.finalized)) (sym same) (subst (λ m. IfSome m.life (λ x. before ≡ x.finalized)) (sym is) last)
 
+still_waiting : {K L D : Type 0} (old new : MemberFacts K L D) → new ≡ pruned_member old → new.outstanding_work ≡ old.outstanding_work
+still_waiting {K} {L} {D} old new is = ap (λ (m : MemberFacts K L D). m.outstanding_work) is
+
 pub returns-in-Ok-clause-goes_on : goal.returns-in-Ok-clause-goes_on
 returns-in-Ok-clause-goes_on g c =
     let bytes_of = g.S.CertificateScheme.certificate_bytes in
@@ -34,6 +37,7 @@ returns-in-Ok-clause-goes_on g c =
       on_this = All-nil (IsDoneOn None);
       done = c.prune_record.ensures.goes_on;
       told = replaced_tells bytes_of old new all.result.now c.stored.result c.in-Ok.ensures.queued;
+      queued = c.replace.ensures.grown;
       risen = subst (λ m. WhileAlive HasRisen old.member.facts.life m.life) (sym c.prune_record.ensures.pruned) (risen_not old.member.facts);
     }
 
@@ -48,6 +52,7 @@ returns-in-Err-clause-goes_on g c =
       on_this = All-nil (IsDoneOn None);
       done = c.prune_record.ensures.goes_on;
       told = stayed_tells old.outbox c.replace.new.self c.in-Err.ensures.kept;
+      queued = c.replace.ensures.grown;
       risen = subst (λ m. WhileAlive HasRisen old.member.facts.life m.life) (sym c.prune_record.ensures.pruned) (risen_not old.member.facts);
     }
 
@@ -55,3 +60,9 @@ pub returns-in-Ok-clause-whole : goal.returns-in-Ok-clause-whole
 returns-in-Ok-clause-whole g c =
     let same_length = counted g.S.CertificateScheme.certificate_bytes c.record-count.result.now c.prune_record.new.self.facts.entries c.record-count.ensures.entries in
     omega (arith, same_length)
+
+pub returns-in-Ok-clause-waiting : goal.returns-in-Ok-clause-waiting
+returns-in-Ok-clause-waiting g c = still_waiting c.args.self.now.member.facts c.prune_record.new.self.facts c.prune_record.ensures.pruned
+
+pub returns-in-Err-clause-waiting : goal.returns-in-Err-clause-waiting
+returns-in-Err-clause-waiting g c = still_waiting c.args.self.now.member.facts c.prune_record.new.self.facts c.prune_record.ensures.pruned

@@ -16,4 +16,4 @@ returns-clause-goes_on g c =
     (kept_as_it_was bytes_of old new refl refl refl c.push.ensures.goes_on))
     (by_result c.push.result c.push.ensures.queued c.push.ensures.kept
     (become_tells (output.Work c.args.work ∷ []) old.outbox.repeat old.outbox new.outbox refl)
-    (stayed_tells old.outbox new.outbox))
+    (stayed_tells old.outbox new.outbox)) c.push.ensures.grown

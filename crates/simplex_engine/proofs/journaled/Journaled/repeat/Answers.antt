@@ -15,4 +15,4 @@ returns-clause-goes_on g c =
     (kept_as_it_was bytes_of old new refl refl refl c.repeat.ensures.goes_on))
     (by_answer c.repeat.result c.repeat.ensures.queued c.repeat.ensures.kept
     (repeated_tells bytes_of old new c.args.view)
-    (stayed_tells old.outbox new.outbox))
+    (stayed_tells old.outbox new.outbox)) c.repeat.ensures.grown

@@ -13,14 +13,14 @@ returns-clause-goes_on g c =
     let new = record old { outbox = c.store.new.self; stored = length all.result.now } in
     does_no_more old new refl
     (stored bytes_of old new refl refl c.store.ensures.goes_on all.result.now fresh.result.now refl all.ensures.entries all.ensures.votes fresh.ensures.entries fresh.ensures.votes c.in_ok-store.ensures.queued)
-    (stored_tells bytes_of old new fresh.result.now c.in_ok-store.ensures.queued)
+    (stored_tells bytes_of old new fresh.result.now c.in_ok-store.ensures.queued) c.store.ensures.grown
 
 pub returns-in_err-store-clause-goes_on : goal.returns-in_err-store-clause-goes_on
 returns-in_err-store-clause-goes_on g c =
     let old = c.args.self.now in
     let new = record old { outbox = c.store.new.self } in
     does_no_more old new refl (kept_as_it_was g.S.CertificateScheme.certificate_bytes old new refl refl refl c.store.ensures.goes_on c.in_err-store.ensures.kept)
-    (stayed_tells old.outbox new.outbox c.in_err-store.ensures.kept)
+    (stayed_tells old.outbox new.outbox c.in_err-store.ensures.kept) c.store.ensures.grown
 
 pub returns-then-count-self-clause-goes_on : goal.returns-then-count-self-clause-goes_on
 returns-then-count-self-clause-goes_on g c = stays c.args.self.now

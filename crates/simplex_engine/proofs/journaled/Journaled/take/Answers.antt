@@ -46,6 +46,7 @@ returns-clause-goes_on g c =
           (subst (All (IsDoneOn (Some on))) (sym c.handing_in.ensures.hands) (All-cons (IsDoneOn (Some on)) (Accepts on) [] refl (All-nil (IsDoneOn (Some on)))));
       done = c.call-reply.ensures.goes_on;
       told = rising;
+      queued = c.tell.ensures.grown;
       risen = call_risen same elect old.member.facts _ _ c.call-reply.new.self.facts c.call-reply.ensures.answered;
     }
 

@@ -15,6 +15,7 @@ returns c =
             does = asked.does;
             votes = asked.votes;
             bounded = asked.bounded;
+            duties = asked.duties;
             outcome = asked.outcome;
             refused = asked.refused;
           },

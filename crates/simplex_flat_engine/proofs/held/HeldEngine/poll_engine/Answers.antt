@@ -1,11 +1,13 @@
 -- How the contract of `poll_engine` follows where the engine gives something out, and where it has nothing more to do.
-use Rattle.std.proofs.Common.{inl, inr, refl, sym, subst, ◌∙◌}
+use Rattle.std.proofs.Common.{List, inl, inr, refl, sym, subst, ◌∙◌}
 use Rattle.std.specs.Prelude.{◌++◌, IsOk, option_to_list}
 use Rattle.std.proofs.lemmas.Bool.{false≢true}
 use Rattle.simplex_host.specs.Host.{certificate_bytes}
+use Rattle.simplex_engine.specs.Duties.{HasTold}
 use Rattle.simplex_engine.specs.Finals.{TellsNoMore}
 use Rattle.simplex_engine.specs.Going.{IsKept}
-use Rattle.simplex_flat_engine.proofs.Given.{all_given, tells_no_more}
+use Rattle.simplex_flat_engine.specs.Outputs.{HostOutput}
+use Rattle.simplex_flat_engine.proofs.Given.{all_given, has_told, tells_no_more}
 use Rattle.simplex_flat_engine.proofs.held.HeldEngine.poll_engine.Goals as goal
 
 pub returns-in-Ok-Some : goal.returns-in-Ok-Some
@@ -23,6 +25,8 @@ returns-in-Ok-Some c =
           does = rw rest.0 c.in-Ok-Some.ensures.does;
           votes = rw rest.0 c.in-Ok-Some.ensures.votes;
           bounded = rw rest.0 c.in-Ok-Some.ensures.bounded;
+          duties = λ _. has_told c.in-Ok-Some.output c.args.self.now.stored c.give_out.result c.args.self.now c.give_out.new.self
+              (rw rest.0 (rw c.in-Ok-Some.field-0-is at c.in-Ok-Some.ensures.duties)) c.give_out.ensures.given;
           outcome = inl (c.in-Ok-Some.output, c.give_out.ensures.given);
           refused = λ had. absurd (false≢true (subst IsOk (sym c.in-Ok-Some.is ∙ (c.poll.ensures.refused had).0) refl));
         },
@@ -47,6 +51,8 @@ returns-in-Ok-None c =
           does = c.in-Ok-None.ensures.does;
           votes = c.in-Ok-None.ensures.votes;
           bounded = c.in-Ok-None.ensures.bounded;
+          duties = λ _ alive. subst (λ last. (before : List HostOutput) → HasTold before c.args.self.now.engine → HasTold (before ++ option_to_list last) c.poll.new.self)
+              (sym c.requires.last) (rw none at c.in-Ok-None.ensures.duties);
           outcome = inr (inl (
             record { status_is = told.status; nothing = told.nothing.0; last = c.requires.last },
             record {
@@ -54,6 +60,7 @@ returns-in-Ok-None c =
               idle = (rw none at c.in-Ok-None.ensures.idle) refl;
               lowest = (rw none at c.in-Ok-None.ensures.lowest) refl;
               lacking = (rw none at c.in-Ok-None.ensures.lacking) refl;
+              waiting = (rw none at c.in-Ok-None.ensures.waiting) refl;
               admitted = λ before. (rw none at c.in-Ok-None.ensures.admitted before) refl;
             },
           ));

@@ -25,6 +25,7 @@ returns-in-Ok-resume-clause-resumed c =
         told = rw c.new.ensures.engine c.in-Ok-resume.ensures.told;
         votes = rw c.new.ensures.engine c.in-Ok-resume.ensures.votes;
         bounded = rw c.new.ensures.engine c.in-Ok-resume.ensures.bounded;
+        duties = rw c.new.ensures.engine c.in-Ok-resume.ensures.duties;
         draws = c.new.ensures.draws;
         fresh = c.new.ensures.fresh;
       };

@@ -16,6 +16,7 @@ returns-in-Ok-start-clause-begun c = record {
     told = rw c.new.ensures.engine c.in-Ok-start.ensures.told;
     votes = rw c.new.ensures.engine c.in-Ok-start.ensures.votes;
     bounded = rw c.new.ensures.engine c.in-Ok-start.ensures.bounded;
+    duties = rw c.new.ensures.engine c.in-Ok-start.ensures.duties;
     draws = c.new.ensures.draws;
     fresh = c.new.ensures.fresh;
   };

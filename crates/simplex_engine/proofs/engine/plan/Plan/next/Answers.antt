@@ -2,6 +2,7 @@
 use Rattle.std.proofs.Common.{◌≡◌, [], ◌∷◌, drop, Ok, sym, subst, ap, ◌∙◌}
 use Rattle.std.specs.Prelude.{IsOk}
 use Rattle.std.proofs.lemmas.Bool.{false≢true}
+use Rattle.simplex_engine.proofs.Duties.{among_further, planned_taken}
 use Rattle.simplex_engine.proofs.Planned.{taken_front, nothing_left}
 use Rattle.simplex_engine.proofs.engine.plan.Plan.next.Goals as goal
 
@@ -20,3 +21,7 @@ returns-clause-none g c = λ none.
     nothing_left c.pop_front.result c.fill.new.self.steps.items c.pop_front.new.self.items none c.pop_front.ensures.items c.pop_front.ensures.rest in
     let idle = c.in_ok-fill.ensures.none empty in
     record { steps = c.pop_front.ensures.rest ∙ ap (drop 1) empty; watched = idle.watched; timeout = idle.timeout; pruned = idle.pruned; fetched = idle.fetched }
+
+pub returns-clause-planned : goal.returns-clause-planned
+returns-clause-planned g c =
+    among_further c.in_ok-fill.ensures.planned (planned_taken c.pop_front.result c.fill.new.self.steps.items c.pop_front.new.self.items c.pop_front.ensures.items)
