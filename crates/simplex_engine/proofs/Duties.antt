@@ -1,4 +1,4 @@
--- What the member waits for stays told.
+-- What the application is to be told of stays told.
 use Rattle.std.proofs.Common.{◌≡◌, ◌∙◌, refl, ap, sym, subst, ℕ, ◌⊎◌, inl, inr, Bool, true, false, ◌||◌, ◌==◌, cond, List, [], ◌∷◌, ◌++◌, map, append-nil, Option, Some, None}
 use Rattle.std.specs.Prelude.{option_to_list}
 use Rattle.std.specs.BTreeSet.{insert_key}
@@ -7,6 +7,7 @@ use Rattle.std.specs.Ordering.{nat_cmp}
 use Rattle.std.proofs.lemmas.Bool.{or_right, eq-eqb}
 use Rattle.std.proofs.lemmas.List.Folds.{list_any-append}
 use Rattle.simplex_types.specs.declared.types.fault.Fault.{Fault}
+use Rattle.simplex_types.specs.declared.types.messages.Context.{Context}
 use Rattle.simplex_types.specs.declared.types.messages.Proposal.{Proposal}
 use Rattle.std.specs.Option.{option_map_or}
 use Rattle.simplex_voter.specs.Certification.{candidates_answer}
@@ -14,6 +15,7 @@ use Rattle.simplex_voter.specs.Facts.{StateFacts, Elect}
 use Rattle.simplex_voter.specs.Proposing.{propose_answer, supersede_answer}
 use Rattle.simplex_voter.specs.Verifying.{verify_answer}
 use Rattle.simplex_voter.specs.declared.voter.propose.ProposalRequest.{ProposalRequest}
+use Rattle.simplex_voter.specs.declared.voter.propose.ProposalRequest.TheVariants.{Prepare, Propose}
 use Rattle.simplex_voter.specs.declared.voter.verify.Verify.{Verify}
 use Rattle.simplex_voter.specs.declared.voter.verify.Verify.TheVariants as verify
 use Rattle.simplex_member.specs.Allowed.{is_allowed, fault_of}
@@ -21,8 +23,9 @@ use Rattle.simplex_member.specs.Calls as call
 use Rattle.simplex_member.specs.Calls.{CallFacts, Told}
 use Rattle.simplex_member.specs.CallSemantics.{answer, outstanding_work_after}
 use Rattle.simplex_member.specs.Lives.{MemberFacts, AnswersAlive, IsCall, unless_refused, unless_kept, with_call}
-use Rattle.simplex_member.specs.OutstandingWork.{OutstandingWork, no_outstanding_work, is_among, context_at, with_offers, with_open_request, with_verification, without_context, without_offer, without_verification}
-use Rattle.simplex_laws.proofs.votes.OutstandingWork.{among_others, now_among}
+use Rattle.simplex_member.specs.OutstandingWork.{OutstandingWork, no_outstanding_work, is_among, context_at, with_context, with_offers, with_open_request, with_verification, without_context, without_offer, without_verification}
+use Rattle.simplex_laws.proofs.votes.OutstandingWork.{among_others, now_among, now_open, still_open}
+use Rattle.simplex_engine.specs.declared.engine.plan.Building.{Building}
 use Rattle.simplex_engine.specs.declared.engine.plan.Plan.{Plan}
 use Rattle.simplex_engine.specs.declared.engine.plan.Step.{Step}
 use Rattle.simplex_engine.specs.declared.engine.plan.Step.TheVariants as step
@@ -30,8 +33,9 @@ use Rattle.simplex_engine.specs.declared.output.Output.{Output}
 use Rattle.simplex_engine.specs.declared.output.Output.TheVariants as output
 use Rattle.simplex_engine.specs.declared.output.Work.{Work}
 use Rattle.simplex_engine.specs.declared.output.Work.TheVariants as work
+use Rattle.simplex_engine.specs.Building.{HasBuilds}
 use Rattle.simplex_engine.specs.Planning.{HasPlanned}
-use Rattle.simplex_engine.specs.Duties.{AreAmong, is_verify_of, is_certify_of, work_in, work_planned, work_of, IsToldIn, KeepsPlanned, PlansToo}
+use Rattle.simplex_engine.specs.Duties.{AreAmong, is_verify_of, is_certify_of, is_build_of, work_in, work_planned, work_of, IsToldIn, IsPlanned, KeepsPlanned, PlansToo}
 
 -- tests that some pass
 
@@ -95,6 +99,9 @@ module _ {S D K G C : Type 0} where
   planned-append (step.Repeat _ ∷ steps) more = planned-append steps more
   planned-append (step.Push it ∷ steps) more = ap (λ works. it ∷ works) (planned-append steps more)
 
+  abbrev pub alone_of : Plan S D K G C → Bool
+  alone_of plan = plan.is_alone
+
   -- steps that stand behind others
   pub planned_behind : (old new more : List (Step S D K G C)) → new ≡ old ++ more → AreAmong (work_planned old) (work_planned new)
   planned_behind old new more is = among_further (among_more (work_planned old) (work_planned more)) (among_all (sym (ap work_planned is ∙ planned-append old more)))
@@ -103,39 +110,63 @@ module _ {S D K G C : Type 0} where
   pub planned_queued : (old new : List (Step S D K G C)) (last : Step S D K G C) → new ≡ old ++ last ∷ [] → AreAmong (work_planned old) (work_planned new)
   planned_queued old new last is = planned_behind old new (last ∷ []) is
 
-  -- they queue this work too
-  pub plans_too : (old new : Plan S D K G C) (more : List (Step S D K G C)) → new.steps.items ≡ old.steps.items ++ more → PlansToo (work_planned more) old new
-  plans_too old new more is = among_all (sym (ap work_planned is ∙ planned-append old.steps.items more))
+  -- a plan that is the same, or goes on through another
+  pub keeps_still : {works : List (Work S D K G C)} {alone : Bool} → IsPlanned works alone works alone
+  keeps_still {works = works} = record { found = among_still works; alone = refl }
 
-  pub plans_behind : (old new : Plan S D K G C) (more : List (Step S D K G C)) → new.steps.items ≡ old.steps.items ++ more → KeepsPlanned old new
-  plans_behind old new more is = planned_behind old.steps.items new.steps.items more is
+  pub keeps_further : {a b c : List (Work S D K G C)} {x y z : Bool} → IsPlanned a x b y → IsPlanned b y c z → IsPlanned a x c z
+  keeps_further first second = record { found = among_further first.found second.found; alone = second.alone ∙ first.alone }
+
+  -- more steps are queued
+  pub plans_too : (old new : Plan S D K G C) (more : List (Step S D K G C)) → new.steps.items ≡ old.steps.items ++ more → new.is_alone ≡ old.is_alone → PlansToo (work_planned more) old new
+  plans_too old new more is alone = record { found = among_all (sym (ap work_planned is ∙ planned-append old.steps.items more)); alone = alone }
+
+  pub plans_behind : (old new : Plan S D K G C) (more : List (Step S D K G C)) → new.steps.items ≡ old.steps.items ++ more → new.is_alone ≡ old.is_alone → KeepsPlanned old new
+  plans_behind old new more is alone = record { found = planned_behind old.steps.items new.steps.items more is; alone = alone }
 
   pub has_planned : {more : List (Step S D K G C)} {old new : Plan S D K G C} → HasPlanned more old new → KeepsPlanned old new
-  has_planned {more = more} {old = old} {new = new} is = plans_behind old new more is.steps
+  has_planned {more = more} {old = old} {new = new} is = plans_behind old new more is.steps (ap alone_of is.same)
 
-  -- nothing besides
-  pub plans_none : (old new : Plan S D K G C) → KeepsPlanned old new → PlansToo [] old new
-  plans_none old new keeps = among_further (among_all (append-nil (work_planned old.steps.items))) keeps
+  pub has_builds : {more : List (Step S D K G C)} {builds : List (Building D K)} {old new : Plan S D K G C} → HasBuilds more builds old new → KeepsPlanned old new
+  has_builds {more = more} {old = old} {new = new} is = plans_behind old new more is.steps (ap alone_of is.same)
+
+  -- none are
+  pub plans_none : {works planned : List (Work S D K G C)} {x y : Bool} → IsPlanned works x planned y → IsPlanned (works ++ []) x planned y
+  plans_none {works = works} keeps = record { found = among_further (among_all (append-nil works)) keeps.found; alone = keeps.alone }
 
   pub plans_same : (old new : Plan S D K G C) → new ≡ old → KeepsPlanned old new
-  plans_same old new is = among_all (ap (λ (plan : Plan S D K G C). work_planned plan.steps.items) (sym is))
+  plans_same old new is = record { found = among_all (ap (λ (plan : Plan S D K G C). work_planned plan.steps.items) (sym is)); alone = ap alone_of is }
 
-  pub plans_still : (old new : Plan S D K G C) → new.steps.items ≡ old.steps.items → KeepsPlanned old new
-  plans_still old new is = among_all (ap work_planned (sym is))
+  pub plans_repaired : (old new : Plan S D K G C) → new ≡ record old { repair = new.repair } → KeepsPlanned old new
+  plans_repaired old new is = record { found = among_all (ap (λ (plan : Plan S D K G C). work_planned plan.steps.items) (sym is)); alone = ap alone_of is }
+
+  pub plans_begun : (old new : Plan S D K G C) → new ≡ record old { is_timeout_due = true; is_prune_due = true } → KeepsPlanned old new
+  plans_begun old new is = record { found = among_all (ap (λ (plan : Plan S D K G C). work_planned plan.steps.items) (sym is)); alone = ap alone_of is }
+
+  -- what is planned behind a change of something else
+  pub plans_then : (a b c : Plan S D K G C) (told : Told K D) → KeepsPlanned a b → PlansToo (work_of b.is_alone told) b c → PlansToo (work_of a.is_alone told) a c
+  plans_then a b c told first second = record {
+    found = among_further (among_both first.found (among_all (ap (λ alone. work_of alone told) (sym first.alone)))) second.found;
+    alone = second.alone ∙ first.alone;
+  }
 
   -- the step in front is taken
   pub planned_taken : (taken : Option (Step S D K G C)) (steps left : List (Step S D K G C)) → steps ≡ option_to_list taken ++ left → AreAmong (work_planned steps) (work_planned (option_to_list taken ++ left))
   planned_taken taken steps left is = among_all (ap work_planned is)
 
   -- what is told stays told among more
-  pub told_among : {these those : List (Work S D K G C)} {waiting : OutstandingWork K D} → AreAmong these those → IsToldIn these waiting → IsToldIn those waiting
+  pub told_among : {is_alone : Bool} {these those : List (Work S D K G C)} {waiting : OutstandingWork K D} → AreAmong these those → IsToldIn is_alone these waiting → IsToldIn is_alone those waiting
   told_among among is = record {
     verified = λ view waits. among.found (is_verify_of view) (is.verified view waits);
     certified = λ view waits. among.found (is_certify_of view) (is.certified view waits);
+    built = λ others view waits. among.found (is_build_of view) (is.built others view waits);
   }
 
-  pub told_none : (works : List (Work S D K G C)) → IsToldIn works (no_outstanding_work {K = K} {D = D})
-  told_none works = record { verified = λ view waits. cc; certified = λ view waits. cc }
+  pub told_with : {is_alone before : Bool} {works : List (Work S D K G C)} {waiting : OutstandingWork K D} → is_alone ≡ before → IsToldIn before works waiting → IsToldIn is_alone works waiting
+  told_with same is = record { verified = is.verified; certified = is.certified; built = λ others. is.built (sym same ∙ others) }
+
+  pub told_none : (is_alone : Bool) (works : List (Work S D K G C)) → IsToldIn is_alone works (no_outstanding_work {K = K} {D = D})
+  told_none is_alone works = record { verified = λ view waits. cc; certified = λ view waits. cc; built = λ others view waits. cc }
 
 -- an answer and what it opens
 
@@ -156,14 +187,14 @@ module _ (S K G C : Type 0) {D : Type 0} where
     ])
   ]
 
-module _ {S L D K G C : Type 0} (same : D → D → Bool) (elect : Elect L) (works : List (Work S D K G C)) where
+module _ {S L D K G C : Type 0} (same : D → D → Bool) (elect : Elect L) (is_alone : Bool) (works : List (Work S D K G C)) where
   abbrev TellsAll : Told K D → OutstandingWork K D → Type 0
-  TellsAll told waiting = IsToldIn (works ++ work_of {S = S} {D = D} {K = K} {G = G} {C = C} told) waiting
+  TellsAll told waiting = IsToldIn is_alone (works ++ work_of {S = S} {D = D} {K = K} {G = G} {C = C} is_alone told) waiting
 
-  told_anyway : (told : Told K D) (waiting : OutstandingWork K D) → IsToldIn works waiting → TellsAll told waiting
-  told_anyway told waiting is = told_among (among_more works (work_of told)) is
+  told_anyway : (told : Told K D) (waiting : OutstandingWork K D) → IsToldIn is_alone works waiting → TellsAll told waiting
+  told_anyway told waiting is = told_among (among_more works (work_of is_alone told)) is
 
-  told_verify : (waiting : OutstandingWork K D) (answer : Verify D K) → IsToldIn works waiting → TellsAll (call.Standing answer) (with_verification waiting answer)
+  told_verify : (waiting : OutstandingWork K D) (answer : Verify D K) → IsToldIn is_alone works waiting → TellsAll (call.Standing answer) (with_verification waiting answer)
   told_verify waiting verify.Wait is = told_anyway (call.Standing verify.Wait) waiting is
   told_verify waiting (verify.Resolve proposal view kind target) is = told_anyway (call.Standing (verify.Resolve proposal view kind target)) waiting is
   told_verify waiting (verify.Ready context p) is =
@@ -174,9 +205,10 @@ module _ {S L D K G C : Type 0} (same : D → D → Bool) (elect : Elect L) (wor
           | inr there ↦ any_left (is_verify_of view) works more (is.verified view there)
         ];
         certified = λ view waits. any_left (is_certify_of view) works more (is.certified view waits);
+        built = λ others view waits. any_left (is_build_of view) works more (is.built others view waits);
       }
 
-  told_offers : (waiting : OutstandingWork K D) (proposals : List (Proposal D)) → IsToldIn works waiting → IsToldIn (works ++ map work.Certify proposals) (with_offers waiting proposals)
+  told_offers : (waiting : OutstandingWork K D) (proposals : List (Proposal D)) → IsToldIn is_alone works waiting → IsToldIn is_alone (works ++ map work.Certify proposals) (with_offers waiting proposals)
   told_offers waiting proposals is =
       let more : List (Work S D K G C) = map work.Certify proposals in
       record {
@@ -185,45 +217,68 @@ module _ {S L D K G C : Type 0} (same : D → D → Bool) (elect : Elect L) (wor
           | inl there ↦ any_left (is_certify_of view) works more (is.certified view there)
           | inr now ↦ any_right (is_certify_of view) works more now
         ];
+        built = λ others view waits. any_left (is_build_of view) works more (is.built others view waits);
       }
 
-  told_less : (view : ℕ) (waiting : OutstandingWork K D) → IsToldIn works waiting → IsToldIn works (without_verification waiting view)
+  told_less : (view : ℕ) (waiting : OutstandingWork K D) → IsToldIn is_alone works waiting → IsToldIn is_alone works (without_verification waiting view)
   told_less view waiting is = record {
     verified = λ other waits. is.verified other (among_others view other waiting.verifying waits).0;
     certified = is.certified;
+    built = is.built;
   }
 
-  told_fewer : (view : ℕ) (waiting : OutstandingWork K D) → IsToldIn works waiting → IsToldIn works (without_offer waiting view)
+  told_fewer : (view : ℕ) (waiting : OutstandingWork K D) → IsToldIn is_alone works waiting → IsToldIn is_alone works (without_offer waiting view)
   told_fewer view waiting is = record {
     verified = is.verified;
     certified = λ other waits. is.certified other (among_others view other waiting.offered waits).0;
+    built = is.built;
   }
 
-  told_request : (waiting : OutstandingWork K D) (request : Option (ProposalRequest D K)) → IsToldIn works waiting → IsToldIn works (with_open_request waiting request)
-  told_request waiting None is = is
-  told_request waiting (Some request) is = record { verified = is.verified; certified = is.certified }
+  told_closed : (view : ℕ) (waiting : OutstandingWork K D) → IsToldIn is_alone works waiting → IsToldIn is_alone works (without_context waiting view)
+  told_closed view waiting is = record {
+    verified = is.verified;
+    certified = is.certified;
+    built = λ others other waits. is.built others other (still_open waiting view other waits);
+  }
 
-  told_superseded : (is_replaced : Bool) (view : ℕ) (waiting : OutstandingWork K D) → IsToldIn works waiting → IsToldIn works (cond is_replaced (without_context waiting view) waiting)
-  told_superseded true view waiting is = record { verified = is.verified; certified = is.certified }
+  -- a block is to be built, and the application is asked for it
+  told_asked : (waiting : OutstandingWork K D) (context : Context D K) (more : List (Work S D K G C)) → (is_alone ≡ false → more ≡ work.Build context ∷ [])
+      → IsToldIn is_alone works waiting → IsToldIn is_alone (works ++ more) (with_context waiting context)
+  told_asked waiting context more asks is = record {
+    verified = λ view waits. any_left (is_verify_of view) works more (is.verified view waits);
+    certified = λ view waits. any_left (is_certify_of view) works more (is.certified view waits);
+    built = λ others view waits. elim (now_open waiting context view waits) [
+      | inl now ↦ any_right (is_build_of view) works more (ap (list_any (is_build_of view)) (asks others) ∙ ap (λ b. b || false) (eq-eqb context.round.view view (sym now)))
+      | inr there ↦ any_left (is_build_of view) works more (is.built others view there)
+    ];
+  }
+
+  told_request : (waiting : OutstandingWork K D) (request : Option (ProposalRequest D K)) → IsToldIn is_alone works waiting → TellsAll (call.Requested request) (with_open_request waiting request)
+  told_request waiting None is = told_anyway (call.Requested None) waiting is
+  told_request waiting (Some (Prepare context)) is =
+      told_asked waiting context (work_of is_alone (call.Requested (Some (Prepare context)))) (ap (λ alone. cond alone [] (work.Build context ∷ []))) is
+  told_request waiting (Some (Propose context)) is = told_asked waiting context (work.Build context ∷ []) (λ others. refl) is
+
+  told_superseded : (is_replaced : Bool) (view : ℕ) (waiting : OutstandingWork K D) → IsToldIn is_alone works waiting → IsToldIn is_alone works (cond is_replaced (without_context waiting view) waiting)
+  told_superseded true view waiting is = told_closed view waiting is
   told_superseded false view waiting is = is
 
   -- what a call opens that is answered
-  told_by_answer : (x : StateFacts K L D) (waiting : OutstandingWork K D) (asked : CallFacts D) → IsToldIn works waiting
+  told_by_answer : (x : StateFacts K L D) (waiting : OutstandingWork K D) (asked : CallFacts D) → IsToldIn is_alone works waiting
       → TellsAll (answer same elect x waiting asked) (outstanding_work_after same elect x waiting asked)
   told_by_answer x o call.TryVerify is = told_verify o (verify_answer same elect x) is
   told_by_answer x o call.CertifyCandidates is = told_offers o (candidates_answer same elect x).0 is
   told_by_answer x o (call.Verified v) is = told_anyway (answer same elect x o (call.Verified v)) (without_verification o v) (told_less v o is)
   told_by_answer x o (call.VerificationFailed v reason now) is = told_anyway (answer same elect x o (call.VerificationFailed v reason now)) (without_verification o v) (told_less v o is)
   told_by_answer x o (call.Certified v success now) is = told_anyway (answer same elect x o (call.Certified v success now)) (without_offer o v) (told_fewer v o is)
-  told_by_answer x o call.TryPropose is =
-      told_anyway (answer same elect x o call.TryPropose) (with_open_request o (propose_answer same elect x)) (told_request o (propose_answer same elect x) is)
+  told_by_answer x o call.TryPropose is = told_request o (propose_answer same elect x) is
   told_by_answer x o (call.Proposed v payload now) is =
-      told_anyway (answer same elect x o (call.Proposed v payload now)) (without_context o v) (record { verified = is.verified; certified = is.certified })
+      told_anyway (answer same elect x o (call.Proposed v payload now)) (without_context o v) (told_closed v o is)
   told_by_answer x o (call.SupersedeProposalRequest v) is =
       let replaced = option_map_or (λ context. supersede_answer same elect x context) (context_at o v) false in
       told_anyway (answer same elect x o (call.SupersedeProposalRequest v)) (cond replaced (without_context o v) o) (told_superseded replaced v o is)
   told_by_answer x o (call.ReleaseProposalRequest v) is =
-      told_anyway (answer same elect x o (call.ReleaseProposalRequest v)) (without_context o v) (record { verified = is.verified; certified = is.certified })
+      told_anyway (answer same elect x o (call.ReleaseProposalRequest v)) (without_context o v) (told_closed v o is)
   told_by_answer x o (call.AddNotarization c) is = told_anyway (answer same elect x o (call.AddNotarization c)) o is
   told_by_answer x o (call.AddNullification c now) is = told_anyway (answer same elect x o (call.AddNullification c now)) o is
   told_by_answer x o (call.AddFinalization c now) is = told_anyway (answer same elect x o (call.AddFinalization c now)) o is
@@ -242,12 +297,12 @@ module _ {S L D K G C : Type 0} (same : D → D → Bool) (elect : Elect L) (wor
   told_by_answer x o call.Prune is = told_anyway (answer same elect x o call.Prune) o is
 
   -- a call of the member
-  pub told_by_call : (m left : MemberFacts K L D) (asked : CallFacts D) (told : Told K D) → IsCall same elect m asked told left → IsToldIn works m.outstanding_work → TellsAll told left.outstanding_work
+  pub told_by_call : (m left : MemberFacts K L D) (asked : CallFacts D) (told : Told K D) → IsCall same elect m asked told left → IsToldIn is_alone works m.outstanding_work → TellsAll told left.outstanding_work
   unfolding IsCall
   told_by_call m left asked told is_call is = by_life m.life is_call
     where
       unchanged : left ≡ m → TellsAll told left.outstanding_work
-      unchanged leaves = told_anyway told left.outstanding_work (subst (λ (n : MemberFacts K L D). IsToldIn works n.outstanding_work) (sym leaves) is)
+      unchanged leaves = told_anyway told left.outstanding_work (subst (λ (n : MemberFacts K L D). IsToldIn is_alone works n.outstanding_work) (sym leaves) is)
 
       by_test : (x : StateFacts K L D) (b : Bool) (due : Option Fault) → told ≡ cond b (unless_refused due (answer same elect x m.outstanding_work asked)) call.NotAllowed
           → left ≡ cond b (unless_kept due m (with_call same elect x m asked)) m → TellsAll told left.outstanding_work
@@ -262,25 +317,25 @@ module _ {S L D K G C : Type 0} (same : D → D → Bool) (elect : Elect L) (wor
       by_life (Some x) (inl (tells, leaves)) = by_test x (is_allowed x m.outstanding_work asked) (fault_of x asked) tells leaves
       by_life (Some x) (inr (_, tells, inl (_, leaves))) = unchanged leaves
       by_life (Some x) (inr (_, tells, inr (_, _, leaves))) =
-          told_anyway told left.outstanding_work (subst (λ (n : MemberFacts K L D). IsToldIn works n.outstanding_work) (sym leaves) (told_none works))
+          told_anyway told left.outstanding_work (subst (λ (n : MemberFacts K L D). IsToldIn is_alone works n.outstanding_work) (sym leaves) (told_none is_alone works))
 
   -- a call that opens nothing and closes nothing
   pub told_as_before : (m left : MemberFacts K L D) (asked : CallFacts D) (told : Told K D) → ((x : StateFacts K L D) (o : OutstandingWork K D) → outstanding_work_after same elect x o asked ≡ o)
-      → IsCall same elect m asked told left → IsToldIn works m.outstanding_work → IsToldIn works left.outstanding_work
+      → IsCall same elect m asked told left → IsToldIn is_alone works m.outstanding_work → IsToldIn is_alone works left.outstanding_work
   unfolding IsCall
   told_as_before m left asked told plain is_call is = by_life m.life is_call
     where
-      unchanged : left ≡ m → IsToldIn works left.outstanding_work
-      unchanged leaves = subst (λ (n : MemberFacts K L D). IsToldIn works n.outstanding_work) (sym leaves) is
+      unchanged : left ≡ m → IsToldIn is_alone works left.outstanding_work
+      unchanged leaves = subst (λ (n : MemberFacts K L D). IsToldIn is_alone works n.outstanding_work) (sym leaves) is
 
-      by_test : (x : StateFacts K L D) (b : Bool) (due : Option Fault) → left ≡ cond b (unless_kept due m (with_call same elect x m asked)) m → IsToldIn works left.outstanding_work
+      by_test : (x : StateFacts K L D) (b : Bool) (due : Option Fault) → left ≡ cond b (unless_kept due m (with_call same elect x m asked)) m → IsToldIn is_alone works left.outstanding_work
       by_test x false due leaves = unchanged leaves
       by_test x true (Some due) leaves = unchanged leaves
       by_test x true None leaves =
-          subst (λ (n : MemberFacts K L D). IsToldIn works n.outstanding_work) (sym leaves) (subst (IsToldIn works) (sym (plain x m.outstanding_work)) is)
+          subst (λ (n : MemberFacts K L D). IsToldIn is_alone works n.outstanding_work) (sym leaves) (subst (IsToldIn is_alone works) (sym (plain x m.outstanding_work)) is)
 
-      by_life : (life : Option (StateFacts K L D)) → AnswersAlive same elect life m asked told left → IsToldIn works left.outstanding_work
+      by_life : (life : Option (StateFacts K L D)) → AnswersAlive same elect life m asked told left → IsToldIn is_alone works left.outstanding_work
       by_life None (tells, leaves) = unchanged leaves
       by_life (Some x) (inl (tells, leaves)) = by_test x (is_allowed x m.outstanding_work asked) (fault_of x asked) leaves
       by_life (Some x) (inr (_, tells, inl (_, leaves))) = unchanged leaves
-      by_life (Some x) (inr (_, tells, inr (_, _, leaves))) = subst (λ (n : MemberFacts K L D). IsToldIn works n.outstanding_work) (sym leaves) (told_none works)
+      by_life (Some x) (inr (_, tells, inr (_, _, leaves))) = subst (λ (n : MemberFacts K L D). IsToldIn is_alone works n.outstanding_work) (sym leaves) (told_none is_alone works)

@@ -30,7 +30,6 @@ mod Planning
 mod Planned
 mod Accepting
 mod Taking
-mod Following
 mod Duties
-mod Telling
+mod Following
 mod Tells

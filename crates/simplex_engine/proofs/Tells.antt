@@ -1,5 +1,5 @@
 -- For the code of the engine.
--- What the member waits for stays told, step by step.
+-- What the application is to be told of stays told, step by step.
 use Rattle.std.proofs.Common.{◌≡◌, ◌∙◌, refl, ap, sym, subst, ℕ, Bool, List, [], ◌∷◌, ◌++◌, append_assoc, append-nil, Option, Some, None, Result, Ok, Err, inl, inr, true, false}
 use Rattle.std.specs.Prelude.{IsOk, OnOk, IsNone, MatchOption, option_to_list}
 use Rattle.std.proofs.lemmas.Bool.{false≢true}
@@ -24,7 +24,7 @@ use Rattle.simplex_engine.specs.declared.output.Work.{Work}
 use Rattle.simplex_engine.specs.Acting.{hands_in}
 use Rattle.simplex_engine.specs.Duties.{AreAmong, work_in, work_planned, work_of, work_ahead, IsToldIn, KeepsPlanned, PlansToo, TellsBehind, KeepsTelling, HasTold, AllIsGivenOut}
 use Rattle.simplex_engine.specs.Outboxes.{QueuesMore}
-use Rattle.simplex_engine.proofs.Duties.{among_all, among_both, among_further, among_more, among_still, among_swapped, planned-append, told_among, told_as_before, told_by_call, told_none, work_in-append}
+use Rattle.simplex_engine.proofs.Duties.{alone_of, among_all, among_both, among_further, among_more, among_still, among_swapped, planned-append, told_among, told_as_before, told_by_call, told_none, told_with, work_in-append}
 use Rattle.simplex_engine.proofs.Queued.{queues_none}
 
 module _ {S D K G C : Type 0} where
@@ -57,7 +57,8 @@ module _ {S L D K G C : Type 0} where
   pub tells_same : (a b : Engine S L D K G C) → b.core.member.facts.outstanding_work ≡ a.core.member.facts.outstanding_work → QueuesMore a.core.outbox b.core.outbox
       → KeepsPlanned a.plan b.plan → KeepsTelling a b
   tells_same a b same queues plans = record {
-    stays = λ work told. subst (IsToldIn (work ++ work_ahead b)) (sym same) (told_among (among_both (among_still work) (among_both (queued_still a b queues) plans)) told);
+    stays = λ work told. told_with plans.alone
+        (subst (IsToldIn a.plan.is_alone (work ++ work_ahead b)) (sym same) (told_among (among_both (among_still work) (among_both (queued_still a b queues) plans.found)) told));
   }
 
   -- nothing of the member or of the outbox has changed
@@ -68,15 +69,16 @@ module _ {S L D K G C : Type 0} where
 
   -- a call of the member was made, and what it asks of the application is planned
   pub tells_called : (same : D → D → Bool) (elect : Elect L) (a b : Engine S L D K G C) (asked : CallFacts D) (told : Told K D)
-      → IsCall same elect a.core.member.facts asked told b.core.member.facts → QueuesMore a.core.outbox b.core.outbox → PlansToo (work_of told) a.plan b.plan → KeepsTelling a b
+      → IsCall same elect a.core.member.facts asked told b.core.member.facts → QueuesMore a.core.outbox b.core.outbox → PlansToo (work_of a.plan.is_alone told) a.plan b.plan → KeepsTelling a b
   tells_called same elect a b asked told called queues plans = record {
     stays = λ work is.
         let ahead = work_ahead a in
-        let all : IsToldIn ((work ++ ahead) ++ work_of told) b.core.member.facts.outstanding_work =
-        told_by_call {S = S} {L = L} {D = D} {K = K} {G = G} {C = C} same elect (work ++ ahead) a.core.member.facts b.core.member.facts asked told called is in
-        told_among (among_further (among_all (append_assoc work ahead (work_of told)))
-        (among_both (among_still work) (among_further (among_all (append_assoc (work_in a.core.outbox.queue.items) (work_planned a.plan.steps.items) (work_of told)))
-        (among_both (queued_still a b queues) plans)))) all;
+        let all : IsToldIn a.plan.is_alone ((work ++ ahead) ++ work_of a.plan.is_alone told) b.core.member.facts.outstanding_work =
+        told_by_call {S = S} {L = L} {D = D} {K = K} {G = G} {C = C} same elect a.plan.is_alone (work ++ ahead) a.core.member.facts b.core.member.facts asked told called is in
+        let asks : List (Work S D K G C) = work_of a.plan.is_alone told in
+        told_with plans.alone (told_among (among_further (among_all (append_assoc work ahead asks))
+        (among_both (among_still work) (among_further (among_all (append_assoc (work_in a.core.outbox.queue.items) (work_planned a.plan.steps.items) asks))
+        (among_both (queued_still a b queues) plans.found)))) all);
   }
 
   -- a certificate was handed in
@@ -84,14 +86,21 @@ module _ {S L D K G C : Type 0} where
       → IsCall same elect a.core.member.facts (hands_in certificate now) told b.core.member.facts → QueuesMore a.core.outbox b.core.outbox → KeepsPlanned a.plan b.plan → KeepsTelling a b
   tells_handed same elect a b certificate now told called queues plans = record {
     stays = λ work is.
-        told_among (among_both (among_still work) (among_both (queued_still a b queues) plans))
-        (told_as_before {S = S} {L = L} {D = D} {K = K} {G = G} {C = C} same elect (work ++ work_ahead a) a.core.member.facts b.core.member.facts (hands_in certificate now) told (plain certificate) called is);
+        told_with plans.alone (told_among (among_both (among_still work) (among_both (queued_still a b queues) plans.found))
+        (told_as_before {S = S} {L = L} {D = D} {K = K} {G = G} {C = C} same elect a.plan.is_alone (work ++ work_ahead a) a.core.member.facts b.core.member.facts (hands_in certificate now) told (plain certificate) called is));
   }
     where
       plain : (c : CertificateFacts D) (x : StateFacts K L D) (o : OutstandingWork K D) → outstanding_work_after same elect x o (hands_in c now) ≡ o
       plain (Notarized _) x o = refl
       plain (Nullified _) x o = refl
       plain (Finalized _) x o = refl
+
+  -- a copy of it was handed in, and nothing of the member has changed since
+  pub handed_as : (same : D → D → Bool) (elect : Elect L) (m : MemberFacts K L D) (told : Told K D) (now : ℕ) {copy certificate : CertificateFacts D} {left core : Journaled S L D K G C}
+      → copy ≡ certificate → core ≡ left → IsCall same elect m (hands_in copy now) told left.member.facts → IsCall same elect m (hands_in certificate now) told core.member.facts
+  handed_as same elect m told now {copy} {certificate} {left} {core} is_copy stays called =
+      subst (λ facts. IsCall same elect m (hands_in facts now) told core.member.facts) is_copy
+      (subst (λ (it : Journaled S L D K G C). IsCall same elect m (hands_in copy now) told it.member.facts) (sym stays) called)
 
   -- no output of a call and what follows it is lost
   pub queued_on : (a b c : Journaled S L D K G C) → b.outbox ≡ a.outbox → c ≡ b → QueuesMore a.outbox c.outbox
@@ -116,22 +125,23 @@ module _ {S L D K G C : Type 0} where
       let now : work_ahead b ≡ (queue ++ it ∷ []) ++ planned =
       ap (λ (plan : Plan S D K G C). work_in b.core.outbox.queue.items ++ work_planned plan.steps.items) same_plan
       ∙ ap (λ items. items ++ planned) (ap work_in queued ∙ work_in-append a.core.outbox.queue.items (output.Work it ∷ [])) in
-      subst (λ (m : SignedMember K L D G). IsToldIn (work ++ work_ahead b) m.facts.outstanding_work) (sym same_member)
-      (told_among (among_further (among_moved work (it ∷ []) queue planned) (among_all (ap (λ ahead. work ++ ahead) (sym now)))) told)
+      told_with (ap alone_of same_plan) (subst (λ (m : SignedMember K L D G). IsToldIn a.plan.is_alone (work ++ work_ahead b) m.facts.outstanding_work) (sym same_member)
+      (told_among (among_further (among_moved work (it ∷ []) queue planned) (among_all (ap (λ ahead. work ++ ahead) (sym now)))) told))
 
   -- the step in front is taken
   pub tells_taken : {X E : Type 0} (r : Result X E) (step : Step S D K G C) (a mid b : Engine S L D K G C) → mid.core ≡ a.core
-      → AreAmong (work_planned a.plan.steps.items) (work_planned (step ∷ mid.plan.steps.items))
+      → AreAmong (work_planned a.plan.steps.items) (work_planned (step ∷ mid.plan.steps.items)) → mid.plan.is_alone ≡ a.plan.is_alone
       → OnOk r ((work : List (Work S D K G C)) → TellsBehind (work ++ work_planned (step ∷ [])) mid → TellsBehind work b) → OnOk r (KeepsTelling a b)
-  tells_taken (Err e) step a mid b same front takes = tt
-  tells_taken (Ok x) step a mid b same front takes = record {
+  tells_taken (Err e) step a mid b same front alone takes = tt
+  tells_taken (Ok x) step a mid b same front alone takes = record {
     stays = λ work told.
         let queue = work_in a.core.outbox.queue.items in
         let taken = work_planned (step ∷ []) in
         let left = work_planned mid.plan.steps.items in
         let split : AreAmong (work_planned a.plan.steps.items) (taken ++ left) = among_further front (among_all (planned-append (step ∷ []) mid.plan.steps.items)) in
-        takes work (subst (λ (core : Journaled S L D K G C). IsToldIn ((work ++ taken) ++ (work_in core.outbox.queue.items ++ left)) core.member.facts.outstanding_work) (sym same)
-        (told_among (among_further (among_both (among_still work) (among_both (among_still queue) split)) (among_back work taken queue left)) told));
+        takes work (told_with alone
+        (subst (λ (core : Journaled S L D K G C). IsToldIn a.plan.is_alone ((work ++ taken) ++ (work_in core.outbox.queue.items ++ left)) core.member.facts.outstanding_work) (sym same)
+        (told_among (among_further (among_both (among_still work) (among_both (among_still queue) split)) (among_back work taken queue left)) told)));
   }
 
   -- what is given out
@@ -146,8 +156,9 @@ module _ {S L D K G C : Type 0} where
       ∙ append_assoc (work_in given) (work_in out) (left ++ planned)
       ∙ ap (λ items. work_in given ++ items) (sym (append_assoc (work_in out) left planned))
       ∙ ap (λ items. work_in given ++ (items ++ planned)) (sym (ap work_in front ∙ work_in-append out b.core.outbox.queue.items)) in
-      subst (λ (m : SignedMember K L D G). IsToldIn (work_in (given ++ out) ++ work_ahead b) m.facts.outstanding_work) (sym same_member)
-      (subst (λ items. IsToldIn items a.core.member.facts.outstanding_work) (sym now) told)
+      told_with (ap alone_of same_plan)
+      (subst (λ (m : SignedMember K L D G). IsToldIn a.plan.is_alone (work_in (given ++ out) ++ work_ahead b) m.facts.outstanding_work) (sym same_member)
+      (subst (λ items. IsToldIn a.plan.is_alone items a.core.member.facts.outstanding_work) (sym now) told))
 
   -- nothing was
   pub still_told : (a : Engine S L D K G C) (core : Journaled S L D K G C) → core.member ≡ a.core.member → a.core.outbox.queue.items ≡ core.outbox.queue.items
@@ -158,8 +169,8 @@ module _ {S L D K G C : Type 0} where
   -- where nothing is queued and nothing planned, all was
   pub all_given : (a : Engine S L D K G C) → a.core.outbox.queue.items ≡ [] → a.plan.steps.items ≡ [] → (given : List (Output S D Stored K G C)) → HasTold given a → AllIsGivenOut given a
   all_given a queue steps given told =
-      subst (λ items. IsToldIn items a.core.member.facts.outstanding_work) (append-nil (work_in given))
-      (subst (λ ahead. IsToldIn (work_in given ++ ahead) a.core.member.facts.outstanding_work) (ap (λ items. work_in items ++ work_planned a.plan.steps.items) queue ∙ ap work_planned steps) told)
+      subst (λ items. IsToldIn a.plan.is_alone items a.core.member.facts.outstanding_work) (append-nil (work_in given))
+      (subst (λ ahead. IsToldIn a.plan.is_alone (work_in given ++ ahead) a.core.member.facts.outstanding_work) (ap (λ items. work_in items ++ work_planned a.plan.steps.items) queue ∙ ap work_planned steps) told)
 
   pub all_left : (a b : Engine S L D K G C) (out : Option (Output S D Stored K G C)) → IsNone out → b.core.member ≡ a.core.member → b.core.outbox.queue.items ≡ [] → b.plan.steps.items ≡ []
       → b.plan ≡ a.plan → a.core.outbox.queue.items ≡ option_to_list out ++ b.core.outbox.queue.items → (given : List (Output S D Stored K G C)) → HasTold given a → AllIsGivenOut given b
@@ -169,7 +180,7 @@ module _ {S L D K G C : Type 0} where
 
   -- a member that waits for nothing
   pub tells_none : (a : Engine S L D K G C) → a.core.member.facts.outstanding_work ≡ no_outstanding_work → HasTold [] a
-  tells_none a none = subst (IsToldIn (work_ahead a)) (sym none) (told_none (work_ahead a))
+  tells_none a none = subst (IsToldIn a.plan.is_alone (work_ahead a)) (sym none) (told_none a.plan.is_alone (work_ahead a))
 
 pub restart_waits : {K L D : Type 0} (same : D → D → Bool) (elect : Elect L) (m : MemberFacts K L D) (r : RestartFacts K L D) (result : Result (Unit {0}) RecoverError) (left : MemberFacts K L D)
     → result ≡ Ok tt → IsRestart same elect m r result left → left.outstanding_work ≡ no_outstanding_work

@@ -35,39 +35,56 @@ use Rattle.simplex_engine.specs.Planning.{HasPlanned, touching}
 use Rattle.simplex_engine.specs.Repairing.{HasFetches, IsRepaired}
 use Rattle.simplex_engine.specs.Wanted.{after_effects, fetching}
 
+-- what may follow for a view, and for a block that is built in it
+pub data Consequence (D : Type 0) : Type 0 where
+  Nothing : Consequence D
+  -- something of the view has changed
+  Touched : ℕ → Consequence D
+  -- so it has, since the block was built
+  Built : ℕ → Consequence D
+  -- the block is of no use any more, and the application is told, or it is not
+  Stopped : ℕ → Consequence D
+  Ended : ℕ → Consequence D
+  -- the member is asked more
+  Asked : Task D → Consequence D
+
+module _ {D : Type 0} where
+  -- a call was refused: a block that it was about is of no use any more
+  abbrev pub after_refusal : Task D → Consequence D
+  after_refusal (task.Abandon view) = Stopped view
+  after_refusal (task.Supersede view) = Stopped view
+  after_refusal (task.Release view) = Stopped view
+  after_refusal (task.Proposed view _) = Ended view
+  after_refusal _ = Nothing
+
+  -- whether what was handed in was taken
+  abbrev pub after_flag : Task D → Bool → Consequence D
+  after_flag (task.Proposed view _) is_taken = Built view
+  after_flag (task.SetProposal view _) is_taken = if is_taken then Touched view else Nothing
+  after_flag (task.Verified view) is_taken = if is_taken then Touched view else Nothing
+  after_flag (task.GiveUp view _) is_taken = if is_taken then Touched view else Nothing
+  after_flag (task.Release view) is_taken = Stopped view
+  after_flag (task.Supersede view) is_taken = if is_taken then Stopped view else Nothing
+  after_flag _ is_taken = Nothing
+
+  -- whether a block is given up; else it may be replaced by another
+  abbrev pub after_watch : Task D → Bool → Consequence D
+  after_watch (task.Abandon view) is_abandoned = Asked (if is_abandoned then task.Release view else task.Supersede view)
+  after_watch _ is_abandoned = Nothing
+
 module _ {S D K G C : Type 0} where
   -- blocks are to be watched
   abbrev pub watching : Plan S D K G C → Plan S D K G C
   watching plan = record plan { is_watch_due = true }
 
-  -- something of the view has changed, where it has
-  abbrev pub IsTouched : Bool → ℕ → Plan S D K G C → Plan S D K G C → Type 0
-  IsTouched true view old new = HasPlanned (touching view) (watching old) new
-  IsTouched false view old new = new ≡ old
-
-  -- a call was refused: a block that it was about is of no use any more
-  abbrev pub IsRefusalFollowed : Task D → Plan S D K G C → Plan S D K G C → Type 0
-  IsRefusalFollowed (task.Abandon view) old new = IsStopped view old new
-  IsRefusalFollowed (task.Supersede view) old new = IsStopped view old new
-  IsRefusalFollowed (task.Release view) old new = IsStopped view old new
-  IsRefusalFollowed (task.Proposed view _) old new = IsEnded view old new
-  IsRefusalFollowed _ old new = new ≡ old
-
-  -- whether what was handed in was taken
-  abbrev pub IsFlagFollowed : Task D → Bool → Plan S D K G C → Plan S D K G C → Type 0
-  IsFlagFollowed (task.Proposed view _) is_taken old new = HasBuilds (touching view) (all_but_at view old.builds.items) (watching old) new
-  IsFlagFollowed (task.SetProposal view _) is_taken old new = IsTouched is_taken view old new
-  IsFlagFollowed (task.Verified view) is_taken old new = IsTouched is_taken view old new
-  IsFlagFollowed (task.GiveUp view _) is_taken old new = IsTouched is_taken view old new
-  IsFlagFollowed (task.Release view) is_taken old new = IsStopped view old new
-  IsFlagFollowed (task.Supersede view) true old new = IsStopped view old new
-  IsFlagFollowed _ is_taken old new = new ≡ old
-
-  -- whether a block is given up; else it may be replaced by another
-  abbrev pub IsWatchFollowed : Task D → Bool → Plan S D K G C → Plan S D K G C → Type 0
-  IsWatchFollowed (task.Abandon view) true old new = HasPlanned (Ask (task.Release view) ∷ []) old new
-  IsWatchFollowed (task.Abandon view) false old new = HasPlanned (Ask (task.Supersede view) ∷ []) old new
-  IsWatchFollowed _ is_abandoned old new = new ≡ old
+  -- what follows from an answer that says no more than yes, no, or that the call is refused
+  abbrev pub IsConsequence : Consequence D → Plan S D K G C → Plan S D K G C → Type 0
+  IsConsequence Nothing old new = new ≡ old
+  IsConsequence (Touched view) old new = HasPlanned (touching view) (watching old) new
+  IsConsequence (Built view) old new = HasBuilds (touching view) (all_but_at view old.builds.items) (watching old) new
+  IsConsequence (Stopped view) old new = IsStopped view old new
+  IsConsequence (Ended view) old new = IsEnded view old new
+  IsConsequence (Asked call) old new = HasPlanned (Ask call ∷ []) old new
 
   -- a certificate is lacking for a proposal, and is asked for unless it is already
   abbrev pub lacking : FetchKind → ℕ → ℕ → List Fetch → List (Step S D K G C)
@@ -188,10 +205,10 @@ module _ {S D K G C : Type 0} (bytes : D → List ℕ) (bytes_of : C → List �
 
   -- what is planned for the answer to a task
   abbrev pub IsFollowed : Task D → Reply S D K G C → Plan S D K G C → Plan S D K G C → Type 0
-  IsFollowed asked (reply.Flag is_taken) old new = IsFlagFollowed asked is_taken old new
-  IsFollowed asked (reply.Triggered is_latched) old new = IsFlagFollowed asked is_latched old new
-  IsFollowed asked (reply.Released was_open) old new = IsFlagFollowed asked was_open old new
-  IsFollowed asked (reply.Abandoned reason) old new = IsWatchFollowed asked (is_some reason) old new
+  IsFollowed asked (reply.Flag is_taken) old new = IsConsequence (after_flag asked is_taken) old new
+  IsFollowed asked (reply.Triggered is_latched) old new = IsConsequence (after_flag asked is_latched) old new
+  IsFollowed asked (reply.Released was_open) old new = IsConsequence (after_flag asked was_open) old new
+  IsFollowed asked (reply.Abandoned reason) old new = IsConsequence (after_watch asked (is_some reason)) old new
   IsFollowed asked (reply.Work verify) old new = IsVerifyFollowed verify old new
   IsFollowed asked (reply.Request request) old new = IsRequestFollowed request old new
   IsFollowed asked (reply.Candidates proposals wanted) old new = AreCertified now proposals.items wanted.items old new
@@ -199,6 +216,6 @@ module _ {S D K G C : Type 0} (bytes : D → List ℕ) (bytes_of : C → List �
   IsFollowed asked (reply.Nullify answer) old new = IsNullifyFollowed now answer old new
   IsFollowed asked (reply.Certificate certificate) old new = IsBroadcastFollowed certificate old new
   IsFollowed asked (reply.Timeout moment reason) old new = IsTimeoutFollowed now moment reason old new
-  IsFollowed asked (reply.Fault _) old new = IsRefusalFollowed asked old new
-  IsFollowed asked reply.NotAllowed old new = IsRefusalFollowed asked old new
+  IsFollowed asked (reply.Fault _) old new = IsConsequence (after_refusal asked) old new
+  IsFollowed asked reply.NotAllowed old new = IsConsequence (after_refusal asked) old new
   IsFollowed asked _ old new = new ≡ old

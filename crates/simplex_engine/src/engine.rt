@@ -86,8 +86,9 @@ impl<S: Assembly<D>, L: Elector<S>, D: Digest> Engine<S, L, D> {
     ///   inputs were; a proposal that comes early may be kept.
     /// - `acted`: one that is admitted is acted on: the member is asked what it stands for, or the vote is counted, and what follows
     ///   from that is of use exactly where the answer has anything.
-    /// - `duties`: what the member waits for stays told: each proposal to verify and each to certify was given out to the application,
-    ///   is queued to be, or is planned.
+    /// - `duties`: what the application is to be told of stays told: each proposal that is being verified, each that was offered for
+    ///   certification and has no verdict, and, where there are other members, the block of each view whose request to build is open,
+    ///   was given out, is queued to be, or is planned.
     /// - `bounded`: where each vote that is held was a member's, and of no view above those whose votes are taken, each still is.
     /// - `failed`, `refused`: after an error it has failed; one that has failed answers `Failed`, and nothing changes.
     ///
@@ -130,7 +131,7 @@ impl<S: Assembly<D>, L: Elector<S>, D: Digest> Engine<S, L, D> {
     /// - `none`: where nothing is answered, all of the record was given out to be stored, and the member was asked last for all
     ///   its work, its votes on the current view and the certificates of it, and had nothing new.
     /// - `duties`: as of `handle`, with what is answered given out.
-    /// - `waiting`: so where nothing is answered, all that the member waits for was given out.
+    /// - `waiting`: so where nothing is answered, each of these proposals and blocks was given out.
     /// - `idle`: where nothing is answered, nothing is to be done at the moment: no step is queued, the timeout was asked for, and
     ///   no fetch is due.
     /// - `lowest`: where nothing is answered, no vote is held of a view below the lowest one that is kept.

@@ -73,7 +73,7 @@ pub record IsTaken (now : ℕ) (input : HostInput) (old : HeldEngine) (r : FlatT
   pub backed : IsBackedInput same_host_payload host_leader certificate_bytes (length (host_keys old.engine.batcher.scheme)) input old.engine.batcher
       old.engine.core new.engine.core
   pub bounded : StaysBounded host_keys old.engine.core old.engine.batcher new.engine.core new.engine.batcher
-  -- what the member waits for stays told
+  -- each proposal and block that the application is to be told of stays told
   pub duties : OnOk answer (KeepsTelling old.engine new.engine)
   pub rest : new ≡ record old { engine = new.engine }
 
@@ -160,7 +160,7 @@ HoldsRecord given held =
     → IsRecordOf certificate_bytes held.engine.core.member (journal_of given)
 
 -- an engine has nothing more to do at a moment, holds no vote of views that are over, and asks for just what is lacking; where each
--- proposal to verify or certify was told, it was given out; where no vote was held above those that are taken, each that is held is a
+-- proposal to verify or certify and each block to build was told, it was given out; where no vote was held above those that are taken, each that is held is a
 -- member's, and of a view whose votes are taken
 pub record IsAtRest (now : ℕ) (old new : HostEngine) : Type 0 where
   pub settled : IsSettled same_host_payload host_leader certificate_bytes new.core
@@ -187,7 +187,7 @@ pub record IsAsked (now : ℕ) (old : HeldEngine) (r : FlatOutput) (new : HeldEn
   pub does : DoesMoreOn same_host_payload host_leader None old.engine.core.member.facts new.engine.core.member.facts
   pub votes : TakesNone old.engine.batcher new.engine.batcher
   pub bounded : StaysBounded host_keys old.engine.core old.engine.batcher new.engine.core new.engine.batcher
-  -- what the member waits for stays told
+  -- each proposal and block that the application is to be told of stays told
   pub duties : has_failed new.engine.core ≡ false → new.is_lost ≡ false → (given : List HostOutput) → HasTold given old.engine
       → HasTold (given ++ option_to_list new.last) new.engine
   pub outcome : IsOutcome now old r new

@@ -124,7 +124,7 @@ impl<S: Assembly<D>, L: Elector<S>, D: Digest> Engine<S, L, D> {
         ensures core { self.new.core ≡ self.old.core }
         ensures batcher { self.new.batcher ≡ self.old.batcher }
         ensures of_use { IfOk result (λ is_of_use. is_of_use ≡ not (says_nothing (told S.certificate_bytes reply))) }
-        ensures planned { OnOk result (PlansToo (work_of (told S.certificate_bytes reply)) self.old.plan self.new.plan) }
+        ensures planned { OnOk result (PlansToo (work_of self.old.plan.is_alone (told S.certificate_bytes reply)) self.old.plan self.new.plan) }
     {
         let is_of_use = !says_nothing(&reply);
         self.see()?;

@@ -70,10 +70,10 @@ impl<S: Assembly<D>, L: Elector<S>, D: Digest> Engine<S, L, D> {
         ensures duties { OnOk result (KeepsTelling self.old self.new) }
     {
         match counted {
-            Counted::Certified(certificate) => {
-                self.accept(certificate, now)?;
-                Ok(true)
-            }
+            Counted::Certified(certificate) => match self.accept(&certificate, now) {
+                Ok(_) => Ok(true),
+                Err(fault) => Err(fault),
+            },
             Counted::Equivocated(first, second) => {
                 self.plan.push(Work::Equivocated(first, second))?;
                 Ok(true)
@@ -84,24 +84,28 @@ impl<S: Assembly<D>, L: Elector<S>, D: Digest> Engine<S, L, D> {
     }
 
     /// Hands a certificate in, where it is admitted.
-    pub(super) fn accept(&mut self, certificate: Certificate<S, D>, now: u64) -> Result<bool, Fault>
+    pub(super) fn accept(
+        &mut self,
+        certificate: &Certificate<S, D>,
+        now: u64,
+    ) -> Result<bool, Fault>
         ensures goes_on { GoesOn D.eq L.elect S.certificate_bytes
-            (Some (certificate_subject (certificate_facts S.certificate_bytes certificate))) self.old.core self.new.core }
+            (Some (certificate_subject (certificate_facts S.certificate_bytes certificate.now))) self.old.core self.new.core }
         ensures votes { TakesNone self.old.batcher self.new.batcher }
         ensures batcher { self.new.batcher ≡ self.old.batcher }
         ensures dropped { IfOk result (λ is_of_use. IsFalse is_of_use → self.new.core.member.facts ≡ self.old.core.member.facts) }
-        ensures unadmitted { IsFalse (is_so (λ x. admits x (certificate_facts S.certificate_bytes certificate)) self.old.core.member.facts)
+        ensures unadmitted { IsFalse (is_so (λ x. admits x (certificate_facts S.certificate_bytes certificate.now)) self.old.core.member.facts)
             → (result ≡ Ok false) × (self.new ≡ self.old) }
-        ensures acted { IsTrue (is_so (λ x. admits x (certificate_facts S.certificate_bytes certificate)) self.old.core.member.facts) → IfOk result
-            (IsHandedIn D.eq L.elect S.certificate_bytes now certificate self.old.core.member.facts self.new.core.member.facts) }
+        ensures acted { IsTrue (is_so (λ x. admits x (certificate_facts S.certificate_bytes certificate.now)) self.old.core.member.facts) → IfOk result
+            (IsHandedIn D.eq L.elect S.certificate_bytes now certificate.now self.old.core.member.facts self.new.core.member.facts) }
         ensures duties { OnOk result (KeepsTelling self.old self.new) }
     {
-        if !self.admits(&certificate) {
+        if !self.admits(certificate) {
             return Ok(false);
         }
         let copy = certificate.clone(self.alloc)?;
-        let reply = self.core.hand_in(certificate, now)?;
-        self.follow_certificate(&copy, &reply, now)
+        let reply = self.core.hand_in(copy, now)?;
+        self.follow_certificate(certificate, &reply, now)
     }
 
     /// Whether the certificate is admitted. One of a kind and view that has its certificate is not: it would change nothing.

@@ -45,7 +45,7 @@ impl<S: Assembly<D>, L: Elector<S>, D: Digest> Engine<S, L, D> {
         match input {
             Input::Proposal(from, proposal) => self.offer(from, proposal, now),
             Input::Vote(vote) => self.count(vote, now),
-            Input::Certificate(certificate) => self.accept(certificate, now),
+            Input::Certificate(certificate) => self.accept(&certificate, now),
             Input::Verified(view, is_valid) => self.ask(verification(view, is_valid), now),
             Input::Built(context, payload) => self.build(&context, payload, now),
             Input::Certified(view, is_success) => self.ask(Task::Certified(view, is_success), now),

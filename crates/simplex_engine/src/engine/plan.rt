@@ -205,13 +205,14 @@ impl<S: CertificateScheme, D: Digest> Plan<S, D> {
     /// The next step.
     ///
     /// - `front`: where steps are queued, it is the first of them.
-    /// - `planned`: work that was planned is this step, or planned still.
+    /// - `planned`, `alone`: work that was planned is this step, or planned still; a member alone stays so, and one of many.
     /// - `none`: there is none only where nothing is to be done at the moment.
     pub fn next(&mut self, now: u64) -> Result<Option<Step<S, D>>, Fault>
         ensures front { (first : _) (rest : _) → self.old.steps.items ≡ first ∷ rest
             → (result ≡ Ok (Some first)) × (self.new.steps.items ≡ rest) }
         ensures planned { IfOk result (λ step. AreAmong (work_planned self.old.steps.items)
             (work_planned (option_to_list step ++ self.new.steps.items))) }
+        ensures alone { OnOk result (self.new.is_alone ≡ self.old.is_alone) }
         ensures none { IfOk result (λ step. IsNone step → IsIdle now self.new) }
     {
         self.fill(now)?;

@@ -1,10 +1,9 @@
 //! What follows from the answer to a call.
 
-ghost use Rattle.std.specs.Prelude.{◌≡◌, ◌==◌, [], ◌∷◌, OnOk};
+ghost use Rattle.std.specs.Prelude.{◌≡◌, ◌==◌, [], ◌∷◌, OnOk, if◌then◌else◌};
 ghost use Rattle.simplex_engine.specs.Planning.{HasPlanned, touching};
-ghost use Rattle.simplex_engine.specs.Building.{all_but_at, HasBuilds};
-ghost use Rattle.simplex_engine.specs.declared.engine.task.Task.TheVariants.{Abandon, Supersede};
-ghost use Rattle.simplex_engine.specs.Following.{watching, IsTouched, IsRefusalFollowed, IsFlagFollowed, IsWatchFollowed, lacking, IsVerifyFollowed, IsRequestFollowed, IsBroadcastFollowed, repeating, IsNullifyFollowed, IsTimeoutFollowed, certifying, AreCertified, IsVerdictFollowed, IsVerdictToldAbove, IsFollowed};
+ghost use Rattle.simplex_engine.specs.declared.engine.task.Task.TheVariants.{Release, Supersede};
+ghost use Rattle.simplex_engine.specs.Following.{Consequence, Nothing, Touched, Built, Stopped, Asked, after_refusal, after_flag, after_watch, IsConsequence, lacking, IsVerifyFollowed, IsRequestFollowed, IsBroadcastFollowed, repeating, IsNullifyFollowed, IsTimeoutFollowed, certifying, AreCertified, IsVerdictFollowed, IsVerdictToldAbove, IsFollowed};
 
 use super::super::task::Task;
 use super::accepting::is_genesis;
@@ -47,7 +46,7 @@ impl<S: CertificateScheme, D: Digest> Plan<S, D> {
 
     /// A call was refused, and has changed nothing: what it was to go on with is over.
     fn follow_refusal(&mut self, task: Task<D>) -> Result<(), Fault>
-        ensures { OnOk result (IsRefusalFollowed task self.old self.new) }
+        ensures { OnOk result (IsConsequence (after_refusal task) self.old self.new) }
     {
         match task {
             Task::Abandon(view) | Task::Supersede(view) | Task::Release(view) => {
@@ -63,7 +62,7 @@ impl<S: CertificateScheme, D: Digest> Plan<S, D> {
 
     /// Whether what was handed in was taken.
     fn follow_flag(&mut self, task: Task<D>, is_taken: bool) -> Result<(), Fault>
-        ensures { OnOk result (IsFlagFollowed task is_taken self.old self.new) }
+        ensures { OnOk result (IsConsequence (after_flag task is_taken) self.old self.new) }
     {
         match task {
             Task::Proposed(view, _) => self.follow_proposed(view),
@@ -78,7 +77,7 @@ impl<S: CertificateScheme, D: Digest> Plan<S, D> {
 
     /// A block was built.
     fn follow_proposed(&mut self, view: View) -> Result<(), Fault>
-        ensures { OnOk result (HasBuilds (touching view) (all_but_at view self.old.builds.items) (watching self.old) self.new) }
+        ensures { OnOk result (IsConsequence (Built view) self.old self.new) }
     {
         self.end_building(view);
         self.touch(view)
@@ -86,14 +85,14 @@ impl<S: CertificateScheme, D: Digest> Plan<S, D> {
 
     /// Something of the view has changed, where it has.
     fn touch_where(&mut self, is_changed: bool, view: View) -> Result<(), Fault>
-        ensures { OnOk result (IsTouched is_changed view self.old self.new) }
+        ensures { OnOk result (IsConsequence (if is_changed then Touched view else Nothing) self.old self.new) }
     {
         if is_changed { self.touch(view) } else { Ok(()) }
     }
 
     /// What is built in the view is of no use any more, where another block is to be built.
     fn stop_where(&mut self, is_replaced: bool, view: View) -> Result<(), Fault>
-        ensures { OnOk result (IsFlagFollowed (Supersede view) is_replaced self.old self.new) }
+        ensures { OnOk result (IsConsequence (if is_replaced then Stopped view else Nothing) self.old self.new) }
     {
         if is_replaced {
             self.stop_building(view)
@@ -104,7 +103,7 @@ impl<S: CertificateScheme, D: Digest> Plan<S, D> {
 
     /// Whether a block that is built has to be given up, or else is replaced by another.
     fn follow_watch(&mut self, task: Task<D>, is_abandoned: bool) -> Result<(), Fault>
-        ensures { OnOk result (IsWatchFollowed task is_abandoned self.old self.new) }
+        ensures { OnOk result (IsConsequence (after_watch task is_abandoned) self.old self.new) }
     {
         match task {
             Task::Abandon(view) => self.ask_of_build(view, is_abandoned),
@@ -114,7 +113,7 @@ impl<S: CertificateScheme, D: Digest> Plan<S, D> {
 
     /// A block that is built is given up, or else may be replaced by another.
     fn ask_of_build(&mut self, view: View, is_abandoned: bool) -> Result<(), Fault>
-        ensures { OnOk result (IsWatchFollowed (Abandon view) is_abandoned self.old self.new) }
+        ensures { OnOk result (IsConsequence (Asked (if is_abandoned then Release view else Supersede view)) self.old self.new) }
     {
         if is_abandoned {
             self.ask(Task::Release(view))

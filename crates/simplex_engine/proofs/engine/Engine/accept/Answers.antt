@@ -5,19 +5,23 @@ use Rattle.std.proofs.lemmas.Result.{IfOk-weaker}
 use Rattle.simplex_types.specs.Certificates.{certificate_facts}
 use Rattle.simplex_types.specs.Encoding.{certificate_subject}
 use Rattle.simplex_engine.specs.Going.{GoesOn}
-use Rattle.simplex_engine.proofs.Tells.{queued_then, tells_handed}
+use Rattle.simplex_engine.proofs.Tells.{handed_as, queued_then, tells_handed}
 use Rattle.simplex_engine.proofs.Planning.{on_ok}
 use Rattle.simplex_member.specs.Calls.{told}
-use Rattle.simplex_member.specs.Lives.{IsCall}
-use Rattle.simplex_engine.specs.Acting.{hands_in}
 use Rattle.simplex_engine.proofs.engine.Engine.accept.Goals as goal
+
+pub returns-in_err-reply-clause-goes_on : goal.returns-in_err-reply-clause-goes_on
+returns-in_err-reply-clause-goes_on g c =
+    subst (λ facts. GoesOn g.D.PartialEq.eq g.L.Elector.elect g.S.CertificateScheme.certificate_bytes (Some (certificate_subject facts)) c.args.self.now.core c.hand_in.new.self)
+    c.in_ok-copy.ensures.same c.hand_in.ensures.goes_on
 
 pub returns-clause-goes_on : goal.returns-clause-goes_on
 returns-clause-goes_on g c =
     let bytes_of = g.S.CertificateScheme.certificate_bytes in
-    let taken = Some (certificate_subject (certificate_facts bytes_of c.args.certificate)) in
+    let taken = Some (certificate_subject (certificate_facts bytes_of c.args.certificate.now)) in
     subst (GoesOn g.D.PartialEq.eq g.L.Elector.elect bytes_of taken c.args.self.now.core) (sym c.follow_certificate.ensures.core)
-    c.hand_in.ensures.goes_on
+    (subst (λ facts. GoesOn g.D.PartialEq.eq g.L.Elector.elect bytes_of (Some (certificate_subject facts)) c.args.self.now.core c.hand_in.new.self) c.in_ok-copy.ensures.same
+    c.hand_in.ensures.goes_on)
 
 pub returns-clause-dropped : goal.returns-clause-dropped
 returns-clause-dropped g c =
@@ -25,14 +29,26 @@ returns-clause-dropped g c =
     ap (λ core. core.member.facts) c.follow_certificate.ensures.core ∙ c.in_ok-reply.ensures.refused (not-false _ (sym told ∙ no)))
     c.follow_certificate.ensures.of_use
 
+pub returns-clause-acted : goal.returns-clause-acted
+returns-clause-acted g c = λ admitted.
+    let same = g.D.PartialEq.eq in
+    let elect = g.L.Elector.elect in
+    let bytes_of = g.S.CertificateScheme.certificate_bytes in
+    let answer = told bytes_of c.in_ok-reply.reply in
+    IfOk-weaker c.follow_certificate.result _ _ (λ is_of_use says. record {
+      answer = answer;
+      answered = handed_as same elect c.args.self.now.core.member.facts answer c.args.now c.in_ok-copy.ensures.same c.follow_certificate.ensures.core c.in_ok-reply.ensures.answered;
+      told = says;
+    }) c.follow_certificate.ensures.of_use
+
 pub returns-clause-duties : goal.returns-clause-duties
 returns-clause-duties g c =
     let same = g.D.PartialEq.eq in
     let elect = g.L.Elector.elect in
     let bytes_of = g.S.CertificateScheme.certificate_bytes in
-    let handed = certificate_facts bytes_of c.args.certificate in
+    let handed = certificate_facts bytes_of c.args.certificate.now in
     let answer = told bytes_of c.in_ok-reply.reply in
     on_ok c.follow_certificate.result c.follow_certificate.ensures.planned
     (tells_handed same elect c.args.self.now c.follow_certificate.new.self handed c.args.now answer
-    (subst (λ core. IsCall same elect c.args.self.now.core.member.facts (hands_in handed c.args.now) answer core.member.facts) (sym c.follow_certificate.ensures.core) c.in_ok-reply.ensures.answered)
+    (handed_as same elect c.args.self.now.core.member.facts answer c.args.now c.in_ok-copy.ensures.same c.follow_certificate.ensures.core c.in_ok-reply.ensures.answered)
     (queued_then c.args.self.now.core c.hand_in.new.self c.follow_certificate.new.self.core c.hand_in.ensures.goes_on.queued c.follow_certificate.ensures.core))

@@ -1,10 +1,9 @@
 -- That nothing but what is planned changes.
 use Rattle.std.proofs.Common.{ap}
 use Rattle.std.specs.Prelude.{not}
-use Rattle.simplex_engine.proofs.Duties.{among_both, among_further, among_still}
-use Rattle.simplex_engine.proofs.Telling.{followed_plans}
 use Rattle.simplex_member.specs.Calls.{told}
-use Rattle.simplex_engine.specs.Duties.{work_of}
+use Rattle.simplex_engine.proofs.Duties.{plans_then}
+use Rattle.simplex_engine.proofs.Following.{followed_plans}
 use Rattle.simplex_engine.proofs.engine.Engine.follow.Goals as goal
 
 pub returns-in_err-see-clause-core : goal.returns-in_err-see-clause-core
@@ -26,6 +25,6 @@ returns g c =
       core = c.see.ensures.core;
       batcher = c.see.ensures.batcher;
       of_use = ap not c.says_nothing-is_of_use.ensures;
-      planned = among_further (among_both c.in_ok-see.ensures.planned (among_still (work_of (told bytes_of c.args.reply))))
+      planned = plans_then c.args.self.now.plan c.see.new.self.plan c.follow.new.self (told bytes_of c.args.reply) c.in_ok-see.ensures.planned
           (followed_plans c.see.new.self.plan c.follow.new.self g.D.Digest.bytes bytes_of c.args.now c.args.task c.args.reply c.in_ok-follow.ensures);
     }

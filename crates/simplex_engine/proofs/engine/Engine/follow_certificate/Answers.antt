@@ -1,10 +1,10 @@
 -- That nothing which is planned is lost.
-use Rattle.simplex_engine.proofs.Duties.{among_further}
-use Rattle.simplex_engine.proofs.Telling.{certificate_followed}
+use Rattle.simplex_engine.proofs.Duties.{keeps_further}
+use Rattle.simplex_engine.proofs.Following.{certificate_followed}
 use Rattle.simplex_engine.proofs.engine.Engine.follow_certificate.Goals as goal
 
 pub returns-clause-planned : goal.returns-clause-planned
 returns-clause-planned g c =
-    among_further c.in_ok-see.ensures.planned
+    keeps_further c.in_ok-see.ensures.planned
     (certificate_followed g.D.Digest.bytes g.S.CertificateScheme.certificate_bytes c.args.now c.see.new.self.plan c.follow_certificate.new.self c.args.certificate.now c.args.reply.now
     c.in_ok-follow_certificate.ensures)

@@ -1,7 +1,6 @@
 -- That a fetch that is closed loses nothing that is planned.
-use Rattle.std.proofs.Common.{ap}
-use Rattle.simplex_engine.proofs.Duties.{plans_still}
+use Rattle.simplex_engine.proofs.Duties.{plans_repaired}
 use Rattle.simplex_engine.proofs.engine.Engine.let_fetches_go.Goals as goal
 
 pub returns-in-Some-clause-planned : goal.returns-in-Some-clause-planned
-returns-in-Some-clause-planned g c = plans_still c.args.self.now.plan c.let_go.new.self (ap (λ plan. plan.steps.items) c.let_go.ensures.same)
+returns-in-Some-clause-planned g c = plans_repaired c.args.self.now.plan c.let_go.new.self c.let_go.ensures.same

@@ -1,7 +1,7 @@
 -- That nothing is done but to queue a vote once more.
 use Rattle.std.proofs.Common.{ap}
 use Rattle.simplex_engine.proofs.Backing.{takes_nothing}
-use Rattle.simplex_engine.proofs.Duties.{among_still}
+use Rattle.simplex_engine.proofs.Duties.{keeps_still}
 use Rattle.simplex_engine.proofs.Tells.{tells_same}
 use Rattle.simplex_engine.proofs.engine.Engine.repeat.Goals as goal
 
@@ -12,5 +12,5 @@ pub returns : goal.returns
 returns g c = record {
   alone = record { goes_on = c.repeat.ensures.goes_on; votes = takes_nothing c.args.self.now.batcher };
   duties = tells_same c.args.self.now (record c.args.self.now { core = c.repeat.new.self }) (ap (λ m. m.facts.outstanding_work) c.repeat.ensures.member)
-      c.repeat.ensures.goes_on.queued (among_still _);
+      c.repeat.ensures.goes_on.queued keeps_still;
 }

@@ -6,7 +6,7 @@ use Rattle.simplex_engine.specs.Batching.{HoldsFrom}
 use Rattle.simplex_engine.specs.Wanted.{AsksForTheLacking}
 use Rattle.simplex_engine.proofs.Going.{goes_further}
 use Rattle.simplex_engine.proofs.Tells.{tells_further, tells_same}
-use Rattle.simplex_engine.proofs.Duties.{among_still}
+use Rattle.simplex_engine.proofs.Duties.{keeps_still}
 use Rattle.simplex_engine.proofs.engine.Engine.settle.Goals as goal
 
 pub returns-in_err-let_go-clause-alone : goal.returns-in_err-let_go-clause-alone
@@ -40,5 +40,5 @@ returns g c =
           c.in_ok-let_go.ensures.lacking;
       duties = tells_further c.in_ok-let_go.ensures.duties
           (tells_same c.let_go.new.self (record (c.let_go.new.self) { core = c.store.new.self }) (ap (λ m. m.facts.outstanding_work) c.store.ensures.member)
-          c.store.ensures.goes_on.queued (among_still _));
+          c.store.ensures.goes_on.queued keeps_still);
     }

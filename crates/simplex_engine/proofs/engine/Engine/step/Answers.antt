@@ -15,12 +15,15 @@ returns-in-Some g c = record {
   alone = record { goes_on = c.take_step.ensures.alone.goes_on; votes = c.take_step.ensures.alone.votes };
   duties = tells_taken c.take_step.result c.in-Some.step c.args.self.now (record c.args.self.now { plan = c.next.new.self }) c.take_step.new.self refl
       (subst (λ taken. AreAmong (work_planned c.args.self.now.plan.steps.items) (work_planned (option_to_list taken ++ c.next.new.self.steps.items))) c.in-Some.is c.in_ok-step.ensures.planned)
-      c.take_step.ensures.duties;
+      c.in_ok-step.ensures.alone c.take_step.ensures.duties;
 }
 
 pub returns-in-None : goal.returns-in-None
 returns-in-None g c = record {
   alone = record { goes_on = stays c.args.self.now.core; votes = takes_nothing c.args.self.now.batcher };
-  duties = tells_planned c.args.self.now (record c.args.self.now { plan = c.next.new.self }) refl
-      (subst (λ taken. AreAmong (work_planned c.args.self.now.plan.steps.items) (work_planned (option_to_list taken ++ c.next.new.self.steps.items))) c.in-None.is c.in_ok-step.ensures.planned);
+  duties = tells_planned c.args.self.now (record c.args.self.now { plan = c.next.new.self }) refl (record {
+    found = subst (λ taken. AreAmong (work_planned c.args.self.now.plan.steps.items) (work_planned (option_to_list taken ++ c.next.new.self.steps.items))) c.in-None.is
+        c.in_ok-step.ensures.planned;
+    alone = c.in_ok-step.ensures.alone;
+  });
 }

@@ -3,7 +3,7 @@ use Rattle.std.proofs.Common.{refl, ap}
 use Rattle.simplex_engine.proofs.Alone.{alone_still}
 use Rattle.simplex_engine.proofs.Backing.{takes_nothing}
 use Rattle.simplex_engine.proofs.Tells.{tells_same, tells_still}
-use Rattle.simplex_engine.proofs.Duties.{among_still}
+use Rattle.simplex_engine.proofs.Duties.{keeps_still}
 use Rattle.simplex_engine.proofs.engine.Engine.tell_forgotten.Goals as goal
 
 pub returns-then-le : goal.returns-then-le
@@ -18,5 +18,5 @@ returns g c = record {
   member = c.push.ensures.member;
   plan = refl;
   duties = tells_same c.args.self.now (record c.args.self.now { core = c.push.new.self; forgotten = c.args.lowest }) (ap (λ m. m.facts.outstanding_work) c.push.ensures.member)
-      c.push.ensures.goes_on.queued (among_still _);
+      c.push.ensures.goes_on.queued keeps_still;
 }

@@ -1,6 +1,6 @@
 -- That each answer is followed by what is for it.
 use Rattle.std.proofs.Common.{subst, OnOk}
-use Rattle.simplex_engine.specs.Following.{IsWatchFollowed, AreCertified}
+use Rattle.simplex_engine.specs.Following.{after_watch, IsConsequence, AreCertified}
 use Rattle.simplex_engine.proofs.Following.{followed}
 use Rattle.simplex_engine.proofs.engine.plan.Plan.follow.Goals as goal
 
@@ -22,7 +22,7 @@ returns-in-Released g c =
 pub returns-in-Abandoned : goal.returns-in-Abandoned
 returns-in-Abandoned g c =
     followed g.D.Digest.bytes g.S.CertificateScheme.certificate_bytes c.args.now c.args.task c.args.self.now c.follow_watch.new.self c.follow_watch.result c.in-Abandoned.is
-    (subst (λ is. OnOk c.follow_watch.result (IsWatchFollowed c.args.task is c.args.self.now c.follow_watch.new.self)) c.is_some.ensures c.follow_watch.ensures)
+    (subst (λ is. OnOk c.follow_watch.result (IsConsequence (after_watch c.args.task is) c.args.self.now c.follow_watch.new.self)) c.is_some.ensures c.follow_watch.ensures)
 
 pub returns-in-Work : goal.returns-in-Work
 returns-in-Work g c =

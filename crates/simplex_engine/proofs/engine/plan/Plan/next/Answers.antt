@@ -22,6 +22,9 @@ returns-clause-none g c = λ none.
     let idle = c.in_ok-fill.ensures.none empty in
     record { steps = c.pop_front.ensures.rest ∙ ap (drop 1) empty; watched = idle.watched; timeout = idle.timeout; pruned = idle.pruned; fetched = idle.fetched }
 
+pub returns-clause-alone : goal.returns-clause-alone
+returns-clause-alone g c = c.in_ok-fill.ensures.planned.alone
+
 pub returns-clause-planned : goal.returns-clause-planned
 returns-clause-planned g c =
-    among_further c.in_ok-fill.ensures.planned (planned_taken c.pop_front.result c.fill.new.self.steps.items c.pop_front.new.self.items c.pop_front.ensures.items)
+    among_further c.in_ok-fill.ensures.planned.found (planned_taken c.pop_front.result c.fill.new.self.steps.items c.pop_front.new.self.items c.pop_front.ensures.items)
