@@ -58,7 +58,7 @@ SETTINGS = (
 
 
 class Wrong(NamedTuple):
-    """A wrong body: in which file of `simplex_engine` what stands instead of what."""
+    """A wrong body: in which file below `crates` what stands instead of what."""
 
     name: str
     path: str
@@ -67,11 +67,11 @@ class Wrong(NamedTuple):
 
 
 WRONG = (
-    Wrong("nothing is asked for again", "fetches.rt", "moment: now.saturating_add(retry),", "moment: u64::MAX,"),
-    Wrong("a certificate of votes is thrown away", "engine/counting.rt",
-          "self.accept(certificate, now)?;", "let _ = certificate;"),
-    Wrong("a timeout is never due", "engine/plan/following.rt", "if moment <= now {", "if moment < moment.min(now) {"),
-    Wrong("a long record is never made short", "engine/steps.rt", "self.options.long_record < count", "count < self.options.long_record"),
+    Wrong("nothing is asked for again", "simplex_fetches/src/fetches.rt", "moment: now.saturating_add(retry),", "moment: u64::MAX,"),
+    Wrong("a certificate of votes is thrown away", "simplex_engine/src/engine/counting.rt",
+          "match self.accept(&certificate, now) {", "match self.see() {"),
+    Wrong("a timeout is never due", "simplex_engine/src/engine/plan/following.rt", "if moment <= now {", "if moment < moment.min(now) {"),
+    Wrong("a long record is never made short", "simplex_engine/src/engine/steps.rt", "self.options.long_record < count", "count < self.options.long_record"),
 )
 
 
@@ -168,7 +168,7 @@ def try_wrong(folder):
     for number, body in enumerate(WRONG):
         root = folder / f"wrong-{number}"
         program.copy_crates(program.ROOT, root)
-        file = root / "crates/simplex_engine/src" / body.path
+        file = root / "crates" / body.path
         text = file.read_text()
         if text.count(body.right) != 1:
             raise SystemExit(f"{body.name}: {body.right!r} stands {text.count(body.right)} times in {body.path}")

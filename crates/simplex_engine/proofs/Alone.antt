@@ -4,9 +4,9 @@ use Rattle.std.proofs.Common.{◌≡◌, ℕ, Bool, List, None}
 use Rattle.simplex_voter.specs.Facts.{Elect}
 use Rattle.simplex_engine.specs.declared.engine.Engine.{Engine}
 use Rattle.simplex_engine.specs.Alone.{GoesOnAlone}
-use Rattle.simplex_engine.specs.Going.{GoesOn}
+use Rattle.simplex_outbox.specs.Going.{GoesOn}
 use Rattle.simplex_engine.proofs.Backing.{takes_nothing, takes_no_more, takes_same}
-use Rattle.simplex_engine.proofs.Going.{stays, goes_further}
+use Rattle.simplex_outbox.proofs.Going.{stays, goes_further}
 
 module _ {S L D K G C : Type 0} {same : D → D → Bool} {elect : Elect L} {bytes_of : C → List ℕ} where
   -- nothing has changed

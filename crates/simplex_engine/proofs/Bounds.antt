@@ -12,14 +12,14 @@ use Rattle.simplex_voter.specs.Facts.{Elect, StateFacts}
 use Rattle.simplex_voter.specs.Refusals.{is_started}
 use Rattle.simplex_voter.specs.Windows.{min_active, admits_vote}
 use Rattle.simplex_laws.specs.LifeLaws.{WhileAlive}
-use Rattle.simplex_engine.specs.declared.batcher.Batcher.{Batcher}
-use Rattle.simplex_engine.specs.declared.journaled.Journaled.{Journaled}
+use Rattle.simplex_batcher.specs.declared.batcher.Batcher.{Batcher}
+use Rattle.simplex_outbox.specs.declared.journaled.Journaled.{Journaled}
 use Rattle.simplex_engine.specs.Admitting.{admits_votes, is_so}
-use Rattle.simplex_engine.specs.Subjects.{subject_round}
-use Rattle.simplex_engine.specs.Batching.{held, AreGiven, EachVote, HoldsUpTo, HoldsFrom}
+use Rattle.simplex_batcher.specs.Subjects.{subject_round}
+use Rattle.simplex_batcher.specs.Batching.{held, AreGiven, EachVote, HoldsUpTo, HoldsFrom}
 use Rattle.simplex_engine.specs.Backing.{TakesNone}
 use Rattle.simplex_engine.specs.Bounds.{HoldsFromKept, HoldsNoneAhead, StaysBounded, HoldsAdmitted}
-use Rattle.simplex_engine.specs.Going.{GoesOn, HasRisen}
+use Rattle.simplex_outbox.specs.Going.{GoesOn, HasRisen}
 
 module _ {L S D K G C : Type 0} where
   -- where none is below the lowest view that is kept

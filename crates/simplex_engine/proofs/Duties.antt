@@ -29,10 +29,10 @@ use Rattle.simplex_engine.specs.declared.engine.plan.Building.{Building}
 use Rattle.simplex_engine.specs.declared.engine.plan.Plan.{Plan}
 use Rattle.simplex_engine.specs.declared.engine.plan.Step.{Step}
 use Rattle.simplex_engine.specs.declared.engine.plan.Step.TheVariants as step
-use Rattle.simplex_engine.specs.declared.output.Output.{Output}
-use Rattle.simplex_engine.specs.declared.output.Output.TheVariants as output
-use Rattle.simplex_engine.specs.declared.output.Work.{Work}
-use Rattle.simplex_engine.specs.declared.output.Work.TheVariants as work
+use Rattle.simplex_outbox.specs.declared.output.Output.{Output}
+use Rattle.simplex_outbox.specs.declared.output.Output.TheVariants as output
+use Rattle.simplex_outbox.specs.declared.output.Work.{Work}
+use Rattle.simplex_outbox.specs.declared.output.Work.TheVariants as work
 use Rattle.simplex_engine.specs.Building.{HasBuilds}
 use Rattle.simplex_engine.specs.Planning.{HasPlanned}
 use Rattle.simplex_engine.specs.Duties.{AreAmong, is_verify_of, is_certify_of, is_build_of, work_in, work_planned, work_of, IsToldIn, IsPlanned, KeepsPlanned, PlansToo}

@@ -18,7 +18,7 @@ use Rattle.simplex_engine.specs.declared.engine.plan.Plan.{Plan}
 use Rattle.simplex_engine.specs.declared.engine.plan.Step.TheVariants.{Ask}
 use Rattle.simplex_engine.specs.declared.engine.task.Task.{Task}
 use Rattle.simplex_engine.specs.declared.engine.task.Task.TheVariants as task
-use Rattle.simplex_engine.specs.declared.output.Work.TheVariants as work
+use Rattle.simplex_outbox.specs.declared.output.Work.TheVariants as work
 use Rattle.simplex_engine.specs.Duties.{work_of, work_planned, KeepsPlanned, PlansToo}
 use Rattle.simplex_engine.specs.Planning.{touching}
 use Rattle.simplex_engine.specs.Building.{asking_for}

@@ -12,36 +12,38 @@ use Rattle.simplex_types.specs.declared.types.messages.Certificate.{Certificate}
 use Rattle.simplex_types.specs.declared.types.messages.Subject.{Subject}
 use Rattle.simplex_voter.specs.Facts.{Elect}
 use Rattle.simplex_member.specs.Lives.{MemberFacts}
-use Rattle.simplex_engine.specs.declared.batcher.Batcher.{Batcher}
-use Rattle.simplex_engine.specs.declared.batcher.Counted.{Counted}
-use Rattle.simplex_engine.specs.declared.batcher.Counted.TheVariants.{Refused, Known, Taken, Certified, Equivocated}
+use Rattle.simplex_batcher.specs.declared.batcher.Batcher.{Batcher}
+use Rattle.simplex_batcher.specs.declared.batcher.Counted.{Counted}
+use Rattle.simplex_batcher.specs.declared.batcher.Counted.TheVariants.{Refused, Known, Taken, Certified, Equivocated}
 use Rattle.simplex_engine.specs.declared.engine.Engine.{Engine}
 use Rattle.simplex_engine.specs.declared.engine.plan.Step.{Step}
 use Rattle.simplex_engine.specs.declared.engine.task.Task.{Task}
 use Rattle.simplex_engine.specs.declared.engine.task.Task.TheVariants as task
 use Rattle.simplex_engine.specs.declared.input.Input.{Input}
 use Rattle.simplex_engine.specs.declared.input.Input.TheVariants as input
-use Rattle.simplex_engine.specs.declared.journaled.Journaled.{Journaled}
-use Rattle.simplex_engine.specs.declared.votes.Vote.{Vote}
-use Rattle.simplex_engine.specs.Acting.{hands_in, verification_of, HasDoneTask, IsBlockTaken, IsHandedIn, IsCountFollowed, IsActedOn}
+use Rattle.simplex_outbox.specs.declared.journaled.Journaled.{Journaled}
+use Rattle.simplex_batcher.specs.declared.votes.Vote.{Vote}
+use Rattle.simplex_engine.specs.Acting.{verification_of, HasDoneTask, IsBlockTaken, IsHandedIn, IsCountFollowed, IsActedOn}
+use Rattle.simplex_outbox.specs.Handing.{hands_in}
 use Rattle.simplex_engine.specs.Admitting.{admits_votes, is_so, is_admitted, IsTurnedAway, ignoring}
 use Rattle.simplex_engine.specs.Backing.{votes_of_input, TakesVotes, IsBacked, IsBackedInput}
-use Rattle.simplex_engine.specs.Batching.{AreGiven, HoldsAllTheSame, HoldsUpTo, held, IsCounted}
+use Rattle.simplex_batcher.specs.Batching.{AreGiven, HoldsAllTheSame, HoldsUpTo, held, IsCounted}
 use Rattle.simplex_engine.specs.Bounds.{StaysBounded}
 use Rattle.simplex_engine.specs.Building.{is_asked_in}
-use Rattle.simplex_engine.specs.Dropping.{is_refused, says_nothing, IsLeftByCall, IsLeftByInput}
+use Rattle.simplex_engine.specs.Dropping.{IsLeftByInput}
+use Rattle.simplex_outbox.specs.Refusing.{is_refused, says_nothing, IsLeftByCall}
 use Rattle.simplex_engine.specs.Duties.{KeepsTelling}
-use Rattle.simplex_engine.specs.Going.{GoesOn}
+use Rattle.simplex_outbox.specs.Going.{GoesOn}
 use Rattle.simplex_engine.specs.Inputs.{subject_in, subject_made}
-use Rattle.simplex_engine.specs.Polls.{ballot_of}
-use Rattle.simplex_engine.specs.Subjects.{subject_round}
+use Rattle.simplex_batcher.specs.Polls.{ballot_of}
+use Rattle.simplex_batcher.specs.Subjects.{subject_round}
 use Rattle.simplex_engine.specs.Taking.{IsInputTaken}
 use Rattle.simplex_engine.specs.Tasks.{call_of}
 use Rattle.simplex_engine.proofs.Backing.{takes_same, takes_anyway, takes_then, backed_by_none, certified_given}
 use Rattle.simplex_engine.proofs.Bounds.{bounded_still, bounded_further, bounded_counted}
-use Rattle.simplex_engine.proofs.Dropping.{refused_left, dropped_left}
-use Rattle.simplex_engine.proofs.Given.{all_the_same}
-use Rattle.simplex_engine.proofs.Going.{goes_on_anyway, made_on}
+use Rattle.simplex_outbox.proofs.Dropping.{refused_left, dropped_left}
+use Rattle.simplex_batcher.proofs.Given.{all_the_same}
+use Rattle.simplex_outbox.proofs.Going.{goes_on_anyway, made_on}
 
 always_ok : {X E : Type 0} (r : Result X E) {P : X → Type 0} → ((x : X) → P x) → IfOk r P
 always_ok (Ok x) holds = holds x

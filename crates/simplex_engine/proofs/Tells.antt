@@ -17,15 +17,15 @@ use Rattle.simplex_member.specs.declared.member.journal.Stored.{Stored}
 use Rattle.simplex_engine.specs.declared.engine.Engine.{Engine}
 use Rattle.simplex_engine.specs.declared.engine.plan.Plan.{Plan}
 use Rattle.simplex_engine.specs.declared.engine.plan.Step.{Step}
-use Rattle.simplex_engine.specs.declared.journaled.Journaled.{Journaled}
-use Rattle.simplex_engine.specs.declared.output.Output.{Output}
-use Rattle.simplex_engine.specs.declared.output.Output.TheVariants as output
-use Rattle.simplex_engine.specs.declared.output.Work.{Work}
-use Rattle.simplex_engine.specs.Acting.{hands_in}
+use Rattle.simplex_outbox.specs.declared.journaled.Journaled.{Journaled}
+use Rattle.simplex_outbox.specs.declared.output.Output.{Output}
+use Rattle.simplex_outbox.specs.declared.output.Output.TheVariants as output
+use Rattle.simplex_outbox.specs.declared.output.Work.{Work}
+use Rattle.simplex_outbox.specs.Handing.{hands_in}
 use Rattle.simplex_engine.specs.Duties.{AreAmong, work_in, work_planned, work_of, work_ahead, IsToldIn, KeepsPlanned, PlansToo, TellsBehind, KeepsTelling, HasTold, AllIsGivenOut}
-use Rattle.simplex_engine.specs.Outboxes.{QueuesMore}
+use Rattle.simplex_outbox.specs.Outboxes.{QueuesMore}
 use Rattle.simplex_engine.proofs.Duties.{alone_of, among_all, among_both, among_further, among_more, among_still, among_swapped, planned-append, told_among, told_as_before, told_by_call, told_none, told_with, work_in-append}
-use Rattle.simplex_engine.proofs.Queued.{queues_none}
+use Rattle.simplex_outbox.proofs.Queued.{queues_none}
 
 module _ {S D K G C : Type 0} where
   -- the same work in another order

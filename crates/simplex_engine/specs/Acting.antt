@@ -1,15 +1,15 @@
 -- What an engine does with an input that it admits.
 use Rattle.std.specs.Prelude.{◌≡◌, ℕ, Bool, true, false, not, List, [], ◌∷◌, ◌++◌, length}
 use Rattle.std.specs.List.{list_any}
-use Rattle.simplex_types.specs.Certificates.{CertificateFacts, Notarized, Nullified, Finalized, certificate_facts}
+use Rattle.simplex_types.specs.Certificates.{certificate_facts}
 use Rattle.simplex_types.specs.declared.types.messages.Certificate.{Certificate}
 use Rattle.simplex_types.specs.declared.types.messages.Subject.{Subject}
 use Rattle.simplex_voter.specs.Facts.{Elect}
-use Rattle.simplex_member.specs.Calls.{CallFacts, Told, AddNotarization, AddNullification, AddFinalization}
+use Rattle.simplex_member.specs.Calls.{CallFacts, Told}
 use Rattle.simplex_member.specs.Lives.{MemberFacts, IsCall}
-use Rattle.simplex_engine.specs.declared.batcher.Batcher.{Batcher}
-use Rattle.simplex_engine.specs.declared.batcher.Counted.{Counted}
-use Rattle.simplex_engine.specs.declared.batcher.Counted.TheVariants.{Taken, Certified, Equivocated}
+use Rattle.simplex_batcher.specs.declared.batcher.Batcher.{Batcher}
+use Rattle.simplex_batcher.specs.declared.batcher.Counted.{Counted}
+use Rattle.simplex_batcher.specs.declared.batcher.Counted.TheVariants.{Taken, Certified, Equivocated}
 use Rattle.simplex_engine.specs.declared.engine.Engine.{Engine}
 use Rattle.simplex_engine.specs.declared.engine.plan.Step.{Step}
 use Rattle.simplex_engine.specs.declared.engine.plan.Step.TheVariants.{Push}
@@ -17,19 +17,14 @@ use Rattle.simplex_engine.specs.declared.engine.task.Task.{Task}
 use Rattle.simplex_engine.specs.declared.engine.task.Task.TheVariants as task
 use Rattle.simplex_engine.specs.declared.input.Input.{Input}
 use Rattle.simplex_engine.specs.declared.input.Input.TheVariants as input
-use Rattle.simplex_engine.specs.declared.output.Work.TheVariants as work
-use Rattle.simplex_engine.specs.declared.votes.Vote.{Vote}
+use Rattle.simplex_outbox.specs.declared.output.Work.TheVariants as work
+use Rattle.simplex_batcher.specs.declared.votes.Vote.{Vote}
 use Rattle.simplex_engine.specs.Admitting.{admits, is_so}
-use Rattle.simplex_engine.specs.Batching.{IsCounted}
+use Rattle.simplex_batcher.specs.Batching.{IsCounted}
 use Rattle.simplex_engine.specs.Building.{is_asked_in}
-use Rattle.simplex_engine.specs.Dropping.{is_refused, says_nothing}
+use Rattle.simplex_outbox.specs.Handing.{hands_in}
+use Rattle.simplex_outbox.specs.Refusing.{is_refused, says_nothing}
 use Rattle.simplex_engine.specs.Tasks.{call_of}
-
--- the call that hands a certificate in, at a moment
-abbrev pub hands_in : {D : Type 0} → CertificateFacts D → ℕ → CallFacts D
-hands_in (Notarized c) now = AddNotarization c
-hands_in (Nullified c) now = AddNullification c now
-hands_in (Finalized c) now = AddFinalization c now
 
 -- the task of an answer of the application: whether it found the view's proposal valid
 abbrev pub verification_of : {D : Type 0} → Bool → ℕ → Task D

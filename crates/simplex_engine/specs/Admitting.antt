@@ -11,7 +11,7 @@ use Rattle.simplex_member.specs.Lives.{MemberFacts}
 use Rattle.simplex_engine.specs.declared.engine.Engine.{Engine}
 use Rattle.simplex_engine.specs.declared.input.Input.{Input}
 use Rattle.simplex_engine.specs.declared.input.Input.TheVariants as input
-use Rattle.simplex_engine.specs.Subjects.{subject_round}
+use Rattle.simplex_batcher.specs.Subjects.{subject_round}
 
 module _ {K L D : Type 0} where
   -- votes of the round: of this epoch, and of a view that takes votes

@@ -7,7 +7,7 @@ use Rattle.simplex_engine.specs.declared.engine.plan.Building.{Building}
 use Rattle.simplex_engine.specs.declared.engine.plan.Plan.{Plan}
 use Rattle.simplex_engine.specs.declared.engine.plan.Step.{Step}
 use Rattle.simplex_engine.specs.declared.engine.plan.Step.TheVariants.{Push}
-use Rattle.simplex_engine.specs.declared.output.Work.TheVariants.{Build, StopBuilding}
+use Rattle.simplex_outbox.specs.declared.output.Work.TheVariants.{Build, StopBuilding}
 
 -- the same view and payload, by a test of payloads
 abbrev pub same_parent : {D : Type 0} → (D → D → Bool) → ℕ × D → ℕ × D → Bool

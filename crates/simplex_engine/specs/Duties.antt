@@ -11,10 +11,10 @@ use Rattle.simplex_engine.specs.declared.engine.Engine.{Engine}
 use Rattle.simplex_engine.specs.declared.engine.plan.Plan.{Plan}
 use Rattle.simplex_engine.specs.declared.engine.plan.Step.{Step}
 use Rattle.simplex_engine.specs.declared.engine.plan.Step.TheVariants.{Push}
-use Rattle.simplex_engine.specs.declared.output.Output.{Output}
-use Rattle.simplex_engine.specs.declared.output.Output.TheVariants as output
-use Rattle.simplex_engine.specs.declared.output.Work.{Work}
-use Rattle.simplex_engine.specs.declared.output.Work.TheVariants.{Verify, Certify, Build}
+use Rattle.simplex_outbox.specs.declared.output.Output.{Output}
+use Rattle.simplex_outbox.specs.declared.output.Output.TheVariants as output
+use Rattle.simplex_outbox.specs.declared.output.Work.{Work}
+use Rattle.simplex_outbox.specs.declared.output.Work.TheVariants.{Verify, Certify, Build}
 
 module _ {S D K G C : Type 0} where
   -- the application is to verify the view's proposal

@@ -24,16 +24,16 @@ use Rattle.simplex_engine.specs.declared.engine.plan.Step.{Step}
 use Rattle.simplex_engine.specs.declared.engine.plan.Step.TheVariants.{Ask, Resolve, Repeat, Push}
 use Rattle.simplex_engine.specs.declared.engine.task.Task.{Task}
 use Rattle.simplex_engine.specs.declared.engine.task.Task.TheVariants as task
-use Rattle.simplex_engine.specs.declared.fetches.Fetch.{Fetch}
-use Rattle.simplex_engine.specs.declared.fetches.FetchKind.{FetchKind}
-use Rattle.simplex_engine.specs.declared.output.Work.TheVariants as work
+use Rattle.simplex_fetches.specs.declared.fetches.Fetch.{Fetch}
+use Rattle.simplex_fetches.specs.declared.fetches.FetchKind.{FetchKind}
+use Rattle.simplex_outbox.specs.declared.output.Work.TheVariants as work
 use Rattle.simplex_engine.specs.Building.{all_but_at, asking_for, HasBuilds, IsEnded, IsStopped}
-use Rattle.simplex_engine.specs.declared.fetches.FetchKind.TheVariants as fetch
-use Rattle.simplex_engine.specs.declared.repair.Repair.{Repair}
-use Rattle.simplex_engine.specs.Fetches.{fetch_kind, is_fetch_open, closed}
+use Rattle.simplex_fetches.specs.declared.fetches.FetchKind.TheVariants as fetch
+use Rattle.simplex_fetches.specs.declared.repair.Repair.{Repair}
+use Rattle.simplex_fetches.specs.Fetches.{fetch_kind, is_fetch_open, closed}
 use Rattle.simplex_engine.specs.Planning.{HasPlanned, touching}
-use Rattle.simplex_engine.specs.Repairing.{HasFetches, IsRepaired}
-use Rattle.simplex_engine.specs.Wanted.{after_effects, fetching}
+use Rattle.simplex_fetches.specs.Repairing.{HasFetches, IsRepaired}
+use Rattle.simplex_fetches.specs.Wanted.{after_effects, fetching}
 
 -- what may follow for a view, and for a block that is built in it
 pub data Consequence (D : Type 0) : Type 0 where

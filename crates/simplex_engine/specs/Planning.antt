@@ -4,7 +4,7 @@ use Rattle.simplex_engine.specs.declared.engine.plan.Plan.{Plan}
 use Rattle.simplex_engine.specs.declared.engine.plan.Step.{Step}
 use Rattle.simplex_engine.specs.declared.engine.plan.Step.TheVariants.{Ask}
 use Rattle.simplex_engine.specs.declared.engine.task.Task.TheVariants.{Notarize, Finalize, BroadcastNotarization, BroadcastNullification, BroadcastFinalization}
-use Rattle.simplex_engine.specs.Fetches.{due_at}
+use Rattle.simplex_fetches.specs.Fetches.{due_at}
 
 -- nothing is to be done at the moment: no step is queued; the member was asked for its timeout, and for the views that it may drop,
 -- since the moment came, and of each block that is to be built, since something changed; and no fetch is due

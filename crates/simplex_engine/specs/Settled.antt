@@ -2,10 +2,10 @@
 use Rattle.std.specs.Prelude.{◌≡◌, ℕ, Bool, List, [], Option, min}
 use Rattle.std.specs.Option.{option_map_or}
 use Rattle.simplex_voter.specs.Facts.{Elect}
-use Rattle.simplex_engine.specs.declared.fetches.Fetch.{Fetch}
-use Rattle.simplex_engine.specs.declared.journaled.Journaled.{Journaled}
-use Rattle.simplex_engine.specs.Fetches.{IsEarliest}
-use Rattle.simplex_engine.specs.Going.{IsWhole}
+use Rattle.simplex_fetches.specs.declared.fetches.Fetch.{Fetch}
+use Rattle.simplex_outbox.specs.declared.journaled.Journaled.{Journaled}
+use Rattle.simplex_fetches.specs.Fetches.{IsEarliest}
+use Rattle.simplex_outbox.specs.Going.{IsWhole}
 use Rattle.simplex_engine.specs.Quiet.{HasNothingNew}
 
 -- nothing is queued, all of the record was given out to be stored, and the member was asked last for all that may be due, and had

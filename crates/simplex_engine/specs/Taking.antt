@@ -10,7 +10,7 @@ use Rattle.simplex_engine.specs.Backing.{votes_of_input, TakesVotes, IsBackedInp
 use Rattle.simplex_engine.specs.Bounds.{StaysBounded}
 use Rattle.simplex_engine.specs.Dropping.{IsDropped}
 use Rattle.simplex_engine.specs.Duties.{KeepsTelling}
-use Rattle.simplex_engine.specs.Going.{GoesOn}
+use Rattle.simplex_outbox.specs.Going.{GoesOn}
 use Rattle.simplex_engine.specs.Inputs.{subject_in}
 
 -- what `Engine::handle` says of an engine before and after, by its answer; an input that is turned away leaves it as it passed

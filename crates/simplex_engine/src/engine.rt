@@ -1,7 +1,7 @@
 //! The engine of a member: it is told what came in, and hands out all that follows, in the order in which it is carried out.
 //!
 //! It holds no network, clock, disk or key but its scheme. Moments are milliseconds that are handed in, and do not fall.
-#![tactic(auto, using(crate::proofs::Going::stays, crate::proofs::Going::goes_further, crate::proofs::Backing::takes_nothing, crate::proofs::Backing::takes_no_more, crate::proofs::Backing::takes_anyway))]
+#![tactic(auto, using(simplex_outbox::proofs::Going::stays, simplex_outbox::proofs::Going::goes_further, crate::proofs::Backing::takes_nothing, crate::proofs::Backing::takes_no_more, crate::proofs::Backing::takes_anyway))]
 
 ghost use Rattle.std.specs.Prelude.{◌≡◌, ◌++◌, [], length, None, Err, IfOk, IfSome, OnOk, OnErr, IsNone, IsFalse, IsTrue, true, false};
 ghost use Rattle.std.specs.Option.{option_copied};
@@ -15,16 +15,16 @@ mod plan;
 mod steps;
 mod task;
 
-use crate::batcher::Batcher;
-use crate::fetches::Fetches;
 use crate::input::Input;
-use crate::journaled::Journaled;
-use crate::output::Output;
 pub use begin::StartError;
 pub use plan::Options;
 use plan::Plan;
 use simplex_assembly::assembly::Assembly;
+use simplex_batcher::batcher::Batcher;
+use simplex_fetches::fetches::Fetches;
 use simplex_member::member::Stored;
+use simplex_outbox::journaled::Journaled;
+use simplex_outbox::output::Output;
 use simplex_resolver::replay::LawfulResolver;
 use simplex_types::types::{Artifact, CertificateScheme, Digest, Elector, Fault, View};
 use simplex_voter::voter::State;
@@ -54,16 +54,16 @@ impl<S: Assembly<D>, L: Elector<S>, D: Digest> Engine<S, L, D> {
     ghost use Rattle.simplex_record.specs.Votes.{votes_of};
     ghost use Rattle.simplex_laws.specs.Lawful.{IsLawful};
     ghost use Rattle.simplex_laws.specs.Living.{OfAllDone, MayBeDoneBy};
-    ghost use Rattle.simplex_engine.specs.Outputs.{AreBehind};
-    ghost use Rattle.simplex_engine.specs.Finals.{finals_in, RiseByView, EndsAt, TellsNoMore};
-    ghost use Rattle.simplex_engine.specs.Journals.{journal_of, IsRecordOf};
-    ghost use Rattle.simplex_engine.specs.Going.{IsKept, IsWhole, GoesOn, DoesMoreOn, HasGivenOut, has_failed};
+    ghost use Rattle.simplex_outbox.specs.Outputs.{AreBehind};
+    ghost use Rattle.simplex_outbox.specs.Finals.{finals_in, RiseByView, EndsAt, TellsNoMore};
+    ghost use Rattle.simplex_outbox.specs.Journals.{journal_of, IsRecordOf};
+    ghost use Rattle.simplex_outbox.specs.Going.{IsKept, IsWhole, GoesOn, DoesMoreOn, HasGivenOut, has_failed};
     ghost use Rattle.simplex_engine.specs.Settled.{IsSettled, IsWake};
     ghost use Rattle.simplex_engine.specs.Planning.{IsIdle};
     ghost use Rattle.simplex_engine.specs.Inputs.{subject_in, given_out};
     ghost use Rattle.simplex_engine.specs.Backing.{votes_of_input, TakesVotes, TakesNone, IsBackedInput};
     ghost use Rattle.simplex_engine.specs.Bounds.{HoldsFromKept, HoldsNoneAhead, StaysBounded, HoldsAdmitted};
-    ghost use Rattle.simplex_engine.specs.Repairing.{AsksForItsLacking};
+    ghost use Rattle.simplex_engine.specs.Lacking.{AsksForItsLacking};
     ghost use Rattle.simplex_engine.specs.Dropping.{IsDropped};
     ghost use Rattle.simplex_engine.specs.Admitting.{is_admitted, IsTurnedAway, ignoring};
     ghost use Rattle.simplex_engine.specs.Acting.{IsActedOn};

@@ -1,6 +1,6 @@
 //! What an engine is told.
 
-use crate::votes::Vote;
+use simplex_batcher::votes::Vote;
 use simplex_types::reasons::TimeoutReason;
 use simplex_types::types::{Certificate, CertificateScheme, Context, Participant, Proposal, View};
 

@@ -4,8 +4,8 @@ use Rattle.std.specs.Prelude.{option_to_list}
 use Rattle.std.proofs.lemmas.Bool.{false≢true}
 use Rattle.simplex_host.specs.Host.{certificate_bytes}
 use Rattle.simplex_engine.specs.Duties.{HasTold}
-use Rattle.simplex_engine.specs.Finals.{TellsNoMore}
-use Rattle.simplex_engine.specs.Going.{HasGivenOut, IsKept}
+use Rattle.simplex_outbox.specs.Finals.{TellsNoMore}
+use Rattle.simplex_outbox.specs.Going.{HasGivenOut, IsKept}
 use Rattle.simplex_flat.specs.declared.shown.FlatStored.{FlatStored}
 use Rattle.simplex_flat_engine.specs.declared.held.HeldEngine.{HeldEngine}
 use Rattle.simplex_flat_engine.specs.declared.told.FlatOutput.{FlatOutput}

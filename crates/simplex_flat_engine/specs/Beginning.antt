@@ -11,9 +11,9 @@ use Rattle.simplex_engine.specs.Duties.{HasTold}
 use Rattle.simplex_engine.specs.declared.engine.begin.StartError.{StartError}
 use Rattle.simplex_engine.specs.declared.engine.begin.StartError.TheVariants as start_error
 use Rattle.simplex_engine.specs.declared.engine.plan.Options.{Options}
-use Rattle.simplex_engine.specs.Batching.{AreGiven}
+use Rattle.simplex_batcher.specs.Batching.{AreGiven}
 use Rattle.simplex_engine.specs.Bounds.{HoldsNoneAhead}
-use Rattle.simplex_engine.specs.Going.{IsWhole, TellsNothing}
+use Rattle.simplex_outbox.specs.Going.{IsWhole, TellsNothing}
 use Rattle.simplex_flat.specs.declared.flat.FlatSettings.{FlatSettings}
 use Rattle.simplex_flat.specs.declared.opening.NotResumed.TheVariants as not_resumed
 use Rattle.simplex_flat.specs.declared.resolving.NotReplayed.TheVariants as not_replayed

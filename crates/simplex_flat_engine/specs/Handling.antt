@@ -10,17 +10,17 @@ use Rattle.simplex_host.specs.declared.scheme.Order.{Order}
 use Rattle.simplex_host.specs.Assembling.{signed_bytes}
 use Rattle.simplex_host.specs.Host.{certificate_bytes, host_keys}
 use Rattle.simplex_engine.specs.Acting.{IsActedOn}
-use Rattle.simplex_engine.specs.declared.output.Output.TheVariants as output
+use Rattle.simplex_outbox.specs.declared.output.Output.TheVariants as output
 use Rattle.simplex_engine.specs.Admitting.{IsTurnedAway, ignoring, is_admitted}
 use Rattle.simplex_engine.specs.Backing.{IsBackedInput, TakesNone, TakesVotes, votes_of_input}
 use Rattle.simplex_engine.specs.Bounds.{HoldsAdmitted, HoldsFromKept, HoldsNoneAhead, StaysBounded}
-use Rattle.simplex_engine.specs.Repairing.{AsksForItsLacking}
+use Rattle.simplex_engine.specs.Lacking.{AsksForItsLacking}
 use Rattle.simplex_engine.specs.Dropping.{IsDropped}
 use Rattle.simplex_engine.specs.Duties.{AllIsGivenOut, HasTold, KeepsTelling}
-use Rattle.simplex_engine.specs.Finals.{TellsNoMore}
-use Rattle.simplex_engine.specs.Going.{DoesMoreOn, GoesOn, IsKept, IsWhole, has_failed}
+use Rattle.simplex_outbox.specs.Finals.{TellsNoMore}
+use Rattle.simplex_outbox.specs.Going.{DoesMoreOn, GoesOn, IsKept, IsWhole, has_failed}
 use Rattle.simplex_engine.specs.Inputs.{subject_in}
-use Rattle.simplex_engine.specs.Journals.{IsRecordOf, journal_of}
+use Rattle.simplex_outbox.specs.Journals.{IsRecordOf, journal_of}
 use Rattle.simplex_engine.specs.Planning.{IsIdle}
 use Rattle.simplex_engine.specs.Settled.{IsSettled}
 use Rattle.simplex_flat.specs.declared.journal.NotWritten.{NotWritten}

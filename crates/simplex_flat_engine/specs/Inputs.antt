@@ -13,7 +13,7 @@ use Rattle.simplex_host.specs.declared.scheme.Order.{Order}
 use Rattle.simplex_host.specs.Host.{certificate_bytes}
 use Rattle.simplex_engine.specs.declared.input.Input.{Input}
 use Rattle.simplex_engine.specs.declared.input.Input.TheVariants as input
-use Rattle.simplex_engine.specs.declared.votes.Vote.{Vote}
+use Rattle.simplex_batcher.specs.declared.votes.Vote.{Vote}
 use Rattle.simplex_flat.specs.Calls.{IsFlatProposal, flat_round}
 use Rattle.simplex_flat.specs.Numbers.{flag_number, reason_number}
 use Rattle.simplex_flat.specs.Replies.{IsContext}

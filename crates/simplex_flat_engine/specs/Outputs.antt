@@ -10,13 +10,13 @@ use Rattle.simplex_host.specs.declared.scheme.Order.{Order}
 use Rattle.simplex_host.specs.Host.{certificate_bytes}
 use Rattle.simplex_member.specs.declared.member.journal.Stored.{Stored}
 use Rattle.simplex_engine.specs.declared.engine.Engine.{Engine}
-use Rattle.simplex_engine.specs.declared.fetches.Ask.{Ask}
-use Rattle.simplex_engine.specs.declared.fetches.FetchKind.{FetchKind}
-use Rattle.simplex_engine.specs.declared.fetches.FetchKind.TheVariants as fetch
-use Rattle.simplex_engine.specs.declared.output.Output.{Output}
-use Rattle.simplex_engine.specs.declared.output.Output.TheVariants as output
-use Rattle.simplex_engine.specs.declared.output.Work.{Work}
-use Rattle.simplex_engine.specs.declared.output.Work.TheVariants as work
+use Rattle.simplex_fetches.specs.declared.fetches.Ask.{Ask}
+use Rattle.simplex_fetches.specs.declared.fetches.FetchKind.{FetchKind}
+use Rattle.simplex_fetches.specs.declared.fetches.FetchKind.TheVariants as fetch
+use Rattle.simplex_outbox.specs.declared.output.Output.{Output}
+use Rattle.simplex_outbox.specs.declared.output.Output.TheVariants as output
+use Rattle.simplex_outbox.specs.declared.output.Work.{Work}
+use Rattle.simplex_outbox.specs.declared.output.Work.TheVariants as work
 use Rattle.simplex_flat.specs.Calls.{IsFlatProposal, flat_round}
 use Rattle.simplex_flat.specs.Numbers.{index_number}
 use Rattle.simplex_flat.specs.Replies.{IsContext}

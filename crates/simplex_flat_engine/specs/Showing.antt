@@ -1,7 +1,7 @@
 -- What an engine behind a handle shows beside its outputs.
 use Rattle.std.specs.Prelude.{◌≡◌, ◌||◌, ℕ, Bool, zero, suc, length, slice_get, MatchOption, if◌then◌else◌}
-use Rattle.simplex_engine.specs.declared.fetches.Fetch.{Fetch}
-use Rattle.simplex_engine.specs.Going.{has_failed}
+use Rattle.simplex_fetches.specs.declared.fetches.Fetch.{Fetch}
+use Rattle.simplex_outbox.specs.Going.{has_failed}
 use Rattle.simplex_engine.specs.Settled.{IsWake}
 use Rattle.simplex_flat.specs.declared.resolved.FlatServed.{FlatServed}
 use Rattle.simplex_flat.specs.declared.shown.FlatChunk.{FlatChunk}

@@ -11,12 +11,12 @@ use crate::output::{
 };
 use crate::told::{FlatInput, FlatOutput, FlatTaken};
 use bytes::BytesMut;
-use simplex_engine::output::Output;
 use simplex_flat::journal::{HostArtifact, NotWritten, write_entries};
 use simplex_flat::numbers::{number_of_fault, number_of_flag};
 use simplex_flat::shown::FlatStored;
 use simplex_flat::statuses::number_of_not_written;
 use simplex_member::member::Stored;
+use simplex_outbox::output::Output;
 use simplex_types::types::Fault;
 use std::alloc::Global;
 
@@ -49,8 +49,8 @@ impl HeldEngine {
     ghost use Rattle.simplex_flat_engine.specs.Handling.{HoldsRecord, IsAllGiven, first_bytes, second_bytes};
     ghost use Rattle.simplex_laws.specs.Lawful.{IsLawful};
     ghost use Rattle.simplex_laws.specs.Living.{OfAllDone, MayBeDoneBy};
-    ghost use Rattle.simplex_engine.specs.Outputs.{AreBehind};
-    ghost use Rattle.simplex_engine.specs.Finals.{finals_in, RiseByView};
+    ghost use Rattle.simplex_outbox.specs.Outputs.{AreBehind};
+    ghost use Rattle.simplex_outbox.specs.Finals.{finals_in, RiseByView};
     ghost use Rattle.simplex_flat.specs.Serving.{host_leader, same_host_payload};
     ghost use Rattle.simplex_host.specs.declared.scheme.HostKey.{HostKey};
 

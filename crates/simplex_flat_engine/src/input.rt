@@ -7,8 +7,8 @@ ghost use Rattle.simplex_flat_engine.specs.Inputs.{HandsInBytes, HasKind, HasInp
 
 use crate::told::{FlatInput, FlatSubject};
 use bytes::Bytes;
+use simplex_batcher::votes::Vote;
 use simplex_engine::input::Input;
-use simplex_engine::votes::Vote;
 use simplex_flat::asking::{
     finalization_of, notarization_of, nullification_of, proposal_of, round_in,
 };

@@ -1,7 +1,7 @@
 //! What flat outputs tell.
 
 ghost use Rattle.std.specs.Prelude.{◌≡◌};
-ghost use Rattle.simplex_engine.specs.declared.output.Work.TheVariants.{Fetch};
+ghost use Rattle.simplex_outbox.specs.declared.output.Work.TheVariants.{Fetch};
 ghost use Rattle.simplex_flat.specs.Calls.{IsFlatProposal};
 ghost use Rattle.simplex_flat.specs.Numbers.{index_number};
 ghost use Rattle.simplex_flat.specs.Replies.{IsContext};
@@ -9,16 +9,16 @@ ghost use Rattle.simplex_flat_engine.specs.Inputs.{IsOn};
 ghost use Rattle.simplex_flat_engine.specs.Outputs.{HasOutputOf, IsOf, IsWork, certified_bytes, fetch_number, other_signature, first_bytes_in};
 
 use crate::told::{FlatOutput, FlatSubject};
+use simplex_batcher::votes::Vote;
 use simplex_engine::engine::Engine;
-use simplex_engine::fetches::{Ask, FetchKind};
-use simplex_engine::output::{Output, Work};
-use simplex_engine::votes::Vote;
+use simplex_fetches::fetches::{Ask, FetchKind};
 use simplex_flat::flat::{FlatContext, FlatProposal, FlatRound};
 use simplex_flat::replying::{flat_context, flat_proposal, flat_round};
 use simplex_flat::shown::FlatStored;
 use simplex_host::elector::HostElector;
 use simplex_host::scheme::{HostDigest, HostKey, HostScheme, Order};
 use simplex_member::member::Stored;
+use simplex_outbox::output::{Output, Work};
 use simplex_types::types::{Certificate, Context, Participant, Proposal, Subject};
 
 /// An engine of the host.

@@ -5,19 +5,19 @@ ghost use Rattle.std.specs.Prelude.{◌≡◌, [], None, IfOk, OnOk, IsTrue, not
 ghost use Rattle.simplex_member.specs.Calls.{told, asked};
 ghost use Rattle.simplex_laws.specs.Shown.{certificates_in};
 ghost use Rattle.simplex_engine.specs.Quiet.{is_nothing};
-ghost use Rattle.simplex_engine.specs.Dropping.{is_lasting, says_nothing};
+ghost use Rattle.simplex_outbox.specs.Refusing.{is_lasting, says_nothing};
 
 use super::Engine;
 use super::plan::Views;
 use super::task::Task;
-use crate::fetches::FetchKind;
 use simplex_assembly::assembly::Assembly;
+use simplex_fetches::fetches::FetchKind;
 use simplex_member::member::{Call, Reply};
 use simplex_types::types::{CertificateScheme, Digest, Elector, Fault, Participant, View};
 use simplex_voter::voter::Verify;
 
 impl<S: Assembly<D>, L: Elector<S>, D: Digest> Engine<S, L, D> {
-    ghost use Rattle.simplex_engine.specs.Going.{GoesOn};
+    ghost use Rattle.simplex_outbox.specs.Going.{GoesOn};
     ghost use Rattle.simplex_engine.specs.Alone.{GoesOnAlone};
     ghost use Rattle.simplex_engine.specs.Quiet.{for_all, for_work, for_votes, for_certificates, AnswersNothing, AnswerNothing};
     ghost use Rattle.simplex_engine.specs.Acting.{HasDoneTask};

@@ -2,18 +2,18 @@
 #![tactic(auto)]
 
 ghost use Rattle.std.specs.Prelude.{◌≡◌, [], IfOk, length};
-ghost use Rattle.simplex_engine.specs.Batching.{AreGiven};
-ghost use Rattle.simplex_engine.specs.Going.{IsKept, IsWhole, TellsNothing};
+ghost use Rattle.simplex_batcher.specs.Batching.{AreGiven};
+ghost use Rattle.simplex_outbox.specs.Going.{IsKept, IsWhole, TellsNothing};
 
 use super::Engine;
 use super::plan::{Options, Plan, Views};
-use crate::batcher::Batcher;
-use crate::fetches::{Fetches, Peers};
-use crate::journaled::Journaled;
-use crate::repair::Repair;
 use simplex_assembly::assembly::Assembly;
+use simplex_batcher::batcher::Batcher;
+use simplex_fetches::fetches::{Fetches, Peers};
+use simplex_fetches::repair::Repair;
 use simplex_lawful::lawful::LawfulMember;
 use simplex_member::member::{RecoverError, ResumeError, Start, Stored};
+use simplex_outbox::journaled::Journaled;
 use simplex_resolver::replay::{LawfulResolver, ReplayError};
 use simplex_types::types::{
     Artifact, CertificateScheme, Digest, Elector, Scheme, TermLength, View,

@@ -1,28 +1,28 @@
 //! Votes and certificates that came in.
-#![tactic(auto, using(crate::proofs::Going::stays, crate::proofs::Going::goes_further, crate::proofs::Backing::takes_nothing, crate::proofs::Backing::takes_no_more, crate::proofs::Backing::takes_anyway))]
+#![tactic(auto, using(simplex_outbox::proofs::Going::stays, simplex_outbox::proofs::Going::goes_further, crate::proofs::Backing::takes_nothing, crate::proofs::Backing::takes_no_more, crate::proofs::Backing::takes_anyway))]
 
 ghost use Rattle.std.specs.Prelude.{◌≡◌, None, Some, IfOk, OnOk, IsTrue, not, false, ◌==◌, Ok, IsFalse};
 ghost use Rattle.simplex_types.specs.Certificates.{certificate_facts};
 ghost use Rattle.simplex_types.specs.Encoding.{certificate_subject};
 ghost use Rattle.simplex_member.specs.Calls.{told};
-ghost use Rattle.simplex_engine.specs.Dropping.{is_refused};
+ghost use Rattle.simplex_outbox.specs.Refusing.{is_refused};
 ghost use Rattle.simplex_engine.specs.Admitting.{admits, admits_votes};
 
 use super::Engine;
 use super::asking::is_lasting;
-use crate::batcher::Counted;
-use crate::output::Work;
-use crate::votes::{Vote, round_of};
 use simplex_assembly::assembly::Assembly;
+use simplex_batcher::batcher::Counted;
+use simplex_batcher::votes::{Vote, round_of};
 use simplex_member::member::Reply;
+use simplex_outbox::output::Work;
 use simplex_types::types::{Certificate, CertificateScheme, Digest, Elector, Fault, Round, Scheme};
 use simplex_voter::voter::State;
 
 impl<S: Assembly<D>, L: Elector<S>, D: Digest> Engine<S, L, D> {
-    ghost use Rattle.simplex_engine.specs.Going.{GoesOn};
+    ghost use Rattle.simplex_outbox.specs.Going.{GoesOn};
     ghost use Rattle.simplex_engine.specs.Backing.{TakesNone};
     ghost use Rattle.simplex_engine.specs.Inputs.{subject_made};
-    ghost use Rattle.simplex_engine.specs.Subjects.{subject_round};
+    ghost use Rattle.simplex_batcher.specs.Subjects.{subject_round};
     ghost use Rattle.simplex_engine.specs.Acting.{IsHandedIn, IsCountFollowed};
     ghost use Rattle.simplex_engine.specs.Taking.{IsInputTaken};
     ghost use Rattle.simplex_engine.specs.Duties.{KeepsPlanned, KeepsTelling};

@@ -19,7 +19,7 @@ use simplex_types::types::{
 use simplex_voter::voter::State;
 
 impl<S: Assembly<D>, L: Elector<S>, D: Digest> Engine<S, L, D> {
-    ghost use Rattle.simplex_engine.specs.Going.{GoesOn};
+    ghost use Rattle.simplex_outbox.specs.Going.{GoesOn};
     ghost use Rattle.simplex_engine.specs.Taking.{IsInputTaken};
     ghost use Rattle.simplex_engine.specs.Building.{is_asked_in};
     ghost use Rattle.simplex_engine.specs.Acting.{HasDoneTask, IsBlockTaken};

@@ -7,16 +7,16 @@ mod working;
 
 ghost use Rattle.std.specs.Prelude.{◌≡◌, ◌≢◌, ◌+◌, ◌-◌, ◌^◌, ℕ, min, max, true, false, [], ◌∷◌, ◌++◌, Some, Ok, IfOk, OnOk, IsOk, IsNone, IsTrue, ◌↔◌, option_to_list};
 ghost use Rattle.simplex_engine.specs.Settled.{IsWake};
-ghost use Rattle.simplex_engine.specs.Wanted.{AsksForTheLacking};
+ghost use Rattle.simplex_fetches.specs.Wanted.{AsksForTheLacking};
 ghost use Rattle.simplex_engine.specs.Planning.{IsIdle, HasPlanned, asking_for_votes, asking_for_certificates, touching};
 ghost use Rattle.simplex_engine.specs.Duties.{AreAmong, KeepsPlanned, work_planned};
 ghost use Rattle.simplex_engine.specs.declared.engine.plan.Step.TheVariants.{Ask, Push};
 
 use super::task::Task;
-use crate::fetches::{FetchKind, Fetches};
-use crate::output::Work;
-use crate::repair::Repair;
 use early::EarlyProposals;
+use simplex_fetches::fetches::{FetchKind, Fetches};
+use simplex_fetches::repair::Repair;
+use simplex_outbox::output::Work;
 use simplex_resolver::replay::LawfulResolver;
 use simplex_types::types::{
     CertificateScheme, Context, Digest, Elector, Fault, Participant, Proposal, View,

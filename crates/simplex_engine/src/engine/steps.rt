@@ -6,17 +6,17 @@ ghost use Rattle.std.specs.Prelude.{◌≡◌, ℕ, [], ◌∷◌, ◌++◌, Non
 use super::Engine;
 use super::plan::Step;
 use super::task::Task;
-use crate::output::Work;
 use simplex_assembly::assembly::Assembly;
+use simplex_outbox::output::Work;
 use simplex_types::types::{Digest, Elector, Fault, View};
 
 impl<S: Assembly<D>, L: Elector<S>, D: Digest> Engine<S, L, D> {
-    ghost use Rattle.simplex_engine.specs.Going.{IsWhole};
+    ghost use Rattle.simplex_outbox.specs.Going.{IsWhole};
     ghost use Rattle.simplex_engine.specs.Alone.{GoesOnAlone};
     ghost use Rattle.simplex_engine.specs.Quiet.{view_in_life, HasNothingNew};
     ghost use Rattle.simplex_engine.specs.Planning.{IsIdle};
     ghost use Rattle.simplex_engine.specs.Bounds.{HoldsFromKept};
-    ghost use Rattle.simplex_engine.specs.Repairing.{AsksForItsLacking};
+    ghost use Rattle.simplex_engine.specs.Lacking.{AsksForItsLacking};
     ghost use Rattle.simplex_engine.specs.Duties.{work_planned, KeepsPlanned, TellsBehind, KeepsTelling};
     ghost use Rattle.simplex_voter.specs.Windows.{min_active};
 

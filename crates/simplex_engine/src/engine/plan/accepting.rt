@@ -6,8 +6,8 @@ ghost use Rattle.simplex_types.specs.Viewed.{certificate_view};
 ghost use Rattle.simplex_engine.specs.Following.{showing, IsResolverTold, IsTakenInAbove, IsNewFollowed, IsAddedFollowed, IsCertificateFollowed};
 
 use super::Plan;
-use crate::output::Work;
 use simplex_member::member::Reply;
+use simplex_outbox::output::Work;
 use simplex_types::types::{Certificate, CertificateScheme, Digest, Fault, View, Viewable};
 
 impl<S: CertificateScheme, D: Digest> Plan<S, D> {

@@ -8,9 +8,9 @@ ghost use Rattle.simplex_engine.specs.Following.{Consequence, Nothing, Touched, 
 use super::super::task::Task;
 use super::accepting::is_genesis;
 use super::{Plan, Step};
-use crate::fetches::{FetchKind, fetch_kind};
-use crate::output::Work;
+use simplex_fetches::fetches::{FetchKind, fetch_kind};
 use simplex_member::member::Reply;
+use simplex_outbox::output::Work;
 use simplex_types::reasons::TimeoutReason;
 use simplex_types::types::{
     Certificate, CertificateScheme, Digest, Fault, Notarization, Nullify, Proposal, View, Viewable,

@@ -2,7 +2,7 @@
 
 ghost use Rattle.std.specs.List.{list_any};
 ghost use Rattle.std.specs.Prelude.{◌≡◌, ◌+◌, ◌-◌, ◌^◌, min, if◌then◌else◌, [], ◌∷◌, ◌++◌, length, OnOk};
-ghost use Rattle.simplex_engine.specs.Fetches.{opened, place_of};
+ghost use Rattle.simplex_fetches.specs.Fetches.{opened, place_of};
 ghost use Rattle.simplex_engine.specs.Planning.{may_keep, HasPlanned};
 ghost use Rattle.simplex_engine.specs.Duties.{AreAmong, KeepsPlanned, work_planned};
 ghost use Rattle.simplex_engine.specs.Building.{is_asked_in, is_asked_at, stopping, asking_for, HasBuilds, IsEnded, IsStopped};
@@ -10,8 +10,8 @@ ghost use Rattle.simplex_engine.specs.Building.{is_asked_in, is_asked_at, stoppi
 use super::super::task::Task;
 use super::early::{Early, MOST_EARLY};
 use super::{Building, Plan, Step, Views, queue};
-use crate::fetches::FetchKind;
-use crate::output::Work;
+use simplex_fetches::fetches::FetchKind;
+use simplex_outbox::output::Work;
 use simplex_types::types::{
     CertificateScheme, Context, Digest, Fault, Participant, Proposal, View,
 };

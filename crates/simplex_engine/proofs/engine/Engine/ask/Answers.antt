@@ -3,7 +3,7 @@ use Rattle.std.proofs.Common.{None, sym, subst}
 use Rattle.std.proofs.lemmas.Result.{IfOk-weaker}
 use Rattle.simplex_member.specs.Calls.{told, asked}
 use Rattle.simplex_member.specs.Lives.{IsCall}
-use Rattle.simplex_engine.specs.Going.{GoesOn}
+use Rattle.simplex_outbox.specs.Going.{GoesOn}
 use Rattle.simplex_engine.specs.Tasks.{call_of}
 use Rattle.simplex_engine.proofs.Tells.{tells_called, queued_on}
 use Rattle.simplex_engine.proofs.Planning.{on_ok}

@@ -1,7 +1,7 @@
 -- That the call accepts no certificate, and what its answer says.
 use Rattle.std.proofs.Common.{None, sym, subst, ◌∙◌}
 use Rattle.simplex_member.specs.Calls.{told, asked}
-use Rattle.simplex_engine.specs.Going.{GoesOn}
+use Rattle.simplex_outbox.specs.Going.{GoesOn}
 use Rattle.simplex_engine.specs.Quiet.{AnswersNothing}
 use Rattle.simplex_engine.proofs.Alone.{alone_with}
 use Rattle.simplex_engine.proofs.Tells.{tells_called, queued_on}

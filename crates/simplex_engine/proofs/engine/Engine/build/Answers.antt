@@ -2,7 +2,7 @@
 use Rattle.std.proofs.Common.{false, refl, sym, subst, ◌∙◌}
 use Rattle.std.proofs.lemmas.Result.{IfOk-weaker}
 use Rattle.simplex_engine.specs.Acting.{IsBlockTaken}
-use Rattle.simplex_engine.proofs.Going.{stays}
+use Rattle.simplex_outbox.proofs.Going.{stays}
 use Rattle.simplex_engine.proofs.Tells.{tells_still}
 use Rattle.simplex_engine.proofs.engine.Engine.build.Goals as goal
 

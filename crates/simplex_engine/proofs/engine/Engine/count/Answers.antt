@@ -4,7 +4,7 @@ use Rattle.std.proofs.lemmas.Bool.{false≢true}
 use Rattle.simplex_engine.specs.Admitting.{admits_votes, is_so}
 use Rattle.simplex_engine.proofs.Backing.{takes_nothing, takes_anyway, backed_by_none}
 use Rattle.simplex_engine.proofs.Bounds.{bounded_same}
-use Rattle.simplex_engine.proofs.Going.{stays}
+use Rattle.simplex_outbox.proofs.Going.{stays}
 use Rattle.simplex_engine.proofs.Tells.{tells_still}
 use Rattle.simplex_engine.proofs.engine.Engine.count.Goals as goal
 

@@ -3,8 +3,8 @@ use Rattle.std.proofs.Common.{◌≡◌, ◌∙◌, None, ap, sym, subst}
 use Rattle.std.specs.Prelude.{IfSome}
 use Rattle.simplex_voter.specs.Windows.{min_active}
 use Rattle.simplex_engine.specs.Backing.{TakesNone}
-use Rattle.simplex_engine.specs.Batching.{HoldsFrom}
-use Rattle.simplex_engine.specs.Going.{GoesOn}
+use Rattle.simplex_batcher.specs.Batching.{HoldsFrom}
+use Rattle.simplex_outbox.specs.Going.{GoesOn}
 use Rattle.simplex_engine.specs.Planning.{IsIdle}
 use Rattle.simplex_engine.proofs.Alone.{alone_still}
 use Rattle.simplex_engine.proofs.Backing.{takes_no_more}

@@ -4,8 +4,8 @@ use Rattle.std.proofs.lemmas.Bool.{false≢true}
 use Rattle.std.specs.Prelude.{IfOk}
 use Rattle.simplex_engine.specs.declared.engine.task.Task.TheVariants.{SetProposal}
 use Rattle.simplex_engine.specs.Acting.{HasDoneTask}
-use Rattle.simplex_engine.specs.Going.{GoesOn}
-use Rattle.simplex_engine.proofs.Going.{stays}
+use Rattle.simplex_outbox.specs.Going.{GoesOn}
+use Rattle.simplex_outbox.proofs.Going.{stays}
 use Rattle.simplex_engine.specs.Duties.{KeepsTelling}
 use Rattle.simplex_engine.proofs.engine.Engine.offer.Goals as goal
 

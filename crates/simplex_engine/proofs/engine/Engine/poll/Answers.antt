@@ -1,11 +1,11 @@
 -- That nothing is done where nothing but the next output is taken, and that each vote which is held is of a view that takes votes.
 use Rattle.std.proofs.Common.{refl, subst, ◌++◌, ◌≡◌}
 use Rattle.std.specs.Prelude.{option_to_list}
-use Rattle.simplex_engine.specs.Finals.{TellsNoMore}
+use Rattle.simplex_outbox.specs.Finals.{TellsNoMore}
 use Rattle.simplex_engine.specs.Inputs.{given_out}
-use Rattle.simplex_engine.proofs.Finals.{tells_still}
+use Rattle.simplex_outbox.proofs.Finals.{tells_still}
 use Rattle.simplex_engine.proofs.Bounds.{bounded_same, bounded_admitted}
-use Rattle.simplex_engine.proofs.Going.{does_nothing_more, where_ok}
+use Rattle.simplex_outbox.proofs.Going.{does_nothing_more, where_ok}
 use Rattle.simplex_engine.proofs.Tells.{tells_given, still_told}
 use Rattle.simplex_engine.proofs.Planning.{on_ok}
 use Rattle.simplex_engine.proofs.engine.Engine.poll.Goals as goal

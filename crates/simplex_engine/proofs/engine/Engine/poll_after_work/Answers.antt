@@ -2,13 +2,13 @@
 use Rattle.std.proofs.Common.{refl, ap, sym, subst, length, ◌≤◌}
 use Rattle.std.specs.Prelude.{IfSome, option_to_list}
 use Rattle.simplex_voter.specs.Windows.{min_active}
-use Rattle.simplex_engine.specs.Batching.{HoldsFrom}
-use Rattle.simplex_engine.specs.Wanted.{AsksForTheLacking}
-use Rattle.simplex_engine.specs.Going.{has_failed}
+use Rattle.simplex_batcher.specs.Batching.{HoldsFrom}
+use Rattle.simplex_fetches.specs.Wanted.{AsksForTheLacking}
+use Rattle.simplex_outbox.specs.Going.{has_failed}
 use Rattle.simplex_engine.specs.Quiet.{HasNothingNew}
 use Rattle.simplex_engine.proofs.Backing.{takes_nothing}
 use Rattle.simplex_engine.proofs.Bounds.{bounded_still, bounded_further, bounded_same}
-use Rattle.simplex_engine.proofs.Going.{goes_further, gives_nothing, does_more, tells_no_other, tells_no_other_then}
+use Rattle.simplex_outbox.proofs.Going.{goes_further, gives_nothing, does_more, tells_no_other, tells_no_other_then}
 use Rattle.simplex_engine.proofs.Tells.{tells_given, all_left}
 use Rattle.simplex_engine.specs.Duties.{work_in}
 use Rattle.simplex_engine.proofs.engine.Engine.poll_after_work.Goals as goal

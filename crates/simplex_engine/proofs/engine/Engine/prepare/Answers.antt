@@ -1,6 +1,6 @@
 -- That nothing is done but to make a long record short.
 use Rattle.simplex_engine.proofs.Backing.{takes_nothing}
-use Rattle.simplex_engine.proofs.Going.{stays}
+use Rattle.simplex_outbox.proofs.Going.{stays}
 use Rattle.std.proofs.Common.{refl}
 use Rattle.simplex_engine.proofs.Tells.{tells_further, tells_planned}
 use Rattle.simplex_engine.proofs.Duties.{plans_begun}

@@ -1,7 +1,7 @@
 -- That the views which are over are dropped first, and then the record is made short.
 use Rattle.simplex_engine.proofs.Backing.{takes_same}
 use Rattle.simplex_engine.proofs.Duties.{keeps_still}
-use Rattle.simplex_engine.proofs.Going.{goes_further}
+use Rattle.simplex_outbox.proofs.Going.{goes_further}
 use Rattle.simplex_engine.proofs.Tells.{tells_further, tells_same}
 use Rattle.simplex_engine.proofs.engine.Engine.prune_record.Goals as goal
 

@@ -5,7 +5,7 @@ use Rattle.simplex_record.specs.Start.{start_facts}
 use Rattle.simplex_member.specs.Journal.{IsResumed}
 use Rattle.simplex_laws.specs.Living.{HasGoneOn}
 use Rattle.simplex_engine.proofs.Bounds.{bounded_empty}
-use Rattle.simplex_engine.proofs.Going.{where_ok}
+use Rattle.simplex_outbox.proofs.Going.{where_ok}
 use Rattle.simplex_engine.proofs.Tells.{restart_waits, tells_none}
 use Rattle.simplex_engine.proofs.engine.Engine.resume.Goals as goal
 

@@ -2,9 +2,9 @@
 use Rattle.std.proofs.Common.{sym, subst, ◌∙◌, ap}
 use Rattle.std.specs.Prelude.{IfSome}
 use Rattle.simplex_voter.specs.Windows.{min_active}
-use Rattle.simplex_engine.specs.Batching.{HoldsFrom}
-use Rattle.simplex_engine.specs.Wanted.{AsksForTheLacking}
-use Rattle.simplex_engine.proofs.Going.{goes_further}
+use Rattle.simplex_batcher.specs.Batching.{HoldsFrom}
+use Rattle.simplex_fetches.specs.Wanted.{AsksForTheLacking}
+use Rattle.simplex_outbox.proofs.Going.{goes_further}
 use Rattle.simplex_engine.proofs.Tells.{tells_further, tells_same}
 use Rattle.simplex_engine.proofs.Duties.{keeps_still}
 use Rattle.simplex_engine.proofs.engine.Engine.settle.Goals as goal

@@ -5,7 +5,7 @@ use Rattle.simplex_record.specs.Start.{set_up}
 use Rattle.simplex_member.specs.Start.{started_member}
 use Rattle.simplex_laws.specs.Living.{HasBegun}
 use Rattle.simplex_engine.proofs.Bounds.{bounded_empty}
-use Rattle.simplex_engine.proofs.Going.{where_ok}
+use Rattle.simplex_outbox.proofs.Going.{where_ok}
 use Rattle.simplex_engine.proofs.Tells.{tells_none}
 use Rattle.simplex_engine.proofs.engine.Engine.start.Goals as goal
 

@@ -3,7 +3,7 @@ use Rattle.std.proofs.Common.{◌++◌, refl, subst}
 use Rattle.std.specs.Prelude.{option_to_list}
 use Rattle.simplex_engine.specs.Duties.{AreAmong, work_planned}
 use Rattle.simplex_engine.proofs.Backing.{takes_nothing}
-use Rattle.simplex_engine.proofs.Going.{stays}
+use Rattle.simplex_outbox.proofs.Going.{stays}
 use Rattle.simplex_engine.proofs.Tells.{tells_planned, tells_taken}
 use Rattle.simplex_engine.proofs.engine.Engine.step.Goals as goal
 

@@ -1,10 +1,10 @@
 -- That each step is taken by what is for it.
 use Rattle.std.proofs.Common.{None, refl, ◌∷◌, [], ◌++◌, sym, subst}
 use Rattle.simplex_engine.specs.Duties.{TellsBehind, work_planned}
-use Rattle.simplex_engine.specs.Going.{GoesOn}
+use Rattle.simplex_outbox.specs.Going.{GoesOn}
 use Rattle.simplex_engine.specs.declared.engine.plan.Step.TheVariants as step
 use Rattle.simplex_engine.proofs.Alone.{alone_with}
-use Rattle.simplex_engine.proofs.Going.{stays}
+use Rattle.simplex_outbox.proofs.Going.{stays}
 use Rattle.simplex_engine.proofs.Planning.{on_ok}
 use Rattle.simplex_engine.proofs.Tells.{on_any, passed_on, tells_other, tells_planned}
 use Rattle.simplex_engine.proofs.engine.Engine.take_step.Goals as goal

@@ -4,8 +4,8 @@ use Rattle.std.specs.Prelude.{◌++◌, IsOk, option_to_list}
 use Rattle.std.proofs.lemmas.Bool.{false≢true}
 use Rattle.simplex_host.specs.Host.{certificate_bytes}
 use Rattle.simplex_engine.specs.Duties.{HasTold}
-use Rattle.simplex_engine.specs.Finals.{TellsNoMore}
-use Rattle.simplex_engine.specs.Going.{IsKept}
+use Rattle.simplex_outbox.specs.Finals.{TellsNoMore}
+use Rattle.simplex_outbox.specs.Going.{IsKept}
 use Rattle.simplex_flat_engine.specs.Outputs.{HostOutput}
 use Rattle.simplex_flat_engine.proofs.Given.{all_given, has_told, tells_no_more}
 use Rattle.simplex_flat_engine.proofs.held.HeldEngine.poll_engine.Goals as goal

@@ -1,0 +1,56 @@
+-- What a vote comes to, and what it leaves of the votes that are held.
+use Rattle.std.specs.Prelude.{◌≡◌, ◌≢◌, ℕ, ◌==◌, Bool, List, length, Option, Some, None, if◌then◌else◌}
+use Rattle.simplex_types.specs.declared.types.messages.Certificate.{Certificate}
+use Rattle.simplex_types.specs.declared.types.messages.Certificate.TheVariants as certificate
+use Rattle.simplex_types.specs.declared.types.messages.Subject.{Subject}
+use Rattle.simplex_types.specs.declared.types.messages.Subject.TheVariants as subject
+use Rattle.simplex_batcher.specs.declared.batcher.Counted.{Counted}
+use Rattle.simplex_batcher.specs.declared.batcher.Counted.TheVariants.{Refused, Known, Taken, Certified, Equivocated}
+use Rattle.simplex_batcher.specs.declared.batcher.poll.Ballot.{Ballot}
+use Rattle.simplex_batcher.specs.declared.votes.Vote.{Vote}
+use Rattle.simplex_batcher.specs.Polls.{ballot_of, signatures_on, HoldsTheSame}
+use Rattle.simplex_assembly.specs.Quorums.{quorum_of}
+
+module _ {D G : Type 0} where
+  -- a vote, as it is held at its signer's place
+  abbrev pub cast_by : Vote D G → Ballot D G
+  cast_by vote = record { subject = vote.subject; signature = vote.signature }
+
+  -- a vote is held
+  abbrev pub IsHeld : List (Option (Ballot D G)) → Vote D G → Type 0
+  IsHeld slots vote = ballot_of slots vote.signer ≡ Some (cast_by vote)
+
+  -- none was held of its signer, and now it is; nothing else has changed
+  pub record IsAdded (old : List (Option (Ballot D G))) (vote : Vote D G) (new : List (Option (Ballot D G))) : Type 0 where
+    pub first : ballot_of old vote.signer ≡ None
+    pub held : (member : ℕ) → ballot_of new member ≡ (if member == vote.signer then Some (cast_by vote) else ballot_of old member)
+
+module _ {S D K G C : Type 0} where
+  -- the certificate of the subject's kind, on the subject
+  abbrev pub certificate_of : Subject D → C → Certificate S D K G C
+  certificate_of (subject.Notarize p) c = certificate.Notarization (record { proposal = p; certificate = c })
+  certificate_of (subject.Nullify round) c = certificate.Nullification (record { round = round; certificate = c })
+  certificate_of (subject.Finalize p) c = certificate.Finalization (record { proposal = p; certificate = c })
+
+module _ {S D K G C : Type 0} where
+  -- a further vote of a member whose first one is this ballot: for the same, or for something else
+  abbrev pub ShowsBoth : Ballot D G → Vote D G → Counted S D K G C → Type 0
+  ShowsBoth ballot vote Known = ballot.subject ≡ vote.subject
+  ShowsBoth ballot vote (Equivocated first second) = (cast_by first ≡ ballot) × (first.signer ≡ vote.signer) × (ballot.subject ≢ vote.subject) × (second ≡ vote)
+  ShowsBoth ballot vote _ = ⊥
+
+module _ {S D K G C : Type 0} (same : D → D → Bool) (IsMadeOf : Subject D → List (ℕ × G) → C → Type 0) (members : ℕ) where
+  -- what a member's vote in an admitted view comes to, by what was held of its kind and view, and what is held then:
+  -- - its signer voted for the same before, and nothing changes; or for something else: that vote, and this one;
+  -- - or it is added. Where the votes for the same are just a quorum then, the certificate is made of them.
+  abbrev pub IsCountedIn : List (Option (Ballot D G)) → Vote D G → List (Option (Ballot D G)) → Counted S D K G C → Type 0
+  IsCountedIn old vote new Refused = ⊥
+  IsCountedIn old vote new Known = ((first : Vote D G) × (IsHeld old first × (first.signer ≡ vote.signer) × (first.subject ≡ vote.subject)))
+      × HoldsTheSame old new
+  IsCountedIn old vote new (Equivocated first second) =
+      (IsHeld old first × (first.signer ≡ vote.signer) × (first.subject ≢ vote.subject) × (second ≡ vote)) × HoldsTheSame old new
+  IsCountedIn old vote new Taken = IsAdded old vote new × (length (signatures_on same vote.subject members new) ≢ quorum_of members)
+  IsCountedIn old vote new (Certified made) =
+      IsAdded old vote new
+      × (length (signatures_on same vote.subject members new) ≡ quorum_of members)
+      × ((c : C) × (made ≡ certificate_of vote.subject c) × IsMadeOf vote.subject (signatures_on same vote.subject members new) c)

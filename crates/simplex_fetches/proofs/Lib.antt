@@ -1,0 +1,5 @@
+pub mod Earlier
+pub mod Once
+pub mod Passing
+pub mod Wanted
+pub mod Repairing

@@ -1,0 +1,15 @@
+-- A resolver that is told of something, with the fetches that follow.
+use Rattle.std.proofs.Common.{◌≡◌, ◌∙◌, ℕ, List, ap, subst}
+use Rattle.simplex_resolver.specs.Steps.{Call}
+use Rattle.simplex_resolver.specs.Told.{IsMade}
+use Rattle.simplex_resolver.specs.declared.resolver.effect.Effect.{Effect}
+use Rattle.simplex_fetches.specs.declared.repair.Repair.{Repair}
+use Rattle.simplex_fetches.specs.Repairing.{IsRepaired}
+use Rattle.simplex_fetches.specs.Wanted.{after_effects}
+
+pub is_repaired : (moment : ℕ) (call : Call) (old new : Repair) (es : List Effect) → IsMade call old.resolver es new.resolver
+    → new.fetches.wanted.items ≡ after_effects moment es old.fetches.wanted.items → IsRepaired moment call old new
+is_repaired moment call old new es made fetched = record {
+  made = subst (λ all. IsMade call old.resolver all new.resolver) made.answered made;
+  fetches_now = fetched ∙ ap (λ all. after_effects moment all old.fetches.wanted.items) made.answered;
+}

@@ -1,0 +1,4 @@
+pub mod Fetches
+pub mod Asking
+pub mod Wanted
+pub mod Repairing

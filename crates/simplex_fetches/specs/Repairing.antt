@@ -1,0 +1,19 @@
+-- What a resolver is told, with the fetches that follow.
+use Rattle.std.specs.Prelude.{◌≡◌, ℕ, List}
+use Rattle.simplex_resolver.specs.Steps.{Call, effects}
+use Rattle.simplex_resolver.specs.Told.{IsMade}
+use Rattle.simplex_fetches.specs.declared.fetches.Fetch.{Fetch}
+use Rattle.simplex_fetches.specs.declared.repair.Repair.{Repair}
+use Rattle.simplex_fetches.specs.Wanted.{after_effects}
+
+-- the fetches have become these, asked of the same peers in turn, and else the same is so
+pub record HasFetches (fetches : List Fetch) (old new : Repair) : Type 0 where
+  pub fetches_now : new.fetches.wanted.items ≡ fetches
+  pub peers : new.fetches.peers ≡ old.fetches.peers
+  pub retry : new.fetches.retry ≡ old.fetches.retry
+  pub resolver : new.resolver ≡ old.resolver
+
+-- the call is made of the resolver, and its effects open and end fetches
+pub record IsRepaired (moment : ℕ) (call : Call) (old new : Repair) : Type 0 where
+  pub made : IsMade call old.resolver (effects old.resolver.state call) new.resolver
+  pub fetches_now : new.fetches.wanted.items ≡ after_effects moment (effects old.resolver.state call) old.fetches.wanted.items

@@ -1,0 +1,12 @@
+pub mod Behind
+pub mod Copying
+pub mod Finals
+pub mod Lawfully
+pub mod Finalizing
+pub mod Queued
+pub mod Going
+pub mod Journals
+pub mod Doing
+pub mod Kept
+pub mod Begun
+pub mod Dropping

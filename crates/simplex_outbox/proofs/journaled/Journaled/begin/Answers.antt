@@ -1,0 +1,28 @@
+use Rattle.std.proofs.Common.{◌≡◌, ap, sym, subst, ◌∙◌, [], ◌∷◌, ◌++◌, length, arith}
+use Rattle.std.specs.Prelude.{IfSome}
+use Rattle.simplex_outbox.specs.declared.output.Output.TheVariants as output
+use Rattle.simplex_outbox.specs.Finals.{finals_in}
+use Rattle.simplex_outbox.specs.Outboxes.{IsReplaced}
+use Rattle.simplex_outbox.proofs.Begun.{begun}
+use Rattle.simplex_outbox.proofs.Kept.{counted}
+use Rattle.simplex_outbox.proofs.journaled.Journaled.begin.Goals as goal
+
+pub returns-clause-kept : goal.returns-clause-kept
+returns-clause-kept g c =
+    let bytes_of = g.S.CertificateScheme.certificate_bytes in
+    let member = c.args.member in
+    let all = c.record in
+    let entries = member.facts.entries in
+    let same_length : length c.record-stored.result.now ≡ length all.result.now = sym (counted bytes_of c.record-stored.result.now entries c.record-stored.ensures.entries) ∙ counted bytes_of all.result.now entries all.ensures.entries in
+    begun bytes_of member c.new-outbox.result c.replace.new.self (length c.record-stored.result.now) c.new-outbox.ensures.begins c.in_ok-replace.ensures.queued.2.told_is
+    (subst (λ t. IfSome member.facts.life (λ x. t ≡ x.finalized)) (sym c.new-outbox.ensures.empty.2) c.last_finalized.ensures) c.replace.ensures.goes_on all.result.now same_length all.ensures.entries all.ensures.votes
+    (subst (λ beside. IsReplaced bytes_of all.result.now beside c.new-outbox.result c.replace.new.self) c.stored.ensures c.in_ok-replace.ensures.queued)
+
+pub returns-clause-whole : goal.returns-clause-whole
+returns-clause-whole g c =
+    let same_length = counted g.S.CertificateScheme.certificate_bytes c.record-stored.result.now c.args.member.facts.entries c.record-stored.ensures.entries in
+    omega (arith, same_length)
+
+pub returns-clause-told : goal.returns-clause-told
+returns-clause-told g c =
+    ap finals_in (c.in_ok-replace.ensures.queued.2.queue ∙ ap (λ q. q ++ output.Replace c.in_ok-replace.ensures.queued.0 c.stored.result ∷ []) c.new-outbox.ensures.empty.0)

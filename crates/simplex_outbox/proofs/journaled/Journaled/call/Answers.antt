@@ -1,0 +1,47 @@
+use Rattle.std.proofs.Common.{◌++◌, None, refl, ap, sym, subst}
+use Rattle.std.specs.Prelude.{All}
+use Rattle.std.proofs.lemmas.List.Elements.{All-nil}
+use Rattle.simplex_member.specs.Calls.{asked, told}
+use Rattle.simplex_member.specs.Signed.{signed_reply}
+use Rattle.simplex_laws.specs.Shown.{votes_in, taken_by}
+use Rattle.simplex_outbox.specs.Doing.{IsDoneOn}
+use Rattle.simplex_outbox.specs.Finals.{finals_by, raised_to, TellsRising}
+use Rattle.simplex_outbox.proofs.Doing.{call_on}
+use Rattle.simplex_outbox.proofs.Dropping.{refused_left, dropped_left}
+use Rattle.simplex_outbox.proofs.Finalizing.{told_by_call, final_none}
+use Rattle.simplex_outbox.proofs.Finals.{tells_none}
+use Rattle.simplex_outbox.proofs.Going.{call_risen}
+use Rattle.simplex_outbox.proofs.Kept.{called}
+use Rattle.simplex_outbox.proofs.Queued.{queues_none}
+use Rattle.simplex_outbox.proofs.journaled.Journaled.call.Goals as goal
+
+pub returns-clause-goes_on : goal.returns-clause-goes_on
+returns-clause-goes_on g c taken may no_final =
+    let bytes_of = g.S.CertificateScheme.certificate_bytes in
+    let old = c.args.self.now in
+    let none = final_none c.args.call c.call.result no_final in
+    record {
+      kept = called bytes_of old (record old { member = c.call.new.self }) refl refl c.call.ensures.grown (signed_reply c.call.result) c.call.ensures.votes c.call.ensures.stored
+          (λ given lawful. lawful) None (refl, refl, refl)
+          (λ last. told_by_call g.D.PartialEq.eq g.L.Elector.elect bytes_of old.member.facts c.call.new.self.facts c.args.call c.call.result c.call.ensures.answered
+          old.outbox.told old.outbox.told last (sym (ap (raised_to old.outbox.told) none)));
+      more = taken_by c.args.call c.call.result ++ votes_in c.call.result;
+      on_this = call_on taken c.args.call c.call.result may;
+      done = c.call.ensures.goes_on;
+      told = subst (λ ps. TellsRising ps old.outbox old.outbox) (sym none) (tells_none old.outbox old.outbox refl refl);
+      queued = queues_none old.outbox;
+      risen = call_risen g.D.PartialEq.eq g.L.Elector.elect old.member.facts _ _ c.call.new.self.facts c.call.ensures.answered;
+    }
+
+pub returns-clause-quiet : goal.returns-clause-quiet
+returns-clause-quiet g c none = returns-clause-goes_on g c None (subst (All (IsDoneOn None)) (sym none) (All-nil (IsDoneOn None))) (ap finals_by none)
+
+pub returns-clause-refused : goal.returns-clause-refused
+returns-clause-refused g c refused =
+    let bytes_of = g.S.CertificateScheme.certificate_bytes in
+    refused_left g.D.PartialEq.eq g.L.Elector.elect c.args.self.now.member.facts c.call.new.self.facts (asked bytes_of c.args.call) (told bytes_of c.call.result) c.call.ensures.answered refused
+
+pub returns-clause-dropped : goal.returns-clause-dropped
+returns-clause-dropped g c says =
+    let bytes_of = g.S.CertificateScheme.certificate_bytes in
+    dropped_left g.D.PartialEq.eq g.L.Elector.elect c.args.self.now.member.facts c.call.new.self.facts (asked bytes_of c.args.call) (told bytes_of c.call.result) c.call.ensures.answered says

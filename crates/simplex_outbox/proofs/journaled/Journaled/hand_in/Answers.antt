@@ -1,0 +1,23 @@
+-- That room is made before the member is called.
+use Rattle.std.proofs.Common.{refl}
+use Rattle.simplex_outbox.proofs.Finals.{stayed_tells}
+use Rattle.simplex_outbox.proofs.Going.{goes_further}
+use Rattle.simplex_outbox.proofs.Kept.{does_no_more, kept_as_it_was}
+use Rattle.simplex_outbox.proofs.journaled.Journaled.hand_in.Goals as goal
+
+pub returns-in-Ok-clause-goes_on : goal.returns-in-Ok-clause-goes_on
+returns-in-Ok-clause-goes_on g c =
+    let bytes_of = g.S.CertificateScheme.certificate_bytes in
+    let old = c.args.self.now in
+    let ready = record old { outbox = c.make_room.new.self } in
+    goes_further {c = c.take.new.self}
+    (does_no_more old ready refl (kept_as_it_was bytes_of old ready refl refl refl c.make_room.ensures.goes_on c.make_room.ensures.kept)
+    (stayed_tells old.outbox ready.outbox c.make_room.ensures.kept) c.make_room.ensures.grown) c.take.ensures.goes_on
+
+pub returns-in-Err-clause-goes_on : goal.returns-in-Err-clause-goes_on
+returns-in-Err-clause-goes_on g c =
+    let bytes_of = g.S.CertificateScheme.certificate_bytes in
+    let old = c.args.self.now in
+    let ready = record old { outbox = c.make_room.new.self } in
+    does_no_more old ready refl (kept_as_it_was bytes_of old ready refl refl refl c.make_room.ensures.goes_on c.make_room.ensures.kept)
+    (stayed_tells old.outbox ready.outbox c.make_room.ensures.kept) c.make_room.ensures.grown

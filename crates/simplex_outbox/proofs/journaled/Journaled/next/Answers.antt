@@ -1,0 +1,22 @@
+-- That what is given out was queued in front.
+use Rattle.std.proofs.Common.{◌≡◌, ◌++◌, ap, sym, subst, ◌∙◌, append_assoc}
+use Rattle.std.specs.Prelude.{IfSome, option_to_list}
+use Rattle.simplex_outbox.specs.Finals.{finals_in}
+use Rattle.simplex_outbox.specs.Journals.{journal_of, IsBeginningOf}
+use Rattle.simplex_outbox.proofs.journaled.Journaled.next.Goals as goal
+
+pub returns-clause-kept : goal.returns-clause-kept
+returns-clause-kept g c = λ given kept.
+    let old = c.args.self.now in
+    let out = option_to_list c.next.result in
+    record {
+      lawful = c.next.ensures.goes_on given kept.lawful;
+      stored = λ lives.
+          subst (IsBeginningOf g.S.CertificateScheme.certificate_bytes old.member old.stored)
+          (ap (λ queued. journal_of (given ++ queued)) c.next.ensures.front ∙ ap journal_of (sym (append_assoc given out c.next.new.self.queue.items)))
+          (kept.stored lives);
+      told = subst (λ t. IfSome old.member.facts.life (λ x. t ≡ x.finalized)) (sym c.next.ensures.told) kept.told;
+    }
+
+pub returns-clause-told : goal.returns-clause-told
+returns-clause-told g c = record { queued = ap finals_in c.next.ensures.front; told = c.next.ensures.told }

@@ -1,0 +1,19 @@
+use Rattle.std.proofs.Common.{refl, [], ◌∷◌}
+use Rattle.simplex_outbox.specs.declared.output.Output.TheVariants as output
+use Rattle.simplex_outbox.proofs.Finals.{become_tells, stayed_tells}
+use Rattle.simplex_outbox.proofs.Kept.{does_no_more, pushed, kept_as_it_was}
+use Rattle.simplex_outbox.proofs.Lawfully.{by_result}
+use Rattle.simplex_outbox.proofs.journaled.Journaled.push.Goals as goal
+
+pub returns-clause-goes_on : goal.returns-clause-goes_on
+returns-clause-goes_on g c =
+    let bytes_of = g.S.CertificateScheme.certificate_bytes in
+    let old = c.args.self.now in
+    let new = record old { outbox = c.push.new.self } in
+    does_no_more old new refl
+    (by_result c.push.result c.push.ensures.queued c.push.ensures.kept
+    (pushed bytes_of old new refl refl refl c.push.ensures.goes_on c.args.work)
+    (kept_as_it_was bytes_of old new refl refl refl c.push.ensures.goes_on))
+    (by_result c.push.result c.push.ensures.queued c.push.ensures.kept
+    (become_tells (output.Work c.args.work ∷ []) old.outbox.repeat old.outbox new.outbox refl)
+    (stayed_tells old.outbox new.outbox)) c.push.ensures.grown

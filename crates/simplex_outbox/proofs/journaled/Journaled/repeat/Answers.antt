@@ -1,0 +1,18 @@
+use Rattle.std.proofs.Common.{refl}
+use Rattle.simplex_outbox.proofs.Finals.{stayed_tells}
+use Rattle.simplex_outbox.proofs.Kept.{does_no_more, repeated, repeated_tells, kept_as_it_was}
+use Rattle.simplex_outbox.proofs.Lawfully.{by_answer}
+use Rattle.simplex_outbox.proofs.journaled.Journaled.repeat.Goals as goal
+
+pub returns-clause-goes_on : goal.returns-clause-goes_on
+returns-clause-goes_on g c =
+    let bytes_of = g.S.CertificateScheme.certificate_bytes in
+    let old = c.args.self.now in
+    let new = record old { outbox = c.repeat.new.self } in
+    does_no_more old new refl
+    (by_answer c.repeat.result c.repeat.ensures.queued c.repeat.ensures.kept
+    (repeated bytes_of old new refl refl refl c.repeat.ensures.goes_on c.args.view)
+    (kept_as_it_was bytes_of old new refl refl refl c.repeat.ensures.goes_on))
+    (by_answer c.repeat.result c.repeat.ensures.queued c.repeat.ensures.kept
+    (repeated_tells bytes_of old new c.args.view)
+    (stayed_tells old.outbox new.outbox)) c.repeat.ensures.grown

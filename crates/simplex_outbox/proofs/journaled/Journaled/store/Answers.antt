@@ -1,0 +1,36 @@
+use Rattle.std.proofs.Common.{refl, length, arith}
+use Rattle.simplex_outbox.proofs.Finals.{stayed_tells}
+use Rattle.simplex_outbox.proofs.Going.{stays}
+use Rattle.simplex_outbox.proofs.Kept.{does_no_more, stored, stored_tells, kept_as_it_was, counted}
+use Rattle.simplex_outbox.proofs.journaled.Journaled.store.Goals as goal
+
+pub returns-clause-goes_on : goal.returns-clause-goes_on
+returns-clause-goes_on g c =
+    let bytes_of = g.S.CertificateScheme.certificate_bytes in
+    let old = c.args.self.now in
+    let all = c.record-count in
+    let fresh = c.record_since in
+    let new = record old { outbox = c.store.new.self; stored = length all.result.now } in
+    does_no_more old new refl
+    (stored bytes_of old new refl refl c.store.ensures.goes_on all.result.now fresh.result.now refl all.ensures.entries all.ensures.votes fresh.ensures.entries fresh.ensures.votes c.in_ok-store.ensures.queued)
+    (stored_tells bytes_of old new fresh.result.now c.in_ok-store.ensures.queued) c.store.ensures.grown
+
+pub returns-in_err-store-clause-goes_on : goal.returns-in_err-store-clause-goes_on
+returns-in_err-store-clause-goes_on g c =
+    let old = c.args.self.now in
+    let new = record old { outbox = c.store.new.self } in
+    does_no_more old new refl (kept_as_it_was g.S.CertificateScheme.certificate_bytes old new refl refl refl c.store.ensures.goes_on c.in_err-store.ensures.kept)
+    (stayed_tells old.outbox new.outbox c.in_err-store.ensures.kept) c.store.ensures.grown
+
+pub returns-then-count-self-clause-goes_on : goal.returns-then-count-self-clause-goes_on
+returns-then-count-self-clause-goes_on g c = stays c.args.self.now
+
+pub returns-clause-whole : goal.returns-clause-whole
+returns-clause-whole g c =
+    let same_length = counted g.S.CertificateScheme.certificate_bytes c.record-count.result.now c.args.self.now.member.facts.entries c.record-count.ensures.entries in
+    omega (arith, same_length)
+
+pub returns-then-count-self-clause-whole : goal.returns-then-count-self-clause-whole
+returns-then-count-self-clause-whole g c =
+    let same_length = counted g.S.CertificateScheme.certificate_bytes c.record-count.result.now c.args.self.now.member.facts.entries c.record-count.ensures.entries in
+    omega (arith, same_length)

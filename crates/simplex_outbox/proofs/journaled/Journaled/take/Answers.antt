@@ -1,0 +1,63 @@
+-- That just what the member accepts as final is told.
+use Rattle.std.proofs.Common.{◌≡◌, [], ◌++◌, Some, refl, ap, sym, subst, ◌∙◌}
+use Rattle.std.specs.Prelude.{All, option_to_list}
+use Rattle.std.proofs.lemmas.List.Elements.{All-cons, All-nil}
+use Rattle.simplex_types.specs.Certificates.{certificate_facts}
+use Rattle.simplex_types.specs.Encoding.{certificate_subject}
+use Rattle.simplex_member.specs.Calls.{asked, told}
+use Rattle.simplex_member.specs.Lives.{IsCall}
+use Rattle.simplex_member.specs.Signed.{signed_reply}
+use Rattle.simplex_laws.specs.Shown.{votes_in, taken_by}
+use Rattle.simplex_laws.specs.Traces.{Accepts}
+use Rattle.simplex_outbox.specs.Doing.{IsDoneOn, final_by}
+use Rattle.simplex_outbox.specs.Finals.{finals_by, TellsRising}
+use Rattle.simplex_outbox.specs.Outboxes.{IsTold}
+use Rattle.simplex_outbox.proofs.Doing.{call_on}
+use Rattle.simplex_outbox.proofs.Dropping.{refused_left}
+use Rattle.simplex_outbox.proofs.Finalizing.{told_by_call, final_events}
+use Rattle.simplex_outbox.proofs.Finals.{told_tells}
+use Rattle.simplex_outbox.proofs.Going.{call_risen}
+use Rattle.simplex_outbox.proofs.Kept.{called}
+use Rattle.simplex_outbox.proofs.journaled.Journaled.take.Goals as goal
+
+pub returns-clause-goes_on : goal.returns-clause-goes_on
+returns-clause-goes_on g c =
+    let same = g.D.PartialEq.eq in
+    let elect = g.L.Elector.elect in
+    let bytes_of = g.S.CertificateScheme.certificate_bytes in
+    let on = certificate_subject (certificate_facts bytes_of c.args.certificate) in
+    let old = c.args.self.now in
+    let call = c.handing_in.result in
+    let answer = c.call-reply.result in
+    let tells = final_by c.finalized_by-finalized.result answer in
+    let more = taken_by call answer ++ votes_in answer in
+    let finals : finals_by more ≡ option_to_list tells =
+    final_events call answer c.finalized_by-finalized.result (ap finals_by c.handing_in.ensures.hands ∙ c.finalized_by-finalized.ensures) in
+    let is_told : IsTold tells old.outbox c.tell.new.self = subst (λ f. IsTold f old.outbox c.tell.new.self) c.final_by.ensures c.tell.ensures.told in
+    let rising : TellsRising (finals_by more) old.outbox c.tell.new.self =
+    subst (λ ps. TellsRising ps old.outbox c.tell.new.self) (sym finals) (told_tells tells old.outbox c.tell.new.self is_told) in
+    record {
+      kept = called bytes_of old (record old { member = c.call-reply.new.self; outbox = c.tell.new.self }) refl refl c.call-reply.ensures.grown (signed_reply answer)
+          c.call-reply.ensures.votes c.call-reply.ensures.stored c.tell.ensures.goes_on tells is_told
+          (λ last. told_by_call same elect bytes_of old.member.facts c.call-reply.new.self.facts call answer c.call-reply.ensures.answered
+          old.outbox.told c.tell.new.self.told last rising.told);
+      more = more;
+      on_this = call_on (Some on) call answer
+          (subst (All (IsDoneOn (Some on))) (sym c.handing_in.ensures.hands) (All-cons (IsDoneOn (Some on)) (Accepts on) [] refl (All-nil (IsDoneOn (Some on)))));
+      done = c.call-reply.ensures.goes_on;
+      told = rising;
+      queued = c.tell.ensures.grown;
+      risen = call_risen same elect old.member.facts _ _ c.call-reply.new.self.facts c.call-reply.ensures.answered;
+    }
+
+pub returns-clause-answered : goal.returns-clause-answered
+returns-clause-answered g c =
+    let bytes_of = g.S.CertificateScheme.certificate_bytes in
+    subst (λ a. IsCall g.D.PartialEq.eq g.L.Elector.elect c.args.self.now.member.facts a (told bytes_of c.call-reply.result) c.call-reply.new.self.facts)
+    c.handing_in.ensures.asked c.call-reply.ensures.answered
+
+pub returns-clause-refused : goal.returns-clause-refused
+returns-clause-refused g c refused =
+    let bytes_of = g.S.CertificateScheme.certificate_bytes in
+    refused_left g.D.PartialEq.eq g.L.Elector.elect c.args.self.now.member.facts c.call-reply.new.self.facts (asked bytes_of c.handing_in.result) (told bytes_of c.call-reply.result)
+    c.call-reply.ensures.answered refused

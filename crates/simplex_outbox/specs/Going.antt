@@ -1,0 +1,71 @@
+-- A member with its outbox, from one moment of a life to a later one.
+use Rattle.std.specs.Prelude.{◌≡◌, ℕ, ◌≤◌, Bool, false, ◌||◌, List, [], ◌++◌, length, All, Option, is_none, IfSome}
+use Rattle.simplex_types.specs.declared.types.messages.Subject.{Subject}
+use Rattle.simplex_voter.specs.Facts.{Elect, StateFacts}
+use Rattle.simplex_member.specs.Lives.{MemberFacts}
+use Rattle.simplex_member.specs.declared.member.journal.Stored.{Stored}
+use Rattle.simplex_laws.specs.Traces.{TraceEvent}
+use Rattle.simplex_laws.specs.Living.{DoesMore}
+use Rattle.simplex_laws.specs.LifeLaws.{NeverFalls, WhileAlive}
+use Rattle.simplex_outbox.specs.declared.journaled.Journaled.{Journaled}
+use Rattle.simplex_outbox.specs.declared.output.Output.{Output}
+use Rattle.simplex_outbox.specs.Finals.{finals_in, finals_by, TellsRising}
+use Rattle.simplex_outbox.specs.Outboxes.{IsLawfulOutbox, QueuesMore}
+use Rattle.simplex_outbox.specs.Journals.{journal_of, IsBeginningOf}
+use Rattle.simplex_outbox.specs.Doing.{IsDoneOn}
+
+module _ {S L D K G C : Type 0} where
+  -- it has failed, or its member has
+  abbrev pub has_failed : Journaled S L D K G C → Bool
+  has_failed member = member.failed || is_none member.member.facts.life
+
+  -- no proposal is queued to be told as final
+  abbrev pub TellsNothing : Journaled S L D K G C → Type 0
+  TellsNothing member = finals_in member.outbox.queue.items ≡ []
+
+module _ {S L D K G C : Type 0} (bytes_of : C → List ℕ) where
+  -- over all that was given out and what is queued: each vote stands behind an output that stores it, and the proposals that are told
+  -- as final rise; until the engine fails, a journal that carries them out holds a beginning of the record; and the last finalized
+  -- view of the member is the highest one that was told
+  pub record IsKept (given : List (Output S D Stored K G C)) (member : Journaled S L D K G C) : Type 0 where
+    pub lawful : IsLawfulOutbox given member.outbox
+    pub stored : member.failed ≡ false → IsBeginningOf bytes_of member.member member.stored (journal_of (given ++ member.outbox.queue.items))
+    pub told : IfSome member.member.facts.life (λ x. member.outbox.told ≡ x.finalized)
+
+  -- all of the record is queued to be stored, or was
+  abbrev pub IsWhole : Journaled S L D K G C → Type 0
+  IsWhole member = length member.member.facts.entries ≤ member.stored
+
+  -- unless it has failed
+  abbrev pub IsWholeAlive : Journaled S L D K G C → Type 0
+  IsWholeAlive member = member.failed ≡ false → IsWhole member
+
+-- the terms are the same, and neither the current view nor the last finalized one falls
+pub record HasRisen {K L D : Type 0} (first last : StateFacts K L D) : Type 0 where
+  pub terms : last.terms ≡ first.terms
+  pub views : NeverFalls first last
+
+module _ {S L D K G C : Type 0} (same : D → D → Bool) (elect : Elect L) (bytes_of : C → List ℕ) (taken : Option (Subject D)) where
+  -- what was kept stays kept, what was queued stays queued, and what the member has done stays done; besides it accepts certificates
+  -- on this subject alone, and signs votes; of the finalizations that it accepts each of a view above all that were told is told; and
+  -- while it has not failed, its views do not fall
+  pub record GoesOn (old new : Journaled S L D K G C) : Type 0 where
+    pub kept : (given : List (Output S D Stored K G C)) → IsKept bytes_of given old → IsKept bytes_of given new
+    pub more : List (TraceEvent D)
+    pub on_this : All (IsDoneOn taken) more
+    pub done : DoesMore same elect old.member.facts more new.member.facts
+    pub told : TellsRising (finals_by more) old.outbox new.outbox
+    pub queued : QueuesMore old.outbox new.outbox
+    pub risen : WhileAlive HasRisen old.member.facts.life new.member.facts.life
+
+module _ {S L D K G C : Type 0} (bytes_of : C → List ℕ) where
+  -- what was kept stays kept, with these outputs given out behind all that was
+  abbrev pub HasGivenOut : List (Output S D Stored K G C) → Journaled S L D K G C → Journaled S L D K G C → Type 0
+  HasGivenOut out old new = (given : List (Output S D Stored K G C)) → IsKept bytes_of given old → IsKept bytes_of (given ++ out) new
+
+module _ {L D K : Type 0} (same : D → D → Bool) (elect : Elect L) (taken : Option (Subject D)) where
+  -- a member accepts certificates on this subject alone, and signs votes
+  pub record DoesMoreOn (old new : MemberFacts K L D) : Type 0 where
+    pub more : List (TraceEvent D)
+    pub on_this : All (IsDoneOn taken) more
+    pub done : DoesMore same elect old more new

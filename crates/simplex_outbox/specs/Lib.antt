@@ -1,0 +1,9 @@
+pub mod Entries
+pub mod Outputs
+pub mod Finals
+pub mod Outboxes
+pub mod Journals
+pub mod Doing
+pub mod Going
+pub mod Refusing
+pub mod Handing
