@@ -20,7 +20,7 @@ use Rattle.simplex_fetches.specs.declared.fetches.Fetch.{Fetch}
 use Rattle.simplex_fetches.specs.declared.fetches.FetchKind.{FetchKind}
 use Rattle.simplex_fetches.specs.declared.fetches.FetchKind.TheVariants.{Notarization, Nullification, Decision}
 use Rattle.simplex_fetches.specs.Fetches.{same_kind, is_of, is_within, is_fetch_open, fresh, opened, closed, passed}
-use Rattle.simplex_fetches.specs.Wanted.{after_effect, after_effects, fetching, AsksForWanted, holds, is_held, is_lacking, AsksForTheLacking}
+use Rattle.simplex_fetches.specs.Wanted.{after_effect, after_effects, fetching, wanting, AsksForWanted, holds, is_held, is_lacking, AsksForTheLacking}
 
 or_none : (b : Bool) → (b || false) ≡ b
 or_none true = refl
@@ -225,10 +225,10 @@ module _ (finalized : ℕ) (wanted : List ℕ) (xs : List Fetch) (asks : AsksFor
           ap (λ k. holds wanted x k f.view) (a_nullification f.kind (kind_is v f of)) ∙ ap (λ w. holds wanted x Nullification w) (view_is v f of)
           ∙ ap (λ b. not b && is_some (nullification_of x v)) is
 
--- views that are left to be opened
+-- views that are opened
 
--- one is opened
-pub opened_so_far : (v view moment : ℕ) (views : List ℕ) (xs : List Fetch) → (has (view ∷ views) v || is_fetch_open Nullification v xs) ≡ true
+-- one is
+opened_so_far : (v view moment : ℕ) (views : List ℕ) (xs : List Fetch) → (has (view ∷ views) v || is_fetch_open Nullification v xs) ≡ true
     → (has views v || is_fetch_open Nullification v (opened Nullification view 0 moment xs)) ≡ true
 opened_so_far v view moment views xs is =
     ap (λ b. has views v || b) (open_now v view moment xs) ∙ turned (eqb v view) (has views v) (is_fetch_open Nullification v xs) is
@@ -239,6 +239,11 @@ opened_so_far v view moment views xs is =
     turned true false false is = refl
     turned false false true is = refl
     turned false false false is = is
+
+-- each of them is asked for
+pub asks_wanting : (views : List ℕ) (xs : List Fetch) (v : ℕ) → (has views v || is_fetch_open Nullification v xs) ≡ true → is_fetch_open Nullification v (wanting views xs) ≡ true
+asks_wanting [] xs v is = is
+asks_wanting (view ∷ views) xs v is = asks_wanting views (opened Nullification view 0 0 xs) v (opened_so_far v view 0 views xs is)
 
 -- whether a view is among others, by its order
 pub has_by_order : (v : ℕ) (views : List ℕ) → list_any (is_at (nat_cmp v)) views ≡ has views v

@@ -1,15 +1,15 @@
--- What is asked_again, and what is left of the open fetches.
+-- What is asked for, and what is left of the open fetches.
 use Rattle.std.specs.Prelude.{◌≡◌, ℕ, Option, Some, None, MatchOption, slice_get, slice_set}
 use Rattle.simplex_fetches.specs.declared.fetches.Ask.{Ask}
 use Rattle.simplex_fetches.specs.declared.fetches.Fetch.{Fetch}
 use Rattle.simplex_fetches.specs.declared.fetches.Fetches.{Fetches}
 use Rattle.simplex_fetches.specs.Fetches.{asked_again, due_at, whose_turn}
 
--- a fetch, asked_again of whom it is the turn
+-- a fetch, asked of whom it is the turn
 abbrev pub ask_of : Fetches → Fetch → Ask
 ask_of old fetch = record { kind = fetch.kind; view = fetch.view; of = whose_turn old.peers fetch.first fetch.count }
 
--- the first fetch that is due is asked_again for, and no other changes; where none is due, nothing changes
+-- the first fetch that is due is asked for, and no other changes; where none is due, nothing changes
 abbrev pub IsAsking : ℕ → Fetches → Option Ask → Fetches → Type 0
 IsAsking now old ask new =
     MatchOption (due_at now old.wanted.items)

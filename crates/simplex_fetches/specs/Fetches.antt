@@ -1,4 +1,4 @@
--- Fetches that are open, and of whom they are asked_again.
+-- Fetches that are open, and of whom they are asked.
 use Rattle.std.specs.Prelude.{◌≡◌, ℕ, ◌≤◌, ◌+◌, ◌-◌, ◌%◌, ◌^◌, Bool, true, false, ◌&&◌, ◌==◌, nat_le, nat_lt, min, List, [], ◌∷◌, ◌++◌, not, All, Any, Option, Some, None, MatchOption, if◌then◌else◌, position, filter}
 use Rattle.std.specs.List.{list_any}
 use Rattle.simplex_types.specs.declared.reasons.Kind.{Kind}
@@ -37,7 +37,7 @@ abbrev pub each_once : List Fetch → Bool
 each_once [] = true
 each_once (fetch ∷ rest) = not (is_fetch_open fetch.kind fetch.view rest) && each_once rest
 
--- one that was never asked_again for, and is to be at once
+-- one that was never asked for, and is to be at once
 abbrev pub fresh : FetchKind → ℕ → ℕ → ℕ → Fetch
 fresh kind view first now = record { kind = kind; view = view; first = first; count = 0; moment = now }
 
@@ -57,7 +57,7 @@ passed finalized fetches = filter (λ (fetch : Fetch). nat_lt finalized fetch.vi
 abbrev pub settled : FetchKind → ℕ → ℕ → List Fetch → List Fetch
 settled kind first last fetches = filter (λ fetch. not (is_within kind first last fetch)) fetches
 
--- one that was asked_again for once more, and is to be again after the retry interval; both numbers stop at 2^64 - 1
+-- one that was asked for once more, and is to be again after the retry interval; both numbers stop at 2^64 - 1
 abbrev pub asked_again : ℕ → ℕ → Fetch → Fetch
 asked_again now retry fetch = record fetch { count = min (fetch.count + 1) (2 ^ 64 - 1); moment = min (now + retry) (2 ^ 64 - 1) }
 

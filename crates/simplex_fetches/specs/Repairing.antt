@@ -1,6 +1,8 @@
 -- What a resolver is told, with the fetches that follow.
 use Rattle.std.specs.Prelude.{◌≡◌, ℕ, List}
-use Rattle.simplex_resolver.specs.Steps.{Call, effects}
+use Rattle.simplex_types.specs.declared.types.fault.Fault.{Fault}
+use Rattle.simplex_types.specs.declared.types.fault.Fault.TheVariants.{OutOfMemory}
+use Rattle.simplex_resolver.specs.Steps.{Call, effects, Refused}
 use Rattle.simplex_resolver.specs.Told.{IsMade}
 use Rattle.simplex_fetches.specs.declared.fetches.Fetch.{Fetch}
 use Rattle.simplex_fetches.specs.declared.repair.Repair.{Repair}
@@ -17,3 +19,9 @@ pub record HasFetches (fetches : List Fetch) (old new : Repair) : Type 0 where
 pub record IsRepaired (moment : ℕ) (call : Call) (old new : Repair) : Type 0 where
   pub made : IsMade call old.resolver (effects old.resolver.state call) new.resolver
   pub fetches_now : new.fetches.wanted.items ≡ after_effects moment (effects old.resolver.state call) old.fetches.wanted.items
+
+-- where it is refused, of what names no view above v: without memory, fetches may be left out; else the resolver says why, and it and
+-- the fetches are as they were
+abbrev pub IsUnrepaired : ℕ → Fault → Repair → Repair → Type 0
+IsUnrepaired v OutOfMemory old new = Unit {0}
+IsUnrepaired v fault old new = Refused old.resolver.state v fault new.resolver.state × (new.resolver ≡ old.resolver) × (new.fetches ≡ old.fetches)

@@ -28,6 +28,11 @@ abbrev pub fetching : ℕ → List CertificateFetch → List Fetch → List Fetc
 fetching now [] fetches = fetches
 fetching now (first ∷ rest) fetches = fetching now rest (opened Notarization first.view 0 now fetches)
 
+-- nullifications of these views are asked for at once
+abbrev pub wanting : List ℕ → List Fetch → List Fetch
+wanting [] fetches = fetches
+wanting (first ∷ rest) fetches = wanting rest (opened Nullification first 0 0 fetches)
+
 -- of each view above the last finalized one that the resolver has open, a nullification is asked for
 abbrev pub AsksForWanted : ℕ → List ℕ → List Fetch → Type 0
 AsksForWanted finalized wanted fetches = (v : ℕ) → has wanted v ≡ true → finalized < v → is_fetch_open Nullification v fetches ≡ true

@@ -2,13 +2,14 @@
 //!
 //! It owes that no wanted view above the last finalized one is left out.
 
-ghost use Rattle.std.specs.Prelude.{◌≡◌, ℕ, ◌≤◌, false, max, None, OnOk, IfOk, IsFalse};
+ghost use Rattle.std.specs.Prelude.{◌≡◌, ◌↔◌, ℕ, ◌≤◌, false, filter, max, None, OnOk, OnErr, IfOk, IfErr, IsFalse, IsOk};
+ghost use Rattle.simplex_types.specs.declared.types.fault.Fault.TheVariants.{Failed};
 ghost use Rattle.simplex_types.specs.Certificates.{certificate_facts, notarization_facts};
 ghost use Rattle.simplex_types.specs.Viewed.{certificate_view};
-ghost use Rattle.simplex_resolver.specs.Steps.{update, verdict};
+ghost use Rattle.simplex_resolver.specs.Steps.{highest_named, highest_view, update, verdict};
 ghost use Rattle.simplex_fetches.specs.Asking.{IsAsking};
 ghost use Rattle.simplex_fetches.specs.Fetches.{due_at, opened, closed, passed, place_of};
-ghost use Rattle.simplex_fetches.specs.Wanted.{fetching, AsksForWanted, AsksForTheLacking};
+ghost use Rattle.simplex_fetches.specs.Wanted.{fetching, wanting, is_lacking, AsksForWanted, AsksForTheLacking};
 
 use crate::fetches::{Ask, FetchKind, Fetches};
 use simplex_resolver::replay::LawfulResolver;
@@ -31,11 +32,17 @@ pub struct Repair {
 }
 
 impl Repair {
-    ghost use Rattle.simplex_fetches.specs.Repairing.{HasFetches, IsRepaired};
+    ghost use Rattle.simplex_fetches.specs.Repairing.{HasFetches, IsRepaired, IsUnrepaired};
 
-    /// What the resolver has open is asked for at once.
+    /// What the resolver has open is asked for at once, beside what is open already.
+    ///
+    /// # Errors
+    ///
+    /// Memory is lacking.
     pub fn new(resolver: LawfulResolver, mut fetches: Fetches) -> Result<Repair, AllocError>
         ensures resolver { IfOk result (λ repair. repair.resolver ≡ resolver) }
+        ensures fetches { IfOk result (λ repair. repair.fetches.wanted.items ≡ wanting resolver.open_fetches fetches.wanted.items) }
+        ensures same { IfOk result (λ repair. (repair.fetches.peers ≡ fetches.peers) × (repair.fetches.retry ≡ fetches.retry)) }
     {
         fetches.open_all(resolver.fetches())?;
         Ok(Repair {
@@ -62,13 +69,18 @@ impl Repair {
 
     /// The resolver is told of a certificate, and fetches are opened and ended as it says. What is lacking is asked for from this
     /// moment on.
+    ///
+    /// # Errors
+    ///
+    /// Those of `LawfulResolver::updated`. After `OutOfMemory` fetches may be left out; another one leaves the resolver and the fetches.
     pub fn updated<S: CertificateScheme, D: Digest>(
         &mut self,
         certificate: &Certificate<S, D>,
         moment: u64,
     ) -> Result<(), Fault>
         requires { 1 ≤ certificate_view certificate.now }
-        ensures { OnOk result (IsRepaired moment (update D.bytes (certificate_facts S.certificate_bytes certificate.now)) self.old self.new) }
+        ensures repaired { OnOk result (IsRepaired moment (update D.bytes (certificate_facts S.certificate_bytes certificate.now)) self.old self.new) }
+        ensures refused { IfErr result (λ fault. IsUnrepaired (highest_view certificate.now) fault self.old self.new) }
     {
         let is_behind = self.is_behind;
         self.is_behind = true;
@@ -79,6 +91,10 @@ impl Repair {
     }
 
     /// The resolver is told of a verdict on a notarization, likewise.
+    ///
+    /// # Errors
+    ///
+    /// As of `updated`.
     pub fn certified<S: CertificateScheme, D: Digest>(
         &mut self,
         notarization: Notarization<S, D>,
@@ -86,8 +102,9 @@ impl Repair {
         moment: u64,
     ) -> Result<(), Fault>
         requires { 1 ≤ notarization.proposal.round.view }
-        ensures { OnOk result (IsRepaired moment
+        ensures repaired { OnOk result (IsRepaired moment
             (verdict D.bytes (notarization_facts S.certificate_bytes notarization) is_success) self.old self.new) }
+        ensures refused { IfErr result (λ fault. IsUnrepaired (highest_named notarization.proposal) fault self.old self.new) }
     {
         let is_behind = self.is_behind;
         self.is_behind = true;
@@ -98,6 +115,10 @@ impl Repair {
     }
 
     /// A certificate is lacking, and is asked for from this moment on, of this member first.
+    ///
+    /// # Errors
+    ///
+    /// Memory is lacking: nothing has changed.
     pub fn open(
         &mut self,
         kind: FetchKind,
@@ -105,14 +126,19 @@ impl Repair {
         of: Option<Participant>,
         moment: u64,
     ) -> Result<(), AllocError>
-        ensures { let fetches = self.old.fetches in
+        ensures opened { let fetches = self.old.fetches in
             OnOk result (HasFetches (opened kind view (place_of fetches.peers of) moment fetches.wanted.items) self.old self.new) }
+        ensures refused { OnErr result (HasFetches self.old.fetches.wanted.items self.old self.new) }
     {
         self.fetches.open(kind, view, of, moment)?;
         Ok(())
     }
 
     /// The notarizations that certifications wait for are asked for at once.
+    ///
+    /// # Errors
+    ///
+    /// Memory is lacking: some of them may be asked for.
     pub fn fetch_all(&mut self, lacking: &[CertificateFetch], now: u64) -> Result<(), AllocError>
         ensures { OnOk result (HasFetches (fetching now lacking.now self.old.fetches.wanted.items) self.old self.new) }
     {
@@ -147,16 +173,24 @@ impl Repair {
 
     /// Whether a wanted view above this one may be left out: where memory was lacking, or higher ones were passed.
     fn may_leave_out(&self, finalized: View) -> bool
-        ensures { IsFalse result → (self.now.is_behind ≡ false) × (self.now.passed ≤ finalized) }
+        ensures { IsFalse result ↔ ((self.now.is_behind ≡ false) × (self.now.passed ≤ finalized)) }
     {
         self.is_behind || finalized < self.passed
     }
 
-    /// Closes what is not lacking by the state. Since the last finalized view does not fall, that leaves nothing out.
+    /// Closes what is not lacking by the state, and nothing else. Since the last finalized view does not fall, that leaves nothing out.
+    ///
+    /// # Errors
+    ///
+    /// `Failed` where an error came before, or where the state's last finalized view is below one that was passed.
     pub fn let_go<S: CertificateScheme, L: Elector<S>, D: Digest>(
         &mut self,
         state: &State<S, L, D>,
     ) -> Result<(), Fault>
+        ensures kept { OnOk result (HasFetches (filter (is_lacking self.old.resolver.open_fetches state.now) self.old.fetches.wanted.items)
+            self.old self.new) }
+        ensures answers { IsOk result ↔ ((self.old.is_behind ≡ false) × (self.old.passed ≤ state.now.finalized)) }
+        ensures refused { IfErr result (λ fault. (fault ≡ Failed) × (self.new ≡ self.old)) }
         ensures lacking { OnOk result (AsksForTheLacking self.new.resolver.open_fetches state.now self.new.fetches.wanted.items) }
         ensures due { (now : ℕ) → due_at now self.old.fetches.wanted.items ≡ None → due_at now self.new.fetches.wanted.items ≡ None }
     {

@@ -1,10 +1,7 @@
 //! What the resolver says of fetches: which are opened, and which are over.
 
-ghost use Rattle.std.specs.Prelude.{◌≡◌, ℕ, true, OnOk};
-ghost use Rattle.simplex_resolver.specs.Repair.{has};
-ghost use Rattle.simplex_fetches.specs.Fetches.{is_fetch_open};
-ghost use Rattle.simplex_fetches.specs.Wanted.{after_effect, after_effects};
-ghost use Rattle.simplex_fetches.specs.declared.fetches.FetchKind.TheVariants.{Nullification};
+ghost use Rattle.std.specs.Prelude.{◌≡◌, OnOk};
+ghost use Rattle.simplex_fetches.specs.Wanted.{after_effect, after_effects, wanting};
 
 use super::{FetchKind, Fetches, fetch_kind};
 use simplex_resolver::resolver::Effect;
@@ -42,7 +39,7 @@ impl Fetches {
 
     /// Opens the fetch of a nullification of each view, which is to be asked for at once.
     pub fn open_all(&mut self, views: &BTreeSet<View>) -> Result<(), AllocError>
-        ensures each { OnOk result ((v : ℕ) → has views.now.keys v ≡ true → is_fetch_open Nullification v self.new.wanted.items ≡ true) }
+        ensures opened { OnOk result (self.new.wanted.items ≡ wanting views.now.keys self.old.wanted.items) }
         ensures same { (self.new.peers ≡ self.old.peers) × (self.new.retry ≡ self.old.retry) }
     {
         let mut rest = views.iter();

@@ -5,8 +5,8 @@ use Rattle.simplex_fetches.proofs.Repairing.{is_repaired}
 use Rattle.simplex_fetches.proofs.Wanted.{asks_after}
 use Rattle.simplex_fetches.proofs.repair.Repair.updated.Goals as goal
 
-pub returns : goal.returns
-returns g c =
+pub returns-clause-repaired : goal.returns-clause-repaired
+returns-clause-repaired g c =
     let fetches = c.args.self.now.fetches.wanted.items in
     is_repaired c.args.moment _ c.args.self.now _ c.in_ok-effects.effects.items c.in_ok-effects.ensures.made
     (c.in_ok-apply.ensures.after ∙ ap (λ es. after_effects c.args.moment es fetches) c.deref.ensures.value)
