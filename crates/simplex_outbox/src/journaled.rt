@@ -51,7 +51,7 @@ impl<S: Scheme<D>, L: Elector<S>, D: Digest> Journaled<S, L, D> {
     ghost use Rattle.simplex_laws.specs.Living.{OfAllDone, MayBeDoneBy};
     ghost use Rattle.simplex_member.specs.Journal.{stored_of};
     ghost use Rattle.simplex_outbox.specs.Outputs.{AreBehind};
-    ghost use Rattle.simplex_outbox.specs.Outboxes.{HasRoom};
+    ghost use Rattle.simplex_outbox.specs.Outboxes.{HasRoom, IsRepeated};
     ghost use Rattle.simplex_outbox.specs.Finals.{finals_in, RiseByView, EndsAt, TellsNoMore};
     ghost use Rattle.simplex_outbox.specs.Journals.{journal_of, IsRecordOf};
     ghost use Rattle.simplex_outbox.specs.Going.{IsKept, IsWhole, GoesOn, TellsNothing, has_failed};
@@ -200,6 +200,7 @@ impl<S: Scheme<D>, L: Elector<S>, D: Digest> Journaled<S, L, D> {
     pub fn repeat(&mut self, view: View) -> Result<bool, AllocError>
         ensures goes_on { GoesOn D.eq L.elect S.certificate_bytes None self.old self.new }
         ensures member { self.new.member ≡ self.old.member }
+        ensures repeated { IfOk result (λ sent. IsRepeated view self.old.outbox.repeat sent self.old.outbox self.new.outbox) }
     {
         self.outbox.repeat(view)
     }
