@@ -70,7 +70,7 @@ WRONG = (
     Wrong("nothing is asked for again", "simplex_fetches/src/fetches.rt", "moment: now.saturating_add(retry),", "moment: u64::MAX,"),
     Wrong("a certificate of votes is thrown away", "simplex_engine/src/engine/counting.rt",
           "match self.accept(&certificate, now) {", "match self.see() {"),
-    Wrong("a timeout is never due", "simplex_engine/src/engine/plan/following.rt", "if moment <= now {", "if moment < moment.min(now) {"),
+    Wrong("a timeout is never due", "simplex_plan/src/plan/following.rt", "if moment <= now {", "if moment < moment.min(now) {"),
     Wrong("a long record is never made short", "simplex_engine/src/engine/steps.rt", "self.options.long_record < count", "count < self.options.long_record"),
 )
 

@@ -1,11 +1,9 @@
 -- What the application is to be told of stays told.
-use Rattle.std.proofs.Common.{◌≡◌, ◌∙◌, refl, ap, sym, subst, ℕ, ◌⊎◌, inl, inr, Bool, true, false, ◌||◌, ◌==◌, cond, List, [], ◌∷◌, ◌++◌, map, append-nil, Option, Some, None}
-use Rattle.std.specs.Prelude.{option_to_list}
+use Rattle.std.proofs.Common.{◌≡◌, ◌∙◌, refl, ap, sym, subst, ℕ, ◌⊎◌, inl, inr, Bool, true, false, ◌||◌, ◌==◌, cond, List, [], ◌∷◌, ◌++◌, map, Option, Some, None}
 use Rattle.std.specs.BTreeSet.{insert_key}
 use Rattle.std.specs.List.{fold, list_any}
 use Rattle.std.specs.Ordering.{nat_cmp}
 use Rattle.std.proofs.lemmas.Bool.{or_right, eq-eqb}
-use Rattle.std.proofs.lemmas.List.Folds.{list_any-append}
 use Rattle.simplex_types.specs.declared.types.fault.Fault.{Fault}
 use Rattle.simplex_types.specs.declared.types.messages.Context.{Context}
 use Rattle.simplex_types.specs.declared.types.messages.Proposal.{Proposal}
@@ -25,55 +23,16 @@ use Rattle.simplex_member.specs.CallSemantics.{answer, outstanding_work_after}
 use Rattle.simplex_member.specs.Lives.{MemberFacts, AnswersAlive, IsCall, unless_refused, unless_kept, with_call}
 use Rattle.simplex_member.specs.OutstandingWork.{OutstandingWork, no_outstanding_work, is_among, context_at, with_context, with_offers, with_open_request, with_verification, without_context, without_offer, without_verification}
 use Rattle.simplex_laws.proofs.votes.OutstandingWork.{among_others, now_among, now_open, still_open}
-use Rattle.simplex_engine.specs.declared.engine.plan.Building.{Building}
-use Rattle.simplex_engine.specs.declared.engine.plan.Plan.{Plan}
-use Rattle.simplex_engine.specs.declared.engine.plan.Step.{Step}
-use Rattle.simplex_engine.specs.declared.engine.plan.Step.TheVariants as step
 use Rattle.simplex_outbox.specs.declared.output.Output.{Output}
 use Rattle.simplex_outbox.specs.declared.output.Output.TheVariants as output
 use Rattle.simplex_outbox.specs.declared.output.Work.{Work}
 use Rattle.simplex_outbox.specs.declared.output.Work.TheVariants as work
-use Rattle.simplex_engine.specs.Building.{HasBuilds}
-use Rattle.simplex_engine.specs.Planning.{HasPlanned}
-use Rattle.simplex_engine.specs.Duties.{AreAmong, is_verify_of, is_certify_of, is_build_of, work_in, work_planned, work_of, IsToldIn, IsPlanned, KeepsPlanned, PlansToo}
-
--- tests that some pass
-
-any_left : {A : Type 0} (test : A → Bool) (these those : List A) → list_any test these ≡ true → list_any test (these ++ those) ≡ true
-any_left test these those is = list_any-append test these those ∙ ap (λ b. b || list_any test those) is
-
-any_right : {A : Type 0} (test : A → Bool) (these those : List A) → list_any test those ≡ true → list_any test (these ++ those) ≡ true
-any_right test these those is = list_any-append test these those ∙ or_right (list_any test these) (list_any test those) is
-
--- a test that some of these or those pass
-any_either : {A : Type 0} (test : A → Bool) (these those : List A) → list_any test (these ++ those) ≡ true → (list_any test these ≡ true) ⊎ (list_any test those ≡ true)
-any_either test these those is = by_first (list_any test these) refl (sym (list_any-append test these those) ∙ is)
-  where
-    by_first : (b : Bool) → list_any test these ≡ b → (b || list_any test those) ≡ true → (list_any test these ≡ true) ⊎ (list_any test those ≡ true)
-    by_first true first is = inl first
-    by_first false first is = inr is
+use Rattle.simplex_engine.specs.Duties.{is_verify_of, is_certify_of, is_build_of, work_in, IsToldIn}
+use Rattle.simplex_plan.specs.PlannedWork.{AreAmong, work_of}
+use Rattle.simplex_plan.proofs.PlannedWork.{any_either, any_left, any_right, among_more}
 
 module _ {S D K G C : Type 0} where
-  pub among_all : {these those : List (Work S D K G C)} → these ≡ those → AreAmong these those
-  among_all is = record { found = λ test some. ap (list_any test) (sym is) ∙ some }
-
-  pub among_still : (these : List (Work S D K G C)) → AreAmong these these
-  among_still these = record { found = λ test some. some }
-
-  pub among_further : {a b c : List (Work S D K G C)} → AreAmong a b → AreAmong b c → AreAmong a c
-  among_further first second = record { found = λ test some. second.found test (first.found test some) }
-
-  pub among_more : (these those : List (Work S D K G C)) → AreAmong these (these ++ those)
-  among_more these those = record { found = λ test. any_left test these those }
-
-  pub among_both : {a b c d : List (Work S D K G C)} → AreAmong a b → AreAmong c d → AreAmong (a ++ c) (b ++ d)
-  among_both {a = a} {b = b} {c = c} {d = d} first second = record {
-    found = λ test some. elim (any_either test a c some) [
-      | inl this ↦ any_left test b d (first.found test this)
-      | inr that ↦ any_right test b d (second.found test that)
-    ];
-  }
-
+  -- in another order
   pub among_swapped : (these those : List (Work S D K G C)) → AreAmong (these ++ those) (those ++ these)
   among_swapped these those = record {
     found = λ test some. elim (any_either test these those some) [
@@ -90,69 +49,6 @@ module _ {S D K G C : Type 0} where
   work_in-append (output.Vote _ ∷ outs) more = work_in-append outs more
   work_in-append (output.Finalized _ ∷ outs) more = work_in-append outs more
   work_in-append (output.Work it ∷ outs) more = ap (λ works. it ∷ works) (work_in-append outs more)
-
-  pub planned-append : (steps more : List (Step S D K G C)) → work_planned (steps ++ more) ≡ work_planned steps ++ work_planned more
-  planned-append [] more = refl
-  planned-append (step.Ask _ ∷ steps) more = planned-append steps more
-  planned-append (step.Offer _ _ ∷ steps) more = planned-append steps more
-  planned-append (step.Resolve _ _ _ ∷ steps) more = planned-append steps more
-  planned-append (step.Repeat _ ∷ steps) more = planned-append steps more
-  planned-append (step.Push it ∷ steps) more = ap (λ works. it ∷ works) (planned-append steps more)
-
-  abbrev pub alone_of : Plan S D K G C → Bool
-  alone_of plan = plan.is_alone
-
-  -- steps that stand behind others
-  pub planned_behind : (old new more : List (Step S D K G C)) → new ≡ old ++ more → AreAmong (work_planned old) (work_planned new)
-  planned_behind old new more is = among_further (among_more (work_planned old) (work_planned more)) (among_all (sym (ap work_planned is ∙ planned-append old more)))
-
-  -- one is queued
-  pub planned_queued : (old new : List (Step S D K G C)) (last : Step S D K G C) → new ≡ old ++ last ∷ [] → AreAmong (work_planned old) (work_planned new)
-  planned_queued old new last is = planned_behind old new (last ∷ []) is
-
-  -- a plan that is the same, or goes on through another
-  pub keeps_still : {works : List (Work S D K G C)} {alone : Bool} → IsPlanned works alone works alone
-  keeps_still {works = works} = record { found = among_still works; alone = refl }
-
-  pub keeps_further : {a b c : List (Work S D K G C)} {x y z : Bool} → IsPlanned a x b y → IsPlanned b y c z → IsPlanned a x c z
-  keeps_further first second = record { found = among_further first.found second.found; alone = second.alone ∙ first.alone }
-
-  -- more steps are queued
-  pub plans_too : (old new : Plan S D K G C) (more : List (Step S D K G C)) → new.steps.items ≡ old.steps.items ++ more → new.is_alone ≡ old.is_alone → PlansToo (work_planned more) old new
-  plans_too old new more is alone = record { found = among_all (sym (ap work_planned is ∙ planned-append old.steps.items more)); alone = alone }
-
-  pub plans_behind : (old new : Plan S D K G C) (more : List (Step S D K G C)) → new.steps.items ≡ old.steps.items ++ more → new.is_alone ≡ old.is_alone → KeepsPlanned old new
-  plans_behind old new more is alone = record { found = planned_behind old.steps.items new.steps.items more is; alone = alone }
-
-  pub has_planned : {more : List (Step S D K G C)} {old new : Plan S D K G C} → HasPlanned more old new → KeepsPlanned old new
-  has_planned {more = more} {old = old} {new = new} is = plans_behind old new more is.steps (ap alone_of is.same)
-
-  pub has_builds : {more : List (Step S D K G C)} {builds : List (Building D K)} {old new : Plan S D K G C} → HasBuilds more builds old new → KeepsPlanned old new
-  has_builds {more = more} {old = old} {new = new} is = plans_behind old new more is.steps (ap alone_of is.same)
-
-  -- none are
-  pub plans_none : {works planned : List (Work S D K G C)} {x y : Bool} → IsPlanned works x planned y → IsPlanned (works ++ []) x planned y
-  plans_none {works = works} keeps = record { found = among_further (among_all (append-nil works)) keeps.found; alone = keeps.alone }
-
-  pub plans_same : (old new : Plan S D K G C) → new ≡ old → KeepsPlanned old new
-  plans_same old new is = record { found = among_all (ap (λ (plan : Plan S D K G C). work_planned plan.steps.items) (sym is)); alone = ap alone_of is }
-
-  pub plans_repaired : (old new : Plan S D K G C) → new ≡ record old { repair = new.repair } → KeepsPlanned old new
-  plans_repaired old new is = record { found = among_all (ap (λ (plan : Plan S D K G C). work_planned plan.steps.items) (sym is)); alone = ap alone_of is }
-
-  pub plans_begun : (old new : Plan S D K G C) → new ≡ record old { is_timeout_due = true; is_prune_due = true } → KeepsPlanned old new
-  plans_begun old new is = record { found = among_all (ap (λ (plan : Plan S D K G C). work_planned plan.steps.items) (sym is)); alone = ap alone_of is }
-
-  -- what is planned behind a change of something else
-  pub plans_then : (a b c : Plan S D K G C) (told : Told K D) → KeepsPlanned a b → PlansToo (work_of b.is_alone told) b c → PlansToo (work_of a.is_alone told) a c
-  plans_then a b c told first second = record {
-    found = among_further (among_both first.found (among_all (ap (λ alone. work_of alone told) (sym first.alone)))) second.found;
-    alone = second.alone ∙ first.alone;
-  }
-
-  -- the step in front is taken
-  pub planned_taken : (taken : Option (Step S D K G C)) (steps left : List (Step S D K G C)) → steps ≡ option_to_list taken ++ left → AreAmong (work_planned steps) (work_planned (option_to_list taken ++ left))
-  planned_taken taken steps left is = among_all (ap work_planned is)
 
   -- what is told stays told among more
   pub told_among : {is_alone : Bool} {these those : List (Work S D K G C)} {waiting : OutstandingWork K D} → AreAmong these those → IsToldIn is_alone these waiting → IsToldIn is_alone those waiting

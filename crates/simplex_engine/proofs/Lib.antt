@@ -2,10 +2,6 @@ mod Backing
 mod Alone
 mod Quiet
 mod Bounds
-mod Planning
-mod Planned
-mod Accepting
-mod Taking
 mod Duties
-mod Following
 mod Tells
+mod Taking

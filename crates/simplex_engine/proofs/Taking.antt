@@ -1,6 +1,6 @@
 -- For `Engine::handle` and what it calls.
 -- What comes of an input follows from what the member is asked for it, and from the votes that are held.
-use Rattle.std.proofs.Common.{◌≡◌, ◌≢◌, ℕ, ◌≤◌, Bool, true, false, List, [], ◌∷◌, ◌++◌, length, Some, Result, Ok, Err, refl, ap, sym, subst, ◌∙◌, inl, inr}
+use Rattle.std.proofs.Common.{◌≡◌, ◌≢◌, ℕ, ◌≤◌, Bool, true, false, cond, List, [], ◌∷◌, ◌++◌, length, Some, Result, Ok, Err, refl, ap, sym, subst, ◌∙◌, inl, inr}
 use Rattle.std.specs.Prelude.{IfOk, OnOk, IsTrue, IsFalse}
 use Rattle.std.specs.List.{list_any}
 use Rattle.std.proofs.lemmas.Bool.{false≢true, not-false}
@@ -16,29 +16,30 @@ use Rattle.simplex_batcher.specs.declared.batcher.Batcher.{Batcher}
 use Rattle.simplex_batcher.specs.declared.batcher.Counted.{Counted}
 use Rattle.simplex_batcher.specs.declared.batcher.Counted.TheVariants.{Refused, Known, Taken, Certified, Equivocated}
 use Rattle.simplex_engine.specs.declared.engine.Engine.{Engine}
-use Rattle.simplex_engine.specs.declared.engine.plan.Step.{Step}
-use Rattle.simplex_engine.specs.declared.engine.task.Task.{Task}
-use Rattle.simplex_engine.specs.declared.engine.task.Task.TheVariants as task
+use Rattle.simplex_plan.specs.declared.plan.Step.{Step}
+use Rattle.simplex_plan.specs.declared.task.Task.{Task}
+use Rattle.simplex_plan.specs.declared.task.Task.TheVariants as task
 use Rattle.simplex_engine.specs.declared.input.Input.{Input}
 use Rattle.simplex_engine.specs.declared.input.Input.TheVariants as input
 use Rattle.simplex_outbox.specs.declared.journaled.Journaled.{Journaled}
 use Rattle.simplex_batcher.specs.declared.votes.Vote.{Vote}
 use Rattle.simplex_engine.specs.Acting.{verification_of, HasDoneTask, IsBlockTaken, IsHandedIn, IsCountFollowed, IsActedOn}
 use Rattle.simplex_outbox.specs.Handing.{hands_in}
-use Rattle.simplex_engine.specs.Admitting.{admits_votes, is_so, is_admitted, IsTurnedAway, ignoring}
+use Rattle.simplex_engine.specs.Admitting.{admits_votes, is_so, is_admitted, one_more, IsTurnedAway, ignoring}
 use Rattle.simplex_engine.specs.Backing.{votes_of_input, TakesVotes, IsBacked, IsBackedInput}
 use Rattle.simplex_batcher.specs.Batching.{AreGiven, HoldsAllTheSame, HoldsUpTo, held, IsCounted}
 use Rattle.simplex_engine.specs.Bounds.{StaysBounded}
-use Rattle.simplex_engine.specs.Building.{is_asked_in}
+use Rattle.simplex_plan.specs.Building.{is_asked_in}
 use Rattle.simplex_engine.specs.Dropping.{IsLeftByInput}
 use Rattle.simplex_outbox.specs.Refusing.{is_refused, says_nothing, IsLeftByCall}
-use Rattle.simplex_engine.specs.Duties.{KeepsTelling}
+use Rattle.simplex_engine.specs.Duties.{KeepsDuties}
 use Rattle.simplex_outbox.specs.Going.{GoesOn}
 use Rattle.simplex_engine.specs.Inputs.{subject_in, subject_made}
 use Rattle.simplex_batcher.specs.Polls.{ballot_of}
 use Rattle.simplex_batcher.specs.Subjects.{subject_round}
 use Rattle.simplex_engine.specs.Taking.{IsInputTaken}
-use Rattle.simplex_engine.specs.Tasks.{call_of}
+use Rattle.simplex_plan.specs.Tasks.{call_of}
+use Rattle.simplex_plan.proofs.Planning.{on_ok}
 use Rattle.simplex_engine.proofs.Backing.{takes_same, takes_anyway, takes_then, backed_by_none, certified_given}
 use Rattle.simplex_engine.proofs.Bounds.{bounded_still, bounded_further, bounded_counted}
 use Rattle.simplex_outbox.proofs.Dropping.{refused_left, dropped_left}
@@ -164,7 +165,7 @@ module _ {S L D K G C : Type 0} (same : D → D → Bool) (elect : Elect L) (byt
       → GoesOn same elect bytes_of (subject_in bytes_of what) old.core new.core → TakesVotes (votes_of_input what) old.batcher new.batcher
       → IsBackedInput same elect bytes_of (length (keys_of old.batcher.scheme)) what old.batcher old.core new.core
       → StaysBounded keys_of old.core old.batcher new.core new.batcher
-      → IfOk answer (λ is_of_use. IsFalse is_of_use → HoldsAllTheSame old.batcher new.batcher) → OnOk answer (KeepsTelling old new)
+      → IfOk answer (λ is_of_use. IsFalse is_of_use → HoldsAllTheSame old.batcher new.batcher) → OnOk answer (KeepsDuties old new)
       → (IsFalse (is_admitted bytes_of (facts_of old) what) → IfOk answer (λ is_of_use. IsFalse is_of_use × IsTurnedAway what old new))
       → (IsTrue (is_admitted bytes_of (facts_of old) what)
       → IfOk answer (IsActedOn same elect bytes_of IsMadeOf keys_of now what old (facts_of new) new.batcher new.plan.steps.items))
@@ -177,9 +178,15 @@ module _ {S L D K G C : Type 0} (same : D → D → Bool) (elect : Elect L) (byt
     unadmitted = unadmitted;
     bounded = bounded;
     acted = acted;
-    duties = duties;
+    duties = on_ok answer duties (λ keeps. record { stays = keeps.stays });
+    ignored = not_counted answer duties;
   }
     where
+      not_counted : {E : Type 0} (r : Result Bool E) → OnOk r (KeepsDuties old new) → IfOk r (λ is_of_use. new.plan.ignored ≡ cond is_of_use old.plan.ignored old.plan.ignored)
+      not_counted (Ok true) keeps = keeps.ignored
+      not_counted (Ok false) keeps = keeps.ignored
+      not_counted (Err e) keeps = tt
+
       by_test : (b : Bool) → is_admitted bytes_of (facts_of old) what ≡ b → IfOk answer (λ is_of_use. IsFalse is_of_use → IsLeftByInput now what (facts_of old) (facts_of new))
       by_test true is = IfOk-weaker answer _ _ (λ is_of_use did. acted_left what old (facts_of new) new.batcher new.plan.steps.items is_of_use did) (acted is)
       by_test false is = IfOk-weaker answer _ _ (λ is_of_use turned vain. turned_left what old new turned.1) (unadmitted is)
@@ -187,7 +194,7 @@ module _ {S L D K G C : Type 0} (same : D → D → Bool) (elect : Elect L) (byt
   -- an input of which no vote is taken
   pub taken_alone : {E : Type 0} (told what : Input S D K G C) (old new : Engine S L D K G C) (answer : Result Bool E) → told ≡ what
       → GoesOn same elect bytes_of (subject_in bytes_of what) old.core new.core → new.batcher ≡ old.batcher
-      → IsBackedInput same elect bytes_of (length (keys_of old.batcher.scheme)) what old.batcher old.core new.core → OnOk answer (KeepsTelling old new)
+      → IsBackedInput same elect bytes_of (length (keys_of old.batcher.scheme)) what old.batcher old.core new.core → OnOk answer (KeepsDuties old new)
       → (IsFalse (is_admitted bytes_of (facts_of old) what) → IfOk answer (λ is_of_use. IsFalse is_of_use × IsTurnedAway what old new))
       → (IsTrue (is_admitted bytes_of (facts_of old) what)
       → IfOk answer (IsActedOn same elect bytes_of IsMadeOf keys_of now what old (facts_of new) new.batcher new.plan.steps.items))
@@ -208,7 +215,7 @@ module _ {S L D K G C : Type 0} (same : D → D → Bool) (elect : Elect L) (byt
       → IsCounted same (IsMadeOf old.batcher.scheme) (length (keys_of old.batcher.scheme)) true old.batcher vote batcher counted
       → GoesOn same elect bytes_of (subject_made bytes_of counted) old.core new.core → new.batcher ≡ batcher
       → IfOk answer (IsCountFollowed same elect bytes_of now counted old.plan.steps.items (facts_of old) new.plan.steps.items (facts_of new))
-      → OnOk answer (KeepsTelling old new)
+      → OnOk answer (KeepsDuties old new)
       → IsInputTaken same elect bytes_of IsMadeOf keys_of now (input.Vote vote) old old new answer
   taken_counted law vote old new answer batcher counted admits given_by within scheme counts went kept followed duties =
       let made = IsMadeOf old.batcher.scheme in
@@ -238,8 +245,15 @@ module _ {S L D K G C : Type 0} (same : D → D → Bool) (elect : Elect L) (byt
     bounded = turns.bounded;
     acted = turns.acted;
     duties = turns.duties;
+    ignored = as_counted answer otherwise turns.ignored;
   }
     where
+      as_counted : {E : Type 0} (r : Result Bool E) → r ≢ Ok false → IfOk r (λ is_of_use. new.plan.ignored ≡ cond is_of_use old.plan.ignored old.plan.ignored)
+          → IfOk r (λ is_of_use. new.plan.ignored ≡ cond is_of_use old.plan.ignored passed.plan.ignored)
+      as_counted (Ok true) otherwise same = same
+      as_counted (Ok false) otherwise same = absurd (otherwise refl)
+      as_counted (Err e) otherwise same = tt
+
       never : {E : Type 0} (P Q : Bool → Type 0) (r : Result Bool E) → r ≢ Ok false → IfOk r (λ is_of_use. IsFalse is_of_use × P is_of_use) → IfOk r Q
       never P Q (Ok true) otherwise both = absurd (false≢true (sym both.0))
       never P Q (Ok false) otherwise both = absurd (otherwise refl)
@@ -269,4 +283,5 @@ module _ {S L D K G C : Type 0} (same : D → D → Bool) (elect : Elect L) (byt
         bounded = taken.bounded;
         acted = taken.acted;
         duties = record { stays = taken.duties.stays };
+        ignored = ap one_more taken.ignored;
       })

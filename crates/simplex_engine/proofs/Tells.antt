@@ -15,16 +15,18 @@ use Rattle.simplex_member.specs.Restarts.{RestartFacts, cut_member, new_life, re
 use Rattle.simplex_member.specs.OutstandingWork.{OutstandingWork, no_outstanding_work}
 use Rattle.simplex_member.specs.declared.member.journal.Stored.{Stored}
 use Rattle.simplex_engine.specs.declared.engine.Engine.{Engine}
-use Rattle.simplex_engine.specs.declared.engine.plan.Plan.{Plan}
-use Rattle.simplex_engine.specs.declared.engine.plan.Step.{Step}
+use Rattle.simplex_plan.specs.declared.plan.Plan.{Plan}
+use Rattle.simplex_plan.specs.declared.plan.Step.{Step}
 use Rattle.simplex_outbox.specs.declared.journaled.Journaled.{Journaled}
 use Rattle.simplex_outbox.specs.declared.output.Output.{Output}
 use Rattle.simplex_outbox.specs.declared.output.Output.TheVariants as output
 use Rattle.simplex_outbox.specs.declared.output.Work.{Work}
 use Rattle.simplex_outbox.specs.Handing.{hands_in}
-use Rattle.simplex_engine.specs.Duties.{AreAmong, work_in, work_planned, work_of, work_ahead, IsToldIn, KeepsPlanned, PlansToo, TellsBehind, KeepsTelling, HasTold, AllIsGivenOut}
+use Rattle.simplex_engine.specs.Duties.{work_in, work_ahead, IsToldIn, TellsBehind, KeepsDuties, KeepsTaken, HasTold, AllIsGivenOut}
+use Rattle.simplex_plan.specs.PlannedWork.{AreAmong, work_planned, work_of, KeepsPlanned, PlansToo}
 use Rattle.simplex_outbox.specs.Outboxes.{QueuesMore}
-use Rattle.simplex_engine.proofs.Duties.{alone_of, among_all, among_both, among_further, among_more, among_still, among_swapped, planned-append, told_among, told_as_before, told_by_call, told_none, told_with, work_in-append}
+use Rattle.simplex_engine.proofs.Duties.{among_swapped, told_among, told_as_before, told_by_call, told_none, told_with, work_in-append}
+use Rattle.simplex_plan.proofs.PlannedWork.{alone_of, ignored_of, among_all, among_both, among_further, among_more, among_still, planned-append}
 use Rattle.simplex_outbox.proofs.Queued.{queues_none}
 
 module _ {S D K G C : Type 0} where
@@ -41,11 +43,11 @@ module _ {S D K G C : Type 0} where
       (among_all (sym (append_assoc a b (c ++ d))))
 
 module _ {S L D K G C : Type 0} where
-  pub tells_still : (a : Engine S L D K G C) → KeepsTelling a a
-  tells_still a = record { stays = λ work told. told }
+  pub tells_still : (a : Engine S L D K G C) → KeepsDuties a a
+  tells_still a = record { stays = λ work told. told; ignored = refl }
 
-  pub tells_further : {a b c : Engine S L D K G C} → KeepsTelling a b → KeepsTelling b c → KeepsTelling a c
-  tells_further first second = record { stays = λ work told. second.stays work (first.stays work told) }
+  pub tells_further : {a b c : Engine S L D K G C} → KeepsDuties a b → KeepsDuties b c → KeepsDuties a c
+  tells_further first second = record { stays = λ work told. second.stays work (first.stays work told); ignored = second.ignored ∙ first.ignored }
 
   -- what was queued is queued still
   queued_still : (a b : Engine S L D K G C) → QueuesMore a.core.outbox b.core.outbox → AreAmong (work_in a.core.outbox.queue.items) (work_in b.core.outbox.queue.items)
@@ -55,21 +57,22 @@ module _ {S L D K G C : Type 0} where
 
   -- the member waits for the same
   pub tells_same : (a b : Engine S L D K G C) → b.core.member.facts.outstanding_work ≡ a.core.member.facts.outstanding_work → QueuesMore a.core.outbox b.core.outbox
-      → KeepsPlanned a.plan b.plan → KeepsTelling a b
+      → KeepsPlanned a.plan b.plan → KeepsDuties a b
   tells_same a b same queues plans = record {
     stays = λ work told. told_with plans.alone
         (subst (IsToldIn a.plan.is_alone (work ++ work_ahead b)) (sym same) (told_among (among_both (among_still work) (among_both (queued_still a b queues) plans.found)) told));
+    ignored = plans.ignored;
   }
 
   -- nothing of the member or of the outbox has changed
-  pub tells_planned : (a b : Engine S L D K G C) → b.core ≡ a.core → KeepsPlanned a.plan b.plan → KeepsTelling a b
+  pub tells_planned : (a b : Engine S L D K G C) → b.core ≡ a.core → KeepsPlanned a.plan b.plan → KeepsDuties a b
   tells_planned a b same plans =
       tells_same a b (ap (λ (core : Journaled S L D K G C). core.member.facts.outstanding_work) same)
       (subst (λ (core : Journaled S L D K G C). QueuesMore a.core.outbox core.outbox) (sym same) (queues_none a.core.outbox)) plans
 
   -- a call of the member was made, and what it asks of the application is planned
   pub tells_called : (same : D → D → Bool) (elect : Elect L) (a b : Engine S L D K G C) (asked : CallFacts D) (told : Told K D)
-      → IsCall same elect a.core.member.facts asked told b.core.member.facts → QueuesMore a.core.outbox b.core.outbox → PlansToo (work_of a.plan.is_alone told) a.plan b.plan → KeepsTelling a b
+      → IsCall same elect a.core.member.facts asked told b.core.member.facts → QueuesMore a.core.outbox b.core.outbox → PlansToo (work_of a.plan.is_alone told) a.plan b.plan → KeepsDuties a b
   tells_called same elect a b asked told called queues plans = record {
     stays = λ work is.
         let ahead = work_ahead a in
@@ -79,15 +82,17 @@ module _ {S L D K G C : Type 0} where
         told_with plans.alone (told_among (among_further (among_all (append_assoc work ahead asks))
         (among_both (among_still work) (among_further (among_all (append_assoc (work_in a.core.outbox.queue.items) (work_planned a.plan.steps.items) asks))
         (among_both (queued_still a b queues) plans.found)))) all);
+    ignored = plans.ignored;
   }
 
   -- a certificate was handed in
   pub tells_handed : (same : D → D → Bool) (elect : Elect L) (a b : Engine S L D K G C) (certificate : CertificateFacts D) (now : ℕ) (told : Told K D)
-      → IsCall same elect a.core.member.facts (hands_in certificate now) told b.core.member.facts → QueuesMore a.core.outbox b.core.outbox → KeepsPlanned a.plan b.plan → KeepsTelling a b
+      → IsCall same elect a.core.member.facts (hands_in certificate now) told b.core.member.facts → QueuesMore a.core.outbox b.core.outbox → KeepsPlanned a.plan b.plan → KeepsDuties a b
   tells_handed same elect a b certificate now told called queues plans = record {
     stays = λ work is.
         told_with plans.alone (told_among (among_both (among_still work) (among_both (queued_still a b queues) plans.found))
         (told_as_before {S = S} {L = L} {D = D} {K = K} {G = G} {C = C} same elect a.plan.is_alone (work ++ work_ahead a) a.core.member.facts b.core.member.facts (hands_in certificate now) told (plain certificate) called is));
+    ignored = plans.ignored;
   }
     where
       plain : (c : CertificateFacts D) (x : StateFacts K L D) (o : OutstandingWork K D) → outstanding_work_after same elect x o (hands_in c now) ≡ o
@@ -110,38 +115,43 @@ module _ {S L D K G C : Type 0} where
   queued_then a b c first second = subst (λ (core : Journaled S L D K G C). QueuesMore a.outbox core.outbox) (sym second) first
 
   -- a step that queues no work
-  pub tells_other : (a b : Engine S L D K G C) (step this : Step S D K G C) → step ≡ this → work_planned (this ∷ []) ≡ [] → KeepsTelling a b
-      → (work : List (Work S D K G C)) → TellsBehind (work ++ work_planned (step ∷ [])) a → TellsBehind work b
-  tells_other a b step this is none keeps work told =
-      keeps.stays work (subst (λ behind. TellsBehind behind a) (append-nil work) (subst (λ more. TellsBehind (work ++ more) a) (ap (λ s. work_planned (s ∷ [])) is ∙ none) told))
+  pub tells_other : (a b : Engine S L D K G C) (step this : Step S D K G C) → step ≡ this → work_planned (this ∷ []) ≡ [] → KeepsDuties a b → KeepsTaken (work_planned (step ∷ [])) a b
+  tells_other a b step this is none keeps = record {
+    stays = λ work told.
+        keeps.stays work (subst (λ behind. TellsBehind behind a) (append-nil work) (subst (λ more. TellsBehind (work ++ more) a) (ap (λ s. work_planned (s ∷ [])) is ∙ none) told));
+    ignored = keeps.ignored;
+  }
 
   -- work is queued
   pub tells_pushed : (a b : Engine S L D K G C) (it : Work S D K G C) → b.core.member ≡ a.core.member → b.plan ≡ a.plan
-      → b.core.outbox.queue.items ≡ a.core.outbox.queue.items ++ output.Work it ∷ []
-      → (work : List (Work S D K G C)) → TellsBehind (work ++ it ∷ []) a → TellsBehind work b
-  tells_pushed a b it same_member same_plan queued work told =
-      let queue = work_in a.core.outbox.queue.items in
-      let planned = work_planned a.plan.steps.items in
-      let now : work_ahead b ≡ (queue ++ it ∷ []) ++ planned =
-      ap (λ (plan : Plan S D K G C). work_in b.core.outbox.queue.items ++ work_planned plan.steps.items) same_plan
-      ∙ ap (λ items. items ++ planned) (ap work_in queued ∙ work_in-append a.core.outbox.queue.items (output.Work it ∷ [])) in
-      told_with (ap alone_of same_plan) (subst (λ (m : SignedMember K L D G). IsToldIn a.plan.is_alone (work ++ work_ahead b) m.facts.outstanding_work) (sym same_member)
-      (told_among (among_further (among_moved work (it ∷ []) queue planned) (among_all (ap (λ ahead. work ++ ahead) (sym now)))) told))
+      → b.core.outbox.queue.items ≡ a.core.outbox.queue.items ++ output.Work it ∷ [] → KeepsTaken (it ∷ []) a b
+  tells_pushed a b it same_member same_plan queued = record {
+    stays = λ work told.
+        let queue = work_in a.core.outbox.queue.items in
+        let planned = work_planned a.plan.steps.items in
+        let now : work_ahead b ≡ (queue ++ it ∷ []) ++ planned =
+        ap (λ (plan : Plan S D K G C). work_in b.core.outbox.queue.items ++ work_planned plan.steps.items) same_plan
+        ∙ ap (λ items. items ++ planned) (ap work_in queued ∙ work_in-append a.core.outbox.queue.items (output.Work it ∷ [])) in
+        told_with (ap alone_of same_plan) (subst (λ (m : SignedMember K L D G). IsToldIn a.plan.is_alone (work ++ work_ahead b) m.facts.outstanding_work) (sym same_member)
+        (told_among (among_further (among_moved work (it ∷ []) queue planned) (among_all (ap (λ ahead. work ++ ahead) (sym now)))) told));
+    ignored = ap ignored_of same_plan;
+  }
 
   -- the step in front is taken
   pub tells_taken : {X E : Type 0} (r : Result X E) (step : Step S D K G C) (a mid b : Engine S L D K G C) → mid.core ≡ a.core
-      → AreAmong (work_planned a.plan.steps.items) (work_planned (step ∷ mid.plan.steps.items)) → mid.plan.is_alone ≡ a.plan.is_alone
-      → OnOk r ((work : List (Work S D K G C)) → TellsBehind (work ++ work_planned (step ∷ [])) mid → TellsBehind work b) → OnOk r (KeepsTelling a b)
-  tells_taken (Err e) step a mid b same front alone takes = tt
-  tells_taken (Ok x) step a mid b same front alone takes = record {
+      → AreAmong (work_planned a.plan.steps.items) (work_planned (step ∷ mid.plan.steps.items)) → mid.plan.is_alone ≡ a.plan.is_alone → mid.plan.ignored ≡ a.plan.ignored
+      → OnOk r (KeepsTaken (work_planned (step ∷ [])) mid b) → OnOk r (KeepsDuties a b)
+  tells_taken (Err e) step a mid b same front alone ignored takes = tt
+  tells_taken (Ok x) step a mid b same front alone ignored takes = record {
     stays = λ work told.
         let queue = work_in a.core.outbox.queue.items in
         let taken = work_planned (step ∷ []) in
         let left = work_planned mid.plan.steps.items in
         let split : AreAmong (work_planned a.plan.steps.items) (taken ++ left) = among_further front (among_all (planned-append (step ∷ []) mid.plan.steps.items)) in
-        takes work (told_with alone
+        takes.stays work (told_with alone
         (subst (λ (core : Journaled S L D K G C). IsToldIn a.plan.is_alone ((work ++ taken) ++ (work_in core.outbox.queue.items ++ left)) core.member.facts.outstanding_work) (sym same)
         (told_among (among_further (among_both (among_still work) (among_both (among_still queue) split)) (among_back work taken queue left)) told)));
+    ignored = takes.ignored ∙ ignored;
   }
 
   -- what is given out

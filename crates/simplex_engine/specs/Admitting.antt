@@ -13,6 +13,10 @@ use Rattle.simplex_engine.specs.declared.input.Input.{Input}
 use Rattle.simplex_engine.specs.declared.input.Input.TheVariants as input
 use Rattle.simplex_batcher.specs.Subjects.{subject_round}
 
+-- a number that stops at 2^64 - 1, and one more
+abbrev pub one_more : ℕ → ℕ
+one_more count = min (count + 1) (2 ^ 64 - 1)
+
 module _ {K L D : Type 0} where
   -- votes of the round: of this epoch, and of a view that takes votes
   abbrev pub admits_votes : StateFacts K L D → Round → Bool
@@ -41,9 +45,9 @@ module _ {S L D K G C : Type 0} where
   is_admitted bytes_of m (input.Certificate certificate) = is_so (λ x. admits x (certificate_facts bytes_of certificate)) m
   is_admitted bytes_of m _ = true
 
-  -- one more input was of no use; the number stops at 2^64 - 1
+  -- one more input was of no use
   abbrev pub ignoring : Engine S L D K G C → Engine S L D K G C
-  ignoring engine = record engine { plan = record (engine.plan) { ignored = min (engine.plan.ignored + 1) (2 ^ 64 - 1) } }
+  ignoring engine = record engine { plan = record (engine.plan) { ignored = one_more engine.plan.ignored } }
 
   -- an input that is not admitted changes nothing; but a proposal may be kept that comes early
   abbrev pub IsTurnedAway : Input S D K G C → Engine S L D K G C → Engine S L D K G C → Type 0

@@ -9,7 +9,7 @@ use Rattle.simplex_batcher.specs.Batching.{HoldsAllTheSame}
 use Rattle.simplex_outbox.specs.Refusing.{IsLeftByCall}
 
 module _ {S L D K G C : Type 0} where
-  -- the same of an input
+  -- what an input leaves of the member that was of no use: all as it was, but for what a reason to give a view up or a verdict leaves
   abbrev pub IsLeftByInput : ℕ → Input S D K G C → MemberFacts K L D → MemberFacts K L D → Type 0
   IsLeftByInput now (input.GivenUp view reason) m left = IsLeftByCall (TriggerTimeout view reason now) m left
   IsLeftByInput now (input.Certified view success) m left = IsLeftByCall (Certified view success now) m left

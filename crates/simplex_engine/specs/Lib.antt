@@ -2,15 +2,11 @@ pub mod Inputs
 pub mod Quiet
 pub mod Lacking
 pub mod Settled
-pub mod Planning
 pub mod Backing
 pub mod Alone
 pub mod Bounds
-pub mod Building
-pub mod Following
-pub mod Tasks
 pub mod Dropping
 pub mod Admitting
 pub mod Acting
-pub mod Taking
 pub mod Duties
+pub mod Taking

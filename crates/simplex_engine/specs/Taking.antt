@@ -1,5 +1,5 @@
 -- What comes of an input.
-use Rattle.std.specs.Prelude.{ℕ, Bool, List, length, Result, IfOk, OnOk, IsTrue, IsFalse}
+use Rattle.std.specs.Prelude.{◌≡◌, ℕ, Bool, List, length, Result, IfOk, OnOk, IsTrue, IsFalse, if◌then◌else◌}
 use Rattle.simplex_types.specs.declared.types.messages.Subject.{Subject}
 use Rattle.simplex_voter.specs.Facts.{Elect}
 use Rattle.simplex_engine.specs.declared.engine.Engine.{Engine}
@@ -26,3 +26,4 @@ pub record IsInputTaken {S L D K G C E : Type 0} (same : D → D → Bool) (elec
   pub acted : IsTrue (is_admitted bytes_of old.core.member.facts what)
       → IfOk answer (IsActedOn same elect bytes_of IsMadeOf keys_of now what old new.core.member.facts new.batcher new.plan.steps.items)
   pub duties : OnOk answer (KeepsTelling old new)
+  pub ignored : IfOk answer (λ is_of_use. new.plan.ignored ≡ (if is_of_use then old.plan.ignored else passed.plan.ignored))

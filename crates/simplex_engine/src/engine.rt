@@ -3,7 +3,7 @@
 //! It holds no network, clock, disk or key but its scheme. Moments are milliseconds that are handed in, and do not fall.
 #![tactic(auto, using(simplex_outbox::proofs::Going::stays, simplex_outbox::proofs::Going::goes_further, crate::proofs::Backing::takes_nothing, crate::proofs::Backing::takes_no_more, crate::proofs::Backing::takes_anyway))]
 
-ghost use Rattle.std.specs.Prelude.{◌≡◌, ◌++◌, [], length, None, Err, IfOk, IfSome, OnOk, OnErr, IsNone, IsFalse, IsTrue, true, false};
+ghost use Rattle.std.specs.Prelude.{◌≡◌, ◌++◌, [], length, None, Err, if◌then◌else◌, IfOk, IfSome, OnOk, OnErr, IsNone, IsFalse, IsTrue, true, false};
 ghost use Rattle.std.specs.Option.{option_copied};
 ghost use Rattle.simplex_types.specs.declared.types.fault.Fault.TheVariants.{Failed};
 
@@ -11,20 +11,18 @@ mod asking;
 mod begin;
 mod counting;
 mod inputs;
-mod plan;
 mod steps;
-mod task;
 
 use crate::input::Input;
 pub use begin::StartError;
-pub use plan::Options;
-use plan::Plan;
 use simplex_assembly::assembly::Assembly;
 use simplex_batcher::batcher::Batcher;
 use simplex_fetches::fetches::Fetches;
 use simplex_member::member::Stored;
 use simplex_outbox::journaled::Journaled;
 use simplex_outbox::output::Output;
+pub use simplex_plan::plan::Options;
+use simplex_plan::plan::Plan;
 use simplex_resolver::replay::LawfulResolver;
 use simplex_types::types::{Artifact, CertificateScheme, Digest, Elector, Fault, View};
 use simplex_voter::voter::State;
@@ -58,14 +56,15 @@ impl<S: Assembly<D>, L: Elector<S>, D: Digest> Engine<S, L, D> {
     ghost use Rattle.simplex_outbox.specs.Finals.{finals_in, RiseByView, EndsAt, TellsNoMore};
     ghost use Rattle.simplex_outbox.specs.Journals.{journal_of, IsRecordOf};
     ghost use Rattle.simplex_outbox.specs.Going.{IsKept, IsWhole, GoesOn, DoesMoreOn, HasGivenOut, has_failed};
-    ghost use Rattle.simplex_engine.specs.Settled.{IsSettled, IsWake};
-    ghost use Rattle.simplex_engine.specs.Planning.{IsIdle};
+    ghost use Rattle.simplex_engine.specs.Settled.{IsSettled};
+    ghost use Rattle.simplex_plan.specs.Planning.{IsWake};
+    ghost use Rattle.simplex_plan.specs.Planning.{IsIdle};
     ghost use Rattle.simplex_engine.specs.Inputs.{subject_in, given_out};
     ghost use Rattle.simplex_engine.specs.Backing.{votes_of_input, TakesVotes, TakesNone, IsBackedInput};
     ghost use Rattle.simplex_engine.specs.Bounds.{HoldsFromKept, HoldsNoneAhead, StaysBounded, HoldsAdmitted};
     ghost use Rattle.simplex_engine.specs.Lacking.{AsksForItsLacking};
     ghost use Rattle.simplex_engine.specs.Dropping.{IsDropped};
-    ghost use Rattle.simplex_engine.specs.Admitting.{is_admitted, IsTurnedAway, ignoring};
+    ghost use Rattle.simplex_engine.specs.Admitting.{is_admitted, one_more, IsTurnedAway, ignoring};
     ghost use Rattle.simplex_engine.specs.Acting.{IsActedOn};
     ghost use Rattle.simplex_engine.specs.Duties.{KeepsTelling, HasTold, AllIsGivenOut};
 
@@ -89,6 +88,7 @@ impl<S: Assembly<D>, L: Elector<S>, D: Digest> Engine<S, L, D> {
     /// - `duties`: what the application is to be told of stays told: each proposal that is being verified, each that was offered for
     ///   certification and has no verdict, and, where there are other members, the block of each view whose request to build is open,
     ///   was given out, is queued to be, or is planned.
+    /// - `ignored`: what is of no use is counted, and nothing else.
     /// - `bounded`: where each vote that is held was a member's, and of no view above those whose votes are taken, each still is.
     /// - `failed`, `refused`: after an error it has failed; one that has failed answers `Failed`, and nothing changes.
     ///
@@ -107,6 +107,8 @@ impl<S: Assembly<D>, L: Elector<S>, D: Digest> Engine<S, L, D> {
         ensures acted { IsTrue (is_admitted S.certificate_bytes self.old.core.member.facts input) → IfOk result (IsActedOn D.eq L.elect S.certificate_bytes
             S.IsMadeOf S.participants now input self.old self.new.core.member.facts self.new.batcher self.new.plan.steps.items) }
         ensures duties { OnOk result (KeepsTelling self.old self.new) }
+        ensures ignored { IfOk result (λ is_of_use. self.new.plan.ignored
+            ≡ (if is_of_use then self.old.plan.ignored else one_more self.old.plan.ignored)) }
         ensures failed { OnErr result (has_failed self.new.core ≡ true) }
         ensures refused { has_failed self.old.core ≡ true → (result ≡ Err Failed) × (self.new ≡ self.old) }
     {
@@ -128,6 +130,7 @@ impl<S: Assembly<D>, L: Elector<S>, D: Digest> Engine<S, L, D> {
     /// - `given`: what is answered is given out.
     /// - `does`, `told`: no certificate is accepted, and no other proposal is queued to be told as final.
     /// - `votes`, `bounded`, `failed`, `refused`: as of `handle`.
+    /// - `ignored`: no input is counted as of no use.
     /// - `none`: where nothing is answered, all of the record was given out to be stored, and the member was asked last for all
     ///   its work, its votes on the current view and the certificates of it, and had nothing new.
     /// - `duties`: as of `handle`, with what is answered given out.
@@ -157,6 +160,7 @@ impl<S: Assembly<D>, L: Elector<S>, D: Digest> Engine<S, L, D> {
         ensures bounded { StaysBounded S.participants self.old.core self.old.batcher self.new.core self.new.batcher }
         ensures duties { OnOk result ((given : _) → HasTold given self.old → HasTold (given ++ given_out result) self.new) }
         ensures waiting { IfOk result (λ out. IsNone out → (given : _) → HasTold given self.old → AllIsGivenOut given self.new) }
+        ensures ignored { OnOk result (self.new.plan.ignored ≡ self.old.plan.ignored) }
         ensures failed { OnErr result (has_failed self.new.core ≡ true) }
         ensures refused { has_failed self.old.core ≡ true → (result ≡ Err Failed) × (self.new ≡ self.old) }
     {
@@ -182,6 +186,7 @@ impl<S: Assembly<D>, L: Elector<S>, D: Digest> Engine<S, L, D> {
         ensures bounded { StaysBounded S.participants self.old.core self.old.batcher self.new.core self.new.batcher }
         ensures duties { OnOk result ((given : _) → HasTold given self.old → HasTold (given ++ given_out result) self.new) }
         ensures waiting { IfOk result (λ out. IsNone out → (given : _) → HasTold given self.old → AllIsGivenOut given self.new) }
+        ensures ignored { OnOk result (self.new.plan.ignored ≡ self.old.plan.ignored) }
         ensures failed { OnErr result (has_failed self.new.core ≡ true) }
     {
         match self.work(now) {

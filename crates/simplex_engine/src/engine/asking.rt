@@ -1,108 +1,56 @@
 //! Calls of the member, each with what follows from its answer.
 #![tactic(auto)]
 
-ghost use Rattle.std.specs.Prelude.{◌≡◌, [], None, IfOk, OnOk, IsTrue, not, false};
-ghost use Rattle.simplex_member.specs.Calls.{told, asked};
-ghost use Rattle.simplex_laws.specs.Shown.{certificates_in};
-ghost use Rattle.simplex_engine.specs.Quiet.{is_nothing};
+ghost use Rattle.std.specs.Prelude.{◌≡◌, None, IfOk, OnOk, IsTrue, not};
+ghost use Rattle.simplex_member.specs.Calls.{told};
+ghost use Rattle.simplex_plan.specs.Tasks.{call_of};
+ghost use Rattle.simplex_engine.specs.Quiet.{is_nothing, for_all};
 ghost use Rattle.simplex_outbox.specs.Refusing.{is_lasting, says_nothing};
 
 use super::Engine;
-use super::plan::Views;
-use super::task::Task;
 use simplex_assembly::assembly::Assembly;
 use simplex_fetches::fetches::FetchKind;
-use simplex_member::member::{Call, Reply};
+use simplex_member::member::Reply;
+use simplex_plan::plan::Views;
+use simplex_plan::task::Task;
 use simplex_types::types::{CertificateScheme, Digest, Elector, Fault, Participant, View};
 use simplex_voter::voter::Verify;
 
 impl<S: Assembly<D>, L: Elector<S>, D: Digest> Engine<S, L, D> {
     ghost use Rattle.simplex_outbox.specs.Going.{GoesOn};
     ghost use Rattle.simplex_engine.specs.Alone.{GoesOnAlone};
-    ghost use Rattle.simplex_engine.specs.Quiet.{for_all, for_work, for_votes, for_certificates, AnswersNothing, AnswerNothing};
+    ghost use Rattle.simplex_engine.specs.Quiet.{AnswersNothing, AnswerNothing};
     ghost use Rattle.simplex_engine.specs.Acting.{HasDoneTask};
-    ghost use Rattle.simplex_engine.specs.Duties.{work_of, KeepsPlanned, PlansToo, KeepsTelling};
+    ghost use Rattle.simplex_engine.specs.Duties.{KeepsDuties};
+    ghost use Rattle.simplex_plan.specs.PlannedWork.{work_of, KeepsPlanned, PlansToo};
 
-    /// Asks for all that may be due while the view is the current one. Whether there is nothing new.
+    /// Asks for all that may be due while the view is the current one: work of the application, this member's votes on the view, and
+    /// the certificates of it that are to be handed out. Whether there is nothing new.
     pub(super) fn is_quiet(&mut self, view: View, now: u64) -> Result<bool, Fault>
         ensures alone { GoesOnAlone D.eq L.elect S.certificate_bytes self.old self.new }
         ensures quiet { IfOk result (λ quiet. IsTrue quiet
             → AnswerNothing D.eq L.elect self.old.core.member.facts (for_all view) self.new.core.member.facts) }
-        ensures duties { OnOk result (KeepsTelling self.old self.new) }
+        ensures duties { OnOk result (KeepsDuties self.old self.new) }
     {
-        let has_no_work = self.has_no_work(now)?;
-        let has_no_vote = self.has_no_vote(view, now)?;
-        let has_no_certificate = self.has_no_certificate(view, now)?;
-        Ok(has_no_work && has_no_vote && has_no_certificate)
+        let mut is_quiet = self.asks_nothing(Task::Verify, now)?;
+        is_quiet &= self.asks_nothing(Task::Propose, now)?;
+        is_quiet &= self.asks_nothing(Task::Candidates, now)?;
+        is_quiet &= self.asks_nothing(Task::Notarize(view), now)?;
+        is_quiet &= self.asks_nothing(Task::Finalize(view), now)?;
+        is_quiet &= self.asks_nothing(Task::BroadcastNotarization(view), now)?;
+        is_quiet &= self.asks_nothing(Task::BroadcastNullification(view), now)?;
+        is_quiet &= self.asks_nothing(Task::BroadcastFinalization(view), now)?;
+        Ok(is_quiet)
     }
 
-    /// Asks for all work: proposals to verify, a block to build, proposals to certify. Whether there is nothing new.
-    fn has_no_work(&mut self, now: u64) -> Result<bool, Fault>
-        ensures alone { GoesOnAlone D.eq L.elect S.certificate_bytes self.old self.new }
-        ensures quiet { IfOk result (λ quiet. IsTrue quiet
-            → AnswerNothing D.eq L.elect self.old.core.member.facts for_work self.new.core.member.facts) }
-        ensures duties { OnOk result (KeepsTelling self.old self.new) }
-    {
-        let verifies_nothing = self.asks_nothing(Call::TryVerify, Task::Verify, now)?;
-        let builds_nothing = self.asks_nothing(Call::TryPropose, Task::Propose, now)?;
-        let certifies_nothing = self.asks_nothing(Call::CertifyCandidates, Task::Candidates, now)?;
-        Ok(verifies_nothing && builds_nothing && certifies_nothing)
-    }
-
-    /// Asks for this member's votes on the view. Whether there is nothing new.
-    fn has_no_vote(&mut self, view: View, now: u64) -> Result<bool, Fault>
-        ensures alone { GoesOnAlone D.eq L.elect S.certificate_bytes self.old self.new }
-        ensures quiet { IfOk result (λ quiet. IsTrue quiet
-            → AnswerNothing D.eq L.elect self.old.core.member.facts (for_votes view) self.new.core.member.facts) }
-        ensures duties { OnOk result (KeepsTelling self.old self.new) }
-    {
-        let notarizes_nothing = self.asks_nothing(
-            Call::ConstructNotarize(view),
-            Task::Notarize(view),
-            now,
-        )?;
-        let finalizes_nothing = self.asks_nothing(
-            Call::ConstructFinalize(view),
-            Task::Finalize(view),
-            now,
-        )?;
-        Ok(notarizes_nothing && finalizes_nothing)
-    }
-
-    /// Asks for the certificates of the view that are to be handed out. Whether there is nothing new.
-    fn has_no_certificate(&mut self, view: View, now: u64) -> Result<bool, Fault>
-        ensures alone { GoesOnAlone D.eq L.elect S.certificate_bytes self.old self.new }
-        ensures quiet { IfOk result (λ quiet. IsTrue quiet
-            → AnswerNothing D.eq L.elect self.old.core.member.facts (for_certificates view) self.new.core.member.facts) }
-        ensures duties { OnOk result (KeepsTelling self.old self.new) }
-    {
-        let has_no_notarization = self.asks_nothing(
-            Call::BroadcastNotarization(view),
-            Task::BroadcastNotarization(view),
-            now,
-        )?;
-        let has_no_nullification = self.asks_nothing(
-            Call::BroadcastNullification(view),
-            Task::BroadcastNullification(view),
-            now,
-        )?;
-        let has_no_finalization = self.asks_nothing(
-            Call::BroadcastFinalization(view),
-            Task::BroadcastFinalization(view),
-            now,
-        )?;
-        Ok(has_no_notarization && has_no_nullification && has_no_finalization)
-    }
-
-    /// Makes a call that asks for what may be due, and follows its answer. Whether it has nothing new.
-    fn asks_nothing(&mut self, call: Call<S, D>, task: Task<D>, now: u64) -> Result<bool, Fault>
-        requires { certificates_in call ≡ [] }
+    /// Asks for what may be due, and follows the answer. Whether there is nothing new.
+    fn asks_nothing(&mut self, task: Task<D>, now: u64) -> Result<bool, Fault>
         ensures alone { GoesOnAlone D.eq L.elect S.certificate_bytes self.old self.new }
         ensures nothing { IfOk result (λ nothing. IsTrue nothing
-            → AnswersNothing D.eq L.elect self.old.core.member.facts (asked S.certificate_bytes call) self.new.core.member.facts) }
-        ensures duties { OnOk result (KeepsTelling self.old self.new) }
+            → AnswersNothing D.eq L.elect self.old.core.member.facts (call_of task now) self.new.core.member.facts) }
+        ensures duties { OnOk result (KeepsDuties self.old self.new) }
     {
-        let reply = self.core.call(call);
+        let reply = self.core.call(task.call(now));
         let is_nothing = is_nothing(&reply);
         self.follow(task, reply, now)?;
         Ok(is_nothing)
@@ -113,7 +61,7 @@ impl<S: Assembly<D>, L: Elector<S>, D: Digest> Engine<S, L, D> {
         ensures goes_on { GoesOn D.eq L.elect S.certificate_bytes None self.old.core self.new.core }
         ensures batcher { self.new.batcher ≡ self.old.batcher }
         ensures acted { IfOk result (HasDoneTask D.eq L.elect task now self.old.core.member.facts self.new.core.member.facts) }
-        ensures duties { OnOk result (KeepsTelling self.old self.new) }
+        ensures duties { OnOk result (KeepsDuties self.old self.new) }
     {
         let reply = self.core.call(task.call(now));
         self.follow(task, reply, now)

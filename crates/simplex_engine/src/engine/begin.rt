@@ -6,7 +6,6 @@ ghost use Rattle.simplex_batcher.specs.Batching.{AreGiven};
 ghost use Rattle.simplex_outbox.specs.Going.{IsKept, IsWhole, TellsNothing};
 
 use super::Engine;
-use super::plan::{Options, Plan, Views};
 use simplex_assembly::assembly::Assembly;
 use simplex_batcher::batcher::Batcher;
 use simplex_fetches::fetches::{Fetches, Peers};
@@ -14,6 +13,7 @@ use simplex_fetches::repair::Repair;
 use simplex_lawful::lawful::LawfulMember;
 use simplex_member::member::{RecoverError, ResumeError, Start, Stored};
 use simplex_outbox::journaled::Journaled;
+use simplex_plan::plan::{Options, Plan, Views};
 use simplex_resolver::replay::{LawfulResolver, ReplayError};
 use simplex_types::types::{
     Artifact, CertificateScheme, Digest, Elector, Scheme, TermLength, View,
@@ -79,8 +79,8 @@ impl<S: Assembly<D>, L: Elector<S>, D: Digest> Engine<S, L, D> {
     /// The elector's members are the scheme's participants.
     /// - `started`: its member is the one that `LawfulMember::start` makes.
     /// - `begins`: it has accepted the floor's finalization, if there is one, and done nothing else.
-    /// - `kept`, `whole`, `told`, `votes`, `bounded`, `duties`: nothing was given out, the whole record stands to be stored in place of
-    ///   all that is, no proposal to be told as final, no vote is held, and the member waits for nothing.
+    /// - `kept`, `whole`, `told`, `votes`, `bounded`, `duties`, `ignored`: nothing was given out, the whole record stands to be stored in
+    ///   place of all that is, no proposal to be told as final, no vote is held, the member waits for nothing, and no input was of no use.
     ///
     /// # Errors
     ///
@@ -97,6 +97,7 @@ impl<S: Assembly<D>, L: Elector<S>, D: Digest> Engine<S, L, D> {
         ensures votes { IfOk result (λ engine. AreGiven [] engine.batcher) }
         ensures duties { IfOk result (HasTold []) }
         ensures bounded { IfOk result (λ engine. HoldsNoneAhead S.participants engine.core engine.batcher) }
+        ensures ignored { IfOk result (λ engine. engine.plan.ignored ≡ 0) }
         ensures started { IfOk result (λ engine. engine.core.member.facts ≡ started_member D.eq L.elect
             (set_up S.me S.participants L.terms L.elects_early start.settings)
             (floor_facts S.certificate_bytes start.floor) start.now) }
@@ -115,7 +116,7 @@ impl<S: Assembly<D>, L: Elector<S>, D: Digest> Engine<S, L, D> {
     /// - `resumed`: its member is the one that `LawfulMember::resume` makes.
     /// - `goes_on`: in terms of the same length and with the key of the same member or none, what was done before stays done,
     ///   and the floor's finalization is accepted too.
-    /// - `kept`, `whole`, `told`, `votes`, `bounded`, `duties`: as of `start`.
+    /// - `kept`, `whole`, `told`, `votes`, `bounded`, `duties`, `ignored`: as of `start`.
     ///
     /// # Errors
     ///
@@ -134,6 +135,7 @@ impl<S: Assembly<D>, L: Elector<S>, D: Digest> Engine<S, L, D> {
         ensures votes { IfOk result (λ engine. AreGiven [] engine.batcher) }
         ensures duties { IfOk result (HasTold []) }
         ensures bounded { IfOk result (λ engine. HoldsNoneAhead S.participants engine.core engine.batcher) }
+        ensures ignored { IfOk result (λ engine. engine.plan.ignored ≡ 0) }
         ensures resumed { IfOk result (λ engine. IsResumed D.eq L.elect stored
             (entries_of S.certificate_bytes entries.items)
             (start_facts S.me S.participants L.terms L.elects_early S.certificate_bytes start) engine.core.member.facts) }
@@ -181,6 +183,7 @@ fn begin<S: Assembly<D>, L: Elector<S>, D: Digest>(
     ensures told { IfOk result (λ engine. TellsNothing engine.core) }
     ensures votes { AreGiven [] company.batcher → IfOk result (λ engine. AreGiven [] engine.batcher) }
     ensures member { IfOk result (λ engine. engine.core.member ≡ member) }
+    ensures ignored { IfOk result (λ engine. engine.plan.ignored ≡ 0) }
 {
     let options = options.with_a_retry();
     let plan = plan_of(alloc, &member, &company, options)?;
@@ -202,7 +205,9 @@ fn plan_of<S: Scheme<D>, L: Elector<S>, D: Digest>(
     member: &LawfulMember<S, L, D>,
     company: &Company<S, D>,
     options: Options,
-) -> Result<Plan<S, D>, StartError> {
+) -> Result<Plan<S, D>, StartError>
+    ensures { IfOk result (λ plan. plan.ignored ≡ 0) }
+{
     let resolver = resolver_of(alloc, company.term_length, member.record())?;
     let fetches = Fetches::new(alloc, company.peers, options.retry);
     let repair = Repair::new(resolver, fetches)?;

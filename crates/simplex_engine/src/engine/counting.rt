@@ -25,7 +25,8 @@ impl<S: Assembly<D>, L: Elector<S>, D: Digest> Engine<S, L, D> {
     ghost use Rattle.simplex_batcher.specs.Subjects.{subject_round};
     ghost use Rattle.simplex_engine.specs.Acting.{IsHandedIn, IsCountFollowed};
     ghost use Rattle.simplex_engine.specs.Taking.{IsInputTaken};
-    ghost use Rattle.simplex_engine.specs.Duties.{KeepsPlanned, KeepsTelling};
+    ghost use Rattle.simplex_engine.specs.Duties.{KeepsDuties};
+    ghost use Rattle.simplex_plan.specs.PlannedWork.{KeepsPlanned};
     ghost use Rattle.simplex_engine.specs.declared.input.Input.TheVariants as input;
     ghost use Rattle.simplex_engine.specs.Admitting.{is_so};
 
@@ -67,7 +68,7 @@ impl<S: Assembly<D>, L: Elector<S>, D: Digest> Engine<S, L, D> {
         ensures batcher { self.new.batcher ≡ self.old.batcher }
         ensures followed { IfOk result (IsCountFollowed D.eq L.elect S.certificate_bytes now counted self.old.plan.steps.items
             self.old.core.member.facts self.new.plan.steps.items self.new.core.member.facts) }
-        ensures duties { OnOk result (KeepsTelling self.old self.new) }
+        ensures duties { OnOk result (KeepsDuties self.old self.new) }
     {
         match counted {
             Counted::Certified(certificate) => match self.accept(&certificate, now) {
@@ -98,7 +99,7 @@ impl<S: Assembly<D>, L: Elector<S>, D: Digest> Engine<S, L, D> {
             → (result ≡ Ok false) × (self.new ≡ self.old) }
         ensures acted { IsTrue (is_so (λ x. admits x (certificate_facts S.certificate_bytes certificate.now)) self.old.core.member.facts) → IfOk result
             (IsHandedIn D.eq L.elect S.certificate_bytes now certificate.now self.old.core.member.facts self.new.core.member.facts) }
-        ensures duties { OnOk result (KeepsTelling self.old self.new) }
+        ensures duties { OnOk result (KeepsDuties self.old self.new) }
     {
         if !self.admits(certificate) {
             return Ok(false);

@@ -6,13 +6,13 @@ ghost use Rattle.std.specs.List.{list_any};
 ghost use Rattle.std.specs.Option.{option_map_or};
 ghost use Rattle.simplex_engine.specs.Acting.{verification_of};
 ghost use Rattle.simplex_engine.specs.Admitting.{admits_proposal};
-ghost use Rattle.simplex_engine.specs.declared.engine.task.Task.TheVariants.{SetProposal};
+ghost use Rattle.simplex_plan.specs.declared.task.Task.TheVariants.{SetProposal};
 
 use super::Engine;
 use super::counting::takes_votes;
-use super::task::Task;
 use crate::input::Input;
 use simplex_assembly::assembly::Assembly;
+use simplex_plan::task::Task;
 use simplex_types::types::{
     Context, Digest, Elector, Fault, Participant, Proposal, Round, Scheme, View, Viewable,
 };
@@ -21,9 +21,9 @@ use simplex_voter::voter::State;
 impl<S: Assembly<D>, L: Elector<S>, D: Digest> Engine<S, L, D> {
     ghost use Rattle.simplex_outbox.specs.Going.{GoesOn};
     ghost use Rattle.simplex_engine.specs.Taking.{IsInputTaken};
-    ghost use Rattle.simplex_engine.specs.Building.{is_asked_in};
+    ghost use Rattle.simplex_plan.specs.Building.{is_asked_in};
     ghost use Rattle.simplex_engine.specs.Acting.{HasDoneTask, IsBlockTaken};
-    ghost use Rattle.simplex_engine.specs.Duties.{KeepsTelling};
+    ghost use Rattle.simplex_engine.specs.Duties.{KeepsDuties};
     ghost use Rattle.simplex_engine.specs.Admitting.{is_so, ignoring};
 
     /// Takes what came in, while the engine has not failed, and counts what is of no use.
@@ -67,7 +67,7 @@ impl<S: Assembly<D>, L: Elector<S>, D: Digest> Engine<S, L, D> {
             IsFalse is_of_use × (self.new ≡ record self.old { plan = record (self.old.plan) { early = self.new.plan.early } })) }
         ensures acted { IsTrue (is_so (λ x. admits_proposal x from proposal.round) self.old.core.member.facts) → IfOk result
             (HasDoneTask D.eq L.elect (SetProposal proposal.round.view proposal) now self.old.core.member.facts self.new.core.member.facts) }
-        ensures duties { OnOk result (KeepsTelling self.old self.new) }
+        ensures duties { OnOk result (KeepsDuties self.old self.new) }
     {
         if self.admits_proposal(from, proposal.round) {
             return self.ask(Task::SetProposal(proposal.view(), proposal), now);
@@ -115,7 +115,7 @@ impl<S: Assembly<D>, L: Elector<S>, D: Digest> Engine<S, L, D> {
         ensures batcher { self.new.batcher ≡ self.old.batcher }
         ensures acted { IfOk result (IsBlockTaken D.eq L.elect (list_any (is_asked_in D.eq context.now) self.old.plan.builds.items)
             context.now.round.view payload now self.old.core.member.facts self.new.core.member.facts) }
-        ensures duties { OnOk result (KeepsTelling self.old self.new) }
+        ensures duties { OnOk result (KeepsDuties self.old self.new) }
     {
         if !self.plan.is_building(context) {
             return Ok(false);

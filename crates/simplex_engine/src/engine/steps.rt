@@ -1,23 +1,24 @@
 //! The steps that are due, one after the other, until the member has nothing new.
 #![tactic(auto)]
 
-ghost use Rattle.std.specs.Prelude.{◌≡◌, ℕ, [], ◌∷◌, ◌++◌, None, Some, OnOk, IfOk, IfSome, IsOk, IsTrue, false, ◌==◌};
+ghost use Rattle.std.specs.Prelude.{◌≡◌, ℕ, [], ◌∷◌, None, Some, OnOk, IfOk, IfSome, IsOk, IsTrue, false, ◌==◌};
 
 use super::Engine;
-use super::plan::Step;
-use super::task::Task;
 use simplex_assembly::assembly::Assembly;
 use simplex_outbox::output::Work;
+use simplex_plan::plan::Step;
+use simplex_plan::task::Task;
 use simplex_types::types::{Digest, Elector, Fault, View};
 
 impl<S: Assembly<D>, L: Elector<S>, D: Digest> Engine<S, L, D> {
     ghost use Rattle.simplex_outbox.specs.Going.{IsWhole};
     ghost use Rattle.simplex_engine.specs.Alone.{GoesOnAlone};
     ghost use Rattle.simplex_engine.specs.Quiet.{view_in_life, HasNothingNew};
-    ghost use Rattle.simplex_engine.specs.Planning.{IsIdle};
+    ghost use Rattle.simplex_plan.specs.Planning.{IsIdle};
     ghost use Rattle.simplex_engine.specs.Bounds.{HoldsFromKept};
     ghost use Rattle.simplex_engine.specs.Lacking.{AsksForItsLacking};
-    ghost use Rattle.simplex_engine.specs.Duties.{work_planned, KeepsPlanned, TellsBehind, KeepsTelling};
+    ghost use Rattle.simplex_engine.specs.Duties.{KeepsDuties, KeepsTaken};
+    ghost use Rattle.simplex_plan.specs.PlannedWork.{work_planned, KeepsPlanned};
     ghost use Rattle.simplex_voter.specs.Windows.{min_active};
 
     /// Takes all steps that are due, until the member has nothing new, and queues what the record has grown by.
@@ -32,7 +33,7 @@ impl<S: Assembly<D>, L: Elector<S>, D: Digest> Engine<S, L, D> {
         ensures idle { OnOk result (IsIdle now self.new.plan) }
         ensures lowest { OnOk result (HoldsFromKept self.new.core self.new.batcher) }
         ensures lacking { OnOk result (AsksForItsLacking self.new.core self.new.plan.repair) }
-        ensures duties { OnOk result (KeepsTelling self.old self.new) }
+        ensures duties { OnOk result (KeepsDuties self.old self.new) }
     {
         self.prepare(now)?;
         self.finish(now)
@@ -41,7 +42,7 @@ impl<S: Assembly<D>, L: Elector<S>, D: Digest> Engine<S, L, D> {
     /// A moment has come; a record that is long is made short before anything else.
     fn prepare(&mut self, now: u64) -> Result<(), Fault>
         ensures alone { GoesOnAlone D.eq L.elect S.certificate_bytes self.old self.new }
-        ensures duties { OnOk result (KeepsTelling self.old self.new) }
+        ensures duties { OnOk result (KeepsDuties self.old self.new) }
     {
         self.plan.begin();
         if self.is_long() {
@@ -58,7 +59,7 @@ impl<S: Assembly<D>, L: Elector<S>, D: Digest> Engine<S, L, D> {
         ensures idle { OnOk result (IsIdle now self.new.plan) }
         ensures lowest { OnOk result (HoldsFromKept self.new.core self.new.batcher) }
         ensures lacking { OnOk result (AsksForItsLacking self.new.core self.new.plan.repair) }
-        ensures duties { OnOk result (KeepsTelling self.old self.new) }
+        ensures duties { OnOk result (KeepsDuties self.old self.new) }
     {
         self.run_all(now)?;
         self.settle()?;
@@ -73,7 +74,7 @@ impl<S: Assembly<D>, L: Elector<S>, D: Digest> Engine<S, L, D> {
         ensures whole { OnOk result (IsWhole S.certificate_bytes self.new.core) }
         ensures lowest { OnOk result (HoldsFromKept self.new.core self.new.batcher) }
         ensures lacking { OnOk result (AsksForItsLacking self.new.core self.new.plan.repair) }
-        ensures duties { OnOk result (KeepsTelling self.old self.new) }
+        ensures duties { OnOk result (KeepsDuties self.old self.new) }
     {
         self.let_go()?;
         self.core.store()?;
@@ -85,7 +86,7 @@ impl<S: Assembly<D>, L: Elector<S>, D: Digest> Engine<S, L, D> {
         ensures alone { GoesOnAlone D.eq L.elect S.certificate_bytes self.old self.new }
         ensures quiet { OnOk result (HasNothingNew D.eq L.elect self.new.core.member.facts) }
         ensures idle { OnOk result (IsIdle now self.new.plan) }
-        ensures duties { OnOk result (KeepsTelling self.old self.new) }
+        ensures duties { OnOk result (KeepsDuties self.old self.new) }
     {
         for _ in 0..u64::MAX {
             if self.is_settled(now)? {
@@ -100,7 +101,7 @@ impl<S: Assembly<D>, L: Elector<S>, D: Digest> Engine<S, L, D> {
         ensures alone { GoesOnAlone D.eq L.elect S.certificate_bytes self.old self.new }
         ensures quiet { IfOk result (λ settled. IsTrue settled → HasNothingNew D.eq L.elect self.new.core.member.facts) }
         ensures idle { IfOk result (λ settled. IsTrue settled → IsIdle now self.new.plan) }
-        ensures duties { OnOk result (KeepsTelling self.old self.new) }
+        ensures duties { OnOk result (KeepsDuties self.old self.new) }
     {
         self.run(now)?;
         let view = self.current_view()?;
@@ -136,7 +137,7 @@ impl<S: Assembly<D>, L: Elector<S>, D: Digest> Engine<S, L, D> {
     /// Takes steps until none is due. A run that had no end would be one of 2^64 steps.
     fn run(&mut self, now: u64) -> Result<(), Fault>
         ensures alone { GoesOnAlone D.eq L.elect S.certificate_bytes self.old self.new }
-        ensures duties { OnOk result (KeepsTelling self.old self.new) }
+        ensures duties { OnOk result (KeepsDuties self.old self.new) }
     {
         for _ in 0..u64::MAX {
             if !self.step(now)? {
@@ -149,7 +150,7 @@ impl<S: Assembly<D>, L: Elector<S>, D: Digest> Engine<S, L, D> {
     /// Takes the next step, where one is due.
     fn step(&mut self, now: u64) -> Result<bool, Fault>
         ensures alone { GoesOnAlone D.eq L.elect S.certificate_bytes self.old self.new }
-        ensures duties { OnOk result (KeepsTelling self.old self.new) }
+        ensures duties { OnOk result (KeepsDuties self.old self.new) }
     {
         match self.plan.next(now)? {
             Some(step) => self.take_step(step, now),
@@ -160,7 +161,7 @@ impl<S: Assembly<D>, L: Elector<S>, D: Digest> Engine<S, L, D> {
     /// Takes a step.
     fn take_step(&mut self, step: Step<S, D>, now: u64) -> Result<bool, Fault>
         ensures alone { GoesOnAlone D.eq L.elect S.certificate_bytes self.old self.new }
-        ensures duties { OnOk result ((work : _) → TellsBehind (work ++ work_planned (step ∷ [])) self.old → TellsBehind work self.new) }
+        ensures duties { OnOk result (KeepsTaken (work_planned (step ∷ [])) self.old self.new) }
     {
         match step {
             Step::Ask(task) => taken(self.ask(task, now)),
@@ -174,7 +175,7 @@ impl<S: Assembly<D>, L: Elector<S>, D: Digest> Engine<S, L, D> {
     /// Sends the newest vote to nullify once more, where it is one of the view.
     fn repeat(&mut self, view: View) -> Result<bool, Fault>
         ensures alone { GoesOnAlone D.eq L.elect S.certificate_bytes self.old self.new }
-        ensures duties { OnOk result (KeepsTelling self.old self.new) }
+        ensures duties { OnOk result (KeepsDuties self.old self.new) }
     {
         self.core.repeat(view)?;
         Ok(true)
@@ -183,7 +184,7 @@ impl<S: Assembly<D>, L: Elector<S>, D: Digest> Engine<S, L, D> {
     /// Queues work to be carried out.
     fn push(&mut self, work: Work<S, D>) -> Result<bool, Fault>
         ensures alone { GoesOnAlone D.eq L.elect S.certificate_bytes self.old self.new }
-        ensures duties { OnOk result ((before : _) → TellsBehind (before ++ work ∷ []) self.old → TellsBehind before self.new) }
+        ensures duties { OnOk result (KeepsTaken (work ∷ []) self.old self.new) }
     {
         self.core.push(work)?;
         Ok(true)
@@ -196,7 +197,7 @@ impl<S: Assembly<D>, L: Elector<S>, D: Digest> Engine<S, L, D> {
         ensures idle { (now : ℕ) → IsIdle now self.old.plan → IsIdle now self.new.plan }
         ensures lowest { OnOk result (HoldsFromKept self.new.core self.new.batcher) }
         ensures lacking { OnOk result (AsksForItsLacking self.new.core self.new.plan.repair) }
-        ensures duties { OnOk result (KeepsTelling self.old self.new) }
+        ensures duties { OnOk result (KeepsDuties self.old self.new) }
     {
         let lowest = self.lowest_kept()?;
         self.tell_forgotten(lowest)?;
@@ -233,7 +234,7 @@ impl<S: Assembly<D>, L: Elector<S>, D: Digest> Engine<S, L, D> {
         ensures alone { GoesOnAlone D.eq L.elect S.certificate_bytes self.old self.new }
         ensures member { self.new.core.member ≡ self.old.core.member }
         ensures plan { self.new.plan ≡ self.old.plan }
-        ensures duties { OnOk result (KeepsTelling self.old self.new) }
+        ensures duties { OnOk result (KeepsDuties self.old self.new) }
     {
         if lowest <= self.forgotten {
             return Ok(());
@@ -253,7 +254,7 @@ impl<S: Assembly<D>, L: Elector<S>, D: Digest> Engine<S, L, D> {
     /// at the begin of a life all views of the record are.
     fn prune_record(&mut self, now: u64) -> Result<(), Fault>
         ensures alone { GoesOnAlone D.eq L.elect S.certificate_bytes self.old self.new }
-        ensures duties { OnOk result (KeepsTelling self.old self.new) }
+        ensures duties { OnOk result (KeepsDuties self.old self.new) }
     {
         self.ask(Task::Prune, now)?;
         self.core.prune_record()?;

@@ -6,7 +6,7 @@ use Rattle.simplex_types.specs.Certificates.{certificate_facts}
 use Rattle.simplex_types.specs.Encoding.{certificate_subject}
 use Rattle.simplex_outbox.specs.Going.{GoesOn}
 use Rattle.simplex_engine.proofs.Tells.{handed_as, queued_then, tells_handed}
-use Rattle.simplex_engine.proofs.Planning.{on_ok}
+use Rattle.simplex_plan.proofs.Planning.{on_ok}
 use Rattle.simplex_member.specs.Calls.{told}
 use Rattle.simplex_engine.proofs.engine.Engine.accept.Goals as goal
 

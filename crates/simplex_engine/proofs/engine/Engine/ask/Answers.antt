@@ -4,9 +4,9 @@ use Rattle.std.proofs.lemmas.Result.{IfOk-weaker}
 use Rattle.simplex_member.specs.Calls.{told, asked}
 use Rattle.simplex_member.specs.Lives.{IsCall}
 use Rattle.simplex_outbox.specs.Going.{GoesOn}
-use Rattle.simplex_engine.specs.Tasks.{call_of}
+use Rattle.simplex_plan.specs.Tasks.{call_of}
 use Rattle.simplex_engine.proofs.Tells.{tells_called, queued_on}
-use Rattle.simplex_engine.proofs.Planning.{on_ok}
+use Rattle.simplex_plan.proofs.Planning.{on_ok}
 use Rattle.simplex_engine.proofs.engine.Engine.ask.Goals as goal
 
 pub returns : goal.returns

@@ -5,7 +5,6 @@ use Rattle.simplex_engine.specs.Admitting.{admits_votes, is_so}
 use Rattle.simplex_engine.proofs.Backing.{takes_nothing, takes_anyway, backed_by_none}
 use Rattle.simplex_engine.proofs.Bounds.{bounded_same}
 use Rattle.simplex_outbox.proofs.Going.{stays}
-use Rattle.simplex_engine.proofs.Tells.{tells_still}
 use Rattle.simplex_engine.proofs.engine.Engine.count.Goals as goal
 
 pub returns-then-not-admits_votes : goal.returns-then-not-admits_votes
@@ -21,7 +20,8 @@ returns-then-not-admits_votes g c =
       bounded = bounded_same keys_of engine.core engine.core engine.batcher refl;
       acted = λ is. absurd (false≢true
           (sym c.if-not-admits_votes.true ∙ c.admits_votes.ensures ∙ ap (λ round. is_so (λ x. admits_votes x round) engine.core.member.facts) c.round_of.ensures.round ∙ is));
-      duties = tells_still engine;
+      duties = record { stays = λ work told. told };
+      ignored = refl;
     }
 
 pub returns : goal.returns

@@ -3,7 +3,7 @@ use Rattle.std.proofs.Common.{length}
 use Rattle.simplex_engine.proofs.Backing.{backed_by_none}
 use Rattle.simplex_engine.proofs.Bounds.{bounded_counted}
 use Rattle.simplex_outbox.proofs.Going.{stays}
-use Rattle.simplex_engine.proofs.Planning.{on_ok}
+use Rattle.simplex_plan.proofs.Planning.{on_ok}
 use Rattle.simplex_engine.proofs.Taking.{taken_counted}
 use Rattle.simplex_engine.proofs.engine.Engine.count_admitted.Goals as goal
 
@@ -20,6 +20,7 @@ returns-in-Err g c =
       bounded = bounded_counted keys_of engine.core engine.batcher c.count.new.self c.args.vote.subject c.count.ensures.within c.count.ensures.scheme c.requires;
       acted = λ _. tt;
       duties = tt;
+      ignored = tt;
     }
 
 pub returns-in-Ok : goal.returns-in-Ok
@@ -27,4 +28,4 @@ returns-in-Ok g c =
     taken_counted g.D.PartialEq.eq g.L.Elector.elect g.S.CertificateScheme.certificate_bytes g.S.Assembly.IsMadeOf g.S.CertificateScheme.participants c.args.now
     g.met.D.Digest.equal_is_same c.args.vote c.args.self.now c.follow_counted.new.self c.follow_counted.result c.count.new.self c.in-Ok.counted c.requires c.count.ensures.given
     c.count.ensures.within c.count.ensures.scheme c.in-Ok.ensures.counted c.follow_counted.ensures.goes_on c.follow_counted.ensures.batcher c.follow_counted.ensures.followed
-    (on_ok c.follow_counted.result c.follow_counted.ensures.duties (λ keeps. record { stays = keeps.stays }))
+    (on_ok c.follow_counted.result c.follow_counted.ensures.duties (λ keeps. record { stays = keeps.stays; ignored = keeps.ignored }))

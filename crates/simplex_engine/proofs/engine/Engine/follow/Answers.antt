@@ -2,8 +2,8 @@
 use Rattle.std.proofs.Common.{ap}
 use Rattle.std.specs.Prelude.{not}
 use Rattle.simplex_member.specs.Calls.{told}
-use Rattle.simplex_engine.proofs.Duties.{plans_then}
-use Rattle.simplex_engine.proofs.Following.{followed_plans}
+use Rattle.simplex_plan.proofs.PlannedWork.{plans_then}
+use Rattle.simplex_plan.proofs.Following.{followed_plans}
 use Rattle.simplex_engine.proofs.engine.Engine.follow.Goals as goal
 
 pub returns-in_err-see-clause-core : goal.returns-in_err-see-clause-core

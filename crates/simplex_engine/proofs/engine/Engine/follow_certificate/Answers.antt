@@ -1,6 +1,6 @@
 -- That nothing which is planned is lost.
-use Rattle.simplex_engine.proofs.Duties.{keeps_further}
-use Rattle.simplex_engine.proofs.Following.{certificate_followed}
+use Rattle.simplex_plan.proofs.PlannedWork.{keeps_further}
+use Rattle.simplex_plan.proofs.Following.{certificate_followed}
 use Rattle.simplex_engine.proofs.engine.Engine.follow_certificate.Goals as goal
 
 pub returns-clause-planned : goal.returns-clause-planned

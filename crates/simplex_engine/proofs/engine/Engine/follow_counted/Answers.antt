@@ -1,6 +1,6 @@
 -- That what follows a vote tells all that the member waits for.
 use Rattle.std.proofs.Common.{refl}
-use Rattle.simplex_engine.proofs.Duties.{has_planned}
+use Rattle.simplex_plan.proofs.PlannedWork.{has_planned}
 use Rattle.simplex_engine.proofs.Tells.{tells_planned}
 use Rattle.simplex_engine.proofs.engine.Engine.follow_counted.Goals as goal
 

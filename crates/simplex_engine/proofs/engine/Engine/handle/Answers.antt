@@ -22,6 +22,7 @@ returns-then-has_failed g c =
       bounded = bounded_same keys_of engine.core engine.core engine.batcher refl;
       acted = λ _. tt;
       duties = tt;
+      ignored = tt;
       failed = sym c.has_failed.ensures ∙ c.if-has_failed.true;
       refused = λ _. (refl, refl);
     }
@@ -42,6 +43,7 @@ returns-in-Ok g c =
       bounded = taken.bounded;
       acted = taken.acted;
       duties = taken.duties;
+      ignored = taken.ignored;
       failed = tt;
       refused = λ failed. absurd (false≢true (sym c.if-has_failed.false ∙ c.has_failed.ensures ∙ failed));
     }
@@ -60,6 +62,7 @@ returns-in-Err g c =
       bounded = bounded_further keys_of c.take.ensures.bounded (bounded_still keys_of c.fail.ensures.goes_on (takes_nothing c.take.new.self.batcher));
       acted = λ _. tt;
       duties = tt;
+      ignored = tt;
       failed = ap has_failed c.fail.ensures.failed;
       refused = λ failed. absurd (false≢true (sym c.if-has_failed.false ∙ c.has_failed.ensures ∙ failed));
     }

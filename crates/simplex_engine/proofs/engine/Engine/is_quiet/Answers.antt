@@ -1,48 +1,40 @@
--- That a member that has nothing new goes on by what shows it, and that all was asked for, one call behind the other.
-use Rattle.std.proofs.Common.{◌++◌}
-use Rattle.simplex_engine.specs.Quiet.{for_work, for_votes, for_certificates}
+-- That a member that has nothing new goes on by the calls that show it.
+use Rattle.std.proofs.Common.{refl}
+use Rattle.std.proofs.lemmas.Bool.{and_parts}
 use Rattle.simplex_engine.proofs.Alone.{alone_further}
-use Rattle.simplex_engine.proofs.Quiet.{nothing_further}
-use Rattle.simplex_engine.proofs.Tells.{tells_further}
 use Rattle.simplex_engine.proofs.engine.Engine.is_quiet.Goals as goal
 
-pub returns-in_err-has_no_vote-clause-alone : goal.returns-in_err-has_no_vote-clause-alone
-returns-in_err-has_no_vote-clause-alone g c = alone_further c.has_no_work.ensures.alone c.has_no_vote.ensures.alone
+pub returns-in_err-is_quiet-2-clause-alone : goal.returns-in_err-is_quiet-2-clause-alone
+returns-in_err-is_quiet-2-clause-alone g c = alone_further c.asks_nothing.ensures.alone c.asks_nothing-2.ensures.alone
 
-pub returns-in_err-has_no_certificate-clause-alone : goal.returns-in_err-has_no_certificate-clause-alone
-returns-in_err-has_no_certificate-clause-alone g c =
-    alone_further c.has_no_work.ensures.alone
-    (alone_further c.has_no_vote.ensures.alone c.has_no_certificate.ensures.alone)
+pub returns-in_err-is_quiet-3-clause-alone : goal.returns-in_err-is_quiet-3-clause-alone
+returns-in_err-is_quiet-3-clause-alone g c = alone_further c.asks_nothing.ensures.alone (alone_further c.asks_nothing-2.ensures.alone c.asks_nothing-3.ensures.alone)
 
-pub returns-then-has_no_vote-clause-alone : goal.returns-then-has_no_vote-clause-alone
-returns-then-has_no_vote-clause-alone g c =
-    alone_further c.has_no_work.ensures.alone
-    (alone_further c.has_no_vote.ensures.alone c.has_no_certificate.ensures.alone)
+pub returns-in_err-is_quiet-4-clause-alone : goal.returns-in_err-is_quiet-4-clause-alone
+returns-in_err-is_quiet-4-clause-alone g c = alone_further c.asks_nothing.ensures.alone (alone_further c.asks_nothing-2.ensures.alone (alone_further c.asks_nothing-3.ensures.alone c.asks_nothing-4.ensures.alone))
 
-pub returns-else-has_no_vote-clause-alone : goal.returns-else-has_no_vote-clause-alone
-returns-else-has_no_vote-clause-alone g c =
-    alone_further c.has_no_work.ensures.alone
-    (alone_further c.has_no_vote.ensures.alone c.has_no_certificate.ensures.alone)
+pub returns-in_err-is_quiet-5-clause-alone : goal.returns-in_err-is_quiet-5-clause-alone
+returns-in_err-is_quiet-5-clause-alone g c = alone_further c.asks_nothing.ensures.alone (alone_further c.asks_nothing-2.ensures.alone (alone_further c.asks_nothing-3.ensures.alone (alone_further c.asks_nothing-4.ensures.alone c.asks_nothing-5.ensures.alone)))
 
-pub returns-then-has_no_vote-clause-quiet : goal.returns-then-has_no_vote-clause-quiet
-returns-then-has_no_vote-clause-quiet g c =
-    let before = c.args.self.now.core.member.facts in
-    let worked = c.has_no_work.new.self.core.member.facts in
-    let voted = c.has_no_vote.new.self.core.member.facts in
-    let now = c.has_no_certificate.new.self.core.member.facts in
-    let certificates = for_certificates c.args.view in
-    let same = g.D.PartialEq.eq in
-    let elect = g.L.Elector.elect in
-    λ is. nothing_further same elect before worked now for_work (for_votes c.args.view ++ certificates)
-    (c.in_ok-has_no_work.ensures.quiet c.if-has_no_vote.true.0)
-    (nothing_further same elect worked voted now (for_votes c.args.view) certificates (c.in_ok-has_no_vote.ensures.quiet c.if-has_no_vote.true.1)
-    (c.in_ok-has_no_certificate.ensures.quiet is))
+pub returns-in_err-is_quiet-6-clause-alone : goal.returns-in_err-is_quiet-6-clause-alone
+returns-in_err-is_quiet-6-clause-alone g c = alone_further c.asks_nothing.ensures.alone (alone_further c.asks_nothing-2.ensures.alone (alone_further c.asks_nothing-3.ensures.alone (alone_further c.asks_nothing-4.ensures.alone (alone_further c.asks_nothing-5.ensures.alone c.asks_nothing-6.ensures.alone))))
 
-pub returns-in_err-has_no_work-clause-alone : goal.returns-in_err-has_no_work-clause-alone
-returns-in_err-has_no_work-clause-alone g c = c.has_no_work.ensures.alone
+pub returns-in_err-is_quiet-7-clause-alone : goal.returns-in_err-is_quiet-7-clause-alone
+returns-in_err-is_quiet-7-clause-alone g c = alone_further c.asks_nothing.ensures.alone (alone_further c.asks_nothing-2.ensures.alone (alone_further c.asks_nothing-3.ensures.alone (alone_further c.asks_nothing-4.ensures.alone (alone_further c.asks_nothing-5.ensures.alone (alone_further c.asks_nothing-6.ensures.alone c.asks_nothing-7.ensures.alone)))))
 
-pub returns-then-has_no_vote-clause-duties : goal.returns-then-has_no_vote-clause-duties
-returns-then-has_no_vote-clause-duties g c = tells_further c.in_ok-has_no_work.ensures.duties (tells_further c.in_ok-has_no_vote.ensures.duties c.in_ok-has_no_certificate.ensures.duties)
+pub returns-in_err-is_quiet-8-clause-alone : goal.returns-in_err-is_quiet-8-clause-alone
+returns-in_err-is_quiet-8-clause-alone g c = alone_further c.asks_nothing.ensures.alone (alone_further c.asks_nothing-2.ensures.alone (alone_further c.asks_nothing-3.ensures.alone (alone_further c.asks_nothing-4.ensures.alone (alone_further c.asks_nothing-5.ensures.alone (alone_further c.asks_nothing-6.ensures.alone (alone_further c.asks_nothing-7.ensures.alone c.asks_nothing-8.ensures.alone))))))
 
-pub returns-else-has_no_vote-clause-duties : goal.returns-else-has_no_vote-clause-duties
-returns-else-has_no_vote-clause-duties g c = tells_further c.in_ok-has_no_work.ensures.duties (tells_further c.in_ok-has_no_vote.ensures.duties c.in_ok-has_no_certificate.ensures.duties)
+pub returns-clause-alone : goal.returns-clause-alone
+returns-clause-alone g c = alone_further c.asks_nothing.ensures.alone (alone_further c.asks_nothing-2.ensures.alone (alone_further c.asks_nothing-3.ensures.alone (alone_further c.asks_nothing-4.ensures.alone (alone_further c.asks_nothing-5.ensures.alone (alone_further c.asks_nothing-6.ensures.alone (alone_further c.asks_nothing-7.ensures.alone c.asks_nothing-8.ensures.alone))))))
+
+pub returns-clause-quiet : goal.returns-clause-quiet
+returns-clause-quiet g c = λ is.
+    let i8 = and_parts _ _ is in
+    let i7 = and_parts _ _ i8.0 in
+    let i6 = and_parts _ _ i7.0 in
+    let i5 = and_parts _ _ i6.0 in
+    let i4 = and_parts _ _ i5.0 in
+    let i3 = and_parts _ _ i4.0 in
+    let i2 = and_parts _ _ i3.0 in
+    (c.asks_nothing.new.self.core.member.facts, c.in_ok-is_quiet.ensures.nothing i2.0, (c.asks_nothing-2.new.self.core.member.facts, c.in_ok-is_quiet-2.ensures.nothing i2.1, (c.asks_nothing-3.new.self.core.member.facts, c.in_ok-is_quiet-3.ensures.nothing i3.1, (c.asks_nothing-4.new.self.core.member.facts, c.in_ok-is_quiet-4.ensures.nothing i4.1, (c.asks_nothing-5.new.self.core.member.facts, c.in_ok-is_quiet-5.ensures.nothing i5.1, (c.asks_nothing-6.new.self.core.member.facts, c.in_ok-is_quiet-6.ensures.nothing i6.1, (c.asks_nothing-7.new.self.core.member.facts, c.in_ok-is_quiet-7.ensures.nothing i7.1, (c.asks_nothing-8.new.self.core.member.facts, c.in_ok-is_quiet-8.ensures.nothing i8.1, refl))))))))

@@ -1,5 +1,5 @@
 -- That a fetch that is closed loses nothing that is planned.
-use Rattle.simplex_engine.proofs.Duties.{plans_repaired}
+use Rattle.simplex_plan.proofs.PlannedWork.{plans_repaired}
 use Rattle.simplex_engine.proofs.engine.Engine.let_fetches_go.Goals as goal
 
 pub returns-in-Some-clause-planned : goal.returns-in-Some-clause-planned

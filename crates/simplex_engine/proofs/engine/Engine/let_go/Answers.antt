@@ -5,11 +5,11 @@ use Rattle.simplex_voter.specs.Windows.{min_active}
 use Rattle.simplex_engine.specs.Backing.{TakesNone}
 use Rattle.simplex_batcher.specs.Batching.{HoldsFrom}
 use Rattle.simplex_outbox.specs.Going.{GoesOn}
-use Rattle.simplex_engine.specs.Planning.{IsIdle}
+use Rattle.simplex_plan.specs.Planning.{IsIdle}
 use Rattle.simplex_engine.proofs.Alone.{alone_still}
 use Rattle.simplex_engine.proofs.Backing.{takes_no_more}
 use Rattle.simplex_engine.proofs.Bounds.{kept_from}
-use Rattle.simplex_engine.proofs.Planning.{on_ok}
+use Rattle.simplex_plan.proofs.Planning.{on_ok}
 use Rattle.simplex_engine.proofs.Tells.{tells_further, tells_planned}
 use Rattle.simplex_engine.proofs.engine.Engine.let_go.Goals as goal
 
@@ -47,8 +47,7 @@ returns g c =
           (subst (λ m. IfSome m.facts.life (λ x. min_active x ≡ c.in_ok-lowest.lowest)) (sym c.tell_forgotten.ensures.member) c.in_ok-lowest.ensures) c.forget.ensures.lowest)));
       lacking = c.let_fetches_go.ensures.lacking;
       duties = on_ok c.let_fetches_go.result c.let_fetches_go.ensures.lacking (λ _. tells_further c.in_ok-tell_forgotten.ensures.duties
-          (record {
-            stays = (tells_planned (record (c.tell_forgotten.new.self) { batcher = c.forget.new.self }) c.let_fetches_go.new.self
-                c.let_fetches_go.ensures.core c.let_fetches_go.ensures.planned).stays;
-          }));
+          (let keeps = tells_planned (record (c.tell_forgotten.new.self) { batcher = c.forget.new.self }) c.let_fetches_go.new.self
+          c.let_fetches_go.ensures.core c.let_fetches_go.ensures.planned in
+          record { stays = keeps.stays; ignored = keeps.ignored }));
     }

@@ -2,11 +2,11 @@
 use Rattle.std.proofs.Common.{refl, ap, sym, ◌∙◌, None, subst}
 use Rattle.std.proofs.lemmas.Bool.{false≢true}
 use Rattle.std.specs.Prelude.{IfOk}
-use Rattle.simplex_engine.specs.declared.engine.task.Task.TheVariants.{SetProposal}
+use Rattle.simplex_plan.specs.declared.task.Task.TheVariants.{SetProposal}
 use Rattle.simplex_engine.specs.Acting.{HasDoneTask}
 use Rattle.simplex_outbox.specs.Going.{GoesOn}
 use Rattle.simplex_outbox.proofs.Going.{stays}
-use Rattle.simplex_engine.specs.Duties.{KeepsTelling}
+use Rattle.simplex_engine.specs.Duties.{KeepsDuties}
 use Rattle.simplex_engine.proofs.engine.Engine.offer.Goals as goal
 
 pub returns-then-admits_proposal : goal.returns-then-admits_proposal
@@ -34,5 +34,5 @@ returns g c = record {
   batcher = ap (λ engine. engine.batcher) c.keep_early.ensures;
   unadmitted = λ _. (refl, c.keep_early.ensures);
   acted = λ is. absurd (false≢true (sym c.if-admits_proposal.false ∙ c.admits_proposal.ensures ∙ is));
-  duties = subst (KeepsTelling c.args.self.now) (sym c.keep_early.ensures) (record { stays = λ work told. told });
+  duties = subst (KeepsDuties c.args.self.now) (sym c.keep_early.ensures) (record { stays = λ work told. told; ignored = refl });
 }

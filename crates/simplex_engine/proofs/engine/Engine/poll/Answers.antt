@@ -7,7 +7,7 @@ use Rattle.simplex_outbox.proofs.Finals.{tells_still}
 use Rattle.simplex_engine.proofs.Bounds.{bounded_same, bounded_admitted}
 use Rattle.simplex_outbox.proofs.Going.{does_nothing_more, where_ok}
 use Rattle.simplex_engine.proofs.Tells.{tells_given, still_told}
-use Rattle.simplex_engine.proofs.Planning.{on_ok}
+use Rattle.simplex_plan.proofs.Planning.{on_ok}
 use Rattle.simplex_engine.proofs.engine.Engine.poll.Goals as goal
 
 pub returns-then-has_failed-clause-does : goal.returns-then-has_failed-clause-does

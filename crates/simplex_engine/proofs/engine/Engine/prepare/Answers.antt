@@ -3,8 +3,8 @@ use Rattle.simplex_engine.proofs.Backing.{takes_nothing}
 use Rattle.simplex_outbox.proofs.Going.{stays}
 use Rattle.std.proofs.Common.{refl}
 use Rattle.simplex_engine.proofs.Tells.{tells_further, tells_planned}
-use Rattle.simplex_engine.proofs.Duties.{plans_begun}
-use Rattle.simplex_engine.proofs.Planning.{on_ok}
+use Rattle.simplex_plan.proofs.PlannedWork.{plans_begun}
+use Rattle.simplex_plan.proofs.Planning.{on_ok}
 use Rattle.simplex_engine.proofs.engine.Engine.prepare.Goals as goal
 
 pub returns-then-is_long : goal.returns-then-is_long

@@ -1,7 +1,7 @@
 -- That nothing is done but to queue a vote once more.
 use Rattle.std.proofs.Common.{ap}
 use Rattle.simplex_engine.proofs.Backing.{takes_nothing}
-use Rattle.simplex_engine.proofs.Duties.{keeps_still}
+use Rattle.simplex_plan.proofs.PlannedWork.{keeps_still}
 use Rattle.simplex_engine.proofs.Tells.{tells_same}
 use Rattle.simplex_engine.proofs.engine.Engine.repeat.Goals as goal
 

@@ -1,5 +1,5 @@
 -- That a fetch loses nothing that is planned.
-use Rattle.simplex_engine.proofs.Duties.{plans_repaired}
+use Rattle.simplex_plan.proofs.PlannedWork.{plans_repaired}
 use Rattle.simplex_engine.proofs.engine.Engine.resolve.Goals as goal
 
 pub returns-clause-planned : goal.returns-clause-planned

@@ -6,7 +6,7 @@ use Rattle.simplex_batcher.specs.Batching.{HoldsFrom}
 use Rattle.simplex_fetches.specs.Wanted.{AsksForTheLacking}
 use Rattle.simplex_outbox.proofs.Going.{goes_further}
 use Rattle.simplex_engine.proofs.Tells.{tells_further, tells_same}
-use Rattle.simplex_engine.proofs.Duties.{keeps_still}
+use Rattle.simplex_plan.proofs.PlannedWork.{keeps_still}
 use Rattle.simplex_engine.proofs.engine.Engine.settle.Goals as goal
 
 pub returns-in_err-let_go-clause-alone : goal.returns-in_err-let_go-clause-alone

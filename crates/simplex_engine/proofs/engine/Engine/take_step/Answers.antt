@@ -1,11 +1,12 @@
 -- That each step is taken by what is for it.
-use Rattle.std.proofs.Common.{None, refl, ◌∷◌, [], ◌++◌, sym, subst}
-use Rattle.simplex_engine.specs.Duties.{TellsBehind, work_planned}
+use Rattle.std.proofs.Common.{None, refl, ◌∷◌, [], sym, subst}
+use Rattle.simplex_engine.specs.Duties.{KeepsTaken}
+use Rattle.simplex_plan.specs.PlannedWork.{work_planned}
 use Rattle.simplex_outbox.specs.Going.{GoesOn}
-use Rattle.simplex_engine.specs.declared.engine.plan.Step.TheVariants as step
+use Rattle.simplex_plan.specs.declared.plan.Step.TheVariants as step
 use Rattle.simplex_engine.proofs.Alone.{alone_with}
 use Rattle.simplex_outbox.proofs.Going.{stays}
-use Rattle.simplex_engine.proofs.Planning.{on_ok}
+use Rattle.simplex_plan.proofs.Planning.{on_ok}
 use Rattle.simplex_engine.proofs.Tells.{on_any, passed_on, tells_other, tells_planned}
 use Rattle.simplex_engine.proofs.engine.Engine.take_step.Goals as goal
 
@@ -43,5 +44,5 @@ pub returns-in-Push : goal.returns-in-Push
 returns-in-Push g c = record {
   alone = c.push.ensures.alone;
   duties = on_ok c.push.result c.push.ensures.duties
-      (λ keeps work told. keeps work (subst (λ it. TellsBehind (work ++ work_planned (it ∷ [])) c.args.self.now) c.in-Push.is told));
+      (λ keeps. subst (λ it. KeepsTaken (work_planned (it ∷ [])) c.args.self.now c.push.new.self) (sym c.in-Push.is) keeps);
 }

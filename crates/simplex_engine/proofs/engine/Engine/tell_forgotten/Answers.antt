@@ -3,7 +3,7 @@ use Rattle.std.proofs.Common.{refl, ap}
 use Rattle.simplex_engine.proofs.Alone.{alone_still}
 use Rattle.simplex_engine.proofs.Backing.{takes_nothing}
 use Rattle.simplex_engine.proofs.Tells.{tells_same, tells_still}
-use Rattle.simplex_engine.proofs.Duties.{keeps_still}
+use Rattle.simplex_plan.proofs.PlannedWork.{keeps_still}
 use Rattle.simplex_engine.proofs.engine.Engine.tell_forgotten.Goals as goal
 
 pub returns-then-le : goal.returns-then-le

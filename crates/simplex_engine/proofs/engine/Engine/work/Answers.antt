@@ -1,7 +1,7 @@
 -- That the engine goes on from what it prepares.
 use Rattle.simplex_engine.proofs.Alone.{alone_further}
 use Rattle.simplex_engine.proofs.Tells.{tells_further}
-use Rattle.simplex_engine.proofs.Planning.{on_ok}
+use Rattle.simplex_plan.proofs.Planning.{on_ok}
 use Rattle.simplex_engine.proofs.engine.Engine.work.Goals as goal
 
 pub returns-in_err-prepare-clause-alone : goal.returns-in_err-prepare-clause-alone

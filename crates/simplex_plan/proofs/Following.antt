@@ -1,0 +1,140 @@
+-- What is planned for an answer: it is for just that answer, keeps what was planned, and tells the application what the answer asks of it.
+use Rattle.std.proofs.Common.{◌≡◌, refl, ap, sym, subst, ℕ, Bool, true, false, ◌==◌, nat_le, List, [], ◌∷◌, map, Option, Some, None, Result, is_some, not, cond}
+use Rattle.std.specs.Prelude.{OnOk}
+use Rattle.simplex_types.specs.Viewed.{certificate_view}
+use Rattle.simplex_types.specs.declared.types.messages.Certificate.{Certificate}
+use Rattle.simplex_types.specs.declared.types.messages.Context.{Context}
+use Rattle.simplex_types.specs.declared.types.messages.Notarization.{Notarization}
+use Rattle.simplex_types.specs.declared.types.messages.Nullify.{Nullify}
+use Rattle.simplex_types.specs.declared.types.messages.Proposal.{Proposal}
+use Rattle.simplex_voter.specs.declared.voter.propose.ProposalRequest.{ProposalRequest}
+use Rattle.simplex_voter.specs.declared.voter.propose.ProposalRequest.TheVariants.{Prepare, Propose}
+use Rattle.simplex_voter.specs.declared.voter.verify.Verify.{Verify}
+use Rattle.simplex_voter.specs.declared.voter.verify.Verify.TheVariants as verify
+use Rattle.simplex_member.specs.Calls.{Requested, Standing, Told, told}
+use Rattle.simplex_member.specs.declared.member.calls.Reply.{Reply}
+use Rattle.simplex_member.specs.declared.member.calls.Reply.TheVariants as reply
+use Rattle.simplex_plan.specs.declared.plan.Plan.{Plan}
+use Rattle.simplex_plan.specs.declared.plan.Step.TheVariants.{Ask}
+use Rattle.simplex_plan.specs.declared.task.Task.{Task}
+use Rattle.simplex_plan.specs.declared.task.Task.TheVariants as task
+use Rattle.simplex_outbox.specs.declared.output.Work.TheVariants as work
+use Rattle.simplex_plan.specs.PlannedWork.{work_of, work_planned, KeepsPlanned, PlansToo}
+use Rattle.simplex_plan.specs.Planning.{touching}
+use Rattle.simplex_plan.specs.Building.{asking_for}
+use Rattle.simplex_plan.specs.Following.{Consequence, Nothing, Touched, Built, Stopped, Ended, Asked, after_refusal, after_flag, after_watch, IsConsequence, IsVerifyFollowed, IsRequestFollowed, IsBroadcastFollowed, IsNullifyFollowed, certifying, IsVerdictFollowed, IsVerdictToldAbove, IsTakenInAbove, IsNewFollowed, IsCertificateFollowed, IsFollowed}
+use Rattle.simplex_plan.proofs.PlannedWork.{alone_of, ignored_of, has_builds, has_planned, keeps_further, plans_behind, plans_beside, plans_none, plans_same, plans_too}
+
+pub followed : {S D K G C X E : Type 0} (bytes : D → List ℕ) (bytes_of : C → List ℕ) (now : ℕ) (asked : Task D) (old new : Plan S D K G C) (result : Result X E)
+    {reply this : Reply S D K G C} → reply ≡ this → OnOk result (IsFollowed bytes bytes_of now asked this old new) → OnOk result (IsFollowed bytes bytes_of now asked reply old new)
+followed bytes bytes_of now asked old new result is holds = subst (λ it. OnOk result (IsFollowed bytes bytes_of now asked it old new)) (sym is) holds
+
+module _ {S D K G C : Type 0} (old new : Plan S D K G C) where
+  consequence_keeps : (following : Consequence D) → IsConsequence following old new → KeepsPlanned old new
+  consequence_keeps Nothing is = plans_same old new is
+  consequence_keeps (Touched view) is = plans_behind old new (touching view) is.steps (ap alone_of is.same) (ap ignored_of is.same)
+  consequence_keeps (Built view) is = plans_behind old new (touching view) is.steps (ap alone_of is.same) (ap ignored_of is.same)
+  consequence_keeps (Stopped view) is = has_builds is
+  consequence_keeps (Ended view) is = plans_beside old (record old { builds = new.builds }) new is.same refl refl refl
+  consequence_keeps (Asked call) is = has_planned is
+
+  -- an answer's work is planned
+  abbrev Follows : Told K D → Type 0
+  Follows told = PlansToo (work_of old.is_alone told) old new
+
+  -- a block that a member alone builds later
+  asked_ahead : (context : Context D K) (is_alone : Bool) → work_planned (asking_for {S = S} {D = D} {K = K} {G = G} {C = C} context (not is_alone)) ≡ cond is_alone [] (work.Build context ∷ [])
+  asked_ahead context true = refl
+  asked_ahead context false = refl
+
+  request_followed : (request : Option (ProposalRequest D K)) → IsRequestFollowed request old new → Follows (Requested request)
+  request_followed None is = plans_none (plans_same old new is)
+  request_followed (Some (Prepare context)) is =
+      subst (λ works. PlansToo works old new) (asked_ahead context old.is_alone) (plans_too old new (asking_for context (not old.is_alone)) is.steps (ap alone_of is.same) (ap ignored_of is.same))
+  request_followed (Some (Propose context)) is = plans_too old new (asking_for context true) is.steps (ap alone_of is.same) (ap ignored_of is.same)
+
+  broadcast_followed : (certificate : Option (Certificate S D K G C)) → IsBroadcastFollowed certificate old new → KeepsPlanned old new
+  broadcast_followed None is = plans_same old new is
+  broadcast_followed (Some certificate) is = has_planned is
+
+  nullify_followed : (now : ℕ) (answer : Option (Bool × Nullify S K G C)) → IsNullifyFollowed now answer old new → KeepsPlanned old new
+  nullify_followed now None is = plans_beside old _ new is refl refl refl
+  nullify_followed now (Some (true, vote)) is = has_planned is
+  nullify_followed now (Some (false, vote)) is = has_planned is
+
+  verify_followed : (answer : Verify D K) → IsVerifyFollowed answer old new → Follows (Standing answer)
+  verify_followed (verify.Ready context proposal) is = plans_too old new _ is.steps (ap alone_of is.same) (ap ignored_of is.same)
+  verify_followed (verify.Resolve proposal view kind target) is = plans_none (has_planned is)
+  verify_followed verify.Wait is = plans_none (plans_same old new is)
+
+  verdict_followed : (bytes : D → List ℕ) (bytes_of : C → List ℕ) (now : ℕ) (is_success : Bool) (notarization : Option (Notarization S D K G C))
+      → IsVerdictFollowed bytes bytes_of now is_success notarization old new → KeepsPlanned old new
+  verdict_followed bytes bytes_of now is_success None is = plans_same old new is
+  verdict_followed bytes bytes_of now is_success (Some n) is = by_genesis (n.proposal.round.view == 0) is
+    where
+      by_genesis : (b : Bool) → IsVerdictToldAbove bytes bytes_of now b is_success n old new → KeepsPlanned old new
+      by_genesis true is = plans_same old new is
+      by_genesis false is = plans_behind old new (touching n.proposal.round.view) is.planned.steps (ap alone_of is.planned.same) (ap ignored_of is.planned.same)
+
+  -- the work of proposals that are certified
+  certified_work : (proposals : List (Proposal D)) → work_planned (certifying {S = S} {D = D} {K = K} {G = G} {C = C} proposals) ≡ map work.Certify proposals
+  certified_work [] = refl
+  certified_work (p ∷ rest) = ap (λ works. work.Certify p ∷ works) (certified_work rest)
+
+  pub followed_plans : (bytes : D → List ℕ) (bytes_of : C → List ℕ) (now : ℕ) (asked : Task D) (answer : Reply S D K G C)
+      → IsFollowed bytes bytes_of now asked answer old new → Follows (told bytes_of answer)
+  followed_plans bytes bytes_of now asked (reply.Flag is_taken) is = plans_none (consequence_keeps (after_flag asked is_taken) is)
+  followed_plans bytes bytes_of now asked (reply.Triggered is_latched) is = plans_none (consequence_keeps (after_flag asked is_latched) is)
+  followed_plans bytes bytes_of now asked (reply.Released was_open) is = plans_none (consequence_keeps (after_flag asked was_open) is)
+  followed_plans bytes bytes_of now asked (reply.Abandoned reason) is = plans_none (consequence_keeps (after_watch asked (is_some reason)) is)
+  followed_plans bytes bytes_of now asked (reply.Work answer) is = verify_followed answer is
+  followed_plans bytes bytes_of now asked (reply.Request request) is = request_followed request is
+  followed_plans bytes bytes_of now asked (reply.Candidates proposals wanted) is =
+      subst (λ works. PlansToo works old new) (certified_work proposals.items) (plans_too old new (certifying proposals.items) is.steps (ap alone_of is.same) (ap ignored_of is.same))
+  followed_plans bytes bytes_of now asked (reply.Certified is_success notarization) is = plans_none (verdict_followed bytes bytes_of now is_success notarization is)
+  followed_plans bytes bytes_of now asked (reply.Nullify answer) is = plans_none (nullify_followed now answer is)
+  followed_plans bytes bytes_of now asked (reply.Certificate certificate) is = plans_none (broadcast_followed certificate is)
+  followed_plans bytes bytes_of now asked (reply.Timeout moment reason) is =
+      plans_none (plans_behind old new (cond (nat_le moment now) (Ask (task.Nullify old.views.current reason) ∷ []) []) is.steps (ap alone_of is.same) (ap ignored_of is.same))
+  followed_plans bytes bytes_of now asked (reply.Fault fault) is = plans_none (consequence_keeps (after_refusal asked) is)
+  followed_plans bytes bytes_of now asked reply.NotAllowed is = plans_none (consequence_keeps (after_refusal asked) is)
+  followed_plans bytes bytes_of now asked reply.Unit is = plans_none (plans_same old new is)
+  followed_plans bytes bytes_of now asked (reply.Added newly leader) is = plans_none (plans_same old new is)
+  followed_plans bytes bytes_of now asked (reply.AddedNullification newly) is = plans_none (plans_same old new is)
+  followed_plans bytes bytes_of now asked (reply.Notarize vote) is = plans_none (plans_same old new is)
+  followed_plans bytes bytes_of now asked (reply.Finalize vote) is = plans_none (plans_same old new is)
+  followed_plans bytes bytes_of now asked (reply.Views views) is = plans_none (plans_same old new is)
+  followed_plans bytes bytes_of now asked reply.Restarted is = plans_none (plans_same old new is)
+
+module _ {S D K G C : Type 0} (bytes : D → List ℕ) (bytes_of : C → List ℕ) (now : ℕ) where
+  new_followed : (old new : Plan S D K G C) (is_new : Bool) (certificate : Certificate S D K G C) → IsNewFollowed bytes bytes_of now is_new certificate old new → KeepsPlanned old new
+  new_followed old new false certificate is = plans_same old new is
+  new_followed old new true certificate is = by_genesis (certificate_view certificate == 0) is
+    where
+      by_genesis : (b : Bool) → IsTakenInAbove bytes bytes_of now b certificate old new → KeepsPlanned old new
+      by_genesis true is = plans_same old new is
+      by_genesis false is = plans_behind old new (touching (certificate_view certificate)) is.planned.steps (ap alone_of is.planned.same) (ap ignored_of is.planned.same)
+
+  pub certificate_followed : (old new : Plan S D K G C) (certificate : Certificate S D K G C) (answer : Reply S D K G C)
+      → IsCertificateFollowed bytes bytes_of now certificate answer old new → KeepsPlanned old new
+  certificate_followed old new certificate (reply.Added is_new equivocator) is =
+      keeps_further (has_planned is.is_shown) (new_followed is.shown new is_new certificate is.followed)
+  certificate_followed old new certificate (reply.AddedNullification is_new) is = new_followed old new is_new certificate is
+  certificate_followed old new certificate (reply.Flag b) is = plans_same old new is
+  certificate_followed old new certificate (reply.Triggered b) is = plans_same old new is
+  certificate_followed old new certificate (reply.Released b) is = plans_same old new is
+  certificate_followed old new certificate (reply.Abandoned r) is = plans_same old new is
+  certificate_followed old new certificate (reply.Work v) is = plans_same old new is
+  certificate_followed old new certificate (reply.Request r) is = plans_same old new is
+  certificate_followed old new certificate (reply.Candidates p f) is = plans_same old new is
+  certificate_followed old new certificate (reply.Certified s n) is = plans_same old new is
+  certificate_followed old new certificate (reply.Nullify a) is = plans_same old new is
+  certificate_followed old new certificate (reply.Certificate c) is = plans_same old new is
+  certificate_followed old new certificate (reply.Timeout m r) is = plans_same old new is
+  certificate_followed old new certificate (reply.Fault f) is = plans_same old new is
+  certificate_followed old new certificate reply.NotAllowed is = plans_same old new is
+  certificate_followed old new certificate reply.Unit is = plans_same old new is
+  certificate_followed old new certificate (reply.Notarize v) is = plans_same old new is
+  certificate_followed old new certificate (reply.Finalize v) is = plans_same old new is
+  certificate_followed old new certificate (reply.Views v) is = plans_same old new is
+  certificate_followed old new certificate reply.Restarted is = plans_same old new is

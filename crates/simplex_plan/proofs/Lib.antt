@@ -1,0 +1,6 @@
+pub mod Planning
+pub mod PlannedWork
+mod Accepting
+pub mod Following
+pub mod Entering
+pub mod Filling

@@ -1,0 +1,64 @@
+-- What is planned where no step is queued, and which step is taken.
+use Rattle.std.specs.Prelude.{◌≡◌, ℕ, Bool, true, false, List, [], ◌∷◌, ◌++◌, map, drop, Option, Some, None, option_to_list, if◌then◌else◌}
+use Rattle.simplex_fetches.specs.declared.fetches.Ask.{Ask}
+use Rattle.simplex_fetches.specs.Asking.{IsAsking}
+use Rattle.simplex_outbox.specs.declared.output.Work.TheVariants.{Fetch}
+use Rattle.simplex_plan.specs.declared.plan.Building.{Building}
+use Rattle.simplex_plan.specs.declared.plan.Plan.{Plan}
+use Rattle.simplex_plan.specs.declared.plan.Step.{Step}
+use Rattle.simplex_plan.specs.declared.plan.Step.TheVariants as step
+use Rattle.simplex_plan.specs.declared.task.Task.TheVariants.{Abandon, Timeout, Prune}
+use Rattle.simplex_plan.specs.Planning.{HasPlanned}
+
+module _ {S D K G C : Type 0} where
+  -- of each block that is to be built it is asked whether it has to be given up
+  abbrev pub watching_all : List (Building D K) → List (Step S D K G C)
+  watching_all builds = map (λ (building : Building D K). step.Ask (Abandon building.context.round.view)) builds
+
+  -- where something has changed since that was asked last
+  abbrev pub watching_where : Bool → List (Building D K) → List (Step S D K G C)
+  watching_where is_due builds = if is_due then watching_all builds else []
+
+  -- a fetch is asked for
+  abbrev pub fetching_one : Option Ask → List (Step S D K G C)
+  fetching_one None = []
+  fetching_one (Some ask) = step.Push (Fetch ask) ∷ []
+
+  -- the first fetch that is due is asked for
+  pub record HasAsked (now : ℕ) (old new : Plan S D K G C) : Type 0 where
+    pub ask : Option Ask
+    pub asked : IsAsking now old.repair.fetches ask new.repair.fetches
+    pub resolver : new.repair.resolver ≡ old.repair.resolver
+    pub planned : HasPlanned (fetching_one ask) (record old { repair = new.repair }) new
+
+  -- which views may be dropped is asked for before any fetch, once a moment
+  abbrev pub IsPruneAsked : Bool → ℕ → Plan S D K G C → Plan S D K G C → Type 0
+  IsPruneAsked true now old new = HasPlanned (step.Ask Prune ∷ []) (record old { is_prune_due = false }) new
+  IsPruneAsked false now old new = HasAsked now old new
+
+  -- the timeout is asked for before that, once a moment
+  abbrev pub IsTimeoutAsked : Bool → ℕ → Plan S D K G C → Plan S D K G C → Type 0
+  IsTimeoutAsked true now old new = HasPlanned (step.Ask Timeout ∷ []) (record old { is_timeout_due = false }) new
+  IsTimeoutAsked false now old new = IsPruneAsked old.is_prune_due now old new
+
+  -- the blocks are asked about before all
+  abbrev pub AreWatched : List (Step S D K G C) → ℕ → Plan S D K G C → Plan S D K G C → Type 0
+  AreWatched [] now old new = IsTimeoutAsked old.is_timeout_due now old new
+  AreWatched steps now old new = HasPlanned steps old new
+
+  -- what is due is planned
+  abbrev pub IsFilled : ℕ → Plan S D K G C → Plan S D K G C → Type 0
+  IsFilled now old new = AreWatched (watching_where old.is_watch_due old.builds.items) now (record old { is_watch_due = false }) new
+
+  -- where no step is queued
+  abbrev pub IsReady : List (Step S D K G C) → ℕ → Plan S D K G C → Plan S D K G C → Type 0
+  IsReady [] now old ready = IsFilled now old ready
+  IsReady _ now old ready = ready ≡ old
+
+  -- the first step is taken, if there is one
+  pub record HasTaken (now : ℕ) (step : Option (Step S D K G C)) (old new : Plan S D K G C) : Type 0 where
+    pub ready : Plan S D K G C
+    pub is_ready : IsReady old.steps.items now old ready
+    pub taken : ready.steps.items ≡ option_to_list step ++ new.steps.items
+    pub others : new.steps.items ≡ drop 1 ready.steps.items
+    pub same : new ≡ record ready { steps = new.steps }

@@ -1,0 +1,7 @@
+pub mod Tasks
+pub mod Planning
+pub mod Building
+pub mod Entering
+pub mod Filling
+pub mod Following
+pub mod PlannedWork

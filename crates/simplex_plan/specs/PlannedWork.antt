@@ -1,0 +1,44 @@
+-- Work that is planned, and what an answer of the member asks for.
+use Rattle.std.specs.Prelude.{◌≡◌, ℕ, Bool, true, List, [], ◌∷◌, ◌++◌, map, Some, if◌then◌else◌}
+use Rattle.std.specs.List.{list_any}
+use Rattle.simplex_voter.specs.declared.voter.propose.ProposalRequest.TheVariants.{Prepare, Propose}
+use Rattle.simplex_voter.specs.declared.voter.verify.Verify.TheVariants.{Ready}
+use Rattle.simplex_member.specs.Calls.{Told, Standing, Requested, Candidates}
+use Rattle.simplex_outbox.specs.declared.output.Work.{Work}
+use Rattle.simplex_outbox.specs.declared.output.Work.TheVariants.{Verify, Certify, Build}
+use Rattle.simplex_plan.specs.declared.plan.Plan.{Plan}
+use Rattle.simplex_plan.specs.declared.plan.Step.{Step}
+use Rattle.simplex_plan.specs.declared.plan.Step.TheVariants.{Push}
+
+module _ {S D K G C : Type 0} where
+  -- each test that some of these pass, some of those do
+  pub record AreAmong (these those : List (Work S D K G C)) : Type 0 where
+    pub found : (test : Work S D K G C → Bool) → list_any test these ≡ true → list_any test those ≡ true
+
+  -- the work that steps queue, in order
+  abbrev pub work_planned : List (Step S D K G C) → List (Work S D K G C)
+  work_planned [] = []
+  work_planned (Push work ∷ rest) = work ∷ work_planned rest
+  work_planned (_ ∷ rest) = work_planned rest
+
+  -- what an answer of the member asks of the application at once: a member alone builds nothing ahead of the parent's certification
+  abbrev pub work_of : Bool → Told K D → List (Work S D K G C)
+  work_of is_alone (Standing (Ready context proposal)) = Verify context proposal ∷ []
+  work_of is_alone (Candidates proposals _) = map Certify proposals
+  work_of is_alone (Requested (Some (Prepare context))) = if is_alone then [] else Build context ∷ []
+  work_of is_alone (Requested (Some (Propose context))) = Build context ∷ []
+  work_of is_alone _ = []
+
+  -- this work is planned, of a member that is as alone as before, and no input was counted as of no use
+  pub record IsPlanned (work : List (Work S D K G C)) (was_alone : Bool) (before : ℕ) (planned : List (Work S D K G C)) (is_alone : Bool) (after : ℕ) : Type 0 where
+    pub found : AreAmong work planned
+    pub alone : is_alone ≡ was_alone
+    pub ignored : after ≡ before
+
+  -- work that was planned stays planned, and this work is planned too
+  abbrev pub PlansToo : List (Work S D K G C) → Plan S D K G C → Plan S D K G C → Type 0
+  PlansToo more old new = IsPlanned (work_planned old.steps.items ++ more) old.is_alone old.ignored (work_planned new.steps.items) new.is_alone new.ignored
+
+  -- none besides
+  abbrev pub KeepsPlanned : Plan S D K G C → Plan S D K G C → Type 0
+  KeepsPlanned old new = IsPlanned (work_planned old.steps.items) old.is_alone old.ignored (work_planned new.steps.items) new.is_alone new.ignored

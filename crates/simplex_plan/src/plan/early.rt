@@ -1,0 +1,60 @@
+//! Proposals that came before their views: nobody sends them again, so a few are kept.
+
+ghost use Rattle.std.specs.Prelude.{◌≡◌, ◌≤◌, ◌++◌, ◌∷◌, [], nat_lt, filter, length, vec_len, OnOk, if◌then◌else◌};
+
+use simplex_types::types::{Participant, Proposal, View};
+use std::alloc::{AllocError, Global};
+
+/// A proposal that came before its view, and whose it is.
+#[derive(Clone, Copy)]
+pub(super) struct Early<D> {
+    pub from: Participant,
+    pub view: View,
+    pub proposal: Proposal<D>,
+}
+
+/// How many early proposals are kept at most.
+pub(super) const MOST_EARLY: usize = 8;
+
+/// The early proposals: eight at most.
+#[derive(Drop)]
+pub struct EarlyProposals<D> {
+    proposals: Vec<Early<D>>,
+    ghost few: { vec_len proposals ≤ 8 },
+}
+
+impl<D: Copy> EarlyProposals<D> {
+    /// None is kept.
+    pub(super) fn new(alloc: Global) -> EarlyProposals<D>
+        ensures { result.proposals.items ≡ [] }
+    {
+        EarlyProposals {
+            proposals: Vec::new(alloc),
+        }
+    }
+
+    /// Keeps one more, where fewer than eight are kept.
+    pub(super) fn keep(&mut self, early: Early<D>) -> Result<(), AllocError>
+        ensures { OnOk result (self.new.proposals.items ≡ (if nat_lt (length self.old.proposals.items) 8
+            then self.old.proposals.items ++ early ∷ [] else self.old.proposals.items)) }
+    {
+        if self.proposals.len() < MOST_EARLY {
+            self.proposals.push(early)?;
+        }
+        Ok(())
+    }
+
+    /// Those of the views up to this one are kept no longer.
+    pub(super) fn pass(&mut self, current: View)
+        ensures { self.new.proposals.items ≡ filter (λ early. nat_lt current early.view) self.old.proposals.items }
+    {
+        self.proposals.retain(|early| current < early.view);
+    }
+
+    /// All that are kept.
+    pub(super) fn all(&self) -> &[Early<D>]
+        ensures { result.now ≡ self.now.proposals.items }
+    {
+        &self.proposals
+    }
+}
