@@ -10,7 +10,7 @@ use Rattle.simplex_laws.specs.Living.{HasBegun, HasGoneOn}
 use Rattle.simplex_engine.specs.Duties.{HasTold}
 use Rattle.simplex_engine.specs.declared.engine.begin.StartError.{StartError}
 use Rattle.simplex_engine.specs.declared.engine.begin.StartError.TheVariants as start_error
-use Rattle.simplex_engine.specs.declared.engine.plan.Options.{Options}
+use Rattle.simplex_plan.specs.declared.plan.Options.{Options}
 use Rattle.simplex_batcher.specs.Batching.{AreGiven}
 use Rattle.simplex_engine.specs.Bounds.{HoldsNoneAhead}
 use Rattle.simplex_outbox.specs.Going.{IsWhole, TellsNothing}
@@ -36,7 +36,7 @@ abbrev pub options_of : FlatOptions → Options
 options_of f = record { retry = f.retry; on_its_way = f.on_its_way; long_record = f.long_record }
 
 -- nothing was given out; the whole record is to be stored in place of all that is, no proposal to be told as final, no vote is held,
--- the member waits for nothing, and leaders are drawn as set
+-- the member waits for nothing, no input was of no use, and leaders are drawn as set
 pub record HasGivenNothing (f : FlatSettings) (held : HeldEngine) : Type 0 where
   pub kept : IsAllGiven [] held
   pub whole : IsWhole certificate_bytes held.engine.core
@@ -44,6 +44,7 @@ pub record HasGivenNothing (f : FlatSettings) (held : HeldEngine) : Type 0 where
   pub votes : AreGiven [] held.engine.batcher
   pub bounded : HoldsNoneAhead host_keys held.engine.core held.engine.batcher
   pub duties : HasTold [] held.engine
+  pub ignored : held.engine.plan.ignored ≡ 0
   pub draws : held.draws ≡ f.draws
   pub fresh : HasShownNothing held
 

@@ -1,5 +1,5 @@
 -- How an engine behind a handle is told and asked.
-use Rattle.std.specs.Prelude.{◌≡◌, ◌⊎◌, ◌+◌, ◌-◌, ◌^◌, ◌++◌, min, ℕ, Bool, true, false, List, [], length, Option, Some, None, option_to_list, Result, Ok, Err, OnErr, OnOk, IfOk, IsFalse, IsTrue}
+use Rattle.std.specs.Prelude.{◌≡◌, ◌⊎◌, ◌+◌, ◌-◌, ◌^◌, ◌++◌, min, ℕ, Bool, true, false, List, [], length, Option, Some, None, option_to_list, Result, Ok, Err, OnErr, OnOk, IfOk, IsFalse, IsTrue, if◌then◌else◌}
 use Rattle.simplex_types.specs.declared.types.fault.Fault.{Fault}
 use Rattle.simplex_types.specs.declared.types.fault.Fault.TheVariants.{Failed}
 use Rattle.simplex_types.specs.declared.types.messages.Subject.{Subject}
@@ -11,7 +11,7 @@ use Rattle.simplex_host.specs.Assembling.{signed_bytes}
 use Rattle.simplex_host.specs.Host.{certificate_bytes, host_keys}
 use Rattle.simplex_engine.specs.Acting.{IsActedOn}
 use Rattle.simplex_outbox.specs.declared.output.Output.TheVariants as output
-use Rattle.simplex_engine.specs.Admitting.{IsTurnedAway, ignoring, is_admitted}
+use Rattle.simplex_engine.specs.Admitting.{IsTurnedAway, ignoring, is_admitted, one_more}
 use Rattle.simplex_engine.specs.Backing.{IsBackedInput, TakesNone, TakesVotes, votes_of_input}
 use Rattle.simplex_engine.specs.Bounds.{HoldsAdmitted, HoldsFromKept, HoldsNoneAhead, StaysBounded}
 use Rattle.simplex_engine.specs.Lacking.{AsksForItsLacking}
@@ -21,7 +21,7 @@ use Rattle.simplex_outbox.specs.Finals.{TellsNoMore}
 use Rattle.simplex_outbox.specs.Going.{DoesMoreOn, GoesOn, IsKept, IsWhole, has_failed}
 use Rattle.simplex_engine.specs.Inputs.{subject_in}
 use Rattle.simplex_outbox.specs.Journals.{IsRecordOf, journal_of}
-use Rattle.simplex_engine.specs.Planning.{IsIdle}
+use Rattle.simplex_plan.specs.Planning.{IsIdle}
 use Rattle.simplex_engine.specs.Settled.{IsSettled}
 use Rattle.simplex_flat.specs.declared.journal.NotWritten.{NotWritten}
 use Rattle.simplex_flat.specs.declared.shown.FlatStored.{FlatStored}
@@ -75,6 +75,8 @@ pub record IsTaken (now : ℕ) (input : HostInput) (old : HeldEngine) (r : FlatT
   pub bounded : StaysBounded host_keys old.engine.core old.engine.batcher new.engine.core new.engine.batcher
   -- each proposal and block that the application is to be told of stays told
   pub duties : OnOk answer (KeepsTelling old.engine new.engine)
+  -- what is of no use is counted, and nothing else
+  pub ignored : IfOk answer (λ is_of_use. new.engine.plan.ignored ≡ (if is_of_use then old.engine.plan.ignored else one_more old.engine.plan.ignored))
   pub rest : new ≡ record old { engine = new.engine }
 
 -- or what it gave out was lost before, and it takes nothing
@@ -190,6 +192,8 @@ pub record IsAsked (now : ℕ) (old : HeldEngine) (r : FlatOutput) (new : HeldEn
   -- each proposal and block that the application is to be told of stays told
   pub duties : has_failed new.engine.core ≡ false → new.is_lost ≡ false → (given : List HostOutput) → HasTold given old.engine
       → HasTold (given ++ option_to_list new.last) new.engine
+  -- no input is counted as of no use
+  pub ignored : has_failed new.engine.core ≡ false → new.engine.plan.ignored ≡ old.engine.plan.ignored
   pub outcome : IsOutcome now old r new
   -- one that had failed tells only that, and stays as it was
   pub refused : has_failed old.engine.core ≡ true → IsNothing 2 r new × (new.engine ≡ old.engine)

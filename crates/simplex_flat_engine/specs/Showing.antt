@@ -2,7 +2,7 @@
 use Rattle.std.specs.Prelude.{◌≡◌, ◌||◌, ℕ, Bool, zero, suc, length, slice_get, MatchOption, if◌then◌else◌}
 use Rattle.simplex_fetches.specs.declared.fetches.Fetch.{Fetch}
 use Rattle.simplex_outbox.specs.Going.{has_failed}
-use Rattle.simplex_engine.specs.Settled.{IsWake}
+use Rattle.simplex_plan.specs.Planning.{IsWake}
 use Rattle.simplex_flat.specs.declared.resolved.FlatServed.{FlatServed}
 use Rattle.simplex_flat.specs.declared.shown.FlatChunk.{FlatChunk}
 use Rattle.simplex_flat.specs.declared.shown.FlatFound.{FlatFound}

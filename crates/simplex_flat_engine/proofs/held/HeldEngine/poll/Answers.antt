@@ -16,6 +16,7 @@ returns c =
             votes = asked.votes;
             bounded = asked.bounded;
             duties = asked.duties;
+            ignored = asked.ignored;
             outcome = asked.outcome;
             refused = asked.refused;
           },

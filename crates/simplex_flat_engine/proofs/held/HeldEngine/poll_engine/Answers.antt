@@ -27,6 +27,7 @@ returns-in-Ok-Some c =
           bounded = rw rest.0 c.in-Ok-Some.ensures.bounded;
           duties = λ _. has_told c.in-Ok-Some.output c.args.self.now.stored c.give_out.result c.args.self.now c.give_out.new.self
               (rw rest.0 (rw c.in-Ok-Some.field-0-is at c.in-Ok-Some.ensures.duties)) c.give_out.ensures.given;
+          ignored = λ _. rw rest.0 c.in-Ok-Some.ensures.ignored;
           outcome = inl (c.in-Ok-Some.output, c.give_out.ensures.given);
           refused = λ had. absurd (false≢true (subst IsOk (sym c.in-Ok-Some.is ∙ (c.poll.ensures.refused had).0) refl));
         },
@@ -53,6 +54,7 @@ returns-in-Ok-None c =
           bounded = c.in-Ok-None.ensures.bounded;
           duties = λ _ alive. subst (λ last. (before : List HostOutput) → HasTold before c.args.self.now.engine → HasTold (before ++ option_to_list last) c.poll.new.self)
               (sym c.requires.last) (rw none at c.in-Ok-None.ensures.duties);
+          ignored = λ _. c.in-Ok-None.ensures.ignored;
           outcome = inr (inl (
             record { status_is = told.status; nothing = told.nothing.0; last = c.requires.last },
             record {

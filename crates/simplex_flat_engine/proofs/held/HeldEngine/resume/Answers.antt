@@ -26,6 +26,7 @@ returns-in-Ok-resume-clause-resumed c =
         votes = rw c.new.ensures.engine c.in-Ok-resume.ensures.votes;
         bounded = rw c.new.ensures.engine c.in-Ok-resume.ensures.bounded;
         duties = rw c.new.ensures.engine c.in-Ok-resume.ensures.duties;
+        ignored = rw c.new.ensures.engine c.in-Ok-resume.ensures.ignored;
         draws = c.new.ensures.draws;
         fresh = c.new.ensures.fresh;
       };

@@ -17,6 +17,7 @@ returns-in-Ok-start-clause-begun c = record {
     votes = rw c.new.ensures.engine c.in-Ok-start.ensures.votes;
     bounded = rw c.new.ensures.engine c.in-Ok-start.ensures.bounded;
     duties = rw c.new.ensures.engine c.in-Ok-start.ensures.duties;
+    ignored = rw c.new.ensures.engine c.in-Ok-start.ensures.ignored;
     draws = c.new.ensures.draws;
     fresh = c.new.ensures.fresh;
   };
