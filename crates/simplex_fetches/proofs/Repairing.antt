@@ -8,8 +8,14 @@ use Rattle.simplex_fetches.specs.Repairing.{IsRepaired}
 use Rattle.simplex_fetches.specs.Wanted.{after_effects}
 
 pub is_repaired : (moment : ℕ) (call : Call) (old new : Repair) (es : List Effect) → IsMade call old.resolver es new.resolver
-    → new.fetches.wanted.items ≡ after_effects moment es old.fetches.wanted.items → IsRepaired moment call old new
-is_repaired moment call old new es made fetched = record {
+    → new.fetches.wanted.items ≡ after_effects moment es old.fetches.wanted.items
+    → (new.fetches.peers ≡ old.fetches.peers) × (new.fetches.retry ≡ old.fetches.retry) → new.passed ≡ old.passed → new.is_behind ≡ old.is_behind
+    → IsRepaired moment call old new
+is_repaired moment call old new es made fetched same passed behind = record {
   made = subst (λ all. IsMade call old.resolver all new.resolver) made.answered made;
   fetches_now = fetched ∙ ap (λ all. after_effects moment all old.fetches.wanted.items) made.answered;
+  peers = same.0;
+  retry = same.1;
+  passed = passed;
+  behind = behind;
 }

@@ -14,11 +14,16 @@ pub record HasFetches (fetches : List Fetch) (old new : Repair) : Type 0 where
   pub peers : new.fetches.peers ≡ old.fetches.peers
   pub retry : new.fetches.retry ≡ old.fetches.retry
   pub resolver : new.resolver ≡ old.resolver
+  pub behind : new.is_behind ≡ old.is_behind
 
--- the call is made of the resolver, and its effects open and end fetches
+-- the call is made of the resolver, its effects open and end fetches, and else the same is so
 pub record IsRepaired (moment : ℕ) (call : Call) (old new : Repair) : Type 0 where
   pub made : IsMade call old.resolver (effects old.resolver.state call) new.resolver
   pub fetches_now : new.fetches.wanted.items ≡ after_effects moment (effects old.resolver.state call) old.fetches.wanted.items
+  pub peers : new.fetches.peers ≡ old.fetches.peers
+  pub retry : new.fetches.retry ≡ old.fetches.retry
+  pub passed : new.passed ≡ old.passed
+  pub behind : new.is_behind ≡ old.is_behind
 
 -- where it is refused, of what names no view above v: without memory, fetches may be left out; else the resolver says why, and it and
 -- the fetches are as they were

@@ -43,6 +43,7 @@ impl Repair {
         ensures resolver { IfOk result (λ repair. repair.resolver ≡ resolver) }
         ensures fetches { IfOk result (λ repair. repair.fetches.wanted.items ≡ wanting resolver.open_fetches fetches.wanted.items) }
         ensures same { IfOk result (λ repair. (repair.fetches.peers ≡ fetches.peers) × (repair.fetches.retry ≡ fetches.retry)) }
+        ensures begun { IfOk result (λ repair. (repair.passed ≡ 0) × (repair.is_behind ≡ false)) }
     {
         fetches.open_all(resolver.fetches())?;
         Ok(Repair {
@@ -157,7 +158,8 @@ impl Repair {
 
     /// The view is final: nothing is asked for of the views up to it.
     pub fn pass(&mut self, finalized: View)
-        ensures { HasFetches (passed finalized self.old.fetches.wanted.items) self.old self.new }
+        ensures fetches { HasFetches (passed finalized self.old.fetches.wanted.items) self.old self.new }
+        ensures passed { self.new.passed ≡ max self.old.passed finalized }
     {
         self.fetches.pass(finalized);
         self.passed = later_of(self.passed, finalized);
@@ -167,6 +169,7 @@ impl Repair {
     pub fn ask(&mut self, now: u64) -> Option<Ask>
         ensures asked { IsAsking now self.old.fetches result self.new.fetches }
         ensures resolver { self.new.resolver ≡ self.old.resolver }
+        ensures same { (self.new.passed ≡ self.old.passed) × (self.new.is_behind ≡ self.old.is_behind) }
     {
         self.fetches.ask(now)
     }

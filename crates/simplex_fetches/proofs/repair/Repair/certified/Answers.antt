@@ -1,5 +1,5 @@
 -- That the effects are carried out, and no wanted view is left out by them.
-use Rattle.std.proofs.Common.{◌∙◌, ap, sym, subst}
+use Rattle.std.proofs.Common.{◌∙◌, ap, refl, sym, subst}
 use Rattle.simplex_fetches.specs.Wanted.{after_effects, AsksForWanted}
 use Rattle.simplex_fetches.proofs.Repairing.{is_repaired}
 use Rattle.simplex_fetches.proofs.Wanted.{asks_after}
@@ -9,7 +9,7 @@ pub returns-clause-repaired : goal.returns-clause-repaired
 returns-clause-repaired g c =
     let fetches = c.args.self.now.fetches.wanted.items in
     is_repaired c.args.moment _ c.args.self.now _ c.in_ok-effects.effects.items c.in_ok-effects.ensures.made
-    (c.in_ok-apply.ensures.after ∙ ap (λ es. after_effects c.args.moment es fetches) c.deref.ensures.value)
+    (c.in_ok-apply.ensures.after ∙ ap (λ es. after_effects c.args.moment es fetches) c.deref.ensures.value) c.apply.ensures.same refl refl
 
 pub invariant_of-self-2 : goal.invariant_of-self-2
 invariant_of-self-2 g c =

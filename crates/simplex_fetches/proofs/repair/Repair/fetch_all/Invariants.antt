@@ -9,4 +9,5 @@ invariant-loop-fetch l = record {
   peers : l.self.fetches.peers ≡ l.initial.self.fetches.peers;
   retry : l.self.fetches.retry ≡ l.initial.self.fetches.retry;
   resolver : l.self.resolver ≡ l.initial.self.resolver;
+  behind : l.self.is_behind ≡ l.initial.self.is_behind;
 }

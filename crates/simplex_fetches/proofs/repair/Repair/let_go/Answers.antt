@@ -43,4 +43,5 @@ returns-clause-kept g c =
       peers = c.keep_lacking.ensures.same.0;
       retry = c.keep_lacking.ensures.same.1;
       resolver = refl;
+      behind = refl;
     }
