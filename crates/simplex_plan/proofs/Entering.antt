@@ -7,10 +7,10 @@ use Rattle.simplex_plan.specs.declared.plan.Step.{Step}
 use Rattle.simplex_plan.specs.declared.plan.Views.{Views}
 use Rattle.simplex_plan.specs.declared.plan.early.Early.{Early}
 use Rattle.simplex_plan.specs.Building.{HasBuilds}
-use Rattle.simplex_plan.specs.Entering.{asked_by, asking_by, offering, HasEntered, HasEnteredWhere, HasSeen}
+use Rattle.simplex_plan.specs.Entering.{told_by, asking_by, offering, HasEntered, HasEnteredWhere, HasSeen}
 use Rattle.simplex_plan.specs.Planning.{HasPlanned, touching, watching}
-use Rattle.simplex_plan.specs.PlannedWork.{KeepsPlanned}
-use Rattle.simplex_plan.proofs.PlannedWork.{alone_of, ignored_of, plans_behind, plans_same}
+use Rattle.simplex_plan.specs.PlannedWork.{KeepsPlanned, constants_of}
+use Rattle.simplex_plan.proofs.PlannedWork.{ignored_of, plans_behind, plans_same}
 
 -- what some come to, one behind the other, is queued up to one more of them
 pub more_queued : {A B : Type 0} (all : List A → List B) (one : A → List B) (xs : List A) (i : ℕ) (x : A) (queued left whole : List B)
@@ -26,7 +26,7 @@ more_queued all one xs i x queued left whole within is split before more =
 module _ {S D K G C : Type 0} where
   -- the view is touched, and then comes what waited for it
   pub entered : (view : ℕ) (old mid then new : Plan S D K G C) → HasPlanned (touching view) (watching old) mid
-      → HasBuilds (asking_by view mid.builds.items) (map (asked_by view) mid.builds.items) mid then
+      → HasBuilds (asking_by view mid.builds.items) (map (told_by view) mid.builds.items) mid then
       → new.steps.items ≡ then.steps.items ++ offering view then.early.proposals.items
       → new.early.proposals.items ≡ filter (λ (early : Early D). nat_lt view early.view) then.early.proposals.items
       → new ≡ record then { steps = new.steps; early = new.early } → HasEntered view old new
@@ -34,7 +34,7 @@ module _ {S D K G C : Type 0} where
     steps = steps
         ∙ ap (λ offers. then.steps.items ++ offers) (ap (offering view) was_early)
         ∙ ap (λ s. s ++ offers) (built.steps ∙ ap (λ s. s ++ asking_by view mid.builds.items) touched.steps ∙ ap (λ b. (old.steps.items ++ touching view) ++ asking_by view b) were_built);
-    blocks = ap (λ (p : Plan S D K G C). p.builds.items) same ∙ built.blocks ∙ ap (map (asked_by view)) were_built;
+    blocks = ap (λ (p : Plan S D K G C). p.builds.items) same ∙ built.blocks ∙ ap (map (told_by view)) were_built;
     early = early ∙ ap (filter (λ (e : Early D). nat_lt view e.view)) was_early;
     same = same
         ∙ ap (λ (p : Plan S D K G C). record p { steps = new.steps; early = new.early }) built.same
@@ -61,5 +61,5 @@ module _ {S D K G C : Type 0} where
           let offers = offering views.current old.early.proposals.items in
           plans_behind old new (touching views.current ++ (asks ++ offers))
           (is.steps ∙ append_assoc (old.steps.items ++ touching views.current) asks offers ∙ append_assoc old.steps.items (touching views.current) (asks ++ offers))
-          (ap alone_of is.same) (ap ignored_of is.same)
+          (ap constants_of is.same) (ap ignored_of is.same)
       by_view false is = plans_same (record old { views = views; repair = new.repair }) new is

@@ -9,11 +9,11 @@ use Rattle.simplex_fetches.specs.Asking.{ask_of, IsAsking}
 use Rattle.simplex_fetches.specs.Fetches.{asked_again, due_at}
 use Rattle.simplex_plan.specs.declared.plan.Plan.{Plan}
 use Rattle.simplex_plan.specs.declared.plan.Step.{Step}
-use Rattle.simplex_plan.specs.Filling.{watching_where, fetching_one, HasAsked, IsPruneAsked, IsTimeoutAsked, AreWatched, IsReady, HasTaken}
+use Rattle.simplex_plan.specs.Filling.{watching_where, fetching_one, IsFetchAsked, IsPruneAsked, IsTimeoutAsked, AreWatched, IsReady, HasTaken}
 use Rattle.simplex_plan.specs.Planning.{HasPlanned, IsIdle}
-use Rattle.simplex_plan.specs.PlannedWork.{AreAmong, work_planned, KeepsPlanned}
+use Rattle.simplex_plan.specs.PlannedWork.{AreAmong, work_planned, KeepsPlanned, constants_of}
 use Rattle.simplex_plan.proofs.Planning.{some_planned}
-use Rattle.simplex_plan.proofs.PlannedWork.{alone_of, among_all, among_further, ignored_of, plans_behind, plans_same}
+use Rattle.simplex_plan.proofs.PlannedWork.{among_all, among_further, ignored_of, plans_behind, plans_same}
 
 module _ {A : Type 0} where
   -- what stands in front of a queue is taken from it, and where nothing is taken it was empty
@@ -37,27 +37,27 @@ module _ {S D K G C : Type 0} where
   -- what is due was planned: a plan from which a step is taken
   module _ (now : ℕ) where
     -- it kept what was planned
-    asked_keeps : (old new : Plan S D K G C) → HasAsked now old new → KeepsPlanned old new
-    asked_keeps old new is = plans_behind old new (fetching_one is.ask) is.planned.steps (ap alone_of is.planned.same) (ap ignored_of is.planned.same)
+    asked_keeps : (old new : Plan S D K G C) → IsFetchAsked now old new → KeepsPlanned old new
+    asked_keeps old new is = plans_behind old new (fetching_one is.ask) is.planned.steps (ap constants_of is.planned.same) (ap ignored_of is.planned.same)
 
     prune_keeps : (b : Bool) (old new : Plan S D K G C) → IsPruneAsked b now old new → KeepsPlanned old new
-    prune_keeps true old new is = plans_behind old new _ is.steps (ap alone_of is.same) (ap ignored_of is.same)
+    prune_keeps true old new is = plans_behind old new _ is.steps (ap constants_of is.same) (ap ignored_of is.same)
     prune_keeps false old new is = asked_keeps old new is
 
     timeout_keeps : (b : Bool) (old new : Plan S D K G C) → IsTimeoutAsked b now old new → KeepsPlanned old new
-    timeout_keeps true old new is = plans_behind old new _ is.steps (ap alone_of is.same) (ap ignored_of is.same)
+    timeout_keeps true old new is = plans_behind old new _ is.steps (ap constants_of is.same) (ap ignored_of is.same)
     timeout_keeps false old new is = prune_keeps old.is_prune_due old new is
 
     watched_keeps : (steps : List (Step S D K G C)) (old new : Plan S D K G C) → AreWatched steps now old new → KeepsPlanned old new
     watched_keeps [] old new is = timeout_keeps old.is_timeout_due old new is
-    watched_keeps (step ∷ steps) old new is = plans_behind old new _ is.steps (ap alone_of is.same) (ap ignored_of is.same)
+    watched_keeps (step ∷ steps) old new is = plans_behind old new _ is.steps (ap constants_of is.same) (ap ignored_of is.same)
 
     ready_keeps : (steps : List (Step S D K G C)) (old ready : Plan S D K G C) → IsReady steps now old ready → KeepsPlanned old ready
     ready_keeps [] old ready is = watched_keeps (watching_where old.is_watch_due old.builds.items) (record old { is_watch_due = false }) ready is
     ready_keeps (step ∷ steps) old ready is = plans_same old ready is
 
     -- where no step is queued then, nothing is to be done
-    asked_idle : (old new : Plan S D K G C) → old.is_watch_due ≡ false → old.is_timeout_due ≡ false → old.is_prune_due ≡ false → HasAsked now old new → new.steps.items ≡ [] → IsIdle now new
+    asked_idle : (old new : Plan S D K G C) → old.is_watch_due ≡ false → old.is_timeout_due ≡ false → old.is_prune_due ≡ false → IsFetchAsked now old new → new.steps.items ≡ [] → IsIdle now new
     asked_idle old new watch timeout prune is none = by_ask is.ask is.asked is.planned
       where
         by_ask : (ask : Option Ask) → IsAsking now old.repair.fetches ask new.repair.fetches → HasPlanned (fetching_one ask) (record old { repair = new.repair }) new → IsIdle now new
@@ -91,8 +91,8 @@ module _ {S D K G C : Type 0} where
       pub taken_keeps : AreAmong (work_planned old.steps.items) (work_planned (option_to_list step ++ new.steps.items))
       taken_keeps = among_further (ready_keeps old.steps.items old taken.ready taken.is_ready).found (among_all (ap work_planned taken.taken))
 
-      pub taken_alone : new.is_alone ≡ old.is_alone
-      taken_alone = ap alone_of taken.same ∙ (ready_keeps old.steps.items old taken.ready taken.is_ready).alone
+      pub taken_constants : constants_of new ≡ constants_of old
+      taken_constants = ap constants_of taken.same ∙ (ready_keeps old.steps.items old taken.ready taken.is_ready).constants
 
       pub taken_ignored : new.ignored ≡ old.ignored
       taken_ignored = ap ignored_of taken.same ∙ (ready_keeps old.steps.items old taken.ready taken.is_ready).ignored

@@ -1,7 +1,9 @@
 -- What is planned for an answer: it is for just that answer, keeps what was planned, and tells the application what the answer asks of it.
-use Rattle.std.proofs.Common.{◌≡◌, refl, ap, sym, subst, ℕ, Bool, true, false, ◌==◌, nat_le, List, [], ◌∷◌, map, Option, Some, None, Result, is_some, not, cond}
-use Rattle.std.specs.Prelude.{OnOk}
+use Rattle.std.proofs.Common.{◌≡◌, refl, ap, sym, subst, ℕ, Bool, true, false, ◌==◌, nat_le, List, [], ◌∷◌, map, Option, Some, None, Result, Ok, Err, is_some, not, cond}
+use Rattle.std.specs.Prelude.{IfErr}
 use Rattle.simplex_types.specs.Viewed.{certificate_view}
+use Rattle.simplex_types.specs.declared.types.fault.Fault.{Fault}
+use Rattle.simplex_types.specs.declared.types.fault.Fault.TheVariants.{OutOfMemory, Failed, ViewTooLarge, TimeOverflow}
 use Rattle.simplex_types.specs.declared.types.messages.Certificate.{Certificate}
 use Rattle.simplex_types.specs.declared.types.messages.Context.{Context}
 use Rattle.simplex_types.specs.declared.types.messages.Notarization.{Notarization}
@@ -19,21 +21,32 @@ use Rattle.simplex_plan.specs.declared.plan.Step.TheVariants.{Ask}
 use Rattle.simplex_plan.specs.declared.task.Task.{Task}
 use Rattle.simplex_plan.specs.declared.task.Task.TheVariants as task
 use Rattle.simplex_outbox.specs.declared.output.Work.TheVariants as work
-use Rattle.simplex_plan.specs.PlannedWork.{work_of, work_planned, KeepsPlanned, PlansToo}
+use Rattle.simplex_plan.specs.PlannedWork.{work_of, work_planned, KeepsPlanned, PlansToo, constants_of}
 use Rattle.simplex_plan.specs.Planning.{touching}
 use Rattle.simplex_plan.specs.Building.{asking_for}
-use Rattle.simplex_plan.specs.Following.{Consequence, Nothing, Touched, Built, Stopped, Ended, Asked, after_refusal, after_flag, after_watch, IsConsequence, IsVerifyFollowed, IsRequestFollowed, IsBroadcastFollowed, IsNullifyFollowed, certifying, IsVerdictFollowed, IsVerdictToldAbove, IsTakenInAbove, IsNewFollowed, IsCertificateFollowed, IsFollowed}
-use Rattle.simplex_plan.proofs.PlannedWork.{alone_of, ignored_of, has_builds, has_planned, keeps_further, plans_behind, plans_beside, plans_none, plans_same, plans_too}
+use Rattle.simplex_plan.specs.Following.{Consequence, Nothing, Touched, Built, Stopped, Ended, Asked, after_refusal, after_flag, after_watch, IsConsequence, IsVerifyFollowed, IsRequestFollowed, IsBroadcastFollowed, IsNullifyFollowed, certifying, IsVerdictFollowed, IsVerdictToldAbove, IsTakenInAbove, IsNewFollowed, IsCertificateFollowed, IsUnjudged, IsFollowed, IsUnfollowed}
+use Rattle.simplex_plan.proofs.PlannedWork.{ignored_of, has_builds, has_planned, keeps_further, plans_behind, plans_beside, plans_none, plans_same, plans_too}
 
-pub followed : {S D K G C X E : Type 0} (bytes : D → List ℕ) (bytes_of : C → List ℕ) (now : ℕ) (asked : Task D) (old new : Plan S D K G C) (result : Result X E)
-    {reply this : Reply S D K G C} → reply ≡ this → OnOk result (IsFollowed bytes bytes_of now asked this old new) → OnOk result (IsFollowed bytes bytes_of now asked reply old new)
-followed bytes bytes_of now asked old new result is holds = subst (λ it. OnOk result (IsFollowed bytes bytes_of now asked it old new)) (sym is) holds
+-- an answer that is this one is followed as this one
+pub followed : {S D K G C : Type 0} (bytes : D → List ℕ) (bytes_of : C → List ℕ) (now : ℕ) (asked : Task D) (old new : Plan S D K G C)
+    {reply this : Reply S D K G C} → reply ≡ this → IsFollowed bytes bytes_of now asked this old new → IsFollowed bytes bytes_of now asked reply old new
+followed bytes bytes_of now asked old new is holds = subst (λ it. IsFollowed bytes bytes_of now asked it old new) (sym is) holds
+
+-- and a verdict that the resolver could not be told of is not
+pub unjudged : {S D K G C X : Type 0} (old new : Plan S D K G C) (result : Result X Fault) {answer : Reply S D K G C} {is_success : Bool}
+    {notarization : Option (Notarization S D K G C)} → answer ≡ reply.Certified is_success notarization
+    → IfErr result (λ fault. IsUnjudged fault notarization old.repair new.repair) → IfErr result (λ fault. IsUnfollowed fault answer old new)
+unjudged old new (Ok x) is refused = tt
+unjudged old new (Err OutOfMemory) is refused = tt
+unjudged old new (Err Failed) is refused = subst (λ it. IsUnfollowed Failed it old new) (sym is) refused
+unjudged old new (Err ViewTooLarge) is refused = subst (λ it. IsUnfollowed ViewTooLarge it old new) (sym is) refused
+unjudged old new (Err TimeOverflow) is refused = subst (λ it. IsUnfollowed TimeOverflow it old new) (sym is) refused
 
 module _ {S D K G C : Type 0} (old new : Plan S D K G C) where
   consequence_keeps : (following : Consequence D) → IsConsequence following old new → KeepsPlanned old new
   consequence_keeps Nothing is = plans_same old new is
-  consequence_keeps (Touched view) is = plans_behind old new (touching view) is.steps (ap alone_of is.same) (ap ignored_of is.same)
-  consequence_keeps (Built view) is = plans_behind old new (touching view) is.steps (ap alone_of is.same) (ap ignored_of is.same)
+  consequence_keeps (Touched view) is = plans_behind old new (touching view) is.steps (ap constants_of is.same) (ap ignored_of is.same)
+  consequence_keeps (Built view) is = plans_behind old new (touching view) is.steps (ap constants_of is.same) (ap ignored_of is.same)
   consequence_keeps (Stopped view) is = has_builds is
   consequence_keeps (Ended view) is = plans_beside old (record old { builds = new.builds }) new is.same refl refl refl
   consequence_keeps (Asked call) is = has_planned is
@@ -50,8 +63,8 @@ module _ {S D K G C : Type 0} (old new : Plan S D K G C) where
   request_followed : (request : Option (ProposalRequest D K)) → IsRequestFollowed request old new → Follows (Requested request)
   request_followed None is = plans_none (plans_same old new is)
   request_followed (Some (Prepare context)) is =
-      subst (λ works. PlansToo works old new) (asked_ahead context old.is_alone) (plans_too old new (asking_for context (not old.is_alone)) is.steps (ap alone_of is.same) (ap ignored_of is.same))
-  request_followed (Some (Propose context)) is = plans_too old new (asking_for context true) is.steps (ap alone_of is.same) (ap ignored_of is.same)
+      subst (λ works. PlansToo works old new) (asked_ahead context old.is_alone) (plans_too old new (asking_for context (not old.is_alone)) is.steps (ap constants_of is.same) (ap ignored_of is.same))
+  request_followed (Some (Propose context)) is = plans_too old new (asking_for context true) is.steps (ap constants_of is.same) (ap ignored_of is.same)
 
   broadcast_followed : (certificate : Option (Certificate S D K G C)) → IsBroadcastFollowed certificate old new → KeepsPlanned old new
   broadcast_followed None is = plans_same old new is
@@ -63,7 +76,7 @@ module _ {S D K G C : Type 0} (old new : Plan S D K G C) where
   nullify_followed now (Some (false, vote)) is = has_planned is
 
   verify_followed : (answer : Verify D K) → IsVerifyFollowed answer old new → Follows (Standing answer)
-  verify_followed (verify.Ready context proposal) is = plans_too old new _ is.steps (ap alone_of is.same) (ap ignored_of is.same)
+  verify_followed (verify.Ready context proposal) is = plans_too old new _ is.steps (ap constants_of is.same) (ap ignored_of is.same)
   verify_followed (verify.Resolve proposal view kind target) is = plans_none (has_planned is)
   verify_followed verify.Wait is = plans_none (plans_same old new is)
 
@@ -74,7 +87,7 @@ module _ {S D K G C : Type 0} (old new : Plan S D K G C) where
     where
       by_genesis : (b : Bool) → IsVerdictToldAbove bytes bytes_of now b is_success n old new → KeepsPlanned old new
       by_genesis true is = plans_same old new is
-      by_genesis false is = plans_behind old new (touching n.proposal.round.view) is.planned.steps (ap alone_of is.planned.same) (ap ignored_of is.planned.same)
+      by_genesis false is = plans_behind old new (touching n.proposal.round.view) is.planned.steps (ap constants_of is.planned.same) (ap ignored_of is.planned.same)
 
   -- the work of proposals that are certified
   certified_work : (proposals : List (Proposal D)) → work_planned (certifying {S = S} {D = D} {K = K} {G = G} {C = C} proposals) ≡ map work.Certify proposals
@@ -90,12 +103,12 @@ module _ {S D K G C : Type 0} (old new : Plan S D K G C) where
   followed_plans bytes bytes_of now asked (reply.Work answer) is = verify_followed answer is
   followed_plans bytes bytes_of now asked (reply.Request request) is = request_followed request is
   followed_plans bytes bytes_of now asked (reply.Candidates proposals wanted) is =
-      subst (λ works. PlansToo works old new) (certified_work proposals.items) (plans_too old new (certifying proposals.items) is.steps (ap alone_of is.same) (ap ignored_of is.same))
+      subst (λ works. PlansToo works old new) (certified_work proposals.items) (plans_too old new (certifying proposals.items) is.steps (ap constants_of is.same) (ap ignored_of is.same))
   followed_plans bytes bytes_of now asked (reply.Certified is_success notarization) is = plans_none (verdict_followed bytes bytes_of now is_success notarization is)
   followed_plans bytes bytes_of now asked (reply.Nullify answer) is = plans_none (nullify_followed now answer is)
   followed_plans bytes bytes_of now asked (reply.Certificate certificate) is = plans_none (broadcast_followed certificate is)
   followed_plans bytes bytes_of now asked (reply.Timeout moment reason) is =
-      plans_none (plans_behind old new (cond (nat_le moment now) (Ask (task.Nullify old.views.current reason) ∷ []) []) is.steps (ap alone_of is.same) (ap ignored_of is.same))
+      plans_none (plans_behind old new (cond (nat_le moment now) (Ask (task.Nullify old.views.current reason) ∷ []) []) is.steps (ap constants_of is.same) (ap ignored_of is.same))
   followed_plans bytes bytes_of now asked (reply.Fault fault) is = plans_none (consequence_keeps (after_refusal asked) is)
   followed_plans bytes bytes_of now asked reply.NotAllowed is = plans_none (consequence_keeps (after_refusal asked) is)
   followed_plans bytes bytes_of now asked reply.Unit is = plans_none (plans_same old new is)
@@ -113,7 +126,7 @@ module _ {S D K G C : Type 0} (bytes : D → List ℕ) (bytes_of : C → List �
     where
       by_genesis : (b : Bool) → IsTakenInAbove bytes bytes_of now b certificate old new → KeepsPlanned old new
       by_genesis true is = plans_same old new is
-      by_genesis false is = plans_behind old new (touching (certificate_view certificate)) is.planned.steps (ap alone_of is.planned.same) (ap ignored_of is.planned.same)
+      by_genesis false is = plans_behind old new (touching (certificate_view certificate)) is.planned.steps (ap constants_of is.planned.same) (ap ignored_of is.planned.same)
 
   pub certificate_followed : (old new : Plan S D K G C) (certificate : Certificate S D K G C) (answer : Reply S D K G C)
       → IsCertificateFollowed bytes bytes_of now certificate answer old new → KeepsPlanned old new

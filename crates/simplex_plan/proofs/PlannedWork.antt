@@ -6,12 +6,13 @@ use Rattle.std.proofs.lemmas.List.Folds.{list_any-append}
 use Rattle.simplex_member.specs.Calls.{Told}
 use Rattle.simplex_outbox.specs.declared.output.Work.{Work}
 use Rattle.simplex_plan.specs.declared.plan.Building.{Building}
+use Rattle.simplex_plan.specs.declared.plan.Options.{Options}
 use Rattle.simplex_plan.specs.declared.plan.Plan.{Plan}
 use Rattle.simplex_plan.specs.declared.plan.Step.{Step}
 use Rattle.simplex_plan.specs.declared.plan.Step.TheVariants as step
 use Rattle.simplex_plan.specs.Building.{HasBuilds}
 use Rattle.simplex_plan.specs.Planning.{HasPlanned}
-use Rattle.simplex_plan.specs.PlannedWork.{AreAmong, work_planned, work_of, IsPlanned, KeepsPlanned, PlansToo}
+use Rattle.simplex_plan.specs.PlannedWork.{AreAmong, work_planned, work_of, IsPlanned, KeepsPlanned, PlansToo, constants_of}
 
 -- tests that some pass
 
@@ -58,9 +59,6 @@ module _ {S D K G C : Type 0} where
   planned-append (step.Repeat _ ∷ steps) more = planned-append steps more
   planned-append (step.Push it ∷ steps) more = ap (λ works. it ∷ works) (planned-append steps more)
 
-  abbrev pub alone_of : Plan S D K G C → Bool
-  alone_of plan = plan.is_alone
-
   abbrev pub ignored_of : Plan S D K G C → ℕ
   ignored_of plan = plan.ignored
 
@@ -69,41 +67,41 @@ module _ {S D K G C : Type 0} where
   planned_behind old new more is = among_further (among_more (work_planned old) (work_planned more)) (among_all (sym (ap work_planned is ∙ planned-append old more)))
 
   -- a plan that is the same, or goes on through another
-  pub keeps_still : {works : List (Work S D K G C)} {alone : Bool} {ignored : ℕ} → IsPlanned works alone ignored works alone ignored
-  keeps_still {works = works} = record { found = among_still works; alone = refl; ignored = refl }
+  pub keeps_still : {works : List (Work S D K G C)} {constants : Bool × Options} {ignored : ℕ} → IsPlanned works constants ignored works constants ignored
+  keeps_still {works = works} = record { found = among_still works; constants = refl; ignored = refl }
 
-  pub keeps_further : {a b c : List (Work S D K G C)} {x y z : Bool} {i j k : ℕ} → IsPlanned a x i b y j → IsPlanned b y j c z k → IsPlanned a x i c z k
+  pub keeps_further : {a b c : List (Work S D K G C)} {x y z : Bool × Options} {i j k : ℕ} → IsPlanned a x i b y j → IsPlanned b y j c z k → IsPlanned a x i c z k
   keeps_further first second = record {
     found = among_further first.found second.found;
-    alone = second.alone ∙ first.alone;
+    constants = second.constants ∙ first.constants;
     ignored = second.ignored ∙ first.ignored;
   }
 
   -- more steps are queued
-  pub plans_too : (old new : Plan S D K G C) (more : List (Step S D K G C)) → new.steps.items ≡ old.steps.items ++ more → new.is_alone ≡ old.is_alone → new.ignored ≡ old.ignored
+  pub plans_too : (old new : Plan S D K G C) (more : List (Step S D K G C)) → new.steps.items ≡ old.steps.items ++ more → constants_of new ≡ constants_of old → new.ignored ≡ old.ignored
       → PlansToo (work_planned more) old new
-  plans_too old new more is alone ignored =
-      record { found = among_all (sym (ap work_planned is ∙ planned-append old.steps.items more)); alone = alone; ignored = ignored }
+  plans_too old new more is constants ignored =
+      record { found = among_all (sym (ap work_planned is ∙ planned-append old.steps.items more)); constants = constants; ignored = ignored }
 
-  pub plans_behind : (old new : Plan S D K G C) (more : List (Step S D K G C)) → new.steps.items ≡ old.steps.items ++ more → new.is_alone ≡ old.is_alone → new.ignored ≡ old.ignored
+  pub plans_behind : (old new : Plan S D K G C) (more : List (Step S D K G C)) → new.steps.items ≡ old.steps.items ++ more → constants_of new ≡ constants_of old → new.ignored ≡ old.ignored
       → KeepsPlanned old new
-  plans_behind old new more is alone ignored = record { found = planned_behind old.steps.items new.steps.items more is; alone = alone; ignored = ignored }
+  plans_behind old new more is constants ignored = record { found = planned_behind old.steps.items new.steps.items more is; constants = constants; ignored = ignored }
 
   pub has_planned : {more : List (Step S D K G C)} {old new : Plan S D K G C} → HasPlanned more old new → KeepsPlanned old new
-  has_planned {more = more} {old = old} {new = new} is = plans_behind old new more is.steps (ap alone_of is.same) (ap ignored_of is.same)
+  has_planned {more = more} {old = old} {new = new} is = plans_behind old new more is.steps (ap constants_of is.same) (ap ignored_of is.same)
 
   pub has_builds : {more : List (Step S D K G C)} {builds : List (Building D K)} {old new : Plan S D K G C} → HasBuilds more builds old new → KeepsPlanned old new
-  has_builds {more = more} {old = old} {new = new} is = plans_behind old new more is.steps (ap alone_of is.same) (ap ignored_of is.same)
+  has_builds {more = more} {old = old} {new = new} is = plans_behind old new more is.steps (ap constants_of is.same) (ap ignored_of is.same)
 
   -- none are
-  pub plans_none : {works planned : List (Work S D K G C)} {x y : Bool} {i j : ℕ} → IsPlanned works x i planned y j → IsPlanned (works ++ []) x i planned y j
-  plans_none {works = works} keeps = record { found = among_further (among_all (append-nil works)) keeps.found; alone = keeps.alone; ignored = keeps.ignored }
+  pub plans_none : {works planned : List (Work S D K G C)} {x y : Bool × Options} {i j : ℕ} → IsPlanned works x i planned y j → IsPlanned (works ++ []) x i planned y j
+  plans_none {works = works} keeps = record { found = among_further (among_all (append-nil works)) keeps.found; constants = keeps.constants; ignored = keeps.ignored }
 
   -- of a plan that is the same but for what else it keeps
-  pub plans_beside : (old beside new : Plan S D K G C) → new ≡ beside → beside.steps.items ≡ old.steps.items → beside.is_alone ≡ old.is_alone → beside.ignored ≡ old.ignored → KeepsPlanned old new
-  plans_beside old beside new is steps alone ignored = record {
+  pub plans_beside : (old beside new : Plan S D K G C) → new ≡ beside → beside.steps.items ≡ old.steps.items → constants_of beside ≡ constants_of old → beside.ignored ≡ old.ignored → KeepsPlanned old new
+  plans_beside old beside new is steps constants ignored = record {
     found = among_all (ap work_planned (sym (ap (λ (plan : Plan S D K G C). plan.steps.items) is ∙ steps)));
-    alone = ap alone_of is ∙ alone;
+    constants = ap constants_of is ∙ constants;
     ignored = ap ignored_of is ∙ ignored;
   }
 
@@ -119,7 +117,7 @@ module _ {S D K G C : Type 0} where
   -- what is planned behind a change of something else
   pub plans_then : (a b c : Plan S D K G C) (told : Told K D) → KeepsPlanned a b → PlansToo (work_of b.is_alone told) b c → PlansToo (work_of a.is_alone told) a c
   plans_then a b c told first second = record {
-    found = among_further (among_both first.found (among_all (ap (λ alone. work_of alone told) (sym first.alone)))) second.found;
-    alone = second.alone ∙ first.alone;
+    found = among_further (among_both first.found (among_all (ap (λ (constants : Bool × Options). work_of constants.0 told) (sym first.constants)))) second.found;
+    constants = second.constants ∙ first.constants;
     ignored = second.ignored ∙ first.ignored;
   }

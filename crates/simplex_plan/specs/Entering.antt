@@ -18,8 +18,8 @@ module _ {K D : Type 0} where
   has_waited view building = not building.is_told && nat_le building.context.round.view view
 
   -- it was by now
-  abbrev pub asked_by : ℕ → Building D K → Building D K
-  asked_by view building = record building { is_told = building.is_told || nat_le building.context.round.view view }
+  abbrev pub told_by : ℕ → Building D K → Building D K
+  told_by view building = record building { is_told = building.is_told || nat_le building.context.round.view view }
 
 module _ {S D K G C : Type 0} where
   -- the application is asked for the blocks that have waited
@@ -39,7 +39,7 @@ module _ {S D K G C : Type 0} where
   -- the view is entered: it is touched, and behind that comes what waited for it
   pub record HasEntered (view : ℕ) (old new : Plan S D K G C) : Type 0 where
     pub steps : new.steps.items ≡ old.steps.items ++ touching view ++ asking_by view old.builds.items ++ offering view old.early.proposals.items
-    pub blocks : new.builds.items ≡ map (asked_by view) old.builds.items
+    pub blocks : new.builds.items ≡ map (told_by view) old.builds.items
     pub early : new.early.proposals.items ≡ filter (λ (early : Early D). nat_lt view early.view) old.early.proposals.items
     pub same : new ≡ record (watching old) { steps = new.steps; builds = new.builds; early = new.early }
 

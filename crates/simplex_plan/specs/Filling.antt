@@ -25,7 +25,7 @@ module _ {S D K G C : Type 0} where
   fetching_one (Some ask) = step.Push (Fetch ask) ∷ []
 
   -- the first fetch that is due is asked for
-  pub record HasAsked (now : ℕ) (old new : Plan S D K G C) : Type 0 where
+  pub record IsFetchAsked (now : ℕ) (old new : Plan S D K G C) : Type 0 where
     pub ask : Option Ask
     pub asked : IsAsking now old.repair.fetches ask new.repair.fetches
     pub resolver : new.repair.resolver ≡ old.repair.resolver
@@ -34,7 +34,7 @@ module _ {S D K G C : Type 0} where
   -- which views may be dropped is asked for before any fetch, once a moment
   abbrev pub IsPruneAsked : Bool → ℕ → Plan S D K G C → Plan S D K G C → Type 0
   IsPruneAsked true now old new = HasPlanned (step.Ask Prune ∷ []) (record old { is_prune_due = false }) new
-  IsPruneAsked false now old new = HasAsked now old new
+  IsPruneAsked false now old new = IsFetchAsked now old new
 
   -- the timeout is asked for before that, once a moment
   abbrev pub IsTimeoutAsked : Bool → ℕ → Plan S D K G C → Plan S D K G C → Type 0

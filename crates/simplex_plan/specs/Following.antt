@@ -3,6 +3,8 @@ use Rattle.std.specs.Prelude.{◌≡◌, ℕ, ◌+◌, ◌-◌, ◌^◌, min, Bo
 use Rattle.simplex_types.specs.Certificates.{certificate_facts, notarization_facts}
 use Rattle.simplex_types.specs.Viewed.{certificate_view}
 use Rattle.simplex_types.specs.declared.reasons.TimeoutReason.{TimeoutReason}
+use Rattle.simplex_types.specs.declared.types.fault.Fault.{Fault}
+use Rattle.simplex_types.specs.declared.types.fault.Fault.TheVariants.{OutOfMemory}
 use Rattle.simplex_types.specs.declared.types.messages.Certificate.{Certificate}
 use Rattle.simplex_types.specs.declared.types.messages.Certificate.TheVariants as certificate
 use Rattle.simplex_types.specs.declared.types.messages.Context.{Context}
@@ -10,7 +12,7 @@ use Rattle.simplex_types.specs.declared.types.messages.Notarization.{Notarizatio
 use Rattle.simplex_types.specs.declared.types.messages.Nullify.{Nullify}
 use Rattle.simplex_types.specs.declared.types.messages.Proposal.{Proposal}
 use Rattle.simplex_resolver.specs.declared.resolver.effect.Effect.{Effect}
-use Rattle.simplex_resolver.specs.Steps.{effects, update, verdict}
+use Rattle.simplex_resolver.specs.Steps.{effects, highest_named, update, verdict}
 use Rattle.simplex_resolver.specs.Told.{IsMade}
 use Rattle.simplex_voter.specs.declared.voter.candidates.CertificateFetch.{CertificateFetch}
 use Rattle.simplex_voter.specs.declared.voter.propose.ProposalRequest.{ProposalRequest}
@@ -32,7 +34,7 @@ use Rattle.simplex_fetches.specs.declared.fetches.FetchKind.TheVariants as fetch
 use Rattle.simplex_fetches.specs.declared.repair.Repair.{Repair}
 use Rattle.simplex_fetches.specs.Fetches.{fetch_kind, is_fetch_open, closed}
 use Rattle.simplex_plan.specs.Planning.{HasPlanned, touching, watching}
-use Rattle.simplex_fetches.specs.Repairing.{HasFetches, IsRepaired}
+use Rattle.simplex_fetches.specs.Repairing.{HasFetches, IsRepaired, IsUnrepaired}
 use Rattle.simplex_fetches.specs.Wanted.{after_effects, fetching}
 
 -- what may follow for a view, and for a block that is built in it
@@ -215,3 +217,16 @@ module _ {S D K G C : Type 0} (bytes : D → List ℕ) (bytes_of : C → List �
   IsFollowed asked (reply.Fault _) old new = IsConsequence (after_refusal asked) old new
   IsFollowed asked reply.NotAllowed old new = IsConsequence (after_refusal asked) old new
   IsFollowed asked _ old new = new ≡ old
+
+module _ {S D K G C : Type 0} where
+  -- the resolver could not be told of a verdict: for want of memory, or since it refuses the notarization
+  abbrev pub IsUnjudged : Fault → Option (Notarization S D K G C) → Repair → Repair → Type 0
+  IsUnjudged OutOfMemory _ old new = Unit {0}
+  IsUnjudged fault (Some notarization) old new = IsUnrepaired (highest_named notarization.proposal) fault old new
+  IsUnjudged fault None old new = ⊥
+
+  -- an answer could not be followed: for want of memory, or since the resolver could not be told of a verdict
+  abbrev pub IsUnfollowed : Fault → Reply S D K G C → Plan S D K G C → Plan S D K G C → Type 0
+  IsUnfollowed OutOfMemory _ old new = Unit {0}
+  IsUnfollowed fault (reply.Certified _ notarization) old new = IsUnjudged fault notarization old.repair new.repair
+  IsUnfollowed fault _ old new = ⊥

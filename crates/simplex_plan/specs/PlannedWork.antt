@@ -6,6 +6,7 @@ use Rattle.simplex_voter.specs.declared.voter.verify.Verify.TheVariants.{Ready}
 use Rattle.simplex_member.specs.Calls.{Told, Standing, Requested, Candidates}
 use Rattle.simplex_outbox.specs.declared.output.Work.{Work}
 use Rattle.simplex_outbox.specs.declared.output.Work.TheVariants.{Verify, Certify, Build}
+use Rattle.simplex_plan.specs.declared.plan.Options.{Options}
 use Rattle.simplex_plan.specs.declared.plan.Plan.{Plan}
 use Rattle.simplex_plan.specs.declared.plan.Step.{Step}
 use Rattle.simplex_plan.specs.declared.plan.Step.TheVariants.{Push}
@@ -29,16 +30,23 @@ module _ {S D K G C : Type 0} where
   work_of is_alone (Requested (Some (Propose context))) = Build context ∷ []
   work_of is_alone _ = []
 
-  -- this work is planned, of a member that is as alone as before, and no input was counted as of no use
-  pub record IsPlanned (work : List (Work S D K G C)) (was_alone : Bool) (before : ℕ) (planned : List (Work S D K G C)) (is_alone : Bool) (after : ℕ) : Type 0 where
+  -- what of a plan stays for a life: whether there is no other member, and the options
+  abbrev pub constants_of : Plan S D K G C → Bool × Options
+  constants_of plan = (plan.is_alone, plan.options)
+
+  -- this work is planned, with the same constants, and no input was counted as of no use
+  pub record IsPlanned (work : List (Work S D K G C)) (was : Bool × Options) (before : ℕ) (planned : List (Work S D K G C)) (is : Bool × Options) (after : ℕ)
+      : Type 0 where
     pub found : AreAmong work planned
-    pub alone : is_alone ≡ was_alone
+    pub constants : is ≡ was
     pub ignored : after ≡ before
 
   -- work that was planned stays planned, and this work is planned too
   abbrev pub PlansToo : List (Work S D K G C) → Plan S D K G C → Plan S D K G C → Type 0
-  PlansToo more old new = IsPlanned (work_planned old.steps.items ++ more) old.is_alone old.ignored (work_planned new.steps.items) new.is_alone new.ignored
+  PlansToo more old new =
+      IsPlanned (work_planned old.steps.items ++ more) (constants_of old) old.ignored (work_planned new.steps.items) (constants_of new) new.ignored
 
   -- none besides
   abbrev pub KeepsPlanned : Plan S D K G C → Plan S D K G C → Type 0
-  KeepsPlanned old new = IsPlanned (work_planned old.steps.items) old.is_alone old.ignored (work_planned new.steps.items) new.is_alone new.ignored
+  KeepsPlanned old new =
+      IsPlanned (work_planned old.steps.items) (constants_of old) old.ignored (work_planned new.steps.items) (constants_of new) new.ignored

@@ -1,6 +1,6 @@
 //! What an engine does next, and what it keeps for that: steps, open fetches, blocks that are built, early proposals.
 //!
-//! Each call says just what it plans. An error is want of memory, or what `Repair` answers; after one a plan is of no use any more.
+//! Each call says just what it plans. An error is want of memory, or what the resolver answers; after one a plan is of no use any more.
 
 mod accepting;
 mod due;
@@ -9,7 +9,8 @@ mod entering;
 mod following;
 mod working;
 
-ghost use Rattle.std.specs.Prelude.{◌≡◌, ◌+◌, ◌-◌, ◌^◌, ℕ, min, max, true, [], ◌∷◌, ◌++◌, filter, OnOk, IsTrue, ◌↔◌};
+ghost use Rattle.std.specs.Prelude.{◌≡◌, ◌+◌, ◌-◌, ◌^◌, ℕ, min, max, true, [], ◌∷◌, ◌++◌, filter, OnOk, IfErr, IsOk, IsTrue, ◌↔◌, ◌≤◌, false};
+ghost use Rattle.simplex_types.specs.declared.types.fault.Fault.TheVariants.{Failed};
 ghost use Rattle.simplex_fetches.specs.Repairing.{HasFetches};
 ghost use Rattle.simplex_fetches.specs.Wanted.{is_lacking, AsksForTheLacking};
 ghost use Rattle.simplex_plan.specs.Planning.{IsIdle, IsWake, HasPlanned, asking_for_votes, asking_for_certificates, touching, watching};
@@ -150,6 +151,13 @@ impl<S: CertificateScheme, D: Digest> Plan<S, D> {
         self.repair.fetches()
     }
 
+    /// The record is made short once it has more entries than this.
+    pub fn long_record(&self) -> usize
+        ensures { result ≡ self.now.options.long_record }
+    {
+        self.options.long_record
+    }
+
     /// How many inputs were of no use.
     pub fn ignored(&self) -> u64
         ensures { result ≡ self.now.ignored }
@@ -184,6 +192,7 @@ impl<S: CertificateScheme, D: Digest> Plan<S, D> {
 
     /// The fetches of what the state does not lack are closed, and no other.
     ///
+    /// - `answers`, `refused`: when there is an error, which one, and that nothing has changed then.
     /// - `lacking`: so just what it lacks is asked for.
     /// - `idle`: where nothing was to be done, nothing is.
     ///
@@ -194,6 +203,8 @@ impl<S: CertificateScheme, D: Digest> Plan<S, D> {
         ensures same { self.new ≡ record self.old { repair = self.new.repair } }
         ensures kept { let repair = self.old.repair in
             OnOk result (HasFetches (filter (is_lacking repair.resolver.open_fetches state.now) repair.fetches.wanted.items) repair self.new.repair) }
+        ensures answers { IsOk result ↔ ((self.old.repair.is_behind ≡ false) × (self.old.repair.passed ≤ state.now.finalized)) }
+        ensures refused { IfErr result (λ fault. (fault ≡ Failed) × (self.new ≡ self.old)) }
         ensures lacking { OnOk result (AsksForTheLacking self.new.repair.resolver.open_fetches state.now self.new.repair.fetches.wanted.items) }
         ensures idle { (now : ℕ) → IsIdle now self.old → IsIdle now self.new }
     {
@@ -212,29 +223,28 @@ impl<S: CertificateScheme, D: Digest> Plan<S, D> {
     }
 
     /// Plans a step.
-    fn plan(&mut self, step: Step<S, D>) -> Result<(), Fault>
+    fn plan(&mut self, step: Step<S, D>) -> Result<(), AllocError>
         ensures { OnOk result (HasPlanned (step ∷ []) self.old self.new) }
     {
-        queue(&mut self.steps, step)?;
-        Ok(())
+        queue(&mut self.steps, step)
     }
 
     /// Plans a call of the member.
-    pub fn ask(&mut self, task: Task<D>) -> Result<(), Fault>
+    pub fn ask(&mut self, task: Task<D>) -> Result<(), AllocError>
         ensures { OnOk result (HasPlanned (Ask task ∷ []) self.old self.new) }
     {
         self.plan(Step::Ask(task))
     }
 
     /// Plans work to be carried out.
-    pub fn push(&mut self, work: Work<S, D>) -> Result<(), Fault>
+    pub fn push(&mut self, work: Work<S, D>) -> Result<(), AllocError>
         ensures { OnOk result (HasPlanned (Push work ∷ []) self.old self.new) }
     {
         self.plan(Step::Push(work))
     }
 
     /// Something of the view has changed: its votes and certificates are asked for, and blocks that are to be built are watched.
-    pub fn touch(&mut self, view: View) -> Result<(), Fault>
+    pub fn touch(&mut self, view: View) -> Result<(), AllocError>
         ensures { OnOk result (HasPlanned (touching view) (watching self.old) self.new) }
     {
         self.is_watch_due = true;
@@ -243,7 +253,7 @@ impl<S: CertificateScheme, D: Digest> Plan<S, D> {
     }
 
     /// Plans to ask for the votes on the view.
-    fn ask_for_votes(&mut self, view: View) -> Result<(), Fault>
+    fn ask_for_votes(&mut self, view: View) -> Result<(), AllocError>
         ensures { OnOk result (HasPlanned (asking_for_votes view) self.old self.new) }
     {
         self.ask(Task::Notarize(view))?;
@@ -251,7 +261,7 @@ impl<S: CertificateScheme, D: Digest> Plan<S, D> {
     }
 
     /// Plans to ask for the certificates of the view that are to be handed out.
-    fn ask_for_certificates(&mut self, view: View) -> Result<(), Fault>
+    fn ask_for_certificates(&mut self, view: View) -> Result<(), AllocError>
         ensures { OnOk result (HasPlanned (asking_for_certificates view) self.old self.new) }
     {
         self.ask(Task::BroadcastNotarization(view))?;

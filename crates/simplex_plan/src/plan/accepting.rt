@@ -1,6 +1,8 @@
 //! What follows from a certificate that the member accepted.
 
-ghost use Rattle.std.specs.Prelude.{◌≡◌, ◌≤◌, ◌==◌, ◌+◌, ◌-◌, ◌^◌, min, OnOk, IsFalse};
+ghost use Rattle.std.specs.Prelude.{◌≡◌, ◌≤◌, ◌==◌, ◌+◌, ◌-◌, ◌^◌, min, OnOk, IfErr, IsFalse};
+ghost use Rattle.simplex_resolver.specs.Steps.{highest_view};
+ghost use Rattle.simplex_fetches.specs.Repairing.{IsUnrepaired};
 ghost use Rattle.simplex_plan.specs.Planning.{HasPlanned};
 ghost use Rattle.simplex_types.specs.Viewed.{certificate_view};
 ghost use Rattle.simplex_plan.specs.Following.{showing, IsResolverTold, IsTakenInAbove, IsNewFollowed, IsAddedFollowed, IsCertificateFollowed};
@@ -9,16 +11,22 @@ use super::Plan;
 use simplex_member::member::Reply;
 use simplex_outbox::output::Work;
 use simplex_types::types::{Certificate, CertificateScheme, Digest, Fault, View, Viewable};
+use std::alloc::AllocError;
 
 impl<S: CertificateScheme, D: Digest> Plan<S, D> {
     /// Follows the answer to a certificate that was handed in.
+    ///
+    /// # Errors
+    ///
+    /// Those of `Repair::updated`, and `OutOfMemory` where the answer is that.
     pub fn follow_certificate(
         &mut self,
         certificate: &Certificate<S, D>,
         reply: &Reply<S, D>,
         now: u64,
     ) -> Result<(), Fault>
-        ensures { OnOk result (IsCertificateFollowed D.bytes S.certificate_bytes now certificate.now reply.now self.old self.new) }
+        ensures followed { OnOk result (IsCertificateFollowed D.bytes S.certificate_bytes now certificate.now reply.now self.old self.new) }
+        ensures refused { IfErr result (λ fault. IsUnrepaired (highest_view certificate.now) fault self.old.repair self.new.repair) }
     {
         match reply {
             Reply::Added(is_new, equivocator) => {
@@ -38,7 +46,8 @@ impl<S: CertificateScheme, D: Digest> Plan<S, D> {
         equivocator: Option<S::PublicKey>,
         now: u64,
     ) -> Result<(), Fault>
-        ensures { OnOk result (IsAddedFollowed D.bytes S.certificate_bytes now certificate.now is_new equivocator self.old self.new) }
+        ensures followed { OnOk result (IsAddedFollowed D.bytes S.certificate_bytes now certificate.now is_new equivocator self.old self.new) }
+        ensures refused { IfErr result (λ fault. IsUnrepaired (highest_view certificate.now) fault self.old.repair self.new.repair) }
     {
         self.show(certificate.view(), equivocator)?;
         self.follow_new(certificate, is_new, now)
@@ -51,7 +60,8 @@ impl<S: CertificateScheme, D: Digest> Plan<S, D> {
         is_new: bool,
         now: u64,
     ) -> Result<(), Fault>
-        ensures { OnOk result (IsNewFollowed D.bytes S.certificate_bytes now is_new certificate.now self.old self.new) }
+        ensures followed { OnOk result (IsNewFollowed D.bytes S.certificate_bytes now is_new certificate.now self.old self.new) }
+        ensures refused { IfErr result (λ fault. IsUnrepaired (highest_view certificate.now) fault self.old.repair self.new.repair) }
     {
         if is_new {
             return self.accept(certificate, now);
@@ -60,7 +70,7 @@ impl<S: CertificateScheme, D: Digest> Plan<S, D> {
     }
 
     /// Shows that a leader signed two proposals, where one did.
-    fn show(&mut self, view: View, equivocator: Option<S::PublicKey>) -> Result<(), Fault>
+    fn show(&mut self, view: View, equivocator: Option<S::PublicKey>) -> Result<(), AllocError>
         ensures { OnOk result (HasPlanned (showing view equivocator) self.old self.new) }
     {
         match equivocator {
@@ -71,15 +81,17 @@ impl<S: CertificateScheme, D: Digest> Plan<S, D> {
 
     /// A certificate is new: the resolver is told of it.
     fn accept(&mut self, certificate: &Certificate<S, D>, now: u64) -> Result<(), Fault>
-        ensures { OnOk result (IsTakenInAbove D.bytes S.certificate_bytes now (certificate_view certificate.now == 0) certificate.now
+        ensures followed { OnOk result (IsTakenInAbove D.bytes S.certificate_bytes now (certificate_view certificate.now == 0) certificate.now
             self.old self.new) }
+        ensures refused { IfErr result (λ fault. IsUnrepaired (highest_view certificate.now) fault self.old.repair self.new.repair) }
     {
         let view = certificate.view();
         if is_genesis(view) {
             return Ok(());
         }
         self.hear(certificate, now)?;
-        self.touch(view)
+        self.touch(view)?;
+        Ok(())
     }
 
     /// The resolver is told of a certificate, and a notarization that came is asked for no longer.
@@ -87,6 +99,7 @@ impl<S: CertificateScheme, D: Digest> Plan<S, D> {
         requires { 1 ≤ certificate_view certificate.now }
         ensures same { self.new ≡ record self.old { repair = self.new.repair } }
         ensures heard { OnOk result (IsResolverTold D.bytes S.certificate_bytes now certificate.now self.old self.new.repair) }
+        ensures refused { IfErr result (λ fault. IsUnrepaired (highest_view certificate.now) fault self.old.repair self.new.repair) }
     {
         let moment = self.later(now);
         self.repair.updated(certificate, moment)?;

@@ -2,12 +2,12 @@
 
 ghost use Rattle.std.specs.Prelude.{◌≡◌, ◌++◌, false, IfOk, OnOk};
 ghost use Rattle.simplex_plan.specs.Planning.{HasPlanned};
-ghost use Rattle.simplex_plan.specs.Filling.{watching_all, watching_where, HasAsked, IsPruneAsked, IsTimeoutAsked, IsReady, HasTaken};
+ghost use Rattle.simplex_plan.specs.Filling.{watching_all, watching_where, IsFetchAsked, IsPruneAsked, IsTimeoutAsked, IsReady, HasTaken};
 
 use super::{Building, Plan, Step, queue};
 use crate::task::Task;
 use simplex_outbox::output::Work;
-use simplex_types::types::{CertificateScheme, Digest, Fault};
+use simplex_types::types::{CertificateScheme, Digest};
 use std::alloc::AllocError;
 use std::collections::VecDeque;
 
@@ -17,7 +17,7 @@ impl<S: CertificateScheme, D: Digest> Plan<S, D> {
     /// Where no step is queued, what is due is planned first: where something has changed since, each block that is to be built is
     /// asked about; else the timeout is asked for, or else which views may be dropped, once a moment each; or else the first fetch
     /// that is due.
-    pub fn next(&mut self, now: u64) -> Result<Option<Step<S, D>>, Fault>
+    pub fn next(&mut self, now: u64) -> Result<Option<Step<S, D>>, AllocError>
         ensures { IfOk result (λ step. HasTaken now step self.old self.new) }
     {
         self.fill(now)?;
@@ -25,7 +25,7 @@ impl<S: CertificateScheme, D: Digest> Plan<S, D> {
     }
 
     /// Plans what is due, where no step is queued.
-    fn fill(&mut self, now: u64) -> Result<(), Fault>
+    fn fill(&mut self, now: u64) -> Result<(), AllocError>
         ensures { OnOk result (IsReady self.old.steps.items now self.old self.new) }
     {
         if !self.steps.is_empty() {
@@ -39,7 +39,7 @@ impl<S: CertificateScheme, D: Digest> Plan<S, D> {
     }
 
     /// Plans to ask whether blocks are of use still, where something has changed since that was asked last.
-    fn watch(&mut self) -> Result<(), Fault>
+    fn watch(&mut self) -> Result<(), AllocError>
         ensures { OnOk result (HasPlanned (watching_where self.old.is_watch_due self.old.builds.items)
             (record self.old { is_watch_due = false }) self.new) }
     {
@@ -51,15 +51,14 @@ impl<S: CertificateScheme, D: Digest> Plan<S, D> {
     }
 
     /// Asks of each block that is to be built whether it has to be given up.
-    fn watch_builds(&mut self) -> Result<(), Fault>
+    fn watch_builds(&mut self) -> Result<(), AllocError>
         ensures { OnOk result (HasPlanned (watching_all self.old.builds.items) self.old self.new) }
     {
-        watch_all(&self.builds, &mut self.steps)?;
-        Ok(())
+        watch_all(&self.builds, &mut self.steps)
     }
 
     /// Plans what is due: first the timeout, then what is dropped, and then what is asked of peers.
-    fn plan_due(&mut self, now: u64) -> Result<(), Fault>
+    fn plan_due(&mut self, now: u64) -> Result<(), AllocError>
         ensures { OnOk result (IsTimeoutAsked self.old.is_timeout_due now self.old self.new) }
     {
         if self.is_timeout_due {
@@ -70,7 +69,7 @@ impl<S: CertificateScheme, D: Digest> Plan<S, D> {
     }
 
     /// Plans what is due beside the timeout.
-    fn plan_upkeep(&mut self, now: u64) -> Result<(), Fault>
+    fn plan_upkeep(&mut self, now: u64) -> Result<(), AllocError>
         ensures { OnOk result (IsPruneAsked self.old.is_prune_due now self.old self.new) }
     {
         if self.is_prune_due {
@@ -81,8 +80,8 @@ impl<S: CertificateScheme, D: Digest> Plan<S, D> {
     }
 
     /// Plans to ask for the first fetch that is due.
-    fn plan_fetch(&mut self, now: u64) -> Result<(), Fault>
-        ensures { OnOk result (HasAsked now self.old self.new) }
+    fn plan_fetch(&mut self, now: u64) -> Result<(), AllocError>
+        ensures { OnOk result (IsFetchAsked now self.old self.new) }
     {
         match self.repair.ask(now) {
             Some(ask) => self.push(Work::Fetch(ask)),

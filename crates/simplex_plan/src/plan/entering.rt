@@ -2,12 +2,12 @@
 
 ghost use Rattle.std.specs.Prelude.{◌≡◌, ◌++◌, map, filter, nat_lt, OnOk};
 ghost use Rattle.simplex_plan.specs.Building.{HasBuilds};
-ghost use Rattle.simplex_plan.specs.Entering.{has_waited, asked_by, asking_by, offering, HasEntered, IsPassedWhere, HasSeen};
+ghost use Rattle.simplex_plan.specs.Entering.{has_waited, told_by, asking_by, offering, HasEntered, IsPassedWhere, HasSeen};
 
 use super::early::Early;
 use super::{Building, Plan, Step, Views, queue};
 use simplex_outbox::output::Work;
-use simplex_types::types::{CertificateScheme, Digest, Fault, View};
+use simplex_types::types::{CertificateScheme, Digest, View};
 use std::alloc::AllocError;
 use std::collections::VecDeque;
 
@@ -16,7 +16,7 @@ impl<S: CertificateScheme, D: Digest> Plan<S, D> {
     ///
     /// Fetches are closed of the views up to a later finalized one. Where another view is entered, what may be due in it is asked
     /// for, and behind that the blocks that waited for it, and the proposals that came before it.
-    pub fn see(&mut self, views: Views) -> Result<(), Fault>
+    pub fn see(&mut self, views: Views) -> Result<(), AllocError>
         ensures { OnOk result (HasSeen views self.old self.new) }
     {
         self.pass(views.last_finalized);
@@ -39,7 +39,7 @@ impl<S: CertificateScheme, D: Digest> Plan<S, D> {
     }
 
     /// The view is entered: what may be due in it is asked for, and what waited for it.
-    fn enter(&mut self, view: View) -> Result<(), Fault>
+    fn enter(&mut self, view: View) -> Result<(), AllocError>
         ensures { OnOk result (HasEntered view self.old self.new) }
     {
         self.touch(view)?;
@@ -48,8 +48,8 @@ impl<S: CertificateScheme, D: Digest> Plan<S, D> {
     }
 
     /// Asks for the blocks that waited for the view.
-    fn build_waiting(&mut self, view: View) -> Result<(), Fault>
-        ensures { OnOk result (HasBuilds (asking_by view self.old.builds.items) (map (asked_by view) self.old.builds.items) self.old self.new) }
+    fn build_waiting(&mut self, view: View) -> Result<(), AllocError>
+        ensures { OnOk result (HasBuilds (asking_by view self.old.builds.items) (map (told_by view) self.old.builds.items) self.old self.new) }
     {
         ask_waiting(view, &self.builds, &mut self.steps)?;
         tell_waiting(view, &mut self.builds);
@@ -57,7 +57,7 @@ impl<S: CertificateScheme, D: Digest> Plan<S, D> {
     }
 
     /// Offers what came early, and is no longer.
-    fn offer_early(&mut self, view: View) -> Result<(), Fault>
+    fn offer_early(&mut self, view: View) -> Result<(), AllocError>
         ensures same { self.new ≡ record self.old { steps = self.new.steps; early = self.new.early } }
         ensures steps { OnOk result (self.new.steps.items ≡ self.old.steps.items ++ offering view self.old.early.proposals.items) }
         ensures early { OnOk result (self.new.early.proposals.items
@@ -94,7 +94,7 @@ fn ask_waiting<S: CertificateScheme, D: Digest>(
 
 /// The application was asked by now for each block of the view, and of those below it.
 fn tell_waiting<D: Digest, P: Copy>(view: View, builds: &mut [Building<D, P>])
-    ensures { builds.new ≡ map (asked_by view) builds.old }
+    ensures { builds.new ≡ map (told_by view) builds.old }
 {
     for building in builds.iter_mut() {
         *building = told_by(*building, view);
@@ -103,7 +103,7 @@ fn tell_waiting<D: Digest, P: Copy>(view: View, builds: &mut [Building<D, P>])
 
 /// The block, once the application was asked for those of the view and below it.
 fn told_by<D: Digest, P: Copy>(building: Building<D, P>, view: View) -> Building<D, P>
-    ensures { result ≡ asked_by view building }
+    ensures { result ≡ told_by view building }
 {
     Building {
         context: building.context,

@@ -1,9 +1,11 @@
 //! What follows from the answer to a call.
 
-ghost use Rattle.std.specs.Prelude.{◌≡◌, ◌==◌, [], ◌∷◌, OnOk, if◌then◌else◌};
+ghost use Rattle.std.specs.Prelude.{◌≡◌, ◌==◌, [], ◌∷◌, OnOk, IfErr, if◌then◌else◌};
+ghost use Rattle.simplex_resolver.specs.Steps.{highest_named};
+ghost use Rattle.simplex_fetches.specs.Repairing.{IsUnrepaired};
 ghost use Rattle.simplex_plan.specs.Planning.{HasPlanned, touching};
 ghost use Rattle.simplex_plan.specs.declared.task.Task.TheVariants.{Release, Supersede};
-ghost use Rattle.simplex_plan.specs.Following.{Consequence, Nothing, Touched, Built, Stopped, Asked, after_refusal, after_flag, after_watch, IsConsequence, lacking, IsVerifyFollowed, IsRequestFollowed, IsBroadcastFollowed, repeating, IsNullifyFollowed, IsTimeoutFollowed, certifying, AreCertified, IsVerdictFollowed, IsVerdictToldAbove, IsFollowed};
+ghost use Rattle.simplex_plan.specs.Following.{Consequence, Nothing, Touched, Built, Stopped, Asked, after_refusal, after_flag, after_watch, IsConsequence, lacking, IsVerifyFollowed, IsRequestFollowed, IsBroadcastFollowed, repeating, IsNullifyFollowed, IsTimeoutFollowed, certifying, AreCertified, IsVerdictFollowed, IsVerdictToldAbove, IsUnjudged, IsFollowed, IsUnfollowed};
 
 use super::accepting::is_genesis;
 use super::{Plan, Step};
@@ -16,36 +18,42 @@ use simplex_types::types::{
     Certificate, CertificateScheme, Digest, Fault, Notarization, Nullify, Proposal, View, Viewable,
 };
 use simplex_voter::voter::{CertificateFetch, ProposalRequest, Verify};
+use std::alloc::AllocError;
 
 impl<S: CertificateScheme, D: Digest> Plan<S, D> {
     /// Follows an answer.
+    ///
+    /// # Errors
+    ///
+    /// `OutOfMemory`, also where the answer is that; where it is a verdict, those of `Repair::certified`.
     pub fn follow(&mut self, task: Task<D>, reply: Reply<S, D>, now: u64) -> Result<(), Fault>
-        ensures { OnOk result (IsFollowed D.bytes S.certificate_bytes now task reply self.old self.new) }
+        ensures followed { OnOk result (IsFollowed D.bytes S.certificate_bytes now task reply self.old self.new) }
+        ensures refused { IfErr result (λ fault. IsUnfollowed fault reply self.old self.new) }
     {
         match reply {
-            Reply::Flag(is_taken) => self.follow_flag(task, is_taken),
-            Reply::Triggered(is_taken) => self.follow_flag(task, is_taken),
-            Reply::Released(is_released) => self.follow_flag(task, is_released),
-            Reply::Abandoned(reason) => self.follow_watch(task, reason.is_some()),
-            Reply::Work(verify) => self.follow_verify(verify),
-            Reply::Request(request) => self.follow_request(request),
+            Reply::Flag(is_taken) => Ok(self.follow_flag(task, is_taken)?),
+            Reply::Triggered(is_taken) => Ok(self.follow_flag(task, is_taken)?),
+            Reply::Released(is_released) => Ok(self.follow_flag(task, is_released)?),
+            Reply::Abandoned(reason) => Ok(self.follow_watch(task, reason.is_some())?),
+            Reply::Work(verify) => Ok(self.follow_verify(verify)?),
+            Reply::Request(request) => Ok(self.follow_request(request)?),
             Reply::Candidates(proposals, fetches) => {
-                self.follow_candidates(&proposals, &fetches, now)
+                Ok(self.follow_candidates(&proposals, &fetches, now)?)
             }
             Reply::Certified(is_success, notarization) => {
                 self.follow_verdict(is_success, notarization, now)
             }
-            Reply::Nullify(answer) => self.follow_nullify(answer, now),
-            Reply::Certificate(certificate) => self.broadcast(certificate),
-            Reply::Timeout(moment, reason) => self.follow_timeout(moment, reason, now),
+            Reply::Nullify(answer) => Ok(self.follow_nullify(answer, now)?),
+            Reply::Certificate(certificate) => Ok(self.broadcast(certificate)?),
+            Reply::Timeout(moment, reason) => Ok(self.follow_timeout(moment, reason, now)?),
             Reply::Fault(Fault::OutOfMemory) => Err(Fault::OutOfMemory),
-            Reply::Fault(_) | Reply::NotAllowed => self.follow_refusal(task),
+            Reply::Fault(_) | Reply::NotAllowed => Ok(self.follow_refusal(task)?),
             _ => Ok(()),
         }
     }
 
     /// A call was refused, and has changed nothing: what it was to go on with is over.
-    fn follow_refusal(&mut self, task: Task<D>) -> Result<(), Fault>
+    fn follow_refusal(&mut self, task: Task<D>) -> Result<(), AllocError>
         ensures { OnOk result (IsConsequence (after_refusal task) self.old self.new) }
     {
         match task {
@@ -61,7 +69,7 @@ impl<S: CertificateScheme, D: Digest> Plan<S, D> {
     }
 
     /// Whether what was handed in was taken.
-    fn follow_flag(&mut self, task: Task<D>, is_taken: bool) -> Result<(), Fault>
+    fn follow_flag(&mut self, task: Task<D>, is_taken: bool) -> Result<(), AllocError>
         ensures { OnOk result (IsConsequence (after_flag task is_taken) self.old self.new) }
     {
         match task {
@@ -76,7 +84,7 @@ impl<S: CertificateScheme, D: Digest> Plan<S, D> {
     }
 
     /// A block was built.
-    fn follow_proposed(&mut self, view: View) -> Result<(), Fault>
+    fn follow_proposed(&mut self, view: View) -> Result<(), AllocError>
         ensures { OnOk result (IsConsequence (Built view) self.old self.new) }
     {
         self.end_building(view);
@@ -84,14 +92,14 @@ impl<S: CertificateScheme, D: Digest> Plan<S, D> {
     }
 
     /// Something of the view has changed, where it has.
-    fn touch_where(&mut self, is_changed: bool, view: View) -> Result<(), Fault>
+    fn touch_where(&mut self, is_changed: bool, view: View) -> Result<(), AllocError>
         ensures { OnOk result (IsConsequence (if is_changed then Touched view else Nothing) self.old self.new) }
     {
         if is_changed { self.touch(view) } else { Ok(()) }
     }
 
     /// What is built in the view is of no use any more, where another block is to be built.
-    fn stop_where(&mut self, is_replaced: bool, view: View) -> Result<(), Fault>
+    fn stop_where(&mut self, is_replaced: bool, view: View) -> Result<(), AllocError>
         ensures { OnOk result (IsConsequence (if is_replaced then Stopped view else Nothing) self.old self.new) }
     {
         if is_replaced {
@@ -102,7 +110,7 @@ impl<S: CertificateScheme, D: Digest> Plan<S, D> {
     }
 
     /// Whether a block that is built has to be given up, or else is replaced by another.
-    fn follow_watch(&mut self, task: Task<D>, is_abandoned: bool) -> Result<(), Fault>
+    fn follow_watch(&mut self, task: Task<D>, is_abandoned: bool) -> Result<(), AllocError>
         ensures { OnOk result (IsConsequence (after_watch task is_abandoned) self.old self.new) }
     {
         match task {
@@ -112,7 +120,7 @@ impl<S: CertificateScheme, D: Digest> Plan<S, D> {
     }
 
     /// A block that is built is given up, or else may be replaced by another.
-    fn ask_of_build(&mut self, view: View, is_abandoned: bool) -> Result<(), Fault>
+    fn ask_of_build(&mut self, view: View, is_abandoned: bool) -> Result<(), AllocError>
         ensures { OnOk result (IsConsequence (Asked (if is_abandoned then Release view else Supersede view)) self.old self.new) }
     {
         if is_abandoned {
@@ -123,7 +131,7 @@ impl<S: CertificateScheme, D: Digest> Plan<S, D> {
     }
 
     /// A proposal is verified; or a certificate is lacking for one, which is not asked for yet.
-    fn follow_verify(&mut self, verify: Verify<D, S::PublicKey>) -> Result<(), Fault>
+    fn follow_verify(&mut self, verify: Verify<D, S::PublicKey>) -> Result<(), AllocError>
         ensures { OnOk result (IsVerifyFollowed verify self.old self.new) }
     {
         match verify {
@@ -139,7 +147,7 @@ impl<S: CertificateScheme, D: Digest> Plan<S, D> {
     }
 
     /// A certificate is lacking for a proposal.
-    fn lack(&mut self, kind: FetchKind, view: View, proposal: View) -> Result<(), Fault>
+    fn lack(&mut self, kind: FetchKind, view: View, proposal: View) -> Result<(), AllocError>
         ensures { OnOk result (HasPlanned (lacking kind view proposal self.old.repair.fetches.wanted.items) self.old self.new) }
     {
         if self.fetches().is_open(kind, view) {
@@ -153,7 +161,7 @@ impl<S: CertificateScheme, D: Digest> Plan<S, D> {
     fn follow_request(
         &mut self,
         request: Option<ProposalRequest<D, S::PublicKey>>,
-    ) -> Result<(), Fault>
+    ) -> Result<(), AllocError>
         ensures { OnOk result (IsRequestFollowed request self.old self.new) }
     {
         match request {
@@ -164,7 +172,7 @@ impl<S: CertificateScheme, D: Digest> Plan<S, D> {
     }
 
     /// A certificate is sent to all others, where there is one.
-    fn broadcast(&mut self, certificate: Option<Certificate<S, D>>) -> Result<(), Fault>
+    fn broadcast(&mut self, certificate: Option<Certificate<S, D>>) -> Result<(), AllocError>
         ensures { OnOk result (IsBroadcastFollowed certificate self.old self.new) }
     {
         match certificate {
@@ -179,16 +187,15 @@ impl<S: CertificateScheme, D: Digest> Plan<S, D> {
         proposals: &[Proposal<D>],
         fetches: &[CertificateFetch],
         now: u64,
-    ) -> Result<(), Fault>
+    ) -> Result<(), AllocError>
         ensures { OnOk result (AreCertified now proposals.now fetches.now self.old self.new) }
     {
         self.certify_all(proposals)?;
-        self.repair.fetch_all(fetches, now)?;
-        Ok(())
+        self.repair.fetch_all(fetches, now)
     }
 
     /// Proposals are certified.
-    fn certify_all(&mut self, proposals: &[Proposal<D>]) -> Result<(), Fault>
+    fn certify_all(&mut self, proposals: &[Proposal<D>]) -> Result<(), AllocError>
         ensures { OnOk result (HasPlanned (certifying proposals.now) self.old self.new) }
     {
         for proposal in proposals {
@@ -198,7 +205,7 @@ impl<S: CertificateScheme, D: Digest> Plan<S, D> {
     }
 
     /// A proposal is certified.
-    fn certify(&mut self, proposal: Proposal<D>) -> Result<(), Fault>
+    fn certify(&mut self, proposal: Proposal<D>) -> Result<(), AllocError>
         ensures { OnOk result (HasPlanned (certifying (proposal ∷ [])) self.old self.new) }
     {
         self.push(Work::Certify(proposal))?;
@@ -212,7 +219,8 @@ impl<S: CertificateScheme, D: Digest> Plan<S, D> {
         notarization: Option<Notarization<S, D>>,
         now: u64,
     ) -> Result<(), Fault>
-        ensures { OnOk result (IsVerdictFollowed D.bytes S.certificate_bytes now is_success notarization self.old self.new) }
+        ensures followed { OnOk result (IsVerdictFollowed D.bytes S.certificate_bytes now is_success notarization self.old self.new) }
+        ensures refused { IfErr result (λ fault. IsUnjudged fault notarization self.old.repair self.new.repair) }
     {
         match notarization {
             Some(notarization) => self.judge(is_success, notarization, now),
@@ -227,8 +235,9 @@ impl<S: CertificateScheme, D: Digest> Plan<S, D> {
         notarization: Notarization<S, D>,
         now: u64,
     ) -> Result<(), Fault>
-        ensures { OnOk result (IsVerdictToldAbove D.bytes S.certificate_bytes now (notarization.proposal.round.view == 0) is_success notarization
+        ensures followed { OnOk result (IsVerdictToldAbove D.bytes S.certificate_bytes now (notarization.proposal.round.view == 0) is_success notarization
             self.old self.new) }
+        ensures refused { IfErr result (λ fault. IsUnrepaired (highest_named notarization.proposal) fault self.old.repair self.new.repair) }
     {
         let view = notarization.view();
         if is_genesis(view) {
@@ -236,12 +245,17 @@ impl<S: CertificateScheme, D: Digest> Plan<S, D> {
         }
         let moment = self.later(now);
         self.repair.certified(notarization, is_success, moment)?;
-        self.touch(view)
+        self.touch(view)?;
+        Ok(())
     }
 
     /// A vote to nullify was cast, or the one before is sent once more with the best certificate, for those who missed either.
     /// Where none is allowed the view was voted final, and its finalization ends it.
-    fn follow_nullify(&mut self, answer: Option<(bool, Nullify<S>)>, now: u64) -> Result<(), Fault>
+    fn follow_nullify(
+        &mut self,
+        answer: Option<(bool, Nullify<S>)>,
+        now: u64,
+    ) -> Result<(), AllocError>
         ensures { OnOk result (IsNullifyFollowed now answer self.old self.new) }
     {
         match answer {
@@ -255,7 +269,7 @@ impl<S: CertificateScheme, D: Digest> Plan<S, D> {
     }
 
     /// The vote to nullify the view is sent once more.
-    fn repeat(&mut self, view: View) -> Result<(), Fault>
+    fn repeat(&mut self, view: View) -> Result<(), AllocError>
         ensures { OnOk result (HasPlanned (repeating view) self.old self.new) }
     {
         self.plan(Step::Repeat(view))?;
@@ -264,7 +278,12 @@ impl<S: CertificateScheme, D: Digest> Plan<S, D> {
     }
 
     /// The current view is given up, where its moment has come.
-    fn follow_timeout(&mut self, moment: u64, reason: TimeoutReason, now: u64) -> Result<(), Fault>
+    fn follow_timeout(
+        &mut self,
+        moment: u64,
+        reason: TimeoutReason,
+        now: u64,
+    ) -> Result<(), AllocError>
         ensures { OnOk result (IsTimeoutFollowed now moment reason self.old self.new) }
     {
         self.timeout = moment;

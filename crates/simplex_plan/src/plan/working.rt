@@ -11,9 +11,8 @@ use super::early::{Early, MOST_EARLY};
 use super::{Building, Plan};
 use simplex_fetches::fetches::FetchKind;
 use simplex_outbox::output::Work;
-use simplex_types::types::{
-    CertificateScheme, Context, Digest, Fault, Participant, Proposal, View,
-};
+use simplex_types::types::{CertificateScheme, Context, Digest, Participant, Proposal, View};
+use std::alloc::AllocError;
 
 impl<S: CertificateScheme, D: Digest> Plan<S, D> {
     /// Keeps a proposal that came before its view, where few are kept: nobody sends it again, and its view would be lost.
@@ -22,7 +21,7 @@ impl<S: CertificateScheme, D: Digest> Plan<S, D> {
         from: Participant,
         view: View,
         proposal: Proposal<D>,
-    ) -> Result<(), Fault>
+    ) -> Result<(), AllocError>
         ensures same { self.new ≡ record self.old { early = self.new.early } }
         ensures kept { let old = self.old.early.proposals.items in
             OnOk result (self.new.early.proposals.items ≡ (if may_keep self.old.views.current view (length old)
@@ -46,14 +45,13 @@ impl<S: CertificateScheme, D: Digest> Plan<S, D> {
         view: View,
         of: Option<Participant>,
         now: u64,
-    ) -> Result<(), Fault>
+    ) -> Result<(), AllocError>
         ensures same { self.new ≡ record self.old { repair = self.new.repair } }
         ensures opened { let fetches = self.old.repair.fetches in let moment = min (now + self.old.options.on_its_way) (2 ^ 64 - 1) in
             OnOk result (HasFetches (opened kind view (place_of fetches.peers of) moment fetches.wanted.items) self.old.repair self.new.repair) }
     {
         let moment = self.later(now);
-        self.repair.open(kind, view, of, moment)?;
-        Ok(())
+        self.repair.open(kind, view, of, moment)
     }
 
     /// A block is to be built in the context, at once or when its view is entered.
@@ -61,7 +59,7 @@ impl<S: CertificateScheme, D: Digest> Plan<S, D> {
         &mut self,
         context: Context<D, S::PublicKey>,
         is_told: bool,
-    ) -> Result<(), Fault>
+    ) -> Result<(), AllocError>
         ensures { OnOk result (HasBuilds (asking_for context is_told)
             (self.old.builds.items ++ record { context = context; is_told = is_told } ∷ []) self.old self.new) }
     {
@@ -87,7 +85,7 @@ impl<S: CertificateScheme, D: Digest> Plan<S, D> {
     }
 
     /// What is built in the view is of no use any more.
-    pub(super) fn stop_building(&mut self, view: View) -> Result<(), Fault>
+    pub(super) fn stop_building(&mut self, view: View) -> Result<(), AllocError>
         ensures { OnOk result (IsStopped view self.old self.new) }
     {
         let is_told = self.is_asked(view);
@@ -96,7 +94,7 @@ impl<S: CertificateScheme, D: Digest> Plan<S, D> {
     }
 
     /// The application is told that what it builds in the view is of no use any more, where it was asked for it.
-    fn tell_stopped(&mut self, view: View, is_told: bool) -> Result<(), Fault>
+    fn tell_stopped(&mut self, view: View, is_told: bool) -> Result<(), AllocError>
         ensures { OnOk result (HasPlanned (stopping view is_told) self.old self.new) }
     {
         if is_told {

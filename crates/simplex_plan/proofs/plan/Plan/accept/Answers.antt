@@ -4,7 +4,6 @@ use Rattle.std.specs.Prelude.{◌==◌}
 use Rattle.simplex_plan.specs.Following.{IsTakenInAbove}
 use Rattle.simplex_plan.specs.Planning.{HasPlanned, touching, watching}
 use Rattle.simplex_plan.proofs.Accepting.{taken_in}
-use Rattle.simplex_plan.proofs.Planning.{on_ok}
 use Rattle.simplex_plan.proofs.plan.Plan.accept.Goals as goal
 
 pub returns : goal.returns
@@ -16,7 +15,9 @@ returns g c =
     let new = c.touch.new.self in
     let heard = c.hear.new.self in
     let above = ap (λ v. v == 0) (sym c.view-view.ensures) ∙ sym c.is_genesis.ensures.is ∙ c.if-is_genesis.false in
-    on_ok c.touch.result c.touch.ensures
-    (λ planned. subst (λ b. IsTakenInAbove bytes bytes_of c.args.now b taken old new) (sym above)
-    (taken_in bytes bytes_of c.args.now taken old heard new c.hear.ensures.same c.in_ok-hear.ensures.heard
-    (subst (λ v. HasPlanned (touching v) (watching heard) new) c.view-view.ensures planned)))
+    record {
+      followed = subst (λ b. IsTakenInAbove bytes bytes_of c.args.now b taken old new) (sym above)
+          (taken_in bytes bytes_of c.args.now taken old heard new c.hear.ensures.same c.in_ok-hear.ensures.heard
+          (subst (λ v. HasPlanned (touching v) (watching heard) new) c.view-view.ensures c.in_ok-touch.ensures));
+      refused = tt;
+    }

@@ -1,63 +1,86 @@
 -- That each answer is followed by what is for it.
-use Rattle.std.proofs.Common.{subst, OnOk}
+use Rattle.std.proofs.Common.{subst}
 use Rattle.simplex_plan.specs.Following.{after_watch, IsConsequence, AreCertified}
-use Rattle.simplex_plan.proofs.Following.{followed}
+use Rattle.simplex_plan.proofs.Following.{followed, unjudged}
+use Rattle.simplex_plan.proofs.Planning.{on_ok}
 use Rattle.simplex_plan.proofs.plan.Plan.follow.Goals as goal
 
 pub returns-in-Flag : goal.returns-in-Flag
-returns-in-Flag g c =
-    followed g.D.Digest.bytes g.S.CertificateScheme.certificate_bytes c.args.now c.args.task c.args.self.now c.follow_flag.new.self c.follow_flag.result c.in-Flag.is
-    c.follow_flag.ensures
+returns-in-Flag g c = record {
+  followed = followed g.D.Digest.bytes g.S.CertificateScheme.certificate_bytes c.args.now c.args.task c.args.self.now c.follow_flag.new.self c.in-Flag.is
+      c.in_ok-follow_flag-in-Flag.ensures;
+  refused = tt;
+}
 
 pub returns-in-Triggered : goal.returns-in-Triggered
-returns-in-Triggered g c =
-    followed g.D.Digest.bytes g.S.CertificateScheme.certificate_bytes c.args.now c.args.task c.args.self.now c.follow_flag-in-Triggered.new.self c.follow_flag-in-Triggered.result c.in-Triggered.is
-    c.follow_flag-in-Triggered.ensures
+returns-in-Triggered g c = record {
+  followed = followed g.D.Digest.bytes g.S.CertificateScheme.certificate_bytes c.args.now c.args.task c.args.self.now c.follow_flag-in-Triggered.new.self c.in-Triggered.is
+      c.in_ok-follow_flag-in-Triggered.ensures;
+  refused = tt;
+}
 
 pub returns-in-Released : goal.returns-in-Released
-returns-in-Released g c =
-    followed g.D.Digest.bytes g.S.CertificateScheme.certificate_bytes c.args.now c.args.task c.args.self.now c.follow_flag-in-Released.new.self c.follow_flag-in-Released.result c.in-Released.is
-    c.follow_flag-in-Released.ensures
+returns-in-Released g c = record {
+  followed = followed g.D.Digest.bytes g.S.CertificateScheme.certificate_bytes c.args.now c.args.task c.args.self.now c.follow_flag-in-Released.new.self c.in-Released.is
+      c.in_ok-follow_flag-in-Released.ensures;
+  refused = tt;
+}
 
 pub returns-in-Abandoned : goal.returns-in-Abandoned
-returns-in-Abandoned g c =
-    followed g.D.Digest.bytes g.S.CertificateScheme.certificate_bytes c.args.now c.args.task c.args.self.now c.follow_watch.new.self c.follow_watch.result c.in-Abandoned.is
-    (subst (λ is. OnOk c.follow_watch.result (IsConsequence (after_watch c.args.task is) c.args.self.now c.follow_watch.new.self)) c.is_some.ensures c.follow_watch.ensures)
+returns-in-Abandoned g c = record {
+  followed = followed g.D.Digest.bytes g.S.CertificateScheme.certificate_bytes c.args.now c.args.task c.args.self.now c.follow_watch.new.self c.in-Abandoned.is
+      (subst (λ is. IsConsequence (after_watch c.args.task is) c.args.self.now c.follow_watch.new.self) c.is_some.ensures c.in_ok-follow_watch-in-Abandoned.ensures);
+  refused = tt;
+}
 
 pub returns-in-Work : goal.returns-in-Work
-returns-in-Work g c =
-    followed g.D.Digest.bytes g.S.CertificateScheme.certificate_bytes c.args.now c.args.task c.args.self.now c.follow_verify.new.self c.follow_verify.result c.in-Work.is
-    c.follow_verify.ensures
+returns-in-Work g c = record {
+  followed = followed g.D.Digest.bytes g.S.CertificateScheme.certificate_bytes c.args.now c.args.task c.args.self.now c.follow_verify.new.self c.in-Work.is
+      c.in_ok-follow_verify-in-Work.ensures;
+  refused = tt;
+}
 
 pub returns-in-Request : goal.returns-in-Request
-returns-in-Request g c =
-    followed g.D.Digest.bytes g.S.CertificateScheme.certificate_bytes c.args.now c.args.task c.args.self.now c.follow_request.new.self c.follow_request.result c.in-Request.is
-    c.follow_request.ensures
+returns-in-Request g c = record {
+  followed = followed g.D.Digest.bytes g.S.CertificateScheme.certificate_bytes c.args.now c.args.task c.args.self.now c.follow_request.new.self c.in-Request.is
+      c.in_ok-follow_request-in-Request.ensures;
+  refused = tt;
+}
 
 pub returns-in-Candidates : goal.returns-in-Candidates
-returns-in-Candidates g c =
-    followed g.D.Digest.bytes g.S.CertificateScheme.certificate_bytes c.args.now c.args.task c.args.self.now c.follow_candidates.new.self c.follow_candidates.result c.in-Candidates.is
-    (subst (λ proposals. OnOk c.follow_candidates.result (AreCertified c.args.now proposals c.in-Candidates.fetches.items c.args.self.now c.follow_candidates.new.self))
-    c.deref.ensures.value
-    (subst (λ fetches. OnOk c.follow_candidates.result (AreCertified c.args.now c.deref.result.now fetches c.args.self.now c.follow_candidates.new.self))
-    c.deref-in-Candidates.ensures.value c.follow_candidates.ensures))
+returns-in-Candidates g c = record {
+  followed = followed g.D.Digest.bytes g.S.CertificateScheme.certificate_bytes c.args.now c.args.task c.args.self.now c.follow_candidates.new.self c.in-Candidates.is
+      (subst (λ proposals. AreCertified c.args.now proposals c.in-Candidates.fetches.items c.args.self.now c.follow_candidates.new.self)
+      c.deref.ensures.value
+      (subst (λ fetches. AreCertified c.args.now c.deref.result.now fetches c.args.self.now c.follow_candidates.new.self)
+      c.deref-in-Candidates.ensures.value c.in_ok-follow_candidates-in-Candidates.ensures));
+  refused = tt;
+}
 
 pub returns-in-Certified : goal.returns-in-Certified
-returns-in-Certified g c =
-    followed g.D.Digest.bytes g.S.CertificateScheme.certificate_bytes c.args.now c.args.task c.args.self.now c.follow_verdict.new.self c.follow_verdict.result c.in-Certified.is
-    c.follow_verdict.ensures
+returns-in-Certified g c = record {
+  followed = on_ok c.follow_verdict.result c.follow_verdict.ensures.followed
+      (followed g.D.Digest.bytes g.S.CertificateScheme.certificate_bytes c.args.now c.args.task c.args.self.now c.follow_verdict.new.self c.in-Certified.is);
+  refused = unjudged c.args.self.now c.follow_verdict.new.self c.follow_verdict.result c.in-Certified.is c.follow_verdict.ensures.refused;
+}
 
 pub returns-in-Nullify : goal.returns-in-Nullify
-returns-in-Nullify g c =
-    followed g.D.Digest.bytes g.S.CertificateScheme.certificate_bytes c.args.now c.args.task c.args.self.now c.follow_nullify.new.self c.follow_nullify.result c.in-Nullify.is
-    c.follow_nullify.ensures
+returns-in-Nullify g c = record {
+  followed = followed g.D.Digest.bytes g.S.CertificateScheme.certificate_bytes c.args.now c.args.task c.args.self.now c.follow_nullify.new.self c.in-Nullify.is
+      c.in_ok-follow_nullify-in-Nullify.ensures;
+  refused = tt;
+}
 
 pub returns-in-Certificate : goal.returns-in-Certificate
-returns-in-Certificate g c =
-    followed g.D.Digest.bytes g.S.CertificateScheme.certificate_bytes c.args.now c.args.task c.args.self.now c.broadcast.new.self c.broadcast.result c.in-Certificate.is
-    c.broadcast.ensures
+returns-in-Certificate g c = record {
+  followed = followed g.D.Digest.bytes g.S.CertificateScheme.certificate_bytes c.args.now c.args.task c.args.self.now c.broadcast.new.self c.in-Certificate.is
+      c.in_ok-broadcast-in-Certificate.ensures;
+  refused = tt;
+}
 
 pub returns-in-Timeout : goal.returns-in-Timeout
-returns-in-Timeout g c =
-    followed g.D.Digest.bytes g.S.CertificateScheme.certificate_bytes c.args.now c.args.task c.args.self.now c.follow_timeout.new.self c.follow_timeout.result c.in-Timeout.is
-    c.follow_timeout.ensures
+returns-in-Timeout g c = record {
+  followed = followed g.D.Digest.bytes g.S.CertificateScheme.certificate_bytes c.args.now c.args.task c.args.self.now c.follow_timeout.new.self c.in-Timeout.is
+      c.in_ok-follow_timeout-in-Timeout.ensures;
+  refused = tt;
+}

@@ -2,12 +2,12 @@
 use Rattle.std.proofs.Common.{◌≡◌, ◌∙◌, ap, sym, arith}
 use Rattle.std.specs.Prelude.{slice_set}
 use Rattle.std.proofs.lemmas.List.Edits.{map_over_more}
-use Rattle.simplex_plan.specs.Entering.{asked_by}
+use Rattle.simplex_plan.specs.Entering.{told_by}
 use Rattle.simplex_plan.proofs.plan.entering.tell_waiting.Goals as goal
 
 pub loop-building-preserved : goal.loop-building-preserved
 loop-building-preserved g c =
     let loop = c.loop-building in
     ap (slice_set loop.builds loop.building-index) c.told_by.ensures
-    ∙ ap (λ building. slice_set loop.builds loop.building-index (asked_by c.args.view building)) (sym c.building-item.is)
-    ∙ map_over_more (asked_by c.args.view) c.args.builds.now loop.builds loop.building-index c.building-item.result (omega arith) loop.invariant c.building-item.is
+    ∙ ap (λ building. slice_set loop.builds loop.building-index (told_by c.args.view building)) (sym c.building-item.is)
+    ∙ map_over_more (told_by c.args.view) c.args.builds.now loop.builds loop.building-index c.building-item.result (omega arith) loop.invariant c.building-item.is
