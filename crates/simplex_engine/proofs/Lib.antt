@@ -1,7 +1,7 @@
 mod Backing
 mod Alone
-mod Quiet
 mod Bounds
 mod Duties
 mod Tells
 mod Taking
+mod Beginning

@@ -25,8 +25,8 @@ use Rattle.simplex_outbox.specs.declared.journaled.Journaled.{Journaled}
 use Rattle.simplex_batcher.specs.declared.votes.Vote.{Vote}
 use Rattle.simplex_engine.specs.Acting.{verification_of, HasDoneTask, IsBlockTaken, IsHandedIn, IsCountFollowed, IsActedOn}
 use Rattle.simplex_outbox.specs.Handing.{hands_in}
-use Rattle.simplex_engine.specs.Admitting.{admits_votes, is_so, is_admitted, one_more, IsTurnedAway, ignoring}
-use Rattle.simplex_engine.specs.Backing.{votes_of_input, TakesVotes, IsBacked, IsBackedInput}
+use Rattle.simplex_engine.specs.Admitting.{admits_votes, is_so, is_input_admitted, one_more, IsTurnedAway, ignoring}
+use Rattle.simplex_engine.specs.Backing.{votes_of_input, TakesVotes, IsBacked, IsBackedInput, KeepsVotes}
 use Rattle.simplex_batcher.specs.Batching.{AreGiven, HoldsAllTheSame, HoldsUpTo, held, IsCounted}
 use Rattle.simplex_engine.specs.Bounds.{StaysBounded}
 use Rattle.simplex_plan.specs.Building.{is_asked_in}
@@ -127,6 +127,17 @@ module _ {S L D K G C : Type 0} {same : D → D → Bool} {elect : Elect L} {byt
 
 -- all inputs
 
+module _ {S D K G C : Type 0} where
+  -- but for a vote, the same votes are held
+  pub keeps_votes : (what : Input S D K G C) (old new : Batcher S D K G C) → new ≡ old → KeepsVotes what old new
+  keeps_votes (input.Proposal from proposal) old new same = same
+  keeps_votes (input.Vote vote) old new same = tt
+  keeps_votes (input.Certificate certificate) old new same = same
+  keeps_votes (input.Verified view is_valid) old new same = same
+  keeps_votes (input.Built context payload) old new same = same
+  keeps_votes (input.Certified view success) old new same = same
+  keeps_votes (input.GivenUp view reason) old new same = same
+
 module _ {S L D K G C : Type 0} (same : D → D → Bool) (elect : Elect L) (bytes_of : C → List ℕ)
     (IsMadeOf : S → Subject D → List (ℕ × G) → C → Type 0) (keys_of : S → List K) (now : ℕ) where
   abbrev facts_of : Engine S L D K G C → MemberFacts K L D
@@ -162,23 +173,24 @@ module _ {S L D K G C : Type 0} (same : D → D → Bool) (elect : Elect L) (byt
 
   -- what it leaves follows from how it was acted on
   taken : {E : Type 0} (what : Input S D K G C) (old new : Engine S L D K G C) (answer : Result Bool E)
-      → GoesOn same elect bytes_of (subject_in bytes_of what) old.core new.core → TakesVotes (votes_of_input what) old.batcher new.batcher
+      → GoesOn same elect bytes_of (subject_in bytes_of what) old.core new.core → TakesVotes (votes_of_input what) old.batcher new.batcher → KeepsVotes what old.batcher new.batcher
       → IsBackedInput same elect bytes_of (length (keys_of old.batcher.scheme)) what old.batcher old.core new.core
       → StaysBounded keys_of old.core old.batcher new.core new.batcher
       → IfOk answer (λ is_of_use. IsFalse is_of_use → HoldsAllTheSame old.batcher new.batcher) → OnOk answer (KeepsDuties old new)
-      → (IsFalse (is_admitted bytes_of (facts_of old) what) → IfOk answer (λ is_of_use. IsFalse is_of_use × IsTurnedAway what old new))
-      → (IsTrue (is_admitted bytes_of (facts_of old) what)
+      → (IsFalse (is_input_admitted bytes_of (facts_of old) what) → IfOk answer (λ is_of_use. IsFalse is_of_use × IsTurnedAway what old new))
+      → (IsTrue (is_input_admitted bytes_of (facts_of old) what)
       → IfOk answer (IsActedOn same elect bytes_of IsMadeOf keys_of now what old (facts_of new) new.batcher new.plan.steps.items))
       → IsInputTaken same elect bytes_of IsMadeOf keys_of now what old old new answer
-  taken what old new answer went votes backed bounded kept duties unadmitted acted = record {
+  taken what old new answer went votes held backed bounded kept duties unadmitted acted = record {
     goes_on = went;
     votes = votes;
+    held = held;
     backed = backed;
-    dropped = both_ok answer (by_test (is_admitted bytes_of (facts_of old) what) refl) kept (λ is_of_use left same_votes vain. record { member = left vain; votes = same_votes vain });
+    dropped = both_ok answer (by_test (is_input_admitted bytes_of (facts_of old) what) refl) kept (λ is_of_use left same_votes vain. record { member = left vain; votes = same_votes vain });
     unadmitted = unadmitted;
     bounded = bounded;
     acted = acted;
-    duties = on_ok answer duties (λ keeps. record { stays = keeps.stays });
+    duties = on_ok answer duties (λ keeps. record { stays = keeps.stays; works = keeps.works; constants = keeps.constants });
     ignored = not_counted answer duties;
   }
     where
@@ -187,7 +199,7 @@ module _ {S L D K G C : Type 0} (same : D → D → Bool) (elect : Elect L) (byt
       not_counted (Ok false) keeps = keeps.ignored
       not_counted (Err e) keeps = tt
 
-      by_test : (b : Bool) → is_admitted bytes_of (facts_of old) what ≡ b → IfOk answer (λ is_of_use. IsFalse is_of_use → IsLeftByInput now what (facts_of old) (facts_of new))
+      by_test : (b : Bool) → is_input_admitted bytes_of (facts_of old) what ≡ b → IfOk answer (λ is_of_use. IsFalse is_of_use → IsLeftByInput now what (facts_of old) (facts_of new))
       by_test true is = IfOk-weaker answer _ _ (λ is_of_use did. acted_left what old (facts_of new) new.batcher new.plan.steps.items is_of_use did) (acted is)
       by_test false is = IfOk-weaker answer _ _ (λ is_of_use turned vain. turned_left what old new turned.1) (unadmitted is)
 
@@ -195,13 +207,13 @@ module _ {S L D K G C : Type 0} (same : D → D → Bool) (elect : Elect L) (byt
   pub taken_alone : {E : Type 0} (told what : Input S D K G C) (old new : Engine S L D K G C) (answer : Result Bool E) → told ≡ what
       → GoesOn same elect bytes_of (subject_in bytes_of what) old.core new.core → new.batcher ≡ old.batcher
       → IsBackedInput same elect bytes_of (length (keys_of old.batcher.scheme)) what old.batcher old.core new.core → OnOk answer (KeepsDuties old new)
-      → (IsFalse (is_admitted bytes_of (facts_of old) what) → IfOk answer (λ is_of_use. IsFalse is_of_use × IsTurnedAway what old new))
-      → (IsTrue (is_admitted bytes_of (facts_of old) what)
+      → (IsFalse (is_input_admitted bytes_of (facts_of old) what) → IfOk answer (λ is_of_use. IsFalse is_of_use × IsTurnedAway what old new))
+      → (IsTrue (is_input_admitted bytes_of (facts_of old) what)
       → IfOk answer (IsActedOn same elect bytes_of IsMadeOf keys_of now what old (facts_of new) new.batcher new.plan.steps.items))
       → IsInputTaken same elect bytes_of IsMadeOf keys_of now told old old new answer
   taken_alone told what old new answer is went kept backed duties unadmitted acted =
       subst (λ input. IsInputTaken same elect bytes_of IsMadeOf keys_of now input old old new answer) (sym is)
-      (taken what old new answer went (takes_anyway (takes_same kept)) backed (bounded_still keys_of went (takes_same kept))
+      (taken what old new answer went (takes_anyway (takes_same kept)) (keeps_votes what old.batcher new.batcher kept) backed (bounded_still keys_of went (takes_same kept))
       (always_ok answer (λ is_of_use vain. held_same old.batcher new.batcher kept)) duties unadmitted acted)
 
   -- a vote that is counted
@@ -221,7 +233,7 @@ module _ {S L D K G C : Type 0} (same : D → D → Bool) (elect : Elect L) (byt
       let made = IsMadeOf old.batcher.scheme in
       let members = length (keys_of old.batcher.scheme) in
       taken (input.Vote vote) old new answer (goes_counted made members old.batcher batcher vote old.core new.core counted counts went)
-      (takes_then (record { are_given = given_by; scheme = scheme }) (takes_same kept))
+      (takes_then (record { are_given = given_by; scheme = scheme }) (takes_same kept)) tt
       (backed_counted made members old.batcher batcher vote old.core new.core law given_by counted counts went)
       (bounded_further keys_of (bounded_counted keys_of old.core old.batcher batcher vote.subject within scheme admits) (bounded_still keys_of went (takes_same kept)))
       (IfOk-weaker answer _ _ (λ is_of_use follows vain. subst (HoldsAllTheSame old.batcher) (sym kept)
@@ -239,6 +251,7 @@ module _ {S L D K G C : Type 0} (same : D → D → Bool) (elect : Elect L) (byt
   taken_otherwise what old passed new answer otherwise turns = record {
     goes_on = turns.goes_on;
     votes = turns.votes;
+    held = turns.held;
     backed = turns.backed;
     dropped = turns.dropped;
     unadmitted = λ vain. never _ _ answer otherwise (turns.unadmitted vain);
@@ -277,11 +290,12 @@ module _ {S L D K G C : Type 0} (same : D → D → Bool) (elect : Elect L) (byt
       (record {
         goes_on = taken.goes_on;
         votes = taken.votes;
+        held = taken.held;
         backed = taken.backed;
         dropped = λ vain. record { member = (taken.dropped vain).member; votes = (taken.dropped vain).votes };
         unadmitted = λ vain. (refl, turned_ignored what old mid (taken.unadmitted vain).1);
         bounded = taken.bounded;
         acted = taken.acted;
-        duties = record { stays = taken.duties.stays };
+        duties = record { stays = taken.duties.stays; works = taken.duties.works; constants = taken.duties.constants };
         ignored = ap one_more taken.ignored;
       })

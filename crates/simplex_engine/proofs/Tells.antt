@@ -15,6 +15,7 @@ use Rattle.simplex_member.specs.Restarts.{RestartFacts, cut_member, new_life, re
 use Rattle.simplex_member.specs.OutstandingWork.{OutstandingWork, no_outstanding_work}
 use Rattle.simplex_member.specs.declared.member.journal.Stored.{Stored}
 use Rattle.simplex_engine.specs.declared.engine.Engine.{Engine}
+use Rattle.simplex_plan.specs.declared.plan.Options.{Options}
 use Rattle.simplex_plan.specs.declared.plan.Plan.{Plan}
 use Rattle.simplex_plan.specs.declared.plan.Step.{Step}
 use Rattle.simplex_outbox.specs.declared.journaled.Journaled.{Journaled}
@@ -22,11 +23,11 @@ use Rattle.simplex_outbox.specs.declared.output.Output.{Output}
 use Rattle.simplex_outbox.specs.declared.output.Output.TheVariants as output
 use Rattle.simplex_outbox.specs.declared.output.Work.{Work}
 use Rattle.simplex_outbox.specs.Handing.{hands_in}
-use Rattle.simplex_engine.specs.Duties.{work_in, work_ahead, IsToldIn, TellsBehind, KeepsDuties, KeepsTaken, HasTold, AllIsGivenOut}
-use Rattle.simplex_plan.specs.PlannedWork.{AreAmong, work_planned, work_of, KeepsPlanned, PlansToo}
+use Rattle.simplex_engine.specs.Duties.{work_in, work_ahead, IsToldIn, TellsBehind, KeepsDuties, KeepsTaken, HasToldAll, AllIsGivenOut}
+use Rattle.simplex_plan.specs.PlannedWork.{AreAmong, constants_of, work_planned, work_of, KeepsPlanned, PlansToo}
 use Rattle.simplex_outbox.specs.Outboxes.{QueuesMore}
 use Rattle.simplex_engine.proofs.Duties.{among_swapped, told_among, told_as_before, told_by_call, told_none, told_with, work_in-append}
-use Rattle.simplex_plan.proofs.PlannedWork.{alone_of, ignored_of, among_all, among_both, among_further, among_more, among_still, planned-append}
+use Rattle.simplex_plan.proofs.PlannedWork.{ignored_of, among_all, among_both, among_further, among_more, among_still, planned-append}
 use Rattle.simplex_outbox.proofs.Queued.{queues_none}
 
 module _ {S D K G C : Type 0} where
@@ -42,12 +43,21 @@ module _ {S D K G C : Type 0} where
       among_further (among_both (among_still a) (among_further (among_all (sym (append_assoc c b d))) (among_further (among_both (among_swapped c b) (among_still d)) (among_all (append_assoc b c d)))))
       (among_all (sym (append_assoc a b (c ++ d))))
 
+-- as alone as before
+as_alone : {was is : Bool × Options} → is ≡ was → is.0 ≡ was.0
+as_alone same = ap (λ constants. constants.0) same
+
 module _ {S L D K G C : Type 0} where
   pub tells_still : (a : Engine S L D K G C) → KeepsDuties a a
-  tells_still a = record { stays = λ work told. told; ignored = refl }
+  tells_still a = record { stays = λ work told. told; works = among_still (work_ahead a); constants = refl; ignored = refl }
 
   pub tells_further : {a b c : Engine S L D K G C} → KeepsDuties a b → KeepsDuties b c → KeepsDuties a c
-  tells_further first second = record { stays = λ work told. second.stays work (first.stays work told); ignored = second.ignored ∙ first.ignored }
+  tells_further first second = record {
+    stays = λ work told. second.stays work (first.stays work told);
+    works = among_further first.works second.works;
+    constants = second.constants ∙ first.constants;
+    ignored = second.ignored ∙ first.ignored;
+  }
 
   -- what was queued is queued still
   queued_still : (a b : Engine S L D K G C) → QueuesMore a.core.outbox b.core.outbox → AreAmong (work_in a.core.outbox.queue.items) (work_in b.core.outbox.queue.items)
@@ -59,8 +69,10 @@ module _ {S L D K G C : Type 0} where
   pub tells_same : (a b : Engine S L D K G C) → b.core.member.facts.outstanding_work ≡ a.core.member.facts.outstanding_work → QueuesMore a.core.outbox b.core.outbox
       → KeepsPlanned a.plan b.plan → KeepsDuties a b
   tells_same a b same queues plans = record {
-    stays = λ work told. told_with plans.alone
+    stays = λ work told. told_with (as_alone plans.constants)
         (subst (IsToldIn a.plan.is_alone (work ++ work_ahead b)) (sym same) (told_among (among_both (among_still work) (among_both (queued_still a b queues) plans.found)) told));
+    works = among_both (queued_still a b queues) plans.found;
+    constants = plans.constants;
     ignored = plans.ignored;
   }
 
@@ -79,9 +91,11 @@ module _ {S L D K G C : Type 0} where
         let all : IsToldIn a.plan.is_alone ((work ++ ahead) ++ work_of a.plan.is_alone told) b.core.member.facts.outstanding_work =
         told_by_call {S = S} {L = L} {D = D} {K = K} {G = G} {C = C} same elect a.plan.is_alone (work ++ ahead) a.core.member.facts b.core.member.facts asked told called is in
         let asks : List (Work S D K G C) = work_of a.plan.is_alone told in
-        told_with plans.alone (told_among (among_further (among_all (append_assoc work ahead asks))
+        told_with (as_alone plans.constants) (told_among (among_further (among_all (append_assoc work ahead asks))
         (among_both (among_still work) (among_further (among_all (append_assoc (work_in a.core.outbox.queue.items) (work_planned a.plan.steps.items) asks))
         (among_both (queued_still a b queues) plans.found)))) all);
+    works = among_both (queued_still a b queues) (among_further (among_more (work_planned a.plan.steps.items) (work_of a.plan.is_alone told)) plans.found);
+    constants = plans.constants;
     ignored = plans.ignored;
   }
 
@@ -90,8 +104,10 @@ module _ {S L D K G C : Type 0} where
       → IsCall same elect a.core.member.facts (hands_in certificate now) told b.core.member.facts → QueuesMore a.core.outbox b.core.outbox → KeepsPlanned a.plan b.plan → KeepsDuties a b
   tells_handed same elect a b certificate now told called queues plans = record {
     stays = λ work is.
-        told_with plans.alone (told_among (among_both (among_still work) (among_both (queued_still a b queues) plans.found))
+        told_with (as_alone plans.constants) (told_among (among_both (among_still work) (among_both (queued_still a b queues) plans.found))
         (told_as_before {S = S} {L = L} {D = D} {K = K} {G = G} {C = C} same elect a.plan.is_alone (work ++ work_ahead a) a.core.member.facts b.core.member.facts (hands_in certificate now) told (plain certificate) called is));
+    works = among_both (queued_still a b queues) plans.found;
+    constants = plans.constants;
     ignored = plans.ignored;
   }
     where
@@ -119,6 +135,8 @@ module _ {S L D K G C : Type 0} where
   tells_other a b step this is none keeps = record {
     stays = λ work told.
         keeps.stays work (subst (λ behind. TellsBehind behind a) (append-nil work) (subst (λ more. TellsBehind (work ++ more) a) (ap (λ s. work_planned (s ∷ [])) is ∙ none) told));
+    works = subst (λ taken. AreAmong (taken ++ work_ahead a) (work_ahead b)) (sym (ap (λ s. work_planned (s ∷ [])) is ∙ none)) keeps.works;
+    constants = keeps.constants;
     ignored = keeps.ignored;
   }
 
@@ -127,36 +145,55 @@ module _ {S L D K G C : Type 0} where
       → b.core.outbox.queue.items ≡ a.core.outbox.queue.items ++ output.Work it ∷ [] → KeepsTaken (it ∷ []) a b
   tells_pushed a b it same_member same_plan queued = record {
     stays = λ work told.
-        let queue = work_in a.core.outbox.queue.items in
-        let planned = work_planned a.plan.steps.items in
-        let now : work_ahead b ≡ (queue ++ it ∷ []) ++ planned =
-        ap (λ (plan : Plan S D K G C). work_in b.core.outbox.queue.items ++ work_planned plan.steps.items) same_plan
-        ∙ ap (λ items. items ++ planned) (ap work_in queued ∙ work_in-append a.core.outbox.queue.items (output.Work it ∷ [])) in
-        told_with (ap alone_of same_plan) (subst (λ (m : SignedMember K L D G). IsToldIn a.plan.is_alone (work ++ work_ahead b) m.facts.outstanding_work) (sym same_member)
+        told_with (as_alone (ap constants_of same_plan)) (subst (λ (m : SignedMember K L D G). IsToldIn a.plan.is_alone (work ++ work_ahead b) m.facts.outstanding_work) (sym same_member)
         (told_among (among_further (among_moved work (it ∷ []) queue planned) (among_all (ap (λ ahead. work ++ ahead) (sym now)))) told));
+    works = among_further (among_moved [] (it ∷ []) queue planned) (among_all (sym now));
+    constants = ap constants_of same_plan;
     ignored = ap ignored_of same_plan;
   }
+    where
+      queue : List (Work S D K G C)
+      queue = work_in a.core.outbox.queue.items
+
+      planned : List (Work S D K G C)
+      planned = work_planned a.plan.steps.items
+
+      now : work_ahead b ≡ (queue ++ it ∷ []) ++ planned
+      now =
+          ap (λ (plan : Plan S D K G C). work_in b.core.outbox.queue.items ++ work_planned plan.steps.items) same_plan
+          ∙ ap (λ items. items ++ planned) (ap work_in queued ∙ work_in-append a.core.outbox.queue.items (output.Work it ∷ []))
 
   -- the step in front is taken
   pub tells_taken : {X E : Type 0} (r : Result X E) (step : Step S D K G C) (a mid b : Engine S L D K G C) → mid.core ≡ a.core
-      → AreAmong (work_planned a.plan.steps.items) (work_planned (step ∷ mid.plan.steps.items)) → mid.plan.is_alone ≡ a.plan.is_alone → mid.plan.ignored ≡ a.plan.ignored
+      → AreAmong (work_planned a.plan.steps.items) (work_planned (step ∷ mid.plan.steps.items)) → constants_of mid.plan ≡ constants_of a.plan → mid.plan.ignored ≡ a.plan.ignored
       → OnOk r (KeepsTaken (work_planned (step ∷ [])) mid b) → OnOk r (KeepsDuties a b)
-  tells_taken (Err e) step a mid b same front alone ignored takes = tt
-  tells_taken (Ok x) step a mid b same front alone ignored takes = record {
+  tells_taken (Err e) step a mid b same front constants ignored takes = tt
+  tells_taken (Ok x) step a mid b same front constants ignored takes = record {
     stays = λ work told.
-        let queue = work_in a.core.outbox.queue.items in
-        let taken = work_planned (step ∷ []) in
-        let left = work_planned mid.plan.steps.items in
-        let split : AreAmong (work_planned a.plan.steps.items) (taken ++ left) = among_further front (among_all (planned-append (step ∷ []) mid.plan.steps.items)) in
-        takes.stays work (told_with alone
+        takes.stays work (told_with (as_alone constants)
         (subst (λ (core : Journaled S L D K G C). IsToldIn a.plan.is_alone ((work ++ taken) ++ (work_in core.outbox.queue.items ++ left)) core.member.facts.outstanding_work) (sym same)
         (told_among (among_further (among_both (among_still work) (among_both (among_still queue) split)) (among_back work taken queue left)) told)));
+    works = among_further (subst (λ (core : Journaled S L D K G C). AreAmong (work_ahead a) (taken ++ (work_in core.outbox.queue.items ++ left))) (sym same)
+        (among_further (among_both (among_still queue) split) (among_back [] taken queue left))) takes.works;
+    constants = takes.constants ∙ constants;
     ignored = takes.ignored ∙ ignored;
   }
+    where
+      queue : List (Work S D K G C)
+      queue = work_in a.core.outbox.queue.items
+
+      taken : List (Work S D K G C)
+      taken = work_planned (step ∷ [])
+
+      left : List (Work S D K G C)
+      left = work_planned mid.plan.steps.items
+
+      split : AreAmong (work_planned a.plan.steps.items) (taken ++ left)
+      split = among_further front (among_all (planned-append (step ∷ []) mid.plan.steps.items))
 
   -- what is given out
   pub tells_given : (a b : Engine S L D K G C) (out : List (Output S D Stored K G C)) → b.core.member ≡ a.core.member → b.plan ≡ a.plan
-      → a.core.outbox.queue.items ≡ out ++ b.core.outbox.queue.items → (given : List (Output S D Stored K G C)) → HasTold given a → HasTold (given ++ out) b
+      → a.core.outbox.queue.items ≡ out ++ b.core.outbox.queue.items → (given : List (Output S D Stored K G C)) → HasToldAll given a → HasToldAll (given ++ out) b
   tells_given a b out same_member same_plan front given told =
       let left = work_in b.core.outbox.queue.items in
       let planned = work_planned a.plan.steps.items in
@@ -166,30 +203,39 @@ module _ {S L D K G C : Type 0} where
       ∙ append_assoc (work_in given) (work_in out) (left ++ planned)
       ∙ ap (λ items. work_in given ++ items) (sym (append_assoc (work_in out) left planned))
       ∙ ap (λ items. work_in given ++ (items ++ planned)) (sym (ap work_in front ∙ work_in-append out b.core.outbox.queue.items)) in
-      told_with (ap alone_of same_plan)
+      told_with (as_alone (ap constants_of same_plan))
       (subst (λ (m : SignedMember K L D G). IsToldIn a.plan.is_alone (work_in (given ++ out) ++ work_ahead b) m.facts.outstanding_work) (sym same_member)
       (subst (λ items. IsToldIn a.plan.is_alone items a.core.member.facts.outstanding_work) (sym now) told))
 
+  -- and the work in it is no longer ahead
+  pub works_given : (a b : Engine S L D K G C) (out : List (Output S D Stored K G C)) → b.plan ≡ a.plan → a.core.outbox.queue.items ≡ out ++ b.core.outbox.queue.items
+      → AreAmong (work_ahead a) (work_in out ++ work_ahead b)
+  works_given a b out same_plan front =
+      let left = work_in b.core.outbox.queue.items in
+      among_all (ap (λ items. items ++ work_planned a.plan.steps.items) (ap work_in front ∙ work_in-append out b.core.outbox.queue.items)
+      ∙ append_assoc (work_in out) left (work_planned a.plan.steps.items)
+      ∙ ap (λ (plan : Plan S D K G C). work_in out ++ (left ++ work_planned plan.steps.items)) (sym same_plan))
+
   -- nothing was
   pub still_told : (a : Engine S L D K G C) (core : Journaled S L D K G C) → core.member ≡ a.core.member → a.core.outbox.queue.items ≡ core.outbox.queue.items
-      → (given : List (Output S D Stored K G C)) → HasTold given a → HasTold given (record a { core = core })
+      → (given : List (Output S D Stored K G C)) → HasToldAll given a → HasToldAll given (record a { core = core })
   still_told a core same_member front given told =
-      subst (λ outs. HasTold outs (record a { core = core })) (append-nil given) (tells_given a (record a { core = core }) [] same_member refl front given told)
+      subst (λ outs. HasToldAll outs (record a { core = core })) (append-nil given) (tells_given a (record a { core = core }) [] same_member refl front given told)
 
   -- where nothing is queued and nothing planned, all was
-  pub all_given : (a : Engine S L D K G C) → a.core.outbox.queue.items ≡ [] → a.plan.steps.items ≡ [] → (given : List (Output S D Stored K G C)) → HasTold given a → AllIsGivenOut given a
+  pub all_given : (a : Engine S L D K G C) → a.core.outbox.queue.items ≡ [] → a.plan.steps.items ≡ [] → (given : List (Output S D Stored K G C)) → HasToldAll given a → AllIsGivenOut given a
   all_given a queue steps given told =
       subst (λ items. IsToldIn a.plan.is_alone items a.core.member.facts.outstanding_work) (append-nil (work_in given))
       (subst (λ ahead. IsToldIn a.plan.is_alone (work_in given ++ ahead) a.core.member.facts.outstanding_work) (ap (λ items. work_in items ++ work_planned a.plan.steps.items) queue ∙ ap work_planned steps) told)
 
   pub all_left : (a b : Engine S L D K G C) (out : Option (Output S D Stored K G C)) → IsNone out → b.core.member ≡ a.core.member → b.core.outbox.queue.items ≡ [] → b.plan.steps.items ≡ []
-      → b.plan ≡ a.plan → a.core.outbox.queue.items ≡ option_to_list out ++ b.core.outbox.queue.items → (given : List (Output S D Stored K G C)) → HasTold given a → AllIsGivenOut given b
+      → b.plan ≡ a.plan → a.core.outbox.queue.items ≡ option_to_list out ++ b.core.outbox.queue.items → (given : List (Output S D Stored K G C)) → HasToldAll given a → AllIsGivenOut given b
   all_left a b (Some out) none same_member queue steps same_plan front given told = absurd (false≢true (sym none))
   all_left a b None none same_member queue steps same_plan front given told =
-      all_given b queue steps given (subst (λ outs. HasTold outs b) (append-nil given) (tells_given a b [] same_member same_plan front given told))
+      all_given b queue steps given (subst (λ outs. HasToldAll outs b) (append-nil given) (tells_given a b [] same_member same_plan front given told))
 
   -- a member that waits for nothing
-  pub tells_none : (a : Engine S L D K G C) → a.core.member.facts.outstanding_work ≡ no_outstanding_work → HasTold [] a
+  pub tells_none : (a : Engine S L D K G C) → a.core.member.facts.outstanding_work ≡ no_outstanding_work → HasToldAll [] a
   tells_none a none = subst (IsToldIn a.plan.is_alone (work_ahead a)) (sym none) (told_none a.plan.is_alone (work_ahead a))
 
 pub restart_waits : {K L D : Type 0} (same : D → D → Bool) (elect : Elect L) (m : MemberFacts K L D) (r : RestartFacts K L D) (result : Result (Unit {0}) RecoverError) (left : MemberFacts K L D)

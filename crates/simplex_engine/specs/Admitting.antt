@@ -39,11 +39,11 @@ module _ {K L D : Type 0} where
 
 module _ {S L D K G C : Type 0} where
   -- a proposal, a vote or a certificate; what the application or the network says is always admitted
-  abbrev pub is_admitted : (C → List ℕ) → MemberFacts K L D → Input S D K G C → Bool
-  is_admitted bytes_of m (input.Proposal from proposal) = is_so (λ x. admits_proposal x from proposal.round) m
-  is_admitted bytes_of m (input.Vote vote) = is_so (λ x. admits_votes x (subject_round vote.subject)) m
-  is_admitted bytes_of m (input.Certificate certificate) = is_so (λ x. admits x (certificate_facts bytes_of certificate)) m
-  is_admitted bytes_of m _ = true
+  abbrev pub is_input_admitted : (C → List ℕ) → MemberFacts K L D → Input S D K G C → Bool
+  is_input_admitted bytes_of m (input.Proposal from proposal) = is_so (λ x. admits_proposal x from proposal.round) m
+  is_input_admitted bytes_of m (input.Vote vote) = is_so (λ x. admits_votes x (subject_round vote.subject)) m
+  is_input_admitted bytes_of m (input.Certificate certificate) = is_so (λ x. admits x (certificate_facts bytes_of certificate)) m
+  is_input_admitted bytes_of m _ = true
 
   -- one more input was of no use
   abbrev pub ignoring : Engine S L D K G C → Engine S L D K G C

@@ -1,11 +1,26 @@
 -- What an engine does by itself.
-use Rattle.std.specs.Prelude.{ℕ, Bool, List, None}
+use Rattle.std.specs.Prelude.{◌≡◌, ◌⊎◌, ℕ, Bool, List, None, IfSome}
 use Rattle.simplex_voter.specs.Facts.{Elect}
+use Rattle.simplex_voter.specs.Windows.{min_active}
+use Rattle.simplex_batcher.specs.declared.batcher.Batcher.{Batcher}
+use Rattle.simplex_batcher.specs.Batching.{IsForgotten}
 use Rattle.simplex_engine.specs.declared.engine.Engine.{Engine}
 use Rattle.simplex_engine.specs.Backing.{TakesNone}
+use Rattle.simplex_outbox.specs.declared.journaled.Journaled.{Journaled}
 use Rattle.simplex_outbox.specs.Going.{GoesOn}
 
--- it goes on, accepts no certificate and takes no vote
-pub record GoesOnAlone {S L D K G C : Type 0} (same : D → D → Bool) (elect : Elect L) (bytes_of : C → List ℕ) (old new : Engine S L D K G C) : Type 0 where
-  pub goes_on : GoesOn same elect bytes_of None old.core new.core
-  pub votes : TakesNone old.batcher new.batcher
+-- the same votes are held, or those of the views below the lowest one that the member's state keeps are forgotten, and no others
+abbrev pub ForgetsNoOther : {S L D K G C : Type 0} → Journaled S L D K G C → Batcher S D K G C → Batcher S D K G C → Type 0
+ForgetsNoOther core old new = IfSome core.member.facts.life (λ x. (new ≡ old) ⊎ IsForgotten (min_active x) old new)
+
+module _ {S L D K G C : Type 0} (same : D → D → Bool) (elect : Elect L) (bytes_of : C → List ℕ) where
+  -- it goes on, accepts no certificate, and holds the same votes
+  pub record GoesOnAlone (old new : Engine S L D K G C) : Type 0 where
+    pub goes_on : GoesOn same elect bytes_of None old.core new.core
+    pub batcher : new.batcher ≡ old.batcher
+
+  -- or forgets those that are of no use any more
+  pub record GoesOnForgetting (old new : Engine S L D K G C) : Type 0 where
+    pub goes_on : GoesOn same elect bytes_of None old.core new.core
+    pub votes : TakesNone old.batcher new.batcher
+    pub forgets : ForgetsNoOther new.core old.batcher new.batcher

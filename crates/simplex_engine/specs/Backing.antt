@@ -17,6 +17,11 @@ votes_of_input (input.Vote vote) = vote ∷ []
 votes_of_input _ = []
 
 module _ {S D K G C : Type 0} where
+  -- but for a vote that is handed in, the same votes are held
+  abbrev pub KeepsVotes : Input S D K G C → Batcher S D K G C → Batcher S D K G C → Type 0
+  KeepsVotes (input.Vote _) old new = Unit {0}
+  KeepsVotes _ old new = new ≡ old
+
   -- each vote that is held is one of those that were handed in, with these behind them; the members are the same
   pub record TakesVotes (more : List (Vote D G)) (old new : Batcher S D K G C) : Type 0 where
     pub are_given : (given : List (Vote D G)) → AreGiven given old → AreGiven (given ++ more) new

@@ -5,7 +5,7 @@ use Rattle.std.specs.List.{list_any}
 use Rattle.simplex_member.specs.declared.member.journal.Stored.{Stored}
 use Rattle.simplex_member.specs.OutstandingWork.{OutstandingWork, context_at, is_verifying, is_offered}
 use Rattle.simplex_engine.specs.declared.engine.Engine.{Engine}
-use Rattle.simplex_plan.specs.PlannedWork.{work_planned}
+use Rattle.simplex_plan.specs.PlannedWork.{AreAmong, constants_of, work_planned}
 use Rattle.simplex_outbox.specs.declared.output.Output.{Output}
 use Rattle.simplex_outbox.specs.declared.output.Output.TheVariants as output
 use Rattle.simplex_outbox.specs.declared.output.Work.{Work}
@@ -49,23 +49,29 @@ module _ {S L D K G C : Type 0} where
   abbrev pub TellsBehind : List (Work S D K G C) → Engine S L D K G C → Type 0
   TellsBehind work engine = IsToldIn engine.plan.is_alone (work ++ work_ahead engine) engine.core.member.facts.outstanding_work
 
-  -- behind whatever work, so it stays
+  -- behind whatever work, so it stays; no work that is ahead is lost; and the options stay, and whether there are other members
   pub record KeepsTelling (old new : Engine S L D K G C) : Type 0 where
     pub stays : (work : List (Work S D K G C)) → TellsBehind work old → TellsBehind work new
+    pub works : AreAmong (work_ahead old) (work_ahead new)
+    pub constants : constants_of new.plan ≡ constants_of old.plan
 
   -- so it does, and no input is counted as of no use
   pub record KeepsDuties (old new : Engine S L D K G C) : Type 0 where
     pub stays : (work : List (Work S D K G C)) → TellsBehind work old → TellsBehind work new
+    pub works : AreAmong (work_ahead old) (work_ahead new)
+    pub constants : constants_of new.plan ≡ constants_of old.plan
     pub ignored : new.plan.ignored ≡ old.plan.ignored
 
   -- so it does where this work was taken from what was planned
   pub record KeepsTaken (taken : List (Work S D K G C)) (old new : Engine S L D K G C) : Type 0 where
     pub stays : (work : List (Work S D K G C)) → TellsBehind (work ++ taken) old → TellsBehind work new
+    pub works : AreAmong (taken ++ work_ahead old) (work_ahead new)
+    pub constants : constants_of new.plan ≡ constants_of old.plan
     pub ignored : new.plan.ignored ≡ old.plan.ignored
 
   -- where these outputs were given out
-  abbrev pub HasTold : List (Output S D Stored K G C) → Engine S L D K G C → Type 0
-  HasTold given engine = TellsBehind (work_in given) engine
+  abbrev pub HasToldAll : List (Output S D Stored K G C) → Engine S L D K G C → Type 0
+  HasToldAll given engine = TellsBehind (work_in given) engine
 
   -- each of them is among these outputs
   abbrev pub AllIsGivenOut : List (Output S D Stored K G C) → Engine S L D K G C → Type 0

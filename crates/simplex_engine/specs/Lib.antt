@@ -10,3 +10,4 @@ pub mod Admitting
 pub mod Acting
 pub mod Duties
 pub mod Taking
+pub mod Beginning

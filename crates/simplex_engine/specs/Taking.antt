@@ -5,8 +5,8 @@ use Rattle.simplex_voter.specs.Facts.{Elect}
 use Rattle.simplex_engine.specs.declared.engine.Engine.{Engine}
 use Rattle.simplex_engine.specs.declared.input.Input.{Input}
 use Rattle.simplex_engine.specs.Acting.{IsActedOn}
-use Rattle.simplex_engine.specs.Admitting.{is_admitted, IsTurnedAway}
-use Rattle.simplex_engine.specs.Backing.{votes_of_input, TakesVotes, IsBackedInput}
+use Rattle.simplex_engine.specs.Admitting.{is_input_admitted, IsTurnedAway}
+use Rattle.simplex_engine.specs.Backing.{votes_of_input, KeepsVotes, TakesVotes, IsBackedInput}
 use Rattle.simplex_engine.specs.Bounds.{StaysBounded}
 use Rattle.simplex_engine.specs.Dropping.{IsDropped}
 use Rattle.simplex_engine.specs.Duties.{KeepsTelling}
@@ -19,11 +19,12 @@ pub record IsInputTaken {S L D K G C E : Type 0} (same : D → D → Bool) (elec
     (old passed new : Engine S L D K G C) (answer : Result Bool E) : Type 0 where
   pub goes_on : GoesOn same elect bytes_of (subject_in bytes_of what) old.core new.core
   pub votes : TakesVotes (votes_of_input what) old.batcher new.batcher
+  pub held : KeepsVotes what old.batcher new.batcher
   pub backed : IsBackedInput same elect bytes_of (length (keys_of old.batcher.scheme)) what old.batcher old.core new.core
   pub dropped : IfOk answer (λ is_of_use. IsFalse is_of_use → IsDropped now what old new)
-  pub unadmitted : IsFalse (is_admitted bytes_of old.core.member.facts what) → IfOk answer (λ is_of_use. IsFalse is_of_use × IsTurnedAway what passed new)
+  pub unadmitted : IsFalse (is_input_admitted bytes_of old.core.member.facts what) → IfOk answer (λ is_of_use. IsFalse is_of_use × IsTurnedAway what passed new)
   pub bounded : StaysBounded keys_of old.core old.batcher new.core new.batcher
-  pub acted : IsTrue (is_admitted bytes_of old.core.member.facts what)
+  pub acted : IsTrue (is_input_admitted bytes_of old.core.member.facts what)
       → IfOk answer (IsActedOn same elect bytes_of IsMadeOf keys_of now what old new.core.member.facts new.batcher new.plan.steps.items)
   pub duties : OnOk answer (KeepsTelling old new)
   pub ignored : IfOk answer (λ is_of_use. new.plan.ignored ≡ (if is_of_use then old.plan.ignored else passed.plan.ignored))

@@ -3,9 +3,9 @@
 //! It holds no network, clock, disk or key but its scheme. Moments are milliseconds that are handed in, and do not fall.
 #![tactic(auto, using(simplex_outbox::proofs::Going::stays, simplex_outbox::proofs::Going::goes_further, crate::proofs::Backing::takes_nothing, crate::proofs::Backing::takes_no_more, crate::proofs::Backing::takes_anyway))]
 
-ghost use Rattle.std.specs.Prelude.{◌≡◌, ◌++◌, [], length, None, Err, if◌then◌else◌, IfOk, IfSome, OnOk, OnErr, IsNone, IsFalse, IsTrue, true, false};
+ghost use Rattle.std.specs.Prelude.{◌≡◌, ◌⊎◌, ◌++◌, [], length, None, Err, if◌then◌else◌, IfOk, IfErr, IfSome, OnOk, OnErr, IsNone, IsFalse, IsTrue, true, false};
 ghost use Rattle.std.specs.Option.{option_copied};
-ghost use Rattle.simplex_types.specs.declared.types.fault.Fault.TheVariants.{Failed};
+ghost use Rattle.simplex_types.specs.declared.types.fault.Fault.TheVariants.{OutOfMemory, Failed};
 
 mod asking;
 mod begin;
@@ -39,7 +39,6 @@ pub struct Engine<S: CertificateScheme, L: Elector<S>, D: Digest> {
     core: Journaled<S, L, D>,
     batcher: Batcher<S, D>,
     plan: Plan<S, D>,
-    options: Options,
     /// How many entries the record had when it was made short last in this life.
     compacted: usize,
     /// The views below were forgotten last.
@@ -57,16 +56,17 @@ impl<S: Assembly<D>, L: Elector<S>, D: Digest> Engine<S, L, D> {
     ghost use Rattle.simplex_outbox.specs.Journals.{journal_of, IsRecordOf};
     ghost use Rattle.simplex_outbox.specs.Going.{IsKept, IsWhole, GoesOn, DoesMoreOn, HasGivenOut, has_failed};
     ghost use Rattle.simplex_engine.specs.Settled.{IsSettled};
-    ghost use Rattle.simplex_plan.specs.Planning.{IsWake};
-    ghost use Rattle.simplex_plan.specs.Planning.{IsIdle};
+    ghost use Rattle.simplex_plan.specs.PlannedWork.{constants_of, AreAmong};
+    ghost use Rattle.simplex_plan.specs.Planning.{IsIdle, IsWake};
     ghost use Rattle.simplex_engine.specs.Inputs.{subject_in, given_out};
-    ghost use Rattle.simplex_engine.specs.Backing.{votes_of_input, TakesVotes, TakesNone, IsBackedInput};
+    ghost use Rattle.simplex_engine.specs.Alone.{ForgetsNoOther};
+    ghost use Rattle.simplex_engine.specs.Backing.{votes_of_input, KeepsVotes, TakesVotes, TakesNone, IsBackedInput};
     ghost use Rattle.simplex_engine.specs.Bounds.{HoldsFromKept, HoldsNoneAhead, StaysBounded, HoldsAdmitted};
     ghost use Rattle.simplex_engine.specs.Lacking.{AsksForItsLacking};
     ghost use Rattle.simplex_engine.specs.Dropping.{IsDropped};
-    ghost use Rattle.simplex_engine.specs.Admitting.{is_admitted, one_more, IsTurnedAway, ignoring};
+    ghost use Rattle.simplex_engine.specs.Admitting.{is_input_admitted, one_more, IsTurnedAway, ignoring};
     ghost use Rattle.simplex_engine.specs.Acting.{IsActedOn};
-    ghost use Rattle.simplex_engine.specs.Duties.{KeepsTelling, HasTold, AllIsGivenOut};
+    ghost use Rattle.simplex_engine.specs.Duties.{work_in, work_ahead, KeepsTelling, HasToldAll, AllIsGivenOut};
 
     /// Tells what came in. Answers whether it was of use: what is not is dropped, and changes nothing.
     ///
@@ -77,7 +77,7 @@ impl<S: Assembly<D>, L: Elector<S>, D: Digest> Engine<S, L, D> {
     ///
     /// - `goes_on`: no certificate is accepted but the one that is handed in, or one on what the vote that is handed in is on; a
     ///   finalization that is accepted is told, where its view is above all that were told.
-    /// - `votes`: of each member it holds votes alone that were handed in.
+    /// - `votes`, `held`: of each member it holds votes alone that were handed in; but by a vote, none is lost and none comes.
     /// - `backed`: a certificate that a vote completes is backed by votes of n - f different members on just that, each handed in.
     /// - `dropped`: what was of no use changed nothing of the member, and no vote was taken; a reason to give a view up or a
     ///   verdict leaves its moment all the same, and after the verdict none is waited for.
@@ -87,29 +87,34 @@ impl<S: Assembly<D>, L: Elector<S>, D: Digest> Engine<S, L, D> {
     ///   from that is of use exactly where the answer has anything.
     /// - `duties`: what the application is to be told of stays told: each proposal that is being verified, each that was offered for
     ///   certification and has no verdict, and, where there are other members, the block of each view whose request to build is open,
-    ///   was given out, is queued to be, or is planned.
+    ///   was given out, is queued to be, or is planned. No work that is queued or planned is lost. The options stay, and so does
+    ///   whether there are other members.
     /// - `ignored`: what is of no use is counted, and nothing else.
     /// - `bounded`: where each vote that is held was a member's, and of no view above those whose votes are taken, each still is.
-    /// - `failed`, `refused`: after an error it has failed; one that has failed answers `Failed`, and nothing changes.
+    /// - `failed`, `error`, `refused`: after an error, which is `OutOfMemory` or `Failed`, it has failed; one that has failed answers
+    ///   `Failed`, and nothing changes.
     ///
     /// # Errors
     ///
-    /// `OutOfMemory` fails the engine. After it each call answers `Failed`.
+    /// `OutOfMemory` fails the engine. After it each call answers `Failed`, and so does one that would take 2^64 steps.
     pub fn handle(&mut self, input: Input<S, D>, now: u64) -> Result<bool, Fault>
         ensures goes_on { GoesOn D.eq L.elect S.certificate_bytes (subject_in S.certificate_bytes input) self.old.core self.new.core }
         ensures votes { TakesVotes (votes_of_input input) self.old.batcher self.new.batcher }
+        ensures held { KeepsVotes input self.old.batcher self.new.batcher }
         ensures backed { IsBackedInput D.eq L.elect S.certificate_bytes (length (S.participants self.old.batcher.scheme))
             input self.old.batcher self.old.core self.new.core }
         ensures dropped { IfOk result (λ is_of_use. IsFalse is_of_use → IsDropped now input self.old self.new) }
-        ensures unadmitted { IsFalse (is_admitted S.certificate_bytes self.old.core.member.facts input) → IfOk result (λ is_of_use.
+        ensures unadmitted { IsFalse (is_input_admitted S.certificate_bytes self.old.core.member.facts input) → IfOk result (λ is_of_use.
             IsFalse is_of_use × IsTurnedAway input (ignoring self.old) self.new) }
         ensures bounded { StaysBounded S.participants self.old.core self.old.batcher self.new.core self.new.batcher }
-        ensures acted { IsTrue (is_admitted S.certificate_bytes self.old.core.member.facts input) → IfOk result (IsActedOn D.eq L.elect S.certificate_bytes
-            S.IsMadeOf S.participants now input self.old self.new.core.member.facts self.new.batcher self.new.plan.steps.items) }
+        ensures acted { IsTrue (is_input_admitted S.certificate_bytes self.old.core.member.facts input)
+            → IfOk result (IsActedOn D.eq L.elect S.certificate_bytes S.IsMadeOf S.participants now input self.old self.new.core.member.facts
+            self.new.batcher self.new.plan.steps.items) }
         ensures duties { OnOk result (KeepsTelling self.old self.new) }
         ensures ignored { IfOk result (λ is_of_use. self.new.plan.ignored
             ≡ (if is_of_use then self.old.plan.ignored else one_more self.old.plan.ignored)) }
         ensures failed { OnErr result (has_failed self.new.core ≡ true) }
+        ensures error { IfErr result (λ fault. (fault ≡ OutOfMemory) ⊎ (fault ≡ Failed)) }
         ensures refused { has_failed self.old.core ≡ true → (result ≡ Err Failed) × (self.new ≡ self.old) }
     {
         if self.core.has_failed() {
@@ -119,7 +124,7 @@ impl<S: Assembly<D>, L: Elector<S>, D: Digest> Engine<S, L, D> {
             Ok(is_of_use) => Ok(is_of_use),
             Err(fault) => {
                 self.core.fail();
-                Err(fault)
+                Err(failure(fault))
             }
         }
     }
@@ -129,12 +134,14 @@ impl<S: Assembly<D>, L: Elector<S>, D: Digest> Engine<S, L, D> {
     ///
     /// - `given`: what is answered is given out.
     /// - `does`, `told`: no certificate is accepted, and no other proposal is queued to be told as final.
-    /// - `votes`, `bounded`, `failed`, `refused`: as of `handle`.
-    /// - `ignored`: no input is counted as of no use.
+    /// - `held`: just the votes are forgotten that are of views below the lowest one that is kept, or none is.
+    /// - `votes`, `bounded`, `failed`, `error`, `refused`: as of `handle`.
+    /// - `ignored`, `constants`: no input is counted as of no use; the options stay, and so does whether there are other members.
     /// - `none`: where nothing is answered, all of the record was given out to be stored, and the member was asked last for all
     ///   its work, its votes on the current view and the certificates of it, and had nothing new.
     /// - `duties`: as of `handle`, with what is answered given out.
     /// - `waiting`: so where nothing is answered, each of these proposals and blocks was given out.
+    /// - `works`: no work is lost: what is queued or planned is given out, or is so still.
     /// - `idle`: where nothing is answered, nothing is to be done at the moment: no step is queued, the timeout was asked for, and
     ///   no fetch is due.
     /// - `lowest`: where nothing is answered, no vote is held of a view below the lowest one that is kept.
@@ -157,11 +164,15 @@ impl<S: Assembly<D>, L: Elector<S>, D: Digest> Engine<S, L, D> {
         ensures admitted { HoldsNoneAhead S.participants self.old.core self.old.batcher
             → IfOk result (λ out. IsNone out → HoldsAdmitted S.participants self.new.core self.new.batcher) }
         ensures votes { TakesNone self.old.batcher self.new.batcher }
+        ensures held { ForgetsNoOther self.new.core self.old.batcher self.new.batcher }
         ensures bounded { StaysBounded S.participants self.old.core self.old.batcher self.new.core self.new.batcher }
-        ensures duties { OnOk result ((given : _) → HasTold given self.old → HasTold (given ++ given_out result) self.new) }
-        ensures waiting { IfOk result (λ out. IsNone out → (given : _) → HasTold given self.old → AllIsGivenOut given self.new) }
+        ensures duties { OnOk result ((given : _) → HasToldAll given self.old → HasToldAll (given ++ given_out result) self.new) }
+        ensures waiting { IfOk result (λ out. IsNone out → (given : _) → HasToldAll given self.old → AllIsGivenOut given self.new) }
+        ensures works { OnOk result (AreAmong (work_ahead self.old) (work_in (given_out result) ++ work_ahead self.new)) }
         ensures ignored { OnOk result (self.new.plan.ignored ≡ self.old.plan.ignored) }
+        ensures constants { OnOk result (constants_of self.new.plan ≡ constants_of self.old.plan) }
         ensures failed { OnErr result (has_failed self.new.core ≡ true) }
+        ensures error { IfErr result (λ fault. (fault ≡ OutOfMemory) ⊎ (fault ≡ Failed)) }
         ensures refused { has_failed self.old.core ≡ true → (result ≡ Err Failed) × (self.new ≡ self.old) }
     {
         if self.core.has_failed() {
@@ -183,17 +194,21 @@ impl<S: Assembly<D>, L: Elector<S>, D: Digest> Engine<S, L, D> {
         ensures lowest { IfOk result (λ out. IsNone out → HoldsFromKept self.new.core self.new.batcher) }
         ensures lacking { IfOk result (λ out. IsNone out → AsksForItsLacking self.new.core self.new.plan.repair) }
         ensures votes { TakesNone self.old.batcher self.new.batcher }
+        ensures held { ForgetsNoOther self.new.core self.old.batcher self.new.batcher }
         ensures bounded { StaysBounded S.participants self.old.core self.old.batcher self.new.core self.new.batcher }
-        ensures duties { OnOk result ((given : _) → HasTold given self.old → HasTold (given ++ given_out result) self.new) }
-        ensures waiting { IfOk result (λ out. IsNone out → (given : _) → HasTold given self.old → AllIsGivenOut given self.new) }
+        ensures duties { OnOk result ((given : _) → HasToldAll given self.old → HasToldAll (given ++ given_out result) self.new) }
+        ensures waiting { IfOk result (λ out. IsNone out → (given : _) → HasToldAll given self.old → AllIsGivenOut given self.new) }
+        ensures works { OnOk result (AreAmong (work_ahead self.old) (work_in (given_out result) ++ work_ahead self.new)) }
         ensures ignored { OnOk result (self.new.plan.ignored ≡ self.old.plan.ignored) }
+        ensures constants { OnOk result (constants_of self.new.plan ≡ constants_of self.old.plan) }
         ensures failed { OnErr result (has_failed self.new.core ≡ true) }
+        ensures error { IfErr result (λ fault. (fault ≡ OutOfMemory) ⊎ (fault ≡ Failed)) }
     {
         match self.work(now) {
             Ok(()) => Ok(self.core.next()),
             Err(fault) => {
                 self.core.fail();
-                Err(fault)
+                Err(failure(fault))
             }
         }
     }
@@ -270,5 +285,15 @@ impl<S: Assembly<D>, L: Elector<S>, D: Digest> Engine<S, L, D> {
         ensures ran { OfAllDone D.eq L.elect self.now.core.member.facts (MayBeDoneBy S.PublicKey D.eq L.elect) }
     {
         self.core.keeps_the_laws();
+    }
+}
+
+/// What an engine that fails answers: for want of memory just that, and else what it answers from then on.
+fn failure(fault: Fault) -> Fault
+    ensures { (result ≡ OutOfMemory) ⊎ (result ≡ Failed) }
+{
+    match fault {
+        Fault::OutOfMemory => Fault::OutOfMemory,
+        _ => Fault::Failed,
     }
 }

@@ -93,7 +93,8 @@ impl<S: Assembly<D>, L: Elector<S>, D: Digest> Engine<S, L, D> {
             current: state.current_view(),
             last_finalized: state.last_finalized(),
         };
-        self.plan.see(views)
+        self.plan.see(views)?;
+        Ok(())
     }
 
     /// A certificate is lacking for a proposal, whose leader is asked first.
@@ -109,7 +110,8 @@ impl<S: Assembly<D>, L: Elector<S>, D: Digest> Engine<S, L, D> {
         ensures planned { KeepsPlanned self.old.plan self.new.plan }
     {
         let leader = self.leader_of(proposal);
-        self.plan.resolve(kind, view, leader, now)
+        self.plan.resolve(kind, view, leader, now)?;
+        Ok(())
     }
 
     /// Who leads the view, where that is known.

@@ -1,8 +1,12 @@
 //! How an engine begins: a first life at a floor, or another from what was stored.
 #![tactic(auto)]
 
-ghost use Rattle.std.specs.Prelude.{◌≡◌, [], IfOk, length};
-ghost use Rattle.simplex_batcher.specs.Batching.{AreGiven};
+ghost use Rattle.std.specs.Prelude.{◌≡◌, ℕ, List, Option, [], ◌∷◌, IfOk, IfErr, IfSome, length, reverse};
+ghost use Rattle.simplex_resolver.specs.RecordCalls.{calls_of};
+ghost use Rattle.simplex_resolver.specs.Steps.{Replayed};
+ghost use Rattle.simplex_resolver.specs.Told.{HasBeenTold};
+ghost use Rattle.simplex_record.specs.Entries.{entries_of};
+ghost use Rattle.simplex_engine.specs.Beginning.{with_a_retry, IsPlanOf, IsCompanyOf, HasBegunWith, IsNotReplayed};
 ghost use Rattle.simplex_outbox.specs.Going.{IsKept, IsWhole, TellsNothing};
 
 use super::Engine;
@@ -66,25 +70,29 @@ struct Company<S: CertificateScheme, D> {
 
 impl<S: Assembly<D>, L: Elector<S>, D: Digest> Engine<S, L, D> {
     ghost use Rattle.simplex_types.specs.Config.{floor_facts};
-    ghost use Rattle.simplex_record.specs.Entries.{entries_of};
+    ghost use Rattle.simplex_record.specs.Recovery.{recover_error};
     ghost use Rattle.simplex_record.specs.Start.{set_up, start_facts};
-    ghost use Rattle.simplex_member.specs.Journal.{IsResumed};
+    ghost use Rattle.simplex_member.specs.Journal.{IsNotResumed, IsResumed};
     ghost use Rattle.simplex_member.specs.Start.{started_member};
     ghost use Rattle.simplex_laws.specs.Living.{HasBegun, HasGoneOn};
+    ghost use Rattle.simplex_engine.specs.Beginning.{IsMemberError, IsNotBegun};
     ghost use Rattle.simplex_engine.specs.Bounds.{HoldsNoneAhead};
-    ghost use Rattle.simplex_engine.specs.Duties.{HasTold};
+    ghost use Rattle.simplex_engine.specs.Duties.{HasToldAll};
 
     /// The engine of a member that begins at a floor, where nothing was stored.
     ///
     /// The elector's members are the scheme's participants.
     /// - `started`: its member is the one that `LawfulMember::start` makes.
     /// - `begins`: it has accepted the floor's finalization, if there is one, and done nothing else.
-    /// - `kept`, `whole`, `told`, `votes`, `bounded`, `duties`, `ignored`: nothing was given out, the whole record stands to be stored in
-    ///   place of all that is, no proposal to be told as final, no vote is held, the member waits for nothing, and no input was of no use.
+    /// - `kept`, `whole`, `told`, `bounded`, `duties`: nothing was given out, the whole record stands to be stored in place of all that
+    ///   is, no proposal to be told as final, and the member waits for nothing.
+    /// - `begun`: no vote is held, and certificates are made by the number of the scheme's participants; the resolver was told of the
+    ///   record, and what it has open is asked for at once, of all participants but this member; no input was of no use.
+    /// - `refused`: why there is none.
     ///
     /// # Errors
     ///
-    /// Those of `LawfulMember::start`.
+    /// `OutOfMemory`, those of `LawfulMember::start`, and those of `LawfulResolver::start` on the record.
     pub fn start(
         alloc: Global,
         start: Start<S, L, D>,
@@ -94,14 +102,19 @@ impl<S: Assembly<D>, L: Elector<S>, D: Digest> Engine<S, L, D> {
         ensures kept { IfOk result (λ engine. IsKept S.certificate_bytes [] engine.core) }
         ensures whole { IfOk result (λ engine. IsWhole S.certificate_bytes engine.core) }
         ensures told { IfOk result (λ engine. TellsNothing engine.core) }
-        ensures votes { IfOk result (λ engine. AreGiven [] engine.batcher) }
-        ensures duties { IfOk result (HasTold []) }
+        ensures duties { IfOk result (HasToldAll []) }
         ensures bounded { IfOk result (λ engine. HoldsNoneAhead S.participants engine.core engine.batcher) }
-        ensures ignored { IfOk result (λ engine. engine.plan.ignored ≡ 0) }
+        ensures begun { IfOk result (HasBegunWith D.bytes S.participants (S.participants start.settings.scheme) (S.me start.settings.scheme)
+            (L.terms start.settings.elector).term_length (with_a_retry options)) }
         ensures started { IfOk result (λ engine. engine.core.member.facts ≡ started_member D.eq L.elect
             (set_up S.me S.participants L.terms L.elects_early start.settings)
             (floor_facts S.certificate_bytes start.floor) start.now) }
         ensures begins { IfOk result (λ engine. HasBegun D.eq L.elect S.me L.terms start engine.core.member.facts) }
+        ensures refused { IfErr result (IsNotBegun
+            (IsMemberError (recover_error D.eq (set_up S.me S.participants L.terms L.elects_early start.settings)
+            (floor_facts S.certificate_bytes start.floor) start.now []))
+            (λ m. m ≡ started_member D.eq L.elect (set_up S.me S.participants L.terms L.elects_early start.settings)
+            (floor_facts S.certificate_bytes start.floor) start.now)) }
     {
         let company = company_of(alloc, &start)?;
         match LawfulMember::start(alloc, start) {
@@ -116,11 +129,11 @@ impl<S: Assembly<D>, L: Elector<S>, D: Digest> Engine<S, L, D> {
     /// - `resumed`: its member is the one that `LawfulMember::resume` makes.
     /// - `goes_on`: in terms of the same length and with the key of the same member or none, what was done before stays done,
     ///   and the floor's finalization is accepted too.
-    /// - `kept`, `whole`, `told`, `votes`, `bounded`, `duties`, `ignored`: as of `start`.
+    /// - `kept`, `whole`, `told`, `bounded`, `duties`, `begun`, `refused`: as of `start`.
     ///
     /// # Errors
     ///
-    /// Those of `LawfulMember::resume`.
+    /// `OutOfMemory`, those of `LawfulMember::resume`, and those of `LawfulResolver::start` on the record.
     pub fn resume(
         alloc: Global,
         start: Start<S, L, D>,
@@ -132,15 +145,20 @@ impl<S: Assembly<D>, L: Elector<S>, D: Digest> Engine<S, L, D> {
         ensures kept { IfOk result (λ engine. IsKept S.certificate_bytes [] engine.core) }
         ensures whole { IfOk result (λ engine. IsWhole S.certificate_bytes engine.core) }
         ensures told { IfOk result (λ engine. TellsNothing engine.core) }
-        ensures votes { IfOk result (λ engine. AreGiven [] engine.batcher) }
-        ensures duties { IfOk result (HasTold []) }
+        ensures duties { IfOk result (HasToldAll []) }
         ensures bounded { IfOk result (λ engine. HoldsNoneAhead S.participants engine.core engine.batcher) }
-        ensures ignored { IfOk result (λ engine. engine.plan.ignored ≡ 0) }
+        ensures begun { IfOk result (HasBegunWith D.bytes S.participants (S.participants start.settings.scheme) (S.me start.settings.scheme)
+            (L.terms start.settings.elector).term_length (with_a_retry options)) }
         ensures resumed { IfOk result (λ engine. IsResumed D.eq L.elect stored
             (entries_of S.certificate_bytes entries.items)
             (start_facts S.me S.participants L.terms L.elects_early S.certificate_bytes start) engine.core.member.facts) }
         ensures goes_on { IfOk result (λ engine. HasGoneOn D.eq L.elect S.me L.terms stored
             (entries_of S.certificate_bytes entries.items) start engine.core.member.facts) }
+        ensures refused { IfErr result (IsNotBegun
+            (IsNotResumed D.eq L.elect stored (entries_of S.certificate_bytes entries.items)
+            (start_facts S.me S.participants L.terms L.elects_early S.certificate_bytes start))
+            (IsResumed D.eq L.elect stored (entries_of S.certificate_bytes entries.items)
+            (start_facts S.me S.participants L.terms L.elects_early S.certificate_bytes start))) }
     {
         let company = company_of(alloc, &start)?;
         match LawfulMember::resume(alloc, start, stored, entries) {
@@ -155,7 +173,8 @@ fn company_of<S: Assembly<D>, L: Elector<S>, D: Digest>(
     alloc: Global,
     start: &Start<S, L, D>,
 ) -> Result<Company<S, D>, AllocError>
-    ensures { IfOk result (λ company. AreGiven [] company.batcher) }
+    ensures { IfOk result (IsCompanyOf S.participants (S.participants start.entry.now.settings.scheme) (S.me start.entry.now.settings.scheme)
+        (L.terms start.entry.now.settings.elector).term_length) }
 {
     let scheme = start.settings.scheme.copy(alloc)?;
     let members = scheme.participants().len();
@@ -181,19 +200,18 @@ fn begin<S: Assembly<D>, L: Elector<S>, D: Digest>(
     ensures kept { IfOk result (λ engine. IsKept S.certificate_bytes [] engine.core) }
     ensures whole { IfOk result (λ engine. IsWhole S.certificate_bytes engine.core) }
     ensures told { IfOk result (λ engine. TellsNothing engine.core) }
-    ensures votes { AreGiven [] company.batcher → IfOk result (λ engine. AreGiven [] engine.batcher) }
     ensures member { IfOk result (λ engine. engine.core.member ≡ member) }
-    ensures ignored { IfOk result (λ engine. engine.plan.ignored ≡ 0) }
+    ensures begun { (keys : List S.PublicKey) (me : Option ℕ) (term_length : ℕ) → IsCompanyOf S.participants keys me term_length company
+        → IfOk result (HasBegunWith D.bytes S.participants keys me term_length (with_a_retry options)) }
+    ensures refused { IfErr result (IsNotReplayed member.facts.entries) }
 {
-    let options = options.with_a_retry();
-    let plan = plan_of(alloc, &member, &company, options)?;
+    let plan = plan_of(alloc, &member, &company, options.with_a_retry())?;
     let core = Journaled::begin(alloc, member)?;
     Ok(Engine {
         alloc,
         core,
         batcher: company.batcher,
         plan,
-        options,
         compacted: 0,
         forgotten: View::zero(),
     })
@@ -206,7 +224,8 @@ fn plan_of<S: Scheme<D>, L: Elector<S>, D: Digest>(
     company: &Company<S, D>,
     options: Options,
 ) -> Result<Plan<S, D>, StartError>
-    ensures { IfOk result (λ plan. plan.ignored ≡ 0) }
+    ensures plan { IfOk result (IsPlanOf D.bytes company.now.term_length company.now.peers company.now.is_alone options member.now.facts) }
+    ensures refused { IfErr result (IsNotReplayed member.now.facts.entries) }
 {
     let resolver = resolver_of(alloc, company.term_length, member.record())?;
     let fetches = Fetches::new(alloc, company.peers, options.retry);
@@ -219,7 +238,10 @@ fn resolver_of<S: CertificateScheme, D: Digest>(
     alloc: Global,
     term_length: TermLength,
     record: &[Artifact<S, D>],
-) -> Result<LawfulResolver, StartError> {
+) -> Result<LawfulResolver, StartError>
+    ensures told { IfOk result (HasBeenTold term_length (Replayed ∷ calls_of D.bytes (reverse (entries_of S.certificate_bytes record.now)))) }
+    ensures refused { IfErr result (IsNotReplayed (entries_of S.certificate_bytes record.now)) }
+{
     match LawfulResolver::start(alloc, term_length, record) {
         Ok(resolver) => Ok(resolver),
         Err(error) => Err(StartError::Replay(error)),
@@ -227,7 +249,9 @@ fn resolver_of<S: CertificateScheme, D: Digest>(
 }
 
 /// The views that a member begins at.
-fn views_of<S: Scheme<D>, L: Elector<S>, D: Digest>(member: &LawfulMember<S, L, D>) -> Views {
+fn views_of<S: Scheme<D>, L: Elector<S>, D: Digest>(member: &LawfulMember<S, L, D>) -> Views
+    ensures { IfSome member.now.facts.life (λ x. (result.current ≡ x.current) × (result.last_finalized ≡ x.finalized)) }
+{
     match member.state() {
         Some(state) => Views {
             current: state.current_view(),

@@ -83,7 +83,8 @@ impl<S: Assembly<D>, L: Elector<S>, D: Digest> Engine<S, L, D> {
         if !self.is_of_this_epoch(proposal.round) {
             return Ok(());
         }
-        self.plan.keep_early(from, proposal.view(), proposal)
+        self.plan.keep_early(from, proposal.view(), proposal)?;
+        Ok(())
     }
 
     /// Whether a proposal may be handed in. One of this member itself never is: its key would have been used elsewhere.

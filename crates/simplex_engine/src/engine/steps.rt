@@ -12,7 +12,7 @@ use simplex_types::types::{Digest, Elector, Fault, View};
 
 impl<S: Assembly<D>, L: Elector<S>, D: Digest> Engine<S, L, D> {
     ghost use Rattle.simplex_outbox.specs.Going.{IsWhole};
-    ghost use Rattle.simplex_engine.specs.Alone.{GoesOnAlone};
+    ghost use Rattle.simplex_engine.specs.Alone.{GoesOnAlone, GoesOnForgetting};
     ghost use Rattle.simplex_engine.specs.Quiet.{view_in_life, HasNothingNew};
     ghost use Rattle.simplex_plan.specs.Planning.{IsIdle};
     ghost use Rattle.simplex_engine.specs.Bounds.{HoldsFromKept};
@@ -27,7 +27,7 @@ impl<S: Assembly<D>, L: Elector<S>, D: Digest> Engine<S, L, D> {
     /// - `idle`: nothing is to be done at the moment.
     /// - `lowest`, `lacking`: no vote is held of a view below the lowest one that is kept, and just what is lacking is asked for.
     pub(super) fn work(&mut self, now: u64) -> Result<(), Fault>
-        ensures alone { GoesOnAlone D.eq L.elect S.certificate_bytes self.old self.new }
+        ensures alone { GoesOnForgetting D.eq L.elect S.certificate_bytes self.old self.new }
         ensures whole { OnOk result (IsWhole S.certificate_bytes self.new.core) }
         ensures quiet { OnOk result (HasNothingNew D.eq L.elect self.new.core.member.facts) }
         ensures idle { OnOk result (IsIdle now self.new.plan) }
@@ -53,7 +53,7 @@ impl<S: Assembly<D>, L: Elector<S>, D: Digest> Engine<S, L, D> {
 
     /// Takes all steps, lets go what is kept of views that are not, and queues what the record has grown by.
     fn finish(&mut self, now: u64) -> Result<(), Fault>
-        ensures alone { GoesOnAlone D.eq L.elect S.certificate_bytes self.old self.new }
+        ensures alone { GoesOnForgetting D.eq L.elect S.certificate_bytes self.old self.new }
         ensures whole { OnOk result (IsWhole S.certificate_bytes self.new.core) }
         ensures quiet { OnOk result (HasNothingNew D.eq L.elect self.new.core.member.facts) }
         ensures idle { OnOk result (IsIdle now self.new.plan) }
@@ -68,7 +68,7 @@ impl<S: Assembly<D>, L: Elector<S>, D: Digest> Engine<S, L, D> {
 
     /// Lets go what is held of views that are not kept, and queues what the record has grown by.
     fn settle(&mut self) -> Result<(), Fault>
-        ensures alone { GoesOnAlone D.eq L.elect S.certificate_bytes self.old self.new }
+        ensures alone { GoesOnForgetting D.eq L.elect S.certificate_bytes self.old self.new }
         ensures member { self.new.core.member ≡ self.old.core.member }
         ensures idle { (now : ℕ) → IsIdle now self.old.plan → IsIdle now self.new.plan }
         ensures whole { OnOk result (IsWhole S.certificate_bytes self.new.core) }
@@ -192,7 +192,7 @@ impl<S: Assembly<D>, L: Elector<S>, D: Digest> Engine<S, L, D> {
 
     /// Lets go what is held of views that are not kept: votes here and elsewhere; and fetches of what is not lacking.
     fn let_go(&mut self) -> Result<(), Fault>
-        ensures alone { GoesOnAlone D.eq L.elect S.certificate_bytes self.old self.new }
+        ensures alone { GoesOnForgetting D.eq L.elect S.certificate_bytes self.old self.new }
         ensures member { self.new.core.member ≡ self.old.core.member }
         ensures idle { (now : ℕ) → IsIdle now self.old.plan → IsIdle now self.new.plan }
         ensures lowest { OnOk result (HoldsFromKept self.new.core self.new.batcher) }
@@ -247,7 +247,7 @@ impl<S: Assembly<D>, L: Elector<S>, D: Digest> Engine<S, L, D> {
     /// Whether the record has grown long since it was made short last.
     fn is_long(&self) -> bool {
         let count = self.core.record().len();
-        self.options.long_record < count && self.compacted < count / 2
+        self.plan.long_record() < count && self.compacted < count / 2
     }
 
     /// Makes the record short. The member drops the views that are over first: the entries of a view stay as long as it is tracked, and

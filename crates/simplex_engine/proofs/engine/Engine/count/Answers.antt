@@ -5,6 +5,8 @@ use Rattle.simplex_engine.specs.Admitting.{admits_votes, is_so}
 use Rattle.simplex_engine.proofs.Backing.{takes_nothing, takes_anyway, backed_by_none}
 use Rattle.simplex_engine.proofs.Bounds.{bounded_same}
 use Rattle.simplex_outbox.proofs.Going.{stays}
+use Rattle.simplex_plan.proofs.PlannedWork.{among_still}
+use Rattle.simplex_engine.specs.Duties.{work_ahead}
 use Rattle.simplex_engine.proofs.engine.Engine.count.Goals as goal
 
 pub returns-then-not-admits_votes : goal.returns-then-not-admits_votes
@@ -14,13 +16,14 @@ returns-then-not-admits_votes g c =
     record {
       goes_on = stays engine.core;
       votes = takes_anyway (takes_nothing engine.batcher);
+      held = tt;
       backed = backed_by_none (length (keys_of engine.batcher.scheme)) (stays engine.core);
       dropped = λ no. record { member = refl; votes = λ kind view member. refl };
       unadmitted = λ no. (refl, refl);
       bounded = bounded_same keys_of engine.core engine.core engine.batcher refl;
       acted = λ is. absurd (false≢true
           (sym c.if-not-admits_votes.true ∙ c.admits_votes.ensures ∙ ap (λ round. is_so (λ x. admits_votes x round) engine.core.member.facts) c.round_of.ensures.round ∙ is));
-      duties = record { stays = λ work told. told };
+      duties = record { stays = λ work told. told; works = among_still (work_ahead engine); constants = refl };
       ignored = refl;
     }
 

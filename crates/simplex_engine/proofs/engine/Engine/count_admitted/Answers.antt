@@ -14,6 +14,7 @@ returns-in-Err g c =
     record {
       goes_on = stays engine.core;
       votes = record { are_given = c.count.ensures.given; scheme = c.count.ensures.scheme };
+      held = tt;
       backed = backed_by_none (length (keys_of engine.batcher.scheme)) (stays engine.core);
       dropped = tt;
       unadmitted = λ _. tt;
@@ -28,4 +29,5 @@ returns-in-Ok g c =
     taken_counted g.D.PartialEq.eq g.L.Elector.elect g.S.CertificateScheme.certificate_bytes g.S.Assembly.IsMadeOf g.S.CertificateScheme.participants c.args.now
     g.met.D.Digest.equal_is_same c.args.vote c.args.self.now c.follow_counted.new.self c.follow_counted.result c.count.new.self c.in-Ok.counted c.requires c.count.ensures.given
     c.count.ensures.within c.count.ensures.scheme c.in-Ok.ensures.counted c.follow_counted.ensures.goes_on c.follow_counted.ensures.batcher c.follow_counted.ensures.followed
-    (on_ok c.follow_counted.result c.follow_counted.ensures.duties (λ keeps. record { stays = keeps.stays; ignored = keeps.ignored }))
+    (on_ok c.follow_counted.result c.follow_counted.ensures.duties
+    (λ keeps. record { stays = keeps.stays; works = keeps.works; constants = keeps.constants; ignored = keeps.ignored }))

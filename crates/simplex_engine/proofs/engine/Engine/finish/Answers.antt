@@ -1,19 +1,19 @@
 -- That what is let go behind all steps goes on from them, and nothing is due that was not.
 use Rattle.std.proofs.Common.{sym, subst}
 use Rattle.simplex_engine.specs.Quiet.{HasNothingNew}
-use Rattle.simplex_engine.proofs.Alone.{alone_further}
+use Rattle.simplex_engine.proofs.Alone.{forgets_further, forgets_none}
 use Rattle.simplex_engine.proofs.Tells.{tells_further}
 use Rattle.simplex_engine.proofs.engine.Engine.finish.Goals as goal
 
 pub returns-in_err-run_all-clause-alone : goal.returns-in_err-run_all-clause-alone
-returns-in_err-run_all-clause-alone g c = c.run_all.ensures.alone
+returns-in_err-run_all-clause-alone g c = forgets_none c.run_all.ensures.alone
 
 pub returns-in_err-settle-clause-alone : goal.returns-in_err-settle-clause-alone
-returns-in_err-settle-clause-alone g c = alone_further c.run_all.ensures.alone c.settle.ensures.alone
+returns-in_err-settle-clause-alone g c = forgets_further c.run_all.ensures.alone c.settle.ensures.alone
 
 pub returns : goal.returns
 returns g c = record {
-  alone = alone_further c.run_all.ensures.alone c.settle.ensures.alone;
+  alone = forgets_further c.run_all.ensures.alone c.settle.ensures.alone;
   whole = c.in_ok-settle.ensures.whole;
   quiet = subst (λ m. HasNothingNew g.D.PartialEq.eq g.L.Elector.elect m.facts) (sym c.settle.ensures.member) c.in_ok-run_all.ensures.quiet;
   idle = c.settle.ensures.idle c.args.now c.in_ok-run_all.ensures.idle;

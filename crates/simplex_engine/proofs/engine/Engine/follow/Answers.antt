@@ -26,5 +26,5 @@ returns g c =
       batcher = c.see.ensures.batcher;
       of_use = ap not c.says_nothing-is_of_use.ensures;
       planned = plans_then c.args.self.now.plan c.see.new.self.plan c.follow.new.self (told bytes_of c.args.reply) c.in_ok-see.ensures.planned
-          (followed_plans c.see.new.self.plan c.follow.new.self g.D.Digest.bytes bytes_of c.args.now c.args.task c.args.reply c.in_ok-follow.ensures);
+          (followed_plans c.see.new.self.plan c.follow.new.self g.D.Digest.bytes bytes_of c.args.now c.args.task c.args.reply c.in_ok-follow.ensures.followed);
     }

@@ -7,4 +7,4 @@ pub returns-clause-planned : goal.returns-clause-planned
 returns-clause-planned g c =
     keeps_further c.in_ok-see.ensures.planned
     (certificate_followed g.D.Digest.bytes g.S.CertificateScheme.certificate_bytes c.args.now c.see.new.self.plan c.follow_certificate.new.self c.args.certificate.now c.args.reply.now
-    c.in_ok-follow_certificate.ensures)
+    c.in_ok-follow_certificate.ensures.followed)

@@ -1,5 +1,5 @@
 -- That an engine which fails has done no more than its steps before, and holds no more.
-use Rattle.std.proofs.Common.{length, refl, sym, subst, ap, ◌∙◌}
+use Rattle.std.proofs.Common.{length, refl, sym, subst, ap, inr, ◌∙◌}
 use Rattle.std.proofs.lemmas.Bool.{false≢true}
 use Rattle.simplex_engine.specs.Admitting.{ignoring}
 use Rattle.simplex_outbox.specs.Going.{has_failed}
@@ -7,6 +7,7 @@ use Rattle.simplex_engine.specs.Taking.{IsInputTaken}
 use Rattle.simplex_outbox.proofs.Going.{stays, goes_further, goes_on_anyway}
 use Rattle.simplex_engine.proofs.Backing.{input_backed_by_none, input_backed_then, takes_nothing, takes_anyway}
 use Rattle.simplex_engine.proofs.Bounds.{bounded_still, bounded_further, bounded_same}
+use Rattle.simplex_engine.proofs.Taking.{keeps_votes}
 use Rattle.simplex_engine.proofs.engine.Engine.handle.Goals as goal
 
 pub returns-then-has_failed : goal.returns-then-has_failed
@@ -16,6 +17,7 @@ returns-then-has_failed g c =
     record {
       goes_on = stays engine.core;
       votes = takes_anyway (takes_nothing engine.batcher);
+      held = keeps_votes c.args.input engine.batcher engine.batcher refl;
       backed = input_backed_by_none (length (keys_of engine.batcher.scheme)) c.args.input engine.batcher engine.core engine.core (stays engine.core);
       dropped = tt;
       unadmitted = λ _. tt;
@@ -24,6 +26,7 @@ returns-then-has_failed g c =
       duties = tt;
       ignored = tt;
       failed = sym c.has_failed.ensures ∙ c.if-has_failed.true;
+      error = inr refl;
       refused = λ _. (refl, refl);
     }
 
@@ -37,6 +40,7 @@ returns-in-Ok g c =
     record {
       goes_on = taken.goes_on;
       votes = taken.votes;
+      held = taken.held;
       backed = taken.backed;
       dropped = taken.dropped;
       unadmitted = taken.unadmitted;
@@ -45,6 +49,7 @@ returns-in-Ok g c =
       duties = taken.duties;
       ignored = taken.ignored;
       failed = tt;
+      error = tt;
       refused = λ failed. absurd (false≢true (sym c.if-has_failed.false ∙ c.has_failed.ensures ∙ failed));
     }
 
@@ -55,6 +60,7 @@ returns-in-Err g c =
     record {
       goes_on = goes_further c.take.ensures.goes_on (goes_on_anyway c.fail.ensures.goes_on);
       votes = c.take.ensures.votes;
+      held = c.take.ensures.held;
       backed = input_backed_then (length (keys_of engine.batcher.scheme)) c.args.input engine.batcher engine.core c.take.new.self.core c.fail.new.self
           c.take.ensures.backed c.fail.ensures.goes_on;
       dropped = tt;
@@ -64,5 +70,6 @@ returns-in-Err g c =
       duties = tt;
       ignored = tt;
       failed = ap has_failed c.fail.ensures.failed;
+      error = c.failure.ensures;
       refused = λ failed. absurd (false≢true (sym c.if-has_failed.false ∙ c.has_failed.ensures ∙ failed));
     }

@@ -2,25 +2,26 @@
 use Rattle.std.proofs.Common.{◌≡◌, ◌∙◌, None, ap, sym, subst}
 use Rattle.std.specs.Prelude.{IfSome}
 use Rattle.simplex_voter.specs.Windows.{min_active}
+use Rattle.simplex_engine.specs.Alone.{ForgetsNoOther}
 use Rattle.simplex_engine.specs.Backing.{TakesNone}
 use Rattle.simplex_batcher.specs.Batching.{HoldsFrom}
 use Rattle.simplex_outbox.specs.Going.{GoesOn}
 use Rattle.simplex_plan.specs.Planning.{IsIdle}
-use Rattle.simplex_engine.proofs.Alone.{alone_still}
-use Rattle.simplex_engine.proofs.Backing.{takes_no_more}
+use Rattle.simplex_engine.proofs.Alone.{alone_still, forgets_by, forgets_none}
+use Rattle.simplex_engine.proofs.Backing.{takes_no_more, takes_same}
 use Rattle.simplex_engine.proofs.Bounds.{kept_from}
 use Rattle.simplex_plan.proofs.Planning.{on_ok}
 use Rattle.simplex_engine.proofs.Tells.{tells_further, tells_planned}
 use Rattle.simplex_engine.proofs.engine.Engine.let_go.Goals as goal
 
 pub returns-in_err-lowest-clause-alone : goal.returns-in_err-lowest-clause-alone
-returns-in_err-lowest-clause-alone g c = alone_still c.args.self.now
+returns-in_err-lowest-clause-alone g c = forgets_none (alone_still c.args.self.now)
 
 pub returns-in_err-lowest-clause-idle : goal.returns-in_err-lowest-clause-idle
 returns-in_err-lowest-clause-idle g c = λ now idle. idle
 
 pub returns-in_err-tell_forgotten-clause-alone : goal.returns-in_err-tell_forgotten-clause-alone
-returns-in_err-tell_forgotten-clause-alone g c = c.tell_forgotten.ensures.alone
+returns-in_err-tell_forgotten-clause-alone g c = forgets_none c.tell_forgotten.ensures.alone
 
 pub returns-in_err-tell_forgotten-clause-member : goal.returns-in_err-tell_forgotten-clause-member
 returns-in_err-tell_forgotten-clause-member g c = c.tell_forgotten.ensures.member
@@ -36,7 +37,14 @@ returns g c =
         goes_on = subst (GoesOn g.D.PartialEq.eq g.L.Elector.elect g.S.CertificateScheme.certificate_bytes None c.args.self.now.core) (sym c.let_fetches_go.ensures.core)
             c.tell_forgotten.ensures.alone.goes_on;
         votes = subst (TakesNone c.args.self.now.batcher) (sym c.let_fetches_go.ensures.batcher)
-            (takes_no_more c.tell_forgotten.ensures.alone.votes (record { are_given = c.forget.ensures.given; were_held = c.forget.ensures.fewer; scheme = c.forget.ensures.scheme }));
+            (takes_no_more (takes_same c.tell_forgotten.ensures.alone.batcher)
+            (record { are_given = c.forget.ensures.given; were_held = c.forget.ensures.fewer; scheme = c.forget.ensures.scheme }));
+        forgets = subst (λ held. ForgetsNoOther c.let_fetches_go.new.self.core held c.let_fetches_go.new.self.batcher) c.tell_forgotten.ensures.alone.batcher
+            (subst (ForgetsNoOther c.let_fetches_go.new.self.core c.tell_forgotten.new.self.batcher) (sym c.let_fetches_go.ensures.batcher)
+            (subst (λ now. ForgetsNoOther now c.tell_forgotten.new.self.batcher c.forget.new.self) (sym c.let_fetches_go.ensures.core)
+            (forgets_by core.member.facts.life c.in_ok-lowest.lowest c.tell_forgotten.new.self.batcher c.forget.new.self
+            (subst (λ m. IfSome m.facts.life (λ x. min_active x ≡ c.in_ok-lowest.lowest)) (sym c.tell_forgotten.ensures.member) c.in_ok-lowest.ensures)
+            c.forget.ensures.forgotten)));
       };
       member = ap (λ core. core.member) c.let_fetches_go.ensures.core ∙ c.tell_forgotten.ensures.member;
       idle = λ now idle. c.let_fetches_go.ensures.idle now (subst (IsIdle now) (sym c.tell_forgotten.ensures.plan) idle);
@@ -49,5 +57,5 @@ returns g c =
       duties = on_ok c.let_fetches_go.result c.let_fetches_go.ensures.lacking (λ _. tells_further c.in_ok-tell_forgotten.ensures.duties
           (let keeps = tells_planned (record (c.tell_forgotten.new.self) { batcher = c.forget.new.self }) c.let_fetches_go.new.self
           c.let_fetches_go.ensures.core c.let_fetches_go.ensures.planned in
-          record { stays = keeps.stays; ignored = keeps.ignored }));
+          record { stays = keeps.stays; works = keeps.works; constants = keeps.constants; ignored = keeps.ignored }));
     }

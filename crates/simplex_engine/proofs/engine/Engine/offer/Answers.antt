@@ -6,7 +6,8 @@ use Rattle.simplex_plan.specs.declared.task.Task.TheVariants.{SetProposal}
 use Rattle.simplex_engine.specs.Acting.{HasDoneTask}
 use Rattle.simplex_outbox.specs.Going.{GoesOn}
 use Rattle.simplex_outbox.proofs.Going.{stays}
-use Rattle.simplex_engine.specs.Duties.{KeepsDuties}
+use Rattle.simplex_engine.specs.Duties.{work_ahead, KeepsDuties}
+use Rattle.simplex_plan.proofs.PlannedWork.{among_still}
 use Rattle.simplex_engine.proofs.engine.Engine.offer.Goals as goal
 
 pub returns-then-admits_proposal : goal.returns-then-admits_proposal
@@ -34,5 +35,6 @@ returns g c = record {
   batcher = ap (λ engine. engine.batcher) c.keep_early.ensures;
   unadmitted = λ _. (refl, c.keep_early.ensures);
   acted = λ is. absurd (false≢true (sym c.if-admits_proposal.false ∙ c.admits_proposal.ensures ∙ is));
-  duties = subst (KeepsDuties c.args.self.now) (sym c.keep_early.ensures) (record { stays = λ work told. told; ignored = refl });
+  duties = subst (KeepsDuties c.args.self.now) (sym c.keep_early.ensures)
+      (record { stays = λ work told. told; works = among_still (work_ahead c.args.self.now); constants = refl; ignored = refl });
 }

@@ -1,12 +1,14 @@
 -- That nothing is done where nothing but the next output is taken, and that each vote which is held is of a view that takes votes.
-use Rattle.std.proofs.Common.{refl, subst, ◌++◌, ◌≡◌}
+use Rattle.std.proofs.Common.{refl, subst, [], ◌∷◌, ◌++◌, ◌≡◌}
 use Rattle.std.specs.Prelude.{option_to_list}
 use Rattle.simplex_outbox.specs.Finals.{TellsNoMore}
 use Rattle.simplex_engine.specs.Inputs.{given_out}
 use Rattle.simplex_outbox.proofs.Finals.{tells_still}
+use Rattle.simplex_engine.proofs.Alone.{forgets_nothing}
 use Rattle.simplex_engine.proofs.Bounds.{bounded_same, bounded_admitted}
 use Rattle.simplex_outbox.proofs.Going.{does_nothing_more, where_ok}
-use Rattle.simplex_engine.proofs.Tells.{tells_given, still_told}
+use Rattle.simplex_engine.proofs.Tells.{tells_given, still_told, works_given}
+use Rattle.simplex_plan.proofs.PlannedWork.{among_further}
 use Rattle.simplex_plan.proofs.Planning.{on_ok}
 use Rattle.simplex_engine.proofs.engine.Engine.poll.Goals as goal
 
@@ -55,3 +57,19 @@ pub returns-in-None-clause-waiting : goal.returns-in-None-clause-waiting
 returns-in-None-clause-waiting g c =
     where_ok c.poll_after_work.result c.poll_after_work.ensures.waiting (λ out all none given told. all none given (still_told c.args.self.now c.next.new.self c.next.ensures.same.0
     (subst (λ out. c.args.self.now.core.outbox.queue.items ≡ option_to_list out ++ c.next.new.self.outbox.queue.items) c.in-None.is c.next.ensures.front) given told))
+
+pub returns-then-has_failed-clause-held : goal.returns-then-has_failed-clause-held
+returns-then-has_failed-clause-held g c = forgets_nothing c.args.self.now.core c.args.self.now.batcher c.args.self.now.batcher refl
+
+pub returns-in-Some-clause-held : goal.returns-in-Some-clause-held
+returns-in-Some-clause-held g c = forgets_nothing c.next.new.self c.args.self.now.batcher c.args.self.now.batcher refl
+
+pub returns-in-Some-clause-works : goal.returns-in-Some-clause-works
+returns-in-Some-clause-works g c =
+    works_given c.args.self.now (record c.args.self.now { core = c.next.new.self }) (c.in-Some.output ∷ []) refl
+    (subst (λ out. c.args.self.now.core.outbox.queue.items ≡ option_to_list out ++ c.next.new.self.outbox.queue.items) c.in-Some.is c.next.ensures.front)
+
+pub returns-in-None-clause-works : goal.returns-in-None-clause-works
+returns-in-None-clause-works g c =
+    on_ok c.poll_after_work.result c.poll_after_work.ensures.works (among_further (works_given c.args.self.now (record c.args.self.now { core = c.next.new.self }) [] refl
+    (subst (λ out. c.args.self.now.core.outbox.queue.items ≡ option_to_list out ++ c.next.new.self.outbox.queue.items) c.in-None.is c.next.ensures.front)))

@@ -7,10 +7,12 @@ use Rattle.simplex_fetches.specs.Wanted.{AsksForTheLacking}
 use Rattle.simplex_outbox.specs.Going.{has_failed}
 use Rattle.simplex_engine.specs.Quiet.{HasNothingNew}
 use Rattle.simplex_engine.proofs.Backing.{takes_nothing}
+use Rattle.simplex_engine.proofs.Alone.{forgets_as}
 use Rattle.simplex_engine.proofs.Bounds.{bounded_still, bounded_further, bounded_same}
 use Rattle.simplex_outbox.proofs.Going.{goes_further, gives_nothing, does_more, tells_no_other, tells_no_other_then}
-use Rattle.simplex_engine.proofs.Tells.{tells_given, all_left}
+use Rattle.simplex_engine.proofs.Tells.{tells_given, all_left, works_given}
 use Rattle.simplex_engine.specs.Duties.{work_in}
+use Rattle.simplex_plan.proofs.PlannedWork.{among_further}
 use Rattle.simplex_engine.proofs.engine.Engine.poll_after_work.Goals as goal
 
 pub returns-in-Ok-clause-given : goal.returns-in-Ok-clause-given
@@ -81,3 +83,15 @@ pub returns-in-Ok-clause-waiting : goal.returns-in-Ok-clause-waiting
 returns-in-Ok-clause-waiting g c = λ none given told.
     all_left c.work.new.self (record (c.work.new.self) { core = c.next.new.self }) c.next.result none c.next.ensures.same.0 (c.next.ensures.none none) c.in-Ok.ensures.idle.steps refl c.next.ensures.front given
     (c.in-Ok.ensures.duties.stays (work_in given) told)
+
+pub returns-in-Ok-clause-held : goal.returns-in-Ok-clause-held
+returns-in-Ok-clause-held g c = forgets_as c.work.new.self.core c.next.new.self c.args.self.now.batcher c.work.new.self.batcher c.next.ensures.same.0 c.work.ensures.alone.forgets
+
+pub returns-in-Err-clause-held : goal.returns-in-Err-clause-held
+returns-in-Err-clause-held g c =
+    forgets_as c.work.new.self.core c.fail.new.self c.args.self.now.batcher c.work.new.self.batcher (ap (λ core. core.member) c.fail.ensures.failed) c.work.ensures.alone.forgets
+
+pub returns-in-Ok-clause-works : goal.returns-in-Ok-clause-works
+returns-in-Ok-clause-works g c =
+    among_further c.in-Ok.ensures.duties.works
+    (works_given c.work.new.self (record (c.work.new.self) { core = c.next.new.self }) (option_to_list c.next.result) refl c.next.ensures.front)

@@ -1,21 +1,20 @@
 -- That the views which are over are dropped first, and then the record is made short.
-use Rattle.simplex_engine.proofs.Backing.{takes_same}
 use Rattle.simplex_plan.proofs.PlannedWork.{keeps_still}
 use Rattle.simplex_outbox.proofs.Going.{goes_further}
 use Rattle.simplex_engine.proofs.Tells.{tells_further, tells_same}
 use Rattle.simplex_engine.proofs.engine.Engine.prune_record.Goals as goal
 
 pub returns-in_err-ask-clause-alone : goal.returns-in_err-ask-clause-alone
-returns-in_err-ask-clause-alone g c = record { goes_on = c.ask.ensures.goes_on; votes = takes_same c.ask.ensures.batcher }
+returns-in_err-ask-clause-alone g c = record { goes_on = c.ask.ensures.goes_on; batcher = c.ask.ensures.batcher }
 
 pub returns-in_err-prune_record-clause-alone : goal.returns-in_err-prune_record-clause-alone
-returns-in_err-prune_record-clause-alone g c = record { goes_on = goes_further c.ask.ensures.goes_on c.prune_record.ensures.goes_on; votes = takes_same c.ask.ensures.batcher }
+returns-in_err-prune_record-clause-alone g c = record { goes_on = goes_further c.ask.ensures.goes_on c.prune_record.ensures.goes_on; batcher = c.ask.ensures.batcher }
 
 pub returns : goal.returns
 returns g c = record {
-  alone = record { goes_on = goes_further c.ask.ensures.goes_on c.prune_record.ensures.goes_on; votes = takes_same c.ask.ensures.batcher };
+  alone = record { goes_on = goes_further c.ask.ensures.goes_on c.prune_record.ensures.goes_on; batcher = c.ask.ensures.batcher };
   duties =
       let keeps = tells_further c.in_ok-ask.ensures.duties
       (tells_same c.ask.new.self (record (c.ask.new.self) { core = c.prune_record.new.self }) c.prune_record.ensures.waiting c.prune_record.ensures.goes_on.queued keeps_still) in
-      record { stays = keeps.stays; ignored = keeps.ignored };
+      record { stays = keeps.stays; works = keeps.works; constants = keeps.constants; ignored = keeps.ignored };
 }

@@ -1,14 +1,13 @@
 -- That nothing is done but to queue the work.
 use Rattle.std.proofs.Common.{refl}
-use Rattle.simplex_engine.proofs.Backing.{takes_nothing}
 use Rattle.simplex_engine.proofs.Tells.{tells_pushed}
 use Rattle.simplex_engine.proofs.engine.Engine.push.Goals as goal
 
 pub returns-in_err-push-clause-alone : goal.returns-in_err-push-clause-alone
-returns-in_err-push-clause-alone g c = record { goes_on = c.push.ensures.goes_on; votes = takes_nothing c.args.self.now.batcher }
+returns-in_err-push-clause-alone g c = record { goes_on = c.push.ensures.goes_on; batcher = refl }
 
 pub returns : goal.returns
 returns g c = record {
-  alone = record { goes_on = c.push.ensures.goes_on; votes = takes_nothing c.args.self.now.batcher };
+  alone = record { goes_on = c.push.ensures.goes_on; batcher = refl };
   duties = tells_pushed c.args.self.now (record c.args.self.now { core = c.push.new.self }) c.args.work c.push.ensures.member refl c.in_ok-push.ensures.queued;
 }

@@ -4,3 +4,6 @@ use Rattle.simplex_engine.proofs.engine.Engine.resolve.Goals as goal
 
 pub returns-clause-planned : goal.returns-clause-planned
 returns-clause-planned g c = plans_repaired c.args.self.now.plan c.resolve.new.self c.resolve.ensures.same
+
+pub returns-in_err-resolve-clause-planned : goal.returns-in_err-resolve-clause-planned
+returns-in_err-resolve-clause-planned g c = plans_repaired c.args.self.now.plan c.resolve.new.self c.resolve.ensures.same

@@ -1,10 +1,10 @@
 -- That what is left is of views that are kept, and what is asked for is lacking.
-use Rattle.std.proofs.Common.{sym, subst, ◌∙◌, ap}
+use Rattle.std.proofs.Common.{refl, sym, subst, ◌∙◌, ap}
 use Rattle.std.specs.Prelude.{IfSome}
 use Rattle.simplex_voter.specs.Windows.{min_active}
 use Rattle.simplex_batcher.specs.Batching.{HoldsFrom}
 use Rattle.simplex_fetches.specs.Wanted.{AsksForTheLacking}
-use Rattle.simplex_outbox.proofs.Going.{goes_further}
+use Rattle.simplex_engine.proofs.Alone.{forgets_then}
 use Rattle.simplex_engine.proofs.Tells.{tells_further, tells_same}
 use Rattle.simplex_plan.proofs.PlannedWork.{keeps_still}
 use Rattle.simplex_engine.proofs.engine.Engine.settle.Goals as goal
@@ -19,7 +19,7 @@ pub returns-in_err-let_go-clause-idle : goal.returns-in_err-let_go-clause-idle
 returns-in_err-let_go-clause-idle g c = c.let_go.ensures.idle
 
 pub returns-in_err-store-clause-alone : goal.returns-in_err-store-clause-alone
-returns-in_err-store-clause-alone g c = record { goes_on = goes_further c.let_go.ensures.alone.goes_on c.store.ensures.goes_on; votes = c.let_go.ensures.alone.votes }
+returns-in_err-store-clause-alone g c = forgets_then c.let_go.ensures.alone c.store.ensures.goes_on c.store.ensures.member refl
 
 pub returns-in_err-store-clause-member : goal.returns-in_err-store-clause-member
 returns-in_err-store-clause-member g c = c.store.ensures.member ∙ c.let_go.ensures.member
@@ -31,7 +31,7 @@ pub returns : goal.returns
 returns g c =
     let repair = c.let_go.new.self.plan.repair in
     record {
-      alone = record { goes_on = goes_further c.let_go.ensures.alone.goes_on c.store.ensures.goes_on; votes = c.let_go.ensures.alone.votes };
+      alone = forgets_then c.let_go.ensures.alone c.store.ensures.goes_on c.store.ensures.member refl;
       member = c.store.ensures.member ∙ c.let_go.ensures.member;
       idle = c.let_go.ensures.idle;
       whole = c.in_ok-store.ensures.whole;

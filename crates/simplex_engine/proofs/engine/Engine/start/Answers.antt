@@ -1,5 +1,5 @@
 -- That the engine's member is the one that was started.
-use Rattle.std.proofs.Common.{◌≡◌, sym, subst, ap, ◌∙◌}
+use Rattle.std.proofs.Common.{◌≡◌, sym, subst, ap, inr, refl, ◌∙◌}
 use Rattle.simplex_types.specs.Config.{floor_facts}
 use Rattle.simplex_record.specs.Start.{set_up}
 use Rattle.simplex_member.specs.Start.{started_member}
@@ -7,6 +7,7 @@ use Rattle.simplex_laws.specs.Living.{HasBegun}
 use Rattle.simplex_engine.proofs.Bounds.{bounded_empty}
 use Rattle.simplex_outbox.proofs.Going.{where_ok}
 use Rattle.simplex_engine.proofs.Tells.{tells_none}
+use Rattle.simplex_engine.proofs.Beginning.{not_begun}
 use Rattle.simplex_engine.proofs.engine.Engine.start.Goals as goal
 
 pub returns-in-Ok-clause-started : goal.returns-in-Ok-clause-started
@@ -23,7 +24,14 @@ returns-in-Ok-clause-begins g c =
 
 pub returns-in-Ok-clause-bounded : goal.returns-in-Ok-clause-bounded
 returns-in-Ok-clause-bounded g c =
-    where_ok c.begin.result (c.begin.ensures.votes c.in_ok-company.ensures) (λ engine none. bounded_empty g.S.CertificateScheme.participants engine.core engine.batcher none)
+    where_ok c.begin.result (c.begin.ensures.begun _ _ _ c.in_ok-company.ensures)
+    (λ engine begun. bounded_empty g.S.CertificateScheme.participants engine.core engine.batcher begun.votes)
+
+pub returns-in-Ok-clause-refused : goal.returns-in-Ok-clause-refused
+returns-in-Ok-clause-refused g c = not_begun c.begin.result _ _ c.in-Ok.member.facts c.in-Ok.ensures.started c.begin.ensures.refused
+
+pub returns-in-Err-clause-refused : goal.returns-in-Err-clause-refused
+returns-in-Err-clause-refused g c = inr (c.in-Err.error, refl, c.in-Err.ensures.refused)
 
 pub returns-in-Ok-clause-duties : goal.returns-in-Ok-clause-duties
 returns-in-Ok-clause-duties g c =

@@ -1,7 +1,6 @@
 -- That nothing is done but to queue the work.
 use Rattle.std.proofs.Common.{refl, ap}
 use Rattle.simplex_engine.proofs.Alone.{alone_still}
-use Rattle.simplex_engine.proofs.Backing.{takes_nothing}
 use Rattle.simplex_engine.proofs.Tells.{tells_same, tells_still}
 use Rattle.simplex_plan.proofs.PlannedWork.{keeps_still}
 use Rattle.simplex_engine.proofs.engine.Engine.tell_forgotten.Goals as goal
@@ -10,11 +9,11 @@ pub returns-then-le : goal.returns-then-le
 returns-then-le g c = record { alone = alone_still c.args.self.now; member = refl; plan = refl; duties = tells_still c.args.self.now }
 
 pub returns-in_err-push-clause-alone : goal.returns-in_err-push-clause-alone
-returns-in_err-push-clause-alone g c = record { goes_on = c.push.ensures.goes_on; votes = takes_nothing c.args.self.now.batcher }
+returns-in_err-push-clause-alone g c = record { goes_on = c.push.ensures.goes_on; batcher = refl }
 
 pub returns : goal.returns
 returns g c = record {
-  alone = record { goes_on = c.push.ensures.goes_on; votes = takes_nothing c.args.self.now.batcher };
+  alone = record { goes_on = c.push.ensures.goes_on; batcher = refl };
   member = c.push.ensures.member;
   plan = refl;
   duties = tells_same c.args.self.now (record c.args.self.now { core = c.push.new.self; forgotten = c.args.lowest }) (ap (λ m. m.facts.outstanding_work) c.push.ensures.member)
