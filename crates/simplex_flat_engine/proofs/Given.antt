@@ -1,9 +1,10 @@
 -- What is given out stands behind all that was.
-use Rattle.std.proofs.Common.{◌≡◌, List, [], ◌∷◌, ◌++◌, false, inl, inr, sym, subst, ◌∙◌}
+use Rattle.std.proofs.Common.{◌≡◌, List, [], ◌∷◌, ◌++◌, false, inl, inr, sym, subst, ◌∙◌, Result, Err}
 use Rattle.std.specs.Prelude.{option_to_list}
 use Rattle.std.proofs.lemmas.Bool.{false≢true}
 use Rattle.simplex_host.specs.Host.{certificate_bytes}
-use Rattle.simplex_engine.specs.Duties.{HasTold}
+use Rattle.simplex_plan.specs.PlannedWork.{AreAmong}
+use Rattle.simplex_engine.specs.Duties.{work_ahead, work_in, HasToldAll}
 use Rattle.simplex_outbox.specs.Finals.{TellsNoMore}
 use Rattle.simplex_outbox.specs.Going.{HasGivenOut, IsKept}
 use Rattle.simplex_flat.specs.declared.shown.FlatStored.{FlatStored}
@@ -11,6 +12,10 @@ use Rattle.simplex_flat_engine.specs.declared.held.HeldEngine.{HeldEngine}
 use Rattle.simplex_flat_engine.specs.declared.told.FlatOutput.{FlatOutput}
 use Rattle.simplex_flat_engine.specs.Handling.{IsAllGiven, IsGivenOut}
 use Rattle.simplex_flat_engine.specs.Outputs.{HostOutput}
+
+-- an error that is answered is one
+pub same_error : {X E : Type 0} {r : Result X E} {a b : E} → r ≡ Err a → r ≡ Err b → a ≡ b
+same_error first second = cc
 
 -- an output that was written, or else nothing more is said
 pub all_given : (out : HostOutput) (before : FlatStored) (r : FlatOutput) (old new : HeldEngine) → old.is_lost ≡ false
@@ -28,7 +33,14 @@ tells_no_more out before r old new tells (inr it) alive = absurd (false≢true (
 
 -- what the member waits for stays told
 pub has_told : (out : HostOutput) (before : FlatStored) (r : FlatOutput) (old new : HeldEngine)
-    → ((given : List HostOutput) → HasTold given old.engine → HasTold (given ++ out ∷ []) new.engine) → IsGivenOut out before r new
-    → new.is_lost ≡ false → (given : List HostOutput) → HasTold given old.engine → HasTold (given ++ option_to_list new.last) new.engine
-has_told out before r old new tells (inl it) alive given told = subst (λ last. HasTold (given ++ option_to_list last) new.engine) (sym it.0.last) (tells given told)
+    → ((given : List HostOutput) → HasToldAll given old.engine → HasToldAll (given ++ out ∷ []) new.engine) → IsGivenOut out before r new
+    → new.is_lost ≡ false → (given : List HostOutput) → HasToldAll given old.engine → HasToldAll (given ++ option_to_list new.last) new.engine
+has_told out before r old new tells (inl it) alive given told = subst (λ last. HasToldAll (given ++ option_to_list last) new.engine) (sym it.0.last) (tells given told)
 has_told out before r old new tells (inr it) alive given told = absurd (false≢true (sym alive ∙ it.0))
+
+-- and no work is lost
+pub works_given : (out : HostOutput) (before : FlatStored) (r : FlatOutput) (old new : HeldEngine)
+    → AreAmong (work_ahead old.engine) (work_in (out ∷ []) ++ work_ahead new.engine) → IsGivenOut out before r new
+    → new.is_lost ≡ false → AreAmong (work_ahead old.engine) (work_in (option_to_list new.last) ++ work_ahead new.engine)
+works_given out before r old new works (inl it) alive = subst (λ last. AreAmong (work_ahead old.engine) (work_in (option_to_list last) ++ work_ahead new.engine)) (sym it.0.last) works
+works_given out before r old new works (inr it) alive = absurd (false≢true (sym alive ∙ it.0))

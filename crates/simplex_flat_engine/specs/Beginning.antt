@@ -1,17 +1,18 @@
 -- How an engine behind a handle begins.
 use Rattle.std.specs.Prelude.{◌≡◌, ◌⊎◌, ◌≤◌, ℕ, List, [], length}
 use Rattle.simplex_host.specs.Electing.{host_terms}
+use Rattle.simplex_codec.specs.Digests.{bytes_in_digest}
 use Rattle.simplex_host.specs.Host.{certificate_bytes, host_keys, host_signer}
 use Rattle.simplex_record.specs.Entries.{entries_of}
-use Rattle.simplex_member.specs.Journal.{IsResumed}
+use Rattle.simplex_member.specs.Journal.{IsNotResumed, IsResumed}
 use Rattle.simplex_member.specs.declared.member.journal.Stored.{Stored}
 use Rattle.simplex_member.specs.declared.member.resume.ResumeError.TheVariants as resume
 use Rattle.simplex_laws.specs.Living.{HasBegun, HasGoneOn}
-use Rattle.simplex_engine.specs.Duties.{HasTold}
+use Rattle.simplex_engine.specs.Beginning.{with_a_retry, HasBegunWith, IsMemberError, IsNotBegun}
+use Rattle.simplex_engine.specs.Duties.{HasToldAll}
 use Rattle.simplex_engine.specs.declared.engine.begin.StartError.{StartError}
 use Rattle.simplex_engine.specs.declared.engine.begin.StartError.TheVariants as start_error
 use Rattle.simplex_plan.specs.declared.plan.Options.{Options}
-use Rattle.simplex_batcher.specs.Batching.{AreGiven}
 use Rattle.simplex_engine.specs.Bounds.{HoldsNoneAhead}
 use Rattle.simplex_outbox.specs.Going.{IsWhole, TellsNothing}
 use Rattle.simplex_flat.specs.declared.flat.FlatSettings.{FlatSettings}
@@ -23,7 +24,7 @@ use Rattle.simplex_flat.specs.Opening.{IsGoingOn, IsNotResumedBy, host_start}
 use Rattle.simplex_flat.specs.Resolving.{not_replayed_number}
 use Rattle.simplex_flat.specs.Serving.{host_leader, same_host_payload}
 use Rattle.simplex_flat.specs.Settings.{HostStart, IsNoStart, IsStart}
-use Rattle.simplex_flat.specs.Starting.{begun}
+use Rattle.simplex_flat.specs.Starting.{begin_error, begun}
 use Rattle.simplex_flat.specs.Statuses.{not_resumed_number}
 use Rattle.simplex_flat_engine.specs.declared.begin.NotBegun.{NotBegun}
 use Rattle.simplex_flat_engine.specs.declared.begin.NotBegun.TheVariants as not_begun
@@ -35,31 +36,50 @@ use Rattle.simplex_flat_engine.specs.Handling.{IsAllGiven, HasShownNothing}
 abbrev pub options_of : FlatOptions → Options
 options_of f = record { retry = f.retry; on_its_way = f.on_its_way; long_record = f.long_record }
 
--- nothing was given out; the whole record is to be stored in place of all that is, no proposal to be told as final, no vote is held,
--- the member waits for nothing, no input was of no use, and leaders are drawn as set
+-- nothing was given out; the whole record is to be stored in place of all that is, no proposal to be told as final, the member waits
+-- for nothing, and leaders are drawn as set
 pub record HasGivenNothing (f : FlatSettings) (held : HeldEngine) : Type 0 where
   pub kept : IsAllGiven [] held
   pub whole : IsWhole certificate_bytes held.engine.core
   pub told : TellsNothing held.engine.core
-  pub votes : AreGiven [] held.engine.batcher
   pub bounded : HoldsNoneAhead host_keys held.engine.core held.engine.batcher
-  pub duties : HasTold [] held.engine
-  pub ignored : held.engine.plan.ignored ≡ 0
+  pub duties : HasToldAll [] held.engine
   pub draws : held.draws ≡ f.draws
   pub fresh : HasShownNothing held
+
+-- an engine begins by what a member begins with, and these options
+abbrev pub HasBegunBy : HostStart → FlatOptions → HeldEngine → Type 0
+HasBegunBy start options held =
+    HasBegunWith bytes_in_digest host_keys (host_keys start.settings.scheme) (host_signer start.settings.scheme)
+    (host_terms start.settings.elector).term_length (with_a_retry (options_of options)) held.engine
 
 -- an engine begins by these settings, with this table, floor and moment: its member is the one that they begin
 pub record IsEngineBegun (f : FlatSettings) (leaders bytes : List ℕ) (options : FlatOptions) (now : ℕ) (held : HeldEngine) : Type 0 where
   pub start : HostStart
   pub by : IsStart f leaders bytes now start
   pub facts : held.engine.core.member.facts ≡ begun start
+  pub begun_by : HasBegunBy start options held
   pub begins : HasBegun same_host_payload host_leader host_signer host_terms start held.engine.core.member.facts
   pub nothing : HasGivenNothing f held
+
+-- the error of an engine, by the member's and the resolver's
+abbrev pub not_begun_of : StartError → NotBegun
+not_begun_of (start_error.Resume resume.EntriesLost) = not_begun.Member not_resumed.EntriesLost
+not_begun_of (start_error.Resume (resume.Recover e)) = not_begun.Member (not_resumed.Recover e)
+not_begun_of (start_error.Replay e) = not_begun.Resolver e
+
+-- no engine begins, for the error of its member that is due, that of its resolver, or want of memory
+pub record IsStartRefused (f : FlatSettings) (leaders bytes : List ℕ) (now : ℕ) (e : NotBegun) : Type 0 where
+  pub start : HostStart
+  pub by : IsStart f leaders bytes now start
+  pub error : StartError
+  pub is_of : e ≡ not_begun_of error
+  pub refused : IsNotBegun (IsMemberError (begin_error start)) (λ m. m ≡ begun start) error
 
 -- why none begins: by its settings; or by what they begin, or for want of memory
 abbrev pub IsEngineNotBegun : FlatSettings → List ℕ → List ℕ → ℕ → NotBegun → Type 0
 IsEngineNotBegun f leaders bytes now (not_begun.Member (not_resumed.Settings e)) = IsNoStart f leaders bytes e
-IsEngineNotBegun f leaders bytes now _ = (start : HostStart) × IsStart f leaders bytes now start
+IsEngineNotBegun f leaders bytes now e = IsStartRefused f leaders bytes now e
 
 -- an engine goes on from the bytes of a journal, which has all entries that were counted
 pub record IsEngineResumed (f : FlatSettings) (leaders bytes : List ℕ) (options : FlatOptions) (now : ℕ) (beside : FlatStored) (journal : List ℕ)
@@ -72,12 +92,19 @@ pub record IsEngineResumed (f : FlatSettings) (leaders bytes : List ℕ) (option
   pub resumed : IsResumed same_host_payload host_leader stored (entries_of certificate_bytes entries) (host_start start) held.engine.core.member.facts
   pub goes_on : HasGoneOn same_host_payload host_leader host_signer host_terms stored (entries_of certificate_bytes entries) start
       held.engine.core.member.facts
+  pub begun_by : HasBegunBy start options held
   pub nothing : HasGivenNothing f held
 
--- a start, a record and what is stored beside it are read of them
-abbrev pub AreReadFrom : FlatSettings → List ℕ → List ℕ → ℕ → FlatStored → List ℕ → Type 0
-AreReadFrom f leaders bytes now beside journal =
-    (start : HostStart) × (stored : Stored) × (entries : List HostArtifact) × IsGoingOn f leaders bytes now beside journal start stored entries
+-- no engine goes on from what is read of them, for what refuses its member or its resolver, or want of memory
+pub record IsResumeRefused (f : FlatSettings) (leaders bytes : List ℕ) (now : ℕ) (beside : FlatStored) (journal : List ℕ) (e : NotBegun) : Type 0 where
+  pub start : HostStart
+  pub stored : Stored
+  pub entries : List HostArtifact
+  pub from : IsGoingOn f leaders bytes now beside journal start stored entries
+  pub error : StartError
+  pub is_of : e ≡ not_begun_of error
+  pub refused : IsNotBegun (IsNotResumed same_host_payload host_leader stored (entries_of certificate_bytes entries) (host_start start))
+      (IsResumed same_host_payload host_leader stored (entries_of certificate_bytes entries) (host_start start)) error
 
 -- why none goes on: by its settings or journal; or by what these are, or for want of memory
 abbrev pub IsEngineNotResumed : FlatSettings → List ℕ → List ℕ → ℕ → FlatStored → List ℕ → NotBegun → Type 0
@@ -86,16 +113,11 @@ IsEngineNotResumed f leaders bytes now beside journal (not_begun.Member not_resu
 IsEngineNotResumed f leaders bytes now beside journal (not_begun.Member (not_resumed.Journal e)) =
     IsNotResumedBy f leaders bytes now beside journal (not_resumed.Journal e)
 IsEngineNotResumed f leaders bytes now beside journal (not_begun.Member not_resumed.EntriesLost) =
-    IsNotResumedBy f leaders bytes now beside journal not_resumed.EntriesLost ⊎ AreReadFrom f leaders bytes now beside journal
-IsEngineNotResumed f leaders bytes now beside journal _ = AreReadFrom f leaders bytes now beside journal
+    IsNotResumedBy f leaders bytes now beside journal not_resumed.EntriesLost
+    ⊎ IsResumeRefused f leaders bytes now beside journal (not_begun.Member not_resumed.EntriesLost)
+IsEngineNotResumed f leaders bytes now beside journal e = IsResumeRefused f leaders bytes now beside journal e
 
--- the error of an engine, by the member's and the resolver's
-abbrev pub not_begun_of : StartError → NotBegun
-not_begun_of (start_error.Resume resume.EntriesLost) = not_begun.Member not_resumed.EntriesLost
-not_begun_of (start_error.Resume (resume.Recover e)) = not_begun.Member (not_resumed.Recover e)
-not_begun_of (start_error.Replay e) = not_begun.Resolver e
-
--- its number
+-- the number of an error
 abbrev pub not_begun_number : NotBegun → ℕ
 not_begun_number (not_begun.Member e) = not_resumed_number e
 not_begun_number (not_begun.Resolver e) = not_replayed_number (not_replayed.Replay e)

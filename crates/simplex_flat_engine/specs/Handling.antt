@@ -1,7 +1,7 @@
 -- How an engine behind a handle is told and asked.
-use Rattle.std.specs.Prelude.{◌≡◌, ◌⊎◌, ◌+◌, ◌-◌, ◌^◌, ◌++◌, min, ℕ, Bool, true, false, List, [], length, Option, Some, None, option_to_list, Result, Ok, Err, OnErr, OnOk, IfOk, IsFalse, IsTrue, if◌then◌else◌}
+use Rattle.std.specs.Prelude.{◌≡◌, ◌⊎◌, ◌+◌, ◌-◌, ◌^◌, ◌++◌, min, ℕ, Bool, true, false, List, [], length, Option, Some, None, option_to_list, Result, Ok, Err, OnErr, OnOk, IfErr, IfOk, IsFalse, IsTrue, if◌then◌else◌}
 use Rattle.simplex_types.specs.declared.types.fault.Fault.{Fault}
-use Rattle.simplex_types.specs.declared.types.fault.Fault.TheVariants.{Failed}
+use Rattle.simplex_types.specs.declared.types.fault.Fault.TheVariants.{OutOfMemory, Failed}
 use Rattle.simplex_types.specs.declared.types.messages.Subject.{Subject}
 use Rattle.simplex_codec.specs.declared.digest.BytesDigest.{BytesDigest}
 use Rattle.simplex_host.specs.declared.scheme.HostCertificate.{HostCertificate}
@@ -11,16 +11,18 @@ use Rattle.simplex_host.specs.Assembling.{signed_bytes}
 use Rattle.simplex_host.specs.Host.{certificate_bytes, host_keys}
 use Rattle.simplex_engine.specs.Acting.{IsActedOn}
 use Rattle.simplex_outbox.specs.declared.output.Output.TheVariants as output
-use Rattle.simplex_engine.specs.Admitting.{IsTurnedAway, ignoring, is_admitted, one_more}
-use Rattle.simplex_engine.specs.Backing.{IsBackedInput, TakesNone, TakesVotes, votes_of_input}
+use Rattle.simplex_engine.specs.Admitting.{IsTurnedAway, ignoring, is_input_admitted, one_more}
+use Rattle.simplex_engine.specs.Alone.{ForgetsNoOther}
+use Rattle.simplex_engine.specs.Backing.{IsBackedInput, KeepsVotes, TakesNone, TakesVotes, votes_of_input}
 use Rattle.simplex_engine.specs.Bounds.{HoldsAdmitted, HoldsFromKept, HoldsNoneAhead, StaysBounded}
 use Rattle.simplex_engine.specs.Lacking.{AsksForItsLacking}
 use Rattle.simplex_engine.specs.Dropping.{IsDropped}
-use Rattle.simplex_engine.specs.Duties.{AllIsGivenOut, HasTold, KeepsTelling}
+use Rattle.simplex_engine.specs.Duties.{AllIsGivenOut, HasToldAll, KeepsTelling, work_ahead, work_in}
 use Rattle.simplex_outbox.specs.Finals.{TellsNoMore}
 use Rattle.simplex_outbox.specs.Going.{DoesMoreOn, GoesOn, IsKept, IsWhole, has_failed}
 use Rattle.simplex_engine.specs.Inputs.{subject_in}
 use Rattle.simplex_outbox.specs.Journals.{IsRecordOf, journal_of}
+use Rattle.simplex_plan.specs.PlannedWork.{AreAmong, constants_of}
 use Rattle.simplex_plan.specs.Planning.{IsIdle}
 use Rattle.simplex_engine.specs.Settled.{IsSettled}
 use Rattle.simplex_flat.specs.declared.journal.NotWritten.{NotWritten}
@@ -43,6 +45,10 @@ pub record HasShownNothing (held : HeldEngine) : Type 0 where
   pub lost : held.is_lost ≡ false
   pub shown : held.shown.items ≡ []
 
+-- why an engine fails, or had failed
+abbrev pub IsFailure : Fault → Type 0
+IsFailure fault = (fault ≡ OutOfMemory) ⊎ (fault ≡ Failed)
+
 -- whether it was of use, or why the engine has failed
 abbrev pub IsAnswer : Result Bool Fault → FlatTaken → Type 0
 IsAnswer (Ok is_of_use) r = (r.status ≡ 0) × (r.is_of_use ≡ flag_number is_of_use)
@@ -59,17 +65,20 @@ pub record IsTaken (now : ℕ) (input : HostInput) (old : HeldEngine) (r : FlatT
   pub tells : IsAnswer answer r
   -- after an error the engine has failed; one that had failed answers only that, and stays as it was
   pub failed : OnErr answer (has_failed new.engine.core ≡ true)
+  pub error : IfErr answer IsFailure
   pub refused : has_failed old.engine.core ≡ true → (answer ≡ Err Failed) × (new.engine ≡ old.engine)
   -- what is of no use is dropped: the member has done nothing, and no vote is taken; what is not admitted is of none
   pub dropped : IfOk answer (λ is_of_use. IsFalse is_of_use → IsDropped now input old.engine new.engine)
-  pub unadmitted : IsFalse (is_admitted certificate_bytes old.engine.core.member.facts input) → IfOk answer (λ is_of_use. IsFalse is_of_use
+  pub unadmitted : IsFalse (is_input_admitted certificate_bytes old.engine.core.member.facts input) → IfOk answer (λ is_of_use. IsFalse is_of_use
       × IsTurnedAway input (ignoring old.engine) new.engine)
   -- what is admitted is acted on
-  pub acted : IsTrue (is_admitted certificate_bytes old.engine.core.member.facts input) → IfOk answer
+  pub acted : IsTrue (is_input_admitted certificate_bytes old.engine.core.member.facts input) → IfOk answer
       (IsActedOn same_host_payload host_leader certificate_bytes AreTheSignatures host_keys now input old.engine
       new.engine.core.member.facts new.engine.batcher new.engine.plan.steps.items)
   pub goes_on : GoesOn same_host_payload host_leader certificate_bytes (subject_in certificate_bytes input) old.engine.core new.engine.core
   pub votes : TakesVotes (votes_of_input input) old.engine.batcher new.engine.batcher
+  -- but for a vote, the same votes are held
+  pub held : KeepsVotes input old.engine.batcher new.engine.batcher
   pub backed : IsBackedInput same_host_payload host_leader certificate_bytes (length (host_keys old.engine.batcher.scheme)) input old.engine.batcher
       old.engine.core new.engine.core
   pub bounded : StaysBounded host_keys old.engine.core old.engine.batcher new.engine.core new.engine.batcher
@@ -169,7 +178,7 @@ pub record IsAtRest (now : ℕ) (old new : HostEngine) : Type 0 where
   pub idle : IsIdle now new.plan
   pub lowest : HoldsFromKept new.core new.batcher
   pub lacking : AsksForItsLacking new.core new.plan.repair
-  pub waiting : (given : List HostOutput) → HasTold given old → AllIsGivenOut given new
+  pub waiting : (given : List HostOutput) → HasToldAll given old → AllIsGivenOut given new
   pub admitted : HoldsNoneAhead host_keys old.core old.batcher → HoldsAdmitted host_keys new.core new.batcher
 
 -- what a poll comes to at a moment: something is given out; nothing is left to be done then; or the engine has failed
@@ -177,7 +186,7 @@ abbrev pub IsOutcome : ℕ → HeldEngine → FlatOutput → HeldEngine → Type
 IsOutcome now old r new =
     ((out : HostOutput) × IsGivenOut out old.stored r new)
     ⊎ (IsNothing 0 r new × IsAtRest now old.engine new.engine)
-    ⊎ ((fault : Fault) × IsNothing (fault_status fault) r new × (has_failed new.engine.core ≡ true))
+    ⊎ ((fault : Fault) × IsFailure fault × IsNothing (fault_status fault) r new × (has_failed new.engine.core ≡ true))
 
 -- an engine that has lost nothing is asked what is to be carried out next at a moment
 pub record IsAsked (now : ℕ) (old : HeldEngine) (r : FlatOutput) (new : HeldEngine) : Type 0 where
@@ -188,12 +197,19 @@ pub record IsAsked (now : ℕ) (old : HeldEngine) (r : FlatOutput) (new : HeldEn
   -- no certificate is accepted, and no vote is taken
   pub does : DoesMoreOn same_host_payload host_leader None old.engine.core.member.facts new.engine.core.member.facts
   pub votes : TakesNone old.engine.batcher new.engine.batcher
+  -- just those of views below the lowest one that is kept are forgotten, or none is
+  pub held : ForgetsNoOther new.engine.core old.engine.batcher new.engine.batcher
   pub bounded : StaysBounded host_keys old.engine.core old.engine.batcher new.engine.core new.engine.batcher
   -- each proposal and block that the application is to be told of stays told
-  pub duties : has_failed new.engine.core ≡ false → new.is_lost ≡ false → (given : List HostOutput) → HasTold given old.engine
-      → HasTold (given ++ option_to_list new.last) new.engine
+  pub duties : has_failed new.engine.core ≡ false → new.is_lost ≡ false → (given : List HostOutput) → HasToldAll given old.engine
+      → HasToldAll (given ++ option_to_list new.last) new.engine
+  -- no work is lost: what is queued or planned is given out, or is so still
+  pub works : has_failed new.engine.core ≡ false → new.is_lost ≡ false
+      → AreAmong (work_ahead old.engine) (work_in (option_to_list new.last) ++ work_ahead new.engine)
   -- no input is counted as of no use
   pub ignored : has_failed new.engine.core ≡ false → new.engine.plan.ignored ≡ old.engine.plan.ignored
+  -- the options stay, and so does whether there are other members
+  pub constants : has_failed new.engine.core ≡ false → constants_of new.engine.plan ≡ constants_of old.engine.plan
   pub outcome : IsOutcome now old r new
   -- one that had failed tells only that, and stays as it was
   pub refused : has_failed old.engine.core ≡ true → IsNothing 2 r new × (new.engine ≡ old.engine)

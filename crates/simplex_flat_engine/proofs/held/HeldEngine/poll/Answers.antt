@@ -14,9 +14,12 @@ returns c =
             told = asked.told;
             does = asked.does;
             votes = asked.votes;
+            held = asked.held;
             bounded = asked.bounded;
             duties = asked.duties;
+            works = asked.works;
             ignored = asked.ignored;
+            constants = asked.constants;
             outcome = asked.outcome;
             refused = asked.refused;
           },

@@ -1,13 +1,15 @@
--- How the contract of `poll_engine` follows where the engine gives something out, and where it has nothing more to do.
-use Rattle.std.proofs.Common.{List, inl, inr, refl, sym, subst, ◌∙◌}
+-- How the contract of `poll_engine` follows where the engine gives something out, where it has nothing more to do, and where it fails.
+use Rattle.std.proofs.Common.{List, ap, inl, inr, refl, sym, subst, ◌∙◌}
 use Rattle.std.specs.Prelude.{◌++◌, IsOk, option_to_list}
 use Rattle.std.proofs.lemmas.Bool.{false≢true}
 use Rattle.simplex_host.specs.Host.{certificate_bytes}
-use Rattle.simplex_engine.specs.Duties.{HasTold}
+use Rattle.simplex_plan.specs.PlannedWork.{AreAmong}
+use Rattle.simplex_engine.specs.Duties.{work_ahead, work_in, HasToldAll}
 use Rattle.simplex_outbox.specs.Finals.{TellsNoMore}
 use Rattle.simplex_outbox.specs.Going.{IsKept}
+use Rattle.simplex_flat.specs.Numbers.{fault_status}
 use Rattle.simplex_flat_engine.specs.Outputs.{HostOutput}
-use Rattle.simplex_flat_engine.proofs.Given.{all_given, has_told, tells_no_more}
+use Rattle.simplex_flat_engine.proofs.Given.{all_given, has_told, same_error, tells_no_more, works_given}
 use Rattle.simplex_flat_engine.proofs.held.HeldEngine.poll_engine.Goals as goal
 
 pub returns-in-Ok-Some : goal.returns-in-Ok-Some
@@ -24,10 +26,14 @@ returns-in-Ok-Some c =
               (rw rest.0 (rw c.in-Ok-Some.field-0-is at c.in-Ok-Some.ensures.told)) c.give_out.ensures.given;
           does = rw rest.0 c.in-Ok-Some.ensures.does;
           votes = rw rest.0 c.in-Ok-Some.ensures.votes;
+          held = rw rest.0 c.in-Ok-Some.ensures.held;
           bounded = rw rest.0 c.in-Ok-Some.ensures.bounded;
           duties = λ _. has_told c.in-Ok-Some.output c.args.self.now.stored c.give_out.result c.args.self.now c.give_out.new.self
               (rw rest.0 (rw c.in-Ok-Some.field-0-is at c.in-Ok-Some.ensures.duties)) c.give_out.ensures.given;
+          works = λ _. works_given c.in-Ok-Some.output c.args.self.now.stored c.give_out.result c.args.self.now c.give_out.new.self
+              (rw rest.0 (rw c.in-Ok-Some.field-0-is at c.in-Ok-Some.ensures.works)) c.give_out.ensures.given;
           ignored = λ _. rw rest.0 c.in-Ok-Some.ensures.ignored;
+          constants = λ _. rw rest.0 c.in-Ok-Some.ensures.constants;
           outcome = inl (c.in-Ok-Some.output, c.give_out.ensures.given);
           refused = λ had. absurd (false≢true (subst IsOk (sym c.in-Ok-Some.is ∙ (c.poll.ensures.refused had).0) refl));
         },
@@ -51,10 +57,14 @@ returns-in-Ok-None c =
               (sym c.requires.last) (rw none at c.in-Ok-None.ensures.told);
           does = c.in-Ok-None.ensures.does;
           votes = c.in-Ok-None.ensures.votes;
+          held = c.in-Ok-None.ensures.held;
           bounded = c.in-Ok-None.ensures.bounded;
-          duties = λ _ alive. subst (λ last. (before : List HostOutput) → HasTold before c.args.self.now.engine → HasTold (before ++ option_to_list last) c.poll.new.self)
+          duties = λ _ alive. subst (λ last. (before : List HostOutput) → HasToldAll before c.args.self.now.engine → HasToldAll (before ++ option_to_list last) c.poll.new.self)
               (sym c.requires.last) (rw none at c.in-Ok-None.ensures.duties);
+          works = λ _ alive. subst (λ last. AreAmong (work_ahead c.args.self.now.engine) (work_in (option_to_list last) ++ work_ahead c.poll.new.self))
+              (sym c.requires.last) (rw none at c.in-Ok-None.ensures.works);
           ignored = λ _. c.in-Ok-None.ensures.ignored;
+          constants = λ _. c.in-Ok-None.ensures.constants;
           outcome = inr (inl (
             record { status_is = told.status; nothing = told.nothing.0; last = c.requires.last },
             record {
@@ -67,6 +77,47 @@ returns-in-Ok-None c =
             },
           ));
           refused = λ had. absurd (false≢true (subst IsOk (sym c.in-Ok-None.is ∙ (c.poll.ensures.refused had).0) refl));
+        },
+      ),
+      refl,
+      refl,
+    )
+
+pub returns-in-Err : goal.returns-in-Err
+returns-in-Err c =
+    let going = c.if-self.false in
+    let told = c.no_output-in-Err.ensures in
+    let failed = c.in-Err.ensures.failed in (
+      inr (
+        going,
+        record {
+          given = λ before all alive. subst (λ last. IsKept certificate_bytes (before ++ option_to_list last) c.poll.new.self.core)
+              (sym c.requires.last) (c.in-Err.ensures.given before (all going));
+          told = λ alive. subst (λ last. TellsNoMore (option_to_list last) c.args.self.now.engine.core.outbox c.poll.new.self.core.outbox)
+              (sym c.requires.last) c.in-Err.ensures.told;
+          does = c.in-Err.ensures.does;
+          votes = c.in-Err.ensures.votes;
+          held = c.in-Err.ensures.held;
+          bounded = c.in-Err.ensures.bounded;
+          duties = λ alive. absurd (false≢true (sym alive ∙ failed));
+          works = λ alive. absurd (false≢true (sym alive ∙ failed));
+          ignored = λ alive. absurd (false≢true (sym alive ∙ failed));
+          constants = λ alive. absurd (false≢true (sym alive ∙ failed));
+          outcome = inr (inr (
+            c.in-Err.fault,
+            c.in-Err.ensures.error,
+            record { status_is = told.status ∙ c.number_of_fault-in-Err.ensures; nothing = told.nothing.0; last = c.requires.last },
+            failed,
+          ));
+          refused = λ had.
+              let only = c.poll.ensures.refused had in (
+                record {
+                  status_is = told.status ∙ c.number_of_fault-in-Err.ensures ∙ ap fault_status (same_error c.in-Err.is only.0);
+                  nothing = told.nothing.0;
+                  last = c.requires.last;
+                },
+                only.1,
+              );
         },
       ),
       refl,

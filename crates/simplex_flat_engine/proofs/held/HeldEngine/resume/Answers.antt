@@ -1,5 +1,9 @@
 -- How the contract of `resume` follows: the engine that goes on has given nothing out, and one that is refused is so for what was read.
-use Rattle.std.proofs.Common.{sym, subst}
+use Rattle.std.proofs.Common.{refl, sym, subst}
+use Rattle.simplex_codec.specs.Digests.{bytes_in_digest}
+use Rattle.simplex_host.specs.Electing.{host_terms}
+use Rattle.simplex_host.specs.Host.{host_keys, host_signer}
+use Rattle.simplex_engine.specs.Beginning.{with_a_retry, HasBegunWith}
 use Rattle.simplex_flat_engine.specs.Beginning.{IsEngineNotResumed}
 use Rattle.simplex_flat_engine.proofs.Refused.{engine_refused, member_refused}
 use Rattle.simplex_flat_engine.proofs.held.HeldEngine.resume.Goals as goal
@@ -19,14 +23,15 @@ returns-in-Ok-resume-clause-resumed c =
       whole = c.in-Ok.ensures.whole;
       resumed = rw c.new.ensures.engine c.in-Ok-resume.ensures.resumed;
       goes_on = rw c.new.ensures.engine c.in-Ok-resume.ensures.goes_on;
+      begun_by = rw c.new.ensures.engine
+          (subst (λ options. HasBegunWith bytes_in_digest host_keys (host_keys from.start.settings.scheme) (host_signer from.start.settings.scheme)
+          (host_terms from.start.settings.elector).term_length (with_a_retry options) c.in-Ok-resume.engine) c.options_in-options.ensures c.in-Ok-resume.ensures.begun);
       nothing = record {
         kept = λ _. rw c.new.ensures.engine c.in-Ok-resume.ensures.kept;
         whole = rw c.new.ensures.engine c.in-Ok-resume.ensures.whole;
         told = rw c.new.ensures.engine c.in-Ok-resume.ensures.told;
-        votes = rw c.new.ensures.engine c.in-Ok-resume.ensures.votes;
         bounded = rw c.new.ensures.engine c.in-Ok-resume.ensures.bounded;
         duties = rw c.new.ensures.engine c.in-Ok-resume.ensures.duties;
-        ignored = rw c.new.ensures.engine c.in-Ok-resume.ensures.ignored;
         draws = c.new.ensures.draws;
         fresh = c.new.ensures.fresh;
       };
@@ -38,4 +43,12 @@ returns-in-Err-resume-clause-refused c =
     subst (IsEngineNotResumed c.args.flat.now c.args.leaders.now c.args.certificate.now c.args.now c.args.stored.now c.args.journal.now)
     (sym c.not_begun.ensures)
     (engine_refused c.args.flat.now c.args.leaders.now c.args.certificate.now c.args.now c.args.stored.now c.args.journal.now
-    c.in-Err-resume.error (from.start, from.stored, from.entries.items, c.in-Ok.ensures.from))
+    c.in-Err-resume.error (record {
+      start = from.start;
+      stored = from.stored;
+      entries = from.entries.items;
+      from = c.in-Ok.ensures.from;
+      error = c.in-Err-resume.error;
+      is_of = refl;
+      refused = c.in-Err-resume.ensures.refused;
+    }))

@@ -1,5 +1,9 @@
 -- How the contract of `start` follows: the engine that begins has given nothing out, and one that is refused had settings of a member.
-use Rattle.std.proofs.Common.{sym, subst}
+use Rattle.std.proofs.Common.{refl, sym, subst}
+use Rattle.simplex_codec.specs.Digests.{bytes_in_digest}
+use Rattle.simplex_host.specs.Electing.{host_terms}
+use Rattle.simplex_host.specs.Host.{host_keys, host_signer}
+use Rattle.simplex_engine.specs.Beginning.{with_a_retry, HasBegunWith}
 use Rattle.simplex_flat_engine.specs.Beginning.{IsEngineNotBegun}
 use Rattle.simplex_flat_engine.proofs.Refused.{start_refused}
 use Rattle.simplex_flat_engine.proofs.held.HeldEngine.start.Goals as goal
@@ -10,14 +14,15 @@ returns-in-Ok-start-clause-begun c = record {
   by = c.in-Ok.ensures.made;
   facts = rw c.new.ensures.engine c.in-Ok-start.ensures.started;
   begins = rw c.new.ensures.engine c.in-Ok-start.ensures.begins;
+  begun_by = rw c.new.ensures.engine
+      (subst (λ options. HasBegunWith bytes_in_digest host_keys (host_keys c.in-Ok.start.settings.scheme) (host_signer c.in-Ok.start.settings.scheme)
+      (host_terms c.in-Ok.start.settings.elector).term_length (with_a_retry options) c.in-Ok-start.engine) c.options_in.ensures c.in-Ok-start.ensures.begun);
   nothing = record {
     kept = λ _. rw c.new.ensures.engine c.in-Ok-start.ensures.kept;
     whole = rw c.new.ensures.engine c.in-Ok-start.ensures.whole;
     told = rw c.new.ensures.engine c.in-Ok-start.ensures.told;
-    votes = rw c.new.ensures.engine c.in-Ok-start.ensures.votes;
     bounded = rw c.new.ensures.engine c.in-Ok-start.ensures.bounded;
     duties = rw c.new.ensures.engine c.in-Ok-start.ensures.duties;
-    ignored = rw c.new.ensures.engine c.in-Ok-start.ensures.ignored;
     draws = c.new.ensures.draws;
     fresh = c.new.ensures.fresh;
   };
@@ -26,4 +31,10 @@ returns-in-Ok-start-clause-begun c = record {
 pub returns-in-Err-start-clause-refused : goal.returns-in-Err-start-clause-refused
 returns-in-Err-start-clause-refused c =
     subst (IsEngineNotBegun c.args.flat.now c.args.leaders.now c.args.certificate.now c.args.now) (sym c.not_begun.ensures)
-    (start_refused c.args.flat.now c.args.leaders.now c.args.certificate.now c.args.now c.in-Err-start.error c.in-Ok.start c.in-Ok.ensures.made)
+    (start_refused c.args.flat.now c.args.leaders.now c.args.certificate.now c.args.now c.in-Err-start.error (record {
+      start = c.in-Ok.start;
+      by = c.in-Ok.ensures.made;
+      error = c.in-Err-start.error;
+      is_of = refl;
+      refused = c.in-Err-start.ensures.refused;
+    }))
