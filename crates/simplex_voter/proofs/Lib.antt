@@ -39,3 +39,4 @@ pub mod Building
 pub mod Near
 pub mod Scanning
 pub mod Worked
+pub mod Due

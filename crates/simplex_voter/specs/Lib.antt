@@ -20,3 +20,4 @@ pub mod Proposing
 pub mod Verifying
 pub mod Serving
 pub mod Replay
+pub mod Due

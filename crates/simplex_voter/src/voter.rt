@@ -7,6 +7,7 @@ mod certification;
 mod chains;
 mod changes;
 mod conditions;
+mod due;
 mod entering;
 mod finalizations;
 mod floor;

@@ -4,7 +4,7 @@ ghost use Rattle.std.specs.Prelude.{◌≡◌, ◌||◌, IfOk, OnOk, OnErr, IsOk
 ghost use Rattle.std.specs.Option.{option_copied};
 ghost use Rattle.simplex_types.specs.Proposal.{same_proposal};
 ghost use Rattle.simplex_types.specs.Certificates.{notarization_facts, nullification_facts, finalization_facts};
-ghost use Rattle.simplex_round.specs.Round.{certificate_payload, equivocator, forwardable, once, with_finalization, with_notarization, with_nullification, with_recovered};
+ghost use Rattle.simplex_round.specs.Round.{certificate_payload, equivocator, forwardable, has_unsent_certificate, once, with_finalization, with_notarization, with_nullification, with_recovered};
 
 use super::{Certification, Round};
 use crate::slot::Change;
@@ -202,6 +202,15 @@ impl<S: CertificateScheme, D: Digest> Round<S, D> {
             return None;
         }
         self.finalization.as_ref()
+    }
+
+    /// Whether a certificate of the view is there that was not handed out before.
+    pub fn has_unsent_certificate(&self) -> bool
+        ensures { result ≡ has_unsent_certificate self.now }
+    {
+        self.unsent_notarization().is_some()
+            || self.unsent_nullification().is_some()
+            || self.unsent_finalization().is_some()
     }
 
     /// The payload that the view's certificate lets later views build on: the finalization's,

@@ -83,7 +83,7 @@ impl<S: CertificateScheme, L: Elector<S>, D: Digest> State<S, L, D> {
     /// The view's own facts come first, since its ancestry is looked up along the chain, at each event. The binding is tested
     /// again at the vote, so that none stands on a parent that was replaced since the proposal was given out.
     #[tactic(auto, unfolding(crate::specs::Rules::may_notarize))]
-    fn may_notarize(&self, view: View) -> bool
+    pub(super) fn may_notarize(&self, view: View) -> bool
         requires { 1 ≤ self.now.current }
         ensures may { result ≡ may_notarize D.eq L.elect self.now view }
         ensures room { result ≡ true → view < largest_tracked }

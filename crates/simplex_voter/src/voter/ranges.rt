@@ -131,7 +131,8 @@ impl<S: CertificateScheme, D: Digest> Rounds<S, D> {
 
     /// The rounds of the tracked views at or above a view, by rising view.
     pub(super) fn at_or_above(&self, view: View) -> Entries<'_, Round<S, D>>
-        ensures { result ≡ filter (λ e. nat_le view e.0) self.now.by_view }
+        ensures above { result ≡ filter (λ e. nat_le view e.0) self.now.by_view }
+        ensures ordered { is_sorted nat_cmp self.now.by_view ≡ true }
     {
         self.by_view.at_or_above(view)
     }

@@ -5,4 +5,4 @@ use Rattle.simplex_voter.proofs.voter.state.State.stall_deadline.Goals as goal
 pub returns : goal.returns
 returns g c =
     rw (← c.self.view_is)
-    (stall_shown _ _ c.self.view_is _ _ _ _ _ c.terms.ensures c.term_start-start.ensures c.max.ensures c.at_or_above-entries.ensures c.first_deadline.ensures)
+    (stall_shown _ _ c.self.view_is _ _ _ _ _ c.terms.ensures c.term_start-start.ensures c.max.ensures c.at_or_above-entries.ensures.above c.first_deadline.ensures)
