@@ -2,15 +2,16 @@
 use Rattle.std.proofs.Common.{◌≡◌, ◌∙◌, refl, ap, sym, subst, ℕ, ◌+◌, ◌<◌, Bool, true, false, not, ◌==◌, List, [], ◌∷◌, ◌++◌, append_assoc, length, get_or, drop, map, filter}
 use Rattle.std.specs.Prelude.{nat_lt}
 use Rattle.std.proofs.lemmas.List.{at_drop_more}
+use Rattle.simplex_fetches.specs.declared.repair.Repair.{Repair}
 use Rattle.simplex_plan.specs.declared.plan.Plan.{Plan}
 use Rattle.simplex_plan.specs.declared.plan.Step.{Step}
 use Rattle.simplex_plan.specs.declared.plan.Views.{Views}
 use Rattle.simplex_plan.specs.declared.plan.early.Early.{Early}
 use Rattle.simplex_plan.specs.Building.{HasBuilds}
-use Rattle.simplex_plan.specs.Entering.{told_by, asking_by, offering, HasEntered, HasEnteredWhere, HasSeen}
+use Rattle.simplex_plan.specs.Entering.{told_by, asking_by, offering, HasEntered, HasEnteredWhere, IsPassedWhere, HasSeen}
 use Rattle.simplex_plan.specs.Planning.{HasPlanned, touching, watching}
-use Rattle.simplex_plan.specs.PlannedWork.{KeepsPlanned, constants_of}
-use Rattle.simplex_plan.proofs.PlannedWork.{ignored_of, plans_behind, plans_same}
+use Rattle.simplex_plan.specs.PlannedWork.{work_planned, KeepsPlanned, constants_of}
+use Rattle.simplex_plan.proofs.PlannedWork.{ignored_of, keeps_further, plans_behind, plans_beside, plans_same, repaired_constants}
 
 -- what some come to, one behind the other, is queued up to one more of them
 pub more_queued : {A B : Type 0} (all : List A → List B) (one : A → List B) (xs : List A) (i : ℕ) (x : A) (queued left whole : List B)
@@ -22,6 +23,11 @@ more_queued all one xs i x queued left whole within is split before more =
     ∙ ap (λ l. queued ++ l) (sym split)
     ∙ ap (λ l. queued ++ l) (sym (at_drop_more all xs i x within ∙ ap (λ y. all (y ∷ drop (i + 1) xs)) (sym is)))
     ∙ before
+
+-- the same peers are asked, wherever fetches are closed
+passed_same : (b : Bool) (finalized : ℕ) (old new : Repair) → IsPassedWhere b finalized old new → (new.fetches.peers ≡ old.fetches.peers) × (new.fetches.retry ≡ old.fetches.retry)
+passed_same true finalized old new is = (is.peers, is.retry)
+passed_same false finalized old new is = (ap (λ (repair : Repair). repair.fetches.peers) is, ap (λ (repair : Repair). repair.fetches.retry) is)
 
 module _ {S D K G C : Type 0} where
   -- the view is touched, and then comes what waited for it
@@ -53,13 +59,21 @@ module _ {S D K G C : Type 0} where
 
   -- what was planned stays planned
   pub seen_keeps : (views : Views) (old new : Plan S D K G C) → HasSeen views old new → KeepsPlanned old new
-  seen_keeps views old new seen = by_view (not (old.views.current == views.current)) seen.entered
+  seen_keeps views old new seen = keeps_further {b = work_planned passed.steps.items} passed_keeps (by_view (not (old.views.current == views.current)) seen.entered)
     where
-      by_view : (b : Bool) → HasEnteredWhere b views.current (record old { views = views; repair = new.repair }) new → KeepsPlanned old new
+      passed : Plan S D K G C
+      passed = record old { views = views; repair = new.repair }
+
+      passed_keeps : KeepsPlanned old passed
+      passed_keeps =
+          let same = passed_same (nat_lt old.views.last_finalized views.last_finalized) views.last_finalized old.repair new.repair seen.passed in
+          plans_beside old passed passed refl refl (repaired_constants old new.repair same.0 same.1) refl
+
+      by_view : (b : Bool) → HasEnteredWhere b views.current passed new → KeepsPlanned passed new
       by_view true is =
           let asks = asking_by views.current old.builds.items in
           let offers = offering views.current old.early.proposals.items in
-          plans_behind old new (touching views.current ++ (asks ++ offers))
+          plans_behind passed new (touching views.current ++ (asks ++ offers))
           (is.steps ∙ append_assoc (old.steps.items ++ touching views.current) asks offers ∙ append_assoc old.steps.items (touching views.current) (asks ++ offers))
           (ap constants_of is.same) (ap ignored_of is.same)
-      by_view false is = plans_same (record old { views = views; repair = new.repair }) new is
+      by_view false is = plans_same passed new is

@@ -13,7 +13,7 @@ use Rattle.simplex_plan.specs.Filling.{watching_where, fetching_one, IsFetchAske
 use Rattle.simplex_plan.specs.Planning.{HasPlanned, IsIdle}
 use Rattle.simplex_plan.specs.PlannedWork.{AreAmong, work_planned, KeepsPlanned, constants_of}
 use Rattle.simplex_plan.proofs.Planning.{some_planned}
-use Rattle.simplex_plan.proofs.PlannedWork.{among_all, among_further, ignored_of, plans_behind, plans_same}
+use Rattle.simplex_plan.proofs.PlannedWork.{among_all, among_further, ignored_of, plans_behind, plans_same, repaired_constants}
 
 module _ {A : Type 0} where
   -- what stands in front of a queue is taken from it, and where nothing is taken it was empty
@@ -33,12 +33,26 @@ none_due now old new ask none asking = by_place (due_at now old.wanted.items) re
     by_place None is (_, same) = ap (λ (fetches : Fetches). due_at now fetches.wanted.items) same ∙ is
     by_place (Some place) is (fetch, _, some, _, _, _) = cc
 
+-- the same peers are asked
+asking_same : (now : ℕ) (old new : Fetches) (ask : Option Ask) → IsAsking now old ask new → (new.peers ≡ old.peers) × (new.retry ≡ old.retry)
+asking_same now old new ask asking = by_place (due_at now old.wanted.items) asking
+  where
+    by_place : (at : Option ℕ)
+        → MatchOption at ((ask ≡ None) × (new ≡ old)) (λ place. (fetch : Fetch) × (slice_get old.wanted.items place ≡ Some fetch) × (ask ≡ Some (ask_of old fetch))
+        × (new.wanted.items ≡ slice_set old.wanted.items place (asked_again now old.retry fetch)) × (new.peers ≡ old.peers) × (new.retry ≡ old.retry))
+        → (new.peers ≡ old.peers) × (new.retry ≡ old.retry)
+    by_place None (_, same) = (ap (λ (fetches : Fetches). fetches.peers) same, ap (λ (fetches : Fetches). fetches.retry) same)
+    by_place (Some place) (_, _, _, _, peers, retry) = (peers, retry)
+
 module _ {S D K G C : Type 0} where
   -- what is due was planned: a plan from which a step is taken
   module _ (now : ℕ) where
     -- it kept what was planned
     asked_keeps : (old new : Plan S D K G C) → IsFetchAsked now old new → KeepsPlanned old new
-    asked_keeps old new is = plans_behind old new (fetching_one is.ask) is.planned.steps (ap constants_of is.planned.same) (ap ignored_of is.planned.same)
+    asked_keeps old new is =
+        let same = asking_same now old.repair.fetches new.repair.fetches is.ask is.asked in
+        plans_behind old new (fetching_one is.ask) is.planned.steps
+        (ap constants_of is.planned.same ∙ repaired_constants old new.repair same.0 same.1) (ap ignored_of is.planned.same)
 
     prune_keeps : (b : Bool) (old new : Plan S D K G C) → IsPruneAsked b now old new → KeepsPlanned old new
     prune_keeps true old new is = plans_behind old new _ is.steps (ap constants_of is.same) (ap ignored_of is.same)
@@ -53,7 +67,7 @@ module _ {S D K G C : Type 0} where
     watched_keeps (step ∷ steps) old new is = plans_behind old new _ is.steps (ap constants_of is.same) (ap ignored_of is.same)
 
     ready_keeps : (steps : List (Step S D K G C)) (old ready : Plan S D K G C) → IsReady steps now old ready → KeepsPlanned old ready
-    ready_keeps [] old ready is = watched_keeps (watching_where old.is_watch_due old.builds.items) (record old { is_watch_due = false }) ready is
+    ready_keeps [] old ready is = watched_keeps (watching_where old.is_watch_due old.views.current old.builds.items) (record old { is_watch_due = false }) ready is
     ready_keeps (step ∷ steps) old ready is = plans_same old ready is
 
     -- where no step is queued then, nothing is to be done
@@ -80,7 +94,7 @@ module _ {S D K G C : Type 0} where
 
     ready_idle : (steps : List (Step S D K G C)) (old ready : Plan S D K G C) → old.steps.items ≡ steps → IsReady steps now old ready → ready.steps.items ≡ [] → IsIdle now ready
     ready_idle (step ∷ steps) old ready were is none = absurd (omega (arith, ap length (sym none ∙ ap (λ (p : Plan S D K G C). p.steps.items) is ∙ were)))
-    ready_idle [] old ready were is none = by_steps (watching_where old.is_watch_due old.builds.items) is
+    ready_idle [] old ready were is none = by_steps (watching_where old.is_watch_due old.views.current old.builds.items) is
       where
         by_steps : (steps : List (Step S D K G C)) → AreWatched steps now (record old { is_watch_due = false }) ready → IsIdle now ready
         by_steps [] is = timeout_idle old.is_timeout_due (record old { is_watch_due = false }) ready refl refl is none

@@ -1,5 +1,5 @@
 -- What is planned for an answer: it is for just that answer, keeps what was planned, and tells the application what the answer asks of it.
-use Rattle.std.proofs.Common.{◌≡◌, refl, ap, sym, subst, ℕ, Bool, true, false, ◌==◌, nat_le, List, [], ◌∷◌, map, Option, Some, None, Result, Ok, Err, is_some, not, cond}
+use Rattle.std.proofs.Common.{◌≡◌, ◌∙◌, refl, ap, sym, subst, ℕ, Bool, true, false, ◌==◌, nat_le, List, [], ◌∷◌, map, Option, Some, None, Result, Ok, Err, is_some, not, cond}
 use Rattle.std.specs.Prelude.{IfErr}
 use Rattle.simplex_types.specs.Viewed.{certificate_view}
 use Rattle.simplex_types.specs.declared.types.fault.Fault.{Fault}
@@ -25,7 +25,7 @@ use Rattle.simplex_plan.specs.PlannedWork.{work_of, work_planned, KeepsPlanned, 
 use Rattle.simplex_plan.specs.Planning.{touching}
 use Rattle.simplex_plan.specs.Building.{asking_for}
 use Rattle.simplex_plan.specs.Following.{Consequence, Nothing, Touched, Built, Stopped, Ended, Asked, after_refusal, after_flag, after_watch, IsConsequence, IsVerifyFollowed, IsRequestFollowed, IsBroadcastFollowed, IsNullifyFollowed, certifying, IsVerdictFollowed, IsVerdictToldAbove, IsTakenInAbove, IsNewFollowed, IsCertificateFollowed, IsUnjudged, IsFollowed, IsUnfollowed}
-use Rattle.simplex_plan.proofs.PlannedWork.{ignored_of, has_builds, has_planned, keeps_further, plans_behind, plans_beside, plans_none, plans_same, plans_too}
+use Rattle.simplex_plan.proofs.PlannedWork.{ignored_of, has_builds, has_planned, keeps_further, plans_behind, plans_beside, plans_none, plans_same, plans_too, repaired_constants}
 
 -- an answer that is this one is followed as this one
 pub followed : {S D K G C : Type 0} (bytes : D → List ℕ) (bytes_of : C → List ℕ) (now : ℕ) (asked : Task D) (old new : Plan S D K G C)
@@ -87,7 +87,9 @@ module _ {S D K G C : Type 0} (old new : Plan S D K G C) where
     where
       by_genesis : (b : Bool) → IsVerdictToldAbove bytes bytes_of now b is_success n old new → KeepsPlanned old new
       by_genesis true is = plans_same old new is
-      by_genesis false is = plans_behind old new (touching n.proposal.round.view) is.planned.steps (ap constants_of is.planned.same) (ap ignored_of is.planned.same)
+      by_genesis false is =
+          plans_behind old new (touching n.proposal.round.view) is.planned.steps
+          (ap constants_of is.planned.same ∙ repaired_constants old new.repair is.repaired.peers is.repaired.retry) (ap ignored_of is.planned.same)
 
   -- the work of proposals that are certified
   certified_work : (proposals : List (Proposal D)) → work_planned (certifying {S = S} {D = D} {K = K} {G = G} {C = C} proposals) ≡ map work.Certify proposals
@@ -103,7 +105,8 @@ module _ {S D K G C : Type 0} (old new : Plan S D K G C) where
   followed_plans bytes bytes_of now asked (reply.Work answer) is = verify_followed answer is
   followed_plans bytes bytes_of now asked (reply.Request request) is = request_followed request is
   followed_plans bytes bytes_of now asked (reply.Candidates proposals wanted) is =
-      subst (λ works. PlansToo works old new) (certified_work proposals.items) (plans_too old new (certifying proposals.items) is.steps (ap constants_of is.same) (ap ignored_of is.same))
+      subst (λ works. PlansToo works old new) (certified_work proposals.items) (plans_too old new (certifying proposals.items) is.steps
+      (ap constants_of is.same ∙ repaired_constants old new.repair is.fetched.peers is.fetched.retry) (ap ignored_of is.same))
   followed_plans bytes bytes_of now asked (reply.Certified is_success notarization) is = plans_none (verdict_followed bytes bytes_of now is_success notarization is)
   followed_plans bytes bytes_of now asked (reply.Nullify answer) is = plans_none (nullify_followed now answer is)
   followed_plans bytes bytes_of now asked (reply.Certificate certificate) is = plans_none (broadcast_followed certificate is)
@@ -126,7 +129,9 @@ module _ {S D K G C : Type 0} (bytes : D → List ℕ) (bytes_of : C → List �
     where
       by_genesis : (b : Bool) → IsTakenInAbove bytes bytes_of now b certificate old new → KeepsPlanned old new
       by_genesis true is = plans_same old new is
-      by_genesis false is = plans_behind old new (touching (certificate_view certificate)) is.planned.steps (ap constants_of is.planned.same) (ap ignored_of is.planned.same)
+      by_genesis false is =
+          plans_behind old new (touching (certificate_view certificate)) is.planned.steps
+          (ap constants_of is.planned.same ∙ repaired_constants old new.repair is.heard.peers is.heard.retry) (ap ignored_of is.planned.same)
 
   pub certificate_followed : (old new : Plan S D K G C) (certificate : Certificate S D K G C) (answer : Reply S D K G C)
       → IsCertificateFollowed bytes bytes_of now certificate answer old new → KeepsPlanned old new

@@ -1,18 +1,23 @@
 -- Work that is planned stays planned.
 use Rattle.std.proofs.Common.{◌≡◌, ◌∙◌, refl, ap, sym, ℕ, ◌⊎◌, inl, inr, Bool, true, false, ◌||◌, List, [], ◌∷◌, ◌++◌, append-nil}
 use Rattle.std.specs.List.{list_any}
+use Rattle.std.specs.Prelude.{Result, Ok, Err, OnOk, OnErr, IfErr}
 use Rattle.std.proofs.lemmas.Bool.{or_right}
 use Rattle.std.proofs.lemmas.List.Folds.{list_any-append}
+use Rattle.simplex_types.specs.declared.types.fault.Fault.{Fault}
+use Rattle.simplex_types.specs.declared.types.fault.Fault.TheVariants.{Failed}
+use Rattle.simplex_fetches.specs.declared.fetches.Fetch.{Fetch}
+use Rattle.simplex_fetches.specs.declared.repair.Repair.{Repair}
+use Rattle.simplex_fetches.specs.Repairing.{HasFetches}
 use Rattle.simplex_member.specs.Calls.{Told}
 use Rattle.simplex_outbox.specs.declared.output.Work.{Work}
 use Rattle.simplex_plan.specs.declared.plan.Building.{Building}
-use Rattle.simplex_plan.specs.declared.plan.Options.{Options}
 use Rattle.simplex_plan.specs.declared.plan.Plan.{Plan}
 use Rattle.simplex_plan.specs.declared.plan.Step.{Step}
 use Rattle.simplex_plan.specs.declared.plan.Step.TheVariants as step
 use Rattle.simplex_plan.specs.Building.{HasBuilds}
 use Rattle.simplex_plan.specs.Planning.{HasPlanned}
-use Rattle.simplex_plan.specs.PlannedWork.{AreAmong, work_planned, work_of, IsPlanned, KeepsPlanned, PlansToo, constants_of}
+use Rattle.simplex_plan.specs.PlannedWork.{Constants, AreAmong, work_planned, work_of, IsPlanned, KeepsPlanned, PlansToo, constants_of}
 
 -- tests that some pass
 
@@ -67,10 +72,10 @@ module _ {S D K G C : Type 0} where
   planned_behind old new more is = among_further (among_more (work_planned old) (work_planned more)) (among_all (sym (ap work_planned is ∙ planned-append old more)))
 
   -- a plan that is the same, or goes on through another
-  pub keeps_still : {works : List (Work S D K G C)} {constants : Bool × Options} {ignored : ℕ} → IsPlanned works constants ignored works constants ignored
+  pub keeps_still : {works : List (Work S D K G C)} {constants : Constants} {ignored : ℕ} → IsPlanned works constants ignored works constants ignored
   keeps_still {works = works} = record { found = among_still works; constants = refl; ignored = refl }
 
-  pub keeps_further : {a b c : List (Work S D K G C)} {x y z : Bool × Options} {i j k : ℕ} → IsPlanned a x i b y j → IsPlanned b y j c z k → IsPlanned a x i c z k
+  pub keeps_further : {a b c : List (Work S D K G C)} {x y z : Constants} {i j k : ℕ} → IsPlanned a x i b y j → IsPlanned b y j c z k → IsPlanned a x i c z k
   keeps_further first second = record {
     found = among_further first.found second.found;
     constants = second.constants ∙ first.constants;
@@ -94,7 +99,7 @@ module _ {S D K G C : Type 0} where
   has_builds {more = more} {old = old} {new = new} is = plans_behind old new more is.steps (ap constants_of is.same) (ap ignored_of is.same)
 
   -- none are
-  pub plans_none : {works planned : List (Work S D K G C)} {x y : Bool × Options} {i j : ℕ} → IsPlanned works x i planned y j → IsPlanned (works ++ []) x i planned y j
+  pub plans_none : {works planned : List (Work S D K G C)} {x y : Constants} {i j : ℕ} → IsPlanned works x i planned y j → IsPlanned (works ++ []) x i planned y j
   plans_none {works = works} keeps = record { found = among_further (among_all (append-nil works)) keeps.found; constants = keeps.constants; ignored = keeps.ignored }
 
   -- of a plan that is the same but for what else it keeps
@@ -108,8 +113,26 @@ module _ {S D K G C : Type 0} where
   pub plans_same : (old new : Plan S D K G C) → new ≡ old → KeepsPlanned old new
   plans_same old new is = plans_beside old old new is refl refl refl
 
-  pub plans_repaired : (old new : Plan S D K G C) → new ≡ record old { repair = new.repair } → KeepsPlanned old new
-  plans_repaired old new is = plans_beside old (record old { repair = new.repair }) new is refl refl refl
+  -- of a plan with other fetches, which the same peers are asked for
+  pub repaired_constants : (old : Plan S D K G C) (repair : Repair) → repair.fetches.peers ≡ old.repair.fetches.peers → repair.fetches.retry ≡ old.repair.fetches.retry
+      → constants_of (record old { repair = repair }) ≡ constants_of old
+  repaired_constants old repair peers retry = λ i. record { is_alone = old.is_alone; options = old.options; peers = peers i; retry = retry i }
+
+  pub plans_repaired : (old new : Plan S D K G C) → new ≡ record old { repair = new.repair } → new.repair.fetches.peers ≡ old.repair.fetches.peers
+      → new.repair.fetches.retry ≡ old.repair.fetches.retry → KeepsPlanned old new
+  plans_repaired old new is peers retry =
+      plans_beside old (record old { repair = new.repair }) new is refl (repaired_constants old new.repair peers retry) refl
+
+  -- so it is after a call that may be refused
+  pub plans_opened : {X E : Type 0} (opened kept : List Fetch) (old new : Plan S D K G C) (r : Result X E) → new ≡ record old { repair = new.repair }
+      → OnOk r (HasFetches opened old.repair new.repair) → OnErr r (HasFetches kept old.repair new.repair) → KeepsPlanned old new
+  plans_opened opened kept old new (Ok x) is opens refuses = plans_repaired old new is opens.peers opens.retry
+  plans_opened opened kept old new (Err e) is opens refuses = plans_repaired old new is refuses.peers refuses.retry
+
+  pub plans_let_go : {X : Type 0} (kept : List Fetch) (old new : Plan S D K G C) (r : Result X Fault) → new ≡ record old { repair = new.repair }
+      → OnOk r (HasFetches kept old.repair new.repair) → IfErr r (λ fault. (fault ≡ Failed) × (new ≡ old)) → KeepsPlanned old new
+  plans_let_go kept old new (Ok x) is closes refuses = plans_repaired old new is closes.peers closes.retry
+  plans_let_go kept old new (Err e) is closes refuses = plans_same old new refuses.1
 
   pub plans_begun : (old new : Plan S D K G C) → new ≡ record old { is_timeout_due = true; is_prune_due = true } → KeepsPlanned old new
   plans_begun old new is = plans_beside old (record old { is_timeout_due = true; is_prune_due = true }) new is refl refl refl
@@ -117,7 +140,7 @@ module _ {S D K G C : Type 0} where
   -- what is planned behind a change of something else
   pub plans_then : (a b c : Plan S D K G C) (told : Told K D) → KeepsPlanned a b → PlansToo (work_of b.is_alone told) b c → PlansToo (work_of a.is_alone told) a c
   plans_then a b c told first second = record {
-    found = among_further (among_both first.found (among_all (ap (λ (constants : Bool × Options). work_of constants.0 told) (sym first.constants)))) second.found;
+    found = among_further (among_both first.found (among_all (ap (λ (constants : Constants). work_of constants.is_alone told) (sym first.constants)))) second.found;
     constants = second.constants ∙ first.constants;
     ignored = second.ignored ∙ first.ignored;
   }

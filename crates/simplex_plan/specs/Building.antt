@@ -1,6 +1,6 @@
 -- Blocks that are built, and what is planned for them.
-use Rattle.std.specs.Prelude.{◌≡◌, ℕ, Bool, not, ◌&&◌, ◌==◌, List, [], ◌∷◌, ◌++◌, filter, if◌then◌else◌}
-use Rattle.std.specs.List.{list_any}
+use Rattle.std.specs.Prelude.{◌≡◌, ℕ, nat_le, Bool, not, ◌&&◌, ◌==◌, List, [], ◌∷◌, ◌++◌, filter, if◌then◌else◌}
+use Rattle.std.specs.List.{list_any, list_all}
 use Rattle.simplex_types.specs.Proposal.{same_round}
 use Rattle.simplex_types.specs.declared.types.messages.Context.{Context}
 use Rattle.simplex_plan.specs.declared.plan.Building.{Building}
@@ -22,6 +22,10 @@ module _ {K D : Type 0} where
   -- the application was asked for the block, in this view
   abbrev pub is_asked_at : ℕ → Building D K → Bool
   is_asked_at view building = building.is_told && building.context.round.view == view
+
+  -- each block is of this view, or of one above
+  abbrev pub builds_from : ℕ → List (Building D K) → Bool
+  builds_from view builds = list_all (λ (building : Building D K). nat_le view building.context.round.view) builds
 
   -- the blocks of other views
   abbrev pub all_but_at : ℕ → List (Building D K) → List (Building D K)

@@ -1,5 +1,5 @@
 -- What is planned where no step is queued, and which step is taken.
-use Rattle.std.specs.Prelude.{◌≡◌, ℕ, Bool, true, false, List, [], ◌∷◌, ◌++◌, map, drop, Option, Some, None, option_to_list, if◌then◌else◌}
+use Rattle.std.specs.Prelude.{◌≡◌, ℕ, nat_lt, Bool, true, false, List, [], ◌∷◌, ◌++◌, map, drop, Option, Some, None, option_to_list, if◌then◌else◌}
 use Rattle.simplex_fetches.specs.declared.fetches.Ask.{Ask}
 use Rattle.simplex_fetches.specs.Asking.{IsAsking}
 use Rattle.simplex_outbox.specs.declared.output.Work.TheVariants.{Fetch}
@@ -7,17 +7,22 @@ use Rattle.simplex_plan.specs.declared.plan.Building.{Building}
 use Rattle.simplex_plan.specs.declared.plan.Plan.{Plan}
 use Rattle.simplex_plan.specs.declared.plan.Step.{Step}
 use Rattle.simplex_plan.specs.declared.plan.Step.TheVariants as step
-use Rattle.simplex_plan.specs.declared.task.Task.TheVariants.{Abandon, Timeout, Prune}
+use Rattle.simplex_plan.specs.declared.task.Task.{Task}
+use Rattle.simplex_plan.specs.declared.task.Task.TheVariants.{Abandon, Release, Timeout, Prune}
 use Rattle.simplex_plan.specs.Planning.{HasPlanned}
 
-module _ {S D K G C : Type 0} where
-  -- of each block that is to be built it is asked whether it has to be given up
-  abbrev pub watching_all : List (Building D K) → List (Step S D K G C)
-  watching_all builds = map (λ (building : Building D K). step.Ask (Abandon building.context.round.view)) builds
+-- a block of a view below the current one is given up; of another it is asked whether it has to be
+abbrev pub watching_one : {K D : Type 0} → ℕ → Building D K → Task D
+watching_one current building = let view = building.context.round.view in if nat_lt view current then Release view else Abandon view
 
-  -- where something has changed since that was asked last
-  abbrev pub watching_where : Bool → List (Building D K) → List (Step S D K G C)
-  watching_where is_due builds = if is_due then watching_all builds else []
+module _ {S D K G C : Type 0} where
+  -- so it is with each that is to be built
+  abbrev pub watching_all : ℕ → List (Building D K) → List (Step S D K G C)
+  watching_all current builds = map (λ (building : Building D K). step.Ask (watching_one current building)) builds
+
+  -- where something has changed since that was done last
+  abbrev pub watching_where : Bool → ℕ → List (Building D K) → List (Step S D K G C)
+  watching_where is_due current builds = if is_due then watching_all current builds else []
 
   -- a fetch is asked for
   abbrev pub fetching_one : Option Ask → List (Step S D K G C)
@@ -48,7 +53,7 @@ module _ {S D K G C : Type 0} where
 
   -- what is due is planned
   abbrev pub IsFilled : ℕ → Plan S D K G C → Plan S D K G C → Type 0
-  IsFilled now old new = AreWatched (watching_where old.is_watch_due old.builds.items) now (record old { is_watch_due = false }) new
+  IsFilled now old new = AreWatched (watching_where old.is_watch_due old.views.current old.builds.items) now (record old { is_watch_due = false }) new
 
   -- where no step is queued
   abbrev pub IsReady : List (Step S D K G C) → ℕ → Plan S D K G C → Plan S D K G C → Type 0

@@ -173,6 +173,8 @@ module _ {S D K G C : Type 0} (bytes : D → List ℕ) (bytes_of : C → List �
   pub record IsResolverTold (told : Certificate S D K G C) (old : Plan S D K G C) (repair : Repair) : Type 0 where
     pub made : IsMade (update bytes (certificate_facts bytes_of told)) old.repair.resolver (effects_due told old) repair.resolver
     pub fetched : repair.fetches.wanted.items ≡ without told (after_effects (later old) (effects_due told old) old.repair.fetches.wanted.items)
+    pub peers : repair.fetches.peers ≡ old.repair.fetches.peers
+    pub retry : repair.fetches.retry ≡ old.repair.fetches.retry
 
   -- a new certificate: the resolver is told, and something of the view has changed
   pub record IsTakenIn (accepted : Certificate S D K G C) (old new : Plan S D K G C) : Type 0 where

@@ -4,12 +4,20 @@ use Rattle.std.specs.List.{list_any}
 use Rattle.simplex_voter.specs.declared.voter.propose.ProposalRequest.TheVariants.{Prepare, Propose}
 use Rattle.simplex_voter.specs.declared.voter.verify.Verify.TheVariants.{Ready}
 use Rattle.simplex_member.specs.Calls.{Told, Standing, Requested, Candidates}
+use Rattle.simplex_fetches.specs.declared.fetches.Peers.{Peers}
 use Rattle.simplex_outbox.specs.declared.output.Work.{Work}
 use Rattle.simplex_outbox.specs.declared.output.Work.TheVariants.{Verify, Certify, Build}
 use Rattle.simplex_plan.specs.declared.plan.Options.{Options}
 use Rattle.simplex_plan.specs.declared.plan.Plan.{Plan}
 use Rattle.simplex_plan.specs.declared.plan.Step.{Step}
 use Rattle.simplex_plan.specs.declared.plan.Step.TheVariants.{Push}
+
+-- whether there is no other member, the options, whom fetches are asked of, and after how long again, in milliseconds
+pub record Constants : Type 0 where
+  pub is_alone : Bool
+  pub options : Options
+  pub peers : Peers
+  pub retry : ℕ
 
 module _ {S D K G C : Type 0} where
   -- each test that some of these pass, some of those do
@@ -30,12 +38,12 @@ module _ {S D K G C : Type 0} where
   work_of is_alone (Requested (Some (Propose context))) = Build context ∷ []
   work_of is_alone _ = []
 
-  -- what of a plan stays for a life: whether there is no other member, and the options
-  abbrev pub constants_of : Plan S D K G C → Bool × Options
-  constants_of plan = (plan.is_alone, plan.options)
+  -- what of a plan stays for a life
+  abbrev pub constants_of : Plan S D K G C → Constants
+  constants_of plan = record { is_alone = plan.is_alone; options = plan.options; peers = plan.repair.fetches.peers; retry = plan.repair.fetches.retry }
 
   -- this work is planned, with the same constants, and no input was counted as of no use
-  pub record IsPlanned (work : List (Work S D K G C)) (was : Bool × Options) (before : ℕ) (planned : List (Work S D K G C)) (is : Bool × Options) (after : ℕ)
+  pub record IsPlanned (work : List (Work S D K G C)) (was : Constants) (before : ℕ) (planned : List (Work S D K G C)) (is : Constants) (after : ℕ)
       : Type 0 where
     pub found : AreAmong work planned
     pub constants : is ≡ was

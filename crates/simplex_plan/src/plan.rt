@@ -14,6 +14,7 @@ ghost use Rattle.simplex_types.specs.declared.types.fault.Fault.TheVariants.{Fai
 ghost use Rattle.simplex_fetches.specs.Repairing.{HasFetches};
 ghost use Rattle.simplex_fetches.specs.Wanted.{is_lacking, AsksForTheLacking};
 ghost use Rattle.simplex_plan.specs.Planning.{IsIdle, IsWake, HasPlanned, asking_for_votes, asking_for_certificates, touching, watching};
+ghost use Rattle.simplex_plan.specs.Building.{builds_from};
 ghost use Rattle.simplex_plan.specs.declared.plan.Step.TheVariants.{Ask, Push};
 
 use crate::task::Task;
@@ -220,6 +221,13 @@ impl<S: CertificateScheme, D: Digest> Plan<S, D> {
             && !self.is_timeout_due
             && !self.is_prune_due
             && !self.fetches().is_due(now)
+    }
+
+    /// Whether each block that is to be built is of the view or of one above.
+    pub fn builds_from(&self, view: View) -> bool
+        ensures { result ≡ builds_from view self.now.builds.items }
+    {
+        self.builds.iter().all(|it| view <= it.context.round.view)
     }
 
     /// Plans a step.

@@ -2,12 +2,12 @@
 
 ghost use Rattle.std.specs.Prelude.{◌≡◌, ◌++◌, false, IfOk, OnOk};
 ghost use Rattle.simplex_plan.specs.Planning.{HasPlanned};
-ghost use Rattle.simplex_plan.specs.Filling.{watching_all, watching_where, IsFetchAsked, IsPruneAsked, IsTimeoutAsked, IsReady, HasTaken};
+ghost use Rattle.simplex_plan.specs.Filling.{watching_one, watching_all, watching_where, IsFetchAsked, IsPruneAsked, IsTimeoutAsked, IsReady, HasTaken};
 
 use super::{Building, Plan, Step, queue};
 use crate::task::Task;
 use simplex_outbox::output::Work;
-use simplex_types::types::{CertificateScheme, Digest};
+use simplex_types::types::{CertificateScheme, Digest, View};
 use std::alloc::AllocError;
 use std::collections::VecDeque;
 
@@ -15,8 +15,8 @@ impl<S: CertificateScheme, D: Digest> Plan<S, D> {
     /// The next step, at a moment in milliseconds. There is none only where nothing is to be done at the moment.
     ///
     /// Where no step is queued, what is due is planned first: where something has changed since, each block that is to be built is
-    /// asked about; else the timeout is asked for, or else which views may be dropped, once a moment each; or else the first fetch
-    /// that is due.
+    /// asked about, and given up where its view is over; else the timeout is asked for, or else which views may be dropped, once a
+    /// moment each; or else the first fetch that is due.
     pub fn next(&mut self, now: u64) -> Result<Option<Step<S, D>>, AllocError>
         ensures { IfOk result (λ step. HasTaken now step self.old self.new) }
     {
@@ -38,9 +38,9 @@ impl<S: CertificateScheme, D: Digest> Plan<S, D> {
         self.plan_due(now)
     }
 
-    /// Plans to ask whether blocks are of use still, where something has changed since that was asked last.
+    /// Plans to ask whether blocks are of use still, where something has changed since that was done last.
     fn watch(&mut self) -> Result<(), AllocError>
-        ensures { OnOk result (HasPlanned (watching_where self.old.is_watch_due self.old.builds.items)
+        ensures { OnOk result (HasPlanned (watching_where self.old.is_watch_due self.old.views.current self.old.builds.items)
             (record self.old { is_watch_due = false }) self.new) }
     {
         if !self.is_watch_due {
@@ -50,11 +50,11 @@ impl<S: CertificateScheme, D: Digest> Plan<S, D> {
         self.watch_builds()
     }
 
-    /// Asks of each block that is to be built whether it has to be given up.
+    /// Plans to give up the blocks of views that are over, and to ask of each other one whether it has to be.
     fn watch_builds(&mut self) -> Result<(), AllocError>
-        ensures { OnOk result (HasPlanned (watching_all self.old.builds.items) self.old self.new) }
+        ensures { OnOk result (HasPlanned (watching_all self.old.views.current self.old.builds.items) self.old self.new) }
     {
-        watch_all(&self.builds, &mut self.steps)
+        watch_all(self.views.current, &self.builds, &mut self.steps)
     }
 
     /// Plans what is due: first the timeout, then what is dropped, and then what is asked of peers.
@@ -90,15 +90,29 @@ impl<S: CertificateScheme, D: Digest> Plan<S, D> {
     }
 }
 
-/// Asks of each block that is to be built whether it has to be given up.
+/// Gives up the blocks of views that are over, and asks of each other one whether it has to be.
 fn watch_all<S: CertificateScheme, D: Digest>(
+    current: View,
     builds: &[Building<D, S::PublicKey>],
     steps: &mut VecDeque<Step<S, D>>,
 ) -> Result<(), AllocError>
-    ensures { OnOk result (steps.new.items ≡ steps.old.items ++ watching_all builds.now) }
+    ensures { OnOk result (steps.new.items ≡ steps.old.items ++ watching_all current builds.now) }
 {
     for building in builds {
-        queue(steps, Step::Ask(Task::Abandon(building.context.round.view)))?;
+        queue(steps, Step::Ask(watching_one(current, building)))?;
     }
     Ok(())
+}
+
+/// What the member is asked of a block that is to be built. A proposal of a view below the current one serves nobody: the view was
+/// nullified, or certified, or others are ahead; and an application that never answers for such blocks would leave ever more.
+fn watching_one<D: Digest, P: Copy>(current: View, building: &Building<D, P>) -> Task<D>
+    ensures { result ≡ watching_one current building.now }
+{
+    let view = building.context.round.view;
+    if view < current {
+        Task::Release(view)
+    } else {
+        Task::Abandon(view)
+    }
 }

@@ -1,6 +1,6 @@
 //! Proposals that came before their views: nobody sends them again, so a few are kept.
 
-ghost use Rattle.std.specs.Prelude.{◌≡◌, ◌≤◌, ◌++◌, ◌∷◌, [], nat_lt, filter, length, vec_len, OnOk, if◌then◌else◌};
+ghost use Rattle.std.specs.Prelude.{◌≡◌, ◌≤◌, ◌++◌, ◌∷◌, [], nat_lt, filter, length, vec_len, OnOk, OnErr, if◌then◌else◌};
 
 use simplex_types::types::{Participant, Proposal, View};
 use std::alloc::{AllocError, Global};
@@ -33,10 +33,11 @@ impl<D: Copy> EarlyProposals<D> {
         }
     }
 
-    /// Keeps one more, where fewer than eight are kept.
+    /// Keeps one more, where fewer than eight are kept. Without memory nothing has changed.
     pub(super) fn keep(&mut self, early: Early<D>) -> Result<(), AllocError>
-        ensures { OnOk result (self.new.proposals.items ≡ (if nat_lt (length self.old.proposals.items) 8
+        ensures kept { OnOk result (self.new.proposals.items ≡ (if nat_lt (length self.old.proposals.items) 8
             then self.old.proposals.items ++ early ∷ [] else self.old.proposals.items)) }
+        ensures refused { OnErr result (self.new.proposals.items ≡ self.old.proposals.items) }
     {
         if self.proposals.len() < MOST_EARLY {
             self.proposals.push(early)?;

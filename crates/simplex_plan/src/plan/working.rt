@@ -1,7 +1,7 @@
 //! Work on proposals: certificates that are lacking, blocks that are built, and what came early.
 
 ghost use Rattle.std.specs.List.{list_any};
-ghost use Rattle.std.specs.Prelude.{◌≡◌, ◌+◌, ◌-◌, ◌^◌, min, if◌then◌else◌, [], ◌∷◌, ◌++◌, length, OnOk};
+ghost use Rattle.std.specs.Prelude.{◌≡◌, ◌+◌, ◌-◌, ◌^◌, min, if◌then◌else◌, [], ◌∷◌, ◌++◌, length, OnOk, OnErr};
 ghost use Rattle.simplex_fetches.specs.Fetches.{opened, place_of};
 ghost use Rattle.simplex_fetches.specs.Repairing.{HasFetches};
 ghost use Rattle.simplex_plan.specs.Planning.{may_keep, HasPlanned};
@@ -16,6 +16,7 @@ use std::alloc::AllocError;
 
 impl<S: CertificateScheme, D: Digest> Plan<S, D> {
     /// Keeps a proposal that came before its view, where few are kept: nobody sends it again, and its view would be lost.
+    /// Without memory nothing has changed.
     pub fn keep_early(
         &mut self,
         from: Participant,
@@ -26,6 +27,7 @@ impl<S: CertificateScheme, D: Digest> Plan<S, D> {
         ensures kept { let old = self.old.early.proposals.items in
             OnOk result (self.new.early.proposals.items ≡ (if may_keep self.old.views.current view (length old)
             then old ++ record { from = from; view = view; proposal = proposal } ∷ [] else old)) }
+        ensures refused { OnErr result (self.new.early.proposals.items ≡ self.old.early.proposals.items) }
     {
         let ahead = view.get().saturating_sub(self.views.current.get());
         if 0 < ahead && ahead <= MOST_EARLY as u64 {
@@ -38,7 +40,7 @@ impl<S: CertificateScheme, D: Digest> Plan<S, D> {
         Ok(())
     }
 
-    /// A certificate is lacking, and is asked for unless it comes soon, of this member first.
+    /// A certificate is lacking, and is asked for unless it comes soon, of this member first. Without memory nothing has changed.
     pub fn resolve(
         &mut self,
         kind: FetchKind,
@@ -49,6 +51,7 @@ impl<S: CertificateScheme, D: Digest> Plan<S, D> {
         ensures same { self.new ≡ record self.old { repair = self.new.repair } }
         ensures opened { let fetches = self.old.repair.fetches in let moment = min (now + self.old.options.on_its_way) (2 ^ 64 - 1) in
             OnOk result (HasFetches (opened kind view (place_of fetches.peers of) moment fetches.wanted.items) self.old.repair self.new.repair) }
+        ensures refused { OnErr result (HasFetches self.old.repair.fetches.wanted.items self.old.repair self.new.repair) }
     {
         let moment = self.later(now);
         self.repair.open(kind, view, of, moment)
