@@ -8,6 +8,7 @@ use Rattle.simplex_types.specs.declared.types.fault.Fault.{Fault}
 use Rattle.simplex_types.specs.declared.types.messages.Context.{Context}
 use Rattle.simplex_types.specs.declared.types.messages.Proposal.{Proposal}
 use Rattle.std.specs.Option.{option_map_or}
+use Rattle.std.specs.Prelude.{IfSome}
 use Rattle.simplex_voter.specs.Certification.{candidates_answer}
 use Rattle.simplex_voter.specs.Facts.{StateFacts, Elect}
 use Rattle.simplex_voter.specs.Proposing.{propose_answer, supersede_answer}
@@ -20,14 +21,18 @@ use Rattle.simplex_member.specs.Allowed.{is_allowed, fault_of}
 use Rattle.simplex_member.specs.Calls as call
 use Rattle.simplex_member.specs.Calls.{CallFacts, Told}
 use Rattle.simplex_member.specs.CallSemantics.{answer, outstanding_work_after}
-use Rattle.simplex_member.specs.Lives.{MemberFacts, AnswersAlive, IsCall, unless_refused, unless_kept, with_call}
+use Rattle.simplex_member.specs.Lives.{MemberFacts, SignedMember, AnswersAlive, IsCall, unless_refused, unless_kept, with_call}
 use Rattle.simplex_member.specs.OutstandingWork.{OutstandingWork, no_outstanding_work, is_among, context_at, with_context, with_offers, with_open_request, with_verification, without_context, without_offer, without_verification}
 use Rattle.simplex_laws.proofs.votes.OutstandingWork.{among_others, now_among, now_open, still_open}
 use Rattle.simplex_outbox.specs.declared.output.Output.{Output}
 use Rattle.simplex_outbox.specs.declared.output.Output.TheVariants as output
 use Rattle.simplex_outbox.specs.declared.output.Work.{Work}
 use Rattle.simplex_outbox.specs.declared.output.Work.TheVariants as work
+use Rattle.simplex_engine.specs.declared.engine.Engine.{Engine}
+use Rattle.simplex_engine.specs.Building.{BuildsAhead}
 use Rattle.simplex_engine.specs.Duties.{is_verify_of, is_certify_of, is_build_of, work_in, IsToldIn}
+use Rattle.simplex_plan.specs.Building.{builds_from}
+use Rattle.simplex_plan.specs.declared.plan.Building.{Building}
 use Rattle.simplex_plan.specs.PlannedWork.{AreAmong, work_of}
 use Rattle.simplex_plan.proofs.PlannedWork.{any_either, any_left, any_right, among_more}
 
@@ -235,3 +240,10 @@ module _ {S L D K G C : Type 0} (same : D → D → Bool) (elect : Elect L) (is_
       by_life (Some x) (inl (tells, leaves)) = by_test x (is_allowed x m.outstanding_work asked) (fault_of x asked) leaves
       by_life (Some x) (inr (_, tells, inl (_, leaves))) = unchanged leaves
       by_life (Some x) (inr (_, tells, inr (_, _, leaves))) = subst (λ (n : MemberFacts K L D). IsToldIn is_alone works n.outstanding_work) (sym leaves) (told_none is_alone works)
+
+-- the blocks that are to be built, beside a member that is the same
+pub ahead_still : {S L D K G C : Type 0} (a b : Engine S L D K G C) → b.core.member ≡ a.core.member → b.plan.builds.items ≡ a.plan.builds.items
+    → BuildsAhead a.core a.plan → BuildsAhead b.core b.plan
+ahead_still {D = D} {K = K} {G = G} a b member builds is =
+    subst (λ (builds : List (Building D K)). IfSome b.core.member.facts.life (λ x. builds_from x.current builds ≡ true)) (sym builds)
+    (subst (λ (m : SignedMember K _ D G). IfSome m.facts.life (λ x. builds_from x.current a.plan.builds.items ≡ true)) (sym member) is)

@@ -24,7 +24,7 @@ use Rattle.simplex_outbox.specs.declared.output.Output.TheVariants as output
 use Rattle.simplex_outbox.specs.declared.output.Work.{Work}
 use Rattle.simplex_outbox.specs.Handing.{hands_in}
 use Rattle.simplex_engine.specs.Duties.{work_in, work_ahead, IsToldIn, TellsBehind, KeepsDuties, KeepsTaken, HasToldAll, AllIsGivenOut}
-use Rattle.simplex_plan.specs.PlannedWork.{AreAmong, constants_of, work_planned, work_of, KeepsPlanned, PlansToo}
+use Rattle.simplex_plan.specs.PlannedWork.{Constants, AreAmong, constants_of, work_planned, work_of, KeepsPlanned, PlansToo}
 use Rattle.simplex_outbox.specs.Outboxes.{QueuesMore}
 use Rattle.simplex_engine.proofs.Duties.{among_swapped, told_among, told_as_before, told_by_call, told_none, told_with, work_in-append}
 use Rattle.simplex_plan.proofs.PlannedWork.{ignored_of, among_all, among_both, among_further, among_more, among_still, planned-append}
@@ -44,8 +44,8 @@ module _ {S D K G C : Type 0} where
       (among_all (sym (append_assoc a b (c ++ d))))
 
 -- as alone as before
-as_alone : {was is : Bool × Options} → is ≡ was → is.0 ≡ was.0
-as_alone same = ap (λ constants. constants.0) same
+as_alone : {was is : Constants} → is ≡ was → is.is_alone ≡ was.is_alone
+as_alone same = ap (λ (constants : Constants). constants.is_alone) same
 
 module _ {S L D K G C : Type 0} where
   pub tells_still : (a : Engine S L D K G C) → KeepsDuties a a

@@ -11,3 +11,5 @@ pub mod Acting
 pub mod Duties
 pub mod Taking
 pub mod Beginning
+pub mod Failing
+pub mod Building

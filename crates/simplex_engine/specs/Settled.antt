@@ -5,8 +5,7 @@ use Rattle.simplex_outbox.specs.declared.journaled.Journaled.{Journaled}
 use Rattle.simplex_outbox.specs.Going.{IsWhole}
 use Rattle.simplex_engine.specs.Quiet.{HasNothingNew}
 
--- nothing is queued, all of the record was given out to be stored, and the member was asked last for all that may be due, and had
--- nothing new
+-- nothing is queued, all of the record was given out to be stored, and the member has nothing new
 pub record IsSettled {S L D K G C : Type 0} (same : D → D → Bool) (elect : Elect L) (bytes_of : C → List ℕ) (member : Journaled S L D K G C) : Type 0 where
   pub idle : member.outbox.queue.items ≡ []
   pub whole : IsWhole bytes_of member

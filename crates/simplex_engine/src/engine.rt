@@ -3,9 +3,10 @@
 //! It holds no network, clock, disk or key but its scheme. Moments are milliseconds that are handed in, and do not fall.
 #![tactic(auto, using(simplex_outbox::proofs::Going::stays, simplex_outbox::proofs::Going::goes_further, crate::proofs::Backing::takes_nothing, crate::proofs::Backing::takes_no_more, crate::proofs::Backing::takes_anyway))]
 
-ghost use Rattle.std.specs.Prelude.{◌≡◌, ◌⊎◌, ◌++◌, [], length, None, Err, if◌then◌else◌, IfOk, IfErr, IfSome, OnOk, OnErr, IsNone, IsFalse, IsTrue, true, false};
+ghost use Rattle.std.specs.Prelude.{◌≡◌, ◌++◌, [], length, None, Err, if◌then◌else◌, IfOk, IfErr, IfSome, OnOk, OnErr, IsNone, IsFalse, IsTrue, true, false};
 ghost use Rattle.std.specs.Option.{option_copied};
-ghost use Rattle.simplex_types.specs.declared.types.fault.Fault.TheVariants.{OutOfMemory, Failed};
+ghost use Rattle.simplex_types.specs.declared.types.fault.Fault.TheVariants.{Failed};
+ghost use Rattle.simplex_engine.specs.Failing.{IsFailure};
 
 mod asking;
 mod begin;
@@ -62,6 +63,7 @@ impl<S: Assembly<D>, L: Elector<S>, D: Digest> Engine<S, L, D> {
     ghost use Rattle.simplex_engine.specs.Alone.{ForgetsNoOther};
     ghost use Rattle.simplex_engine.specs.Backing.{votes_of_input, KeepsVotes, TakesVotes, TakesNone, IsBackedInput};
     ghost use Rattle.simplex_engine.specs.Bounds.{HoldsFromKept, HoldsNoneAhead, StaysBounded, HoldsAdmitted};
+    ghost use Rattle.simplex_engine.specs.Building.{BuildsAhead};
     ghost use Rattle.simplex_engine.specs.Lacking.{AsksForItsLacking};
     ghost use Rattle.simplex_engine.specs.Dropping.{IsDropped};
     ghost use Rattle.simplex_engine.specs.Admitting.{is_input_admitted, one_more, IsTurnedAway, ignoring};
@@ -87,8 +89,8 @@ impl<S: Assembly<D>, L: Elector<S>, D: Digest> Engine<S, L, D> {
     ///   from that is of use exactly where the answer has anything.
     /// - `duties`: what the application is to be told of stays told: each proposal that is being verified, each that was offered for
     ///   certification and has no verdict, and, where there are other members, the block of each view whose request to build is open,
-    ///   was given out, is queued to be, or is planned. No work that is queued or planned is lost. The options stay, and so does
-    ///   whether there are other members.
+    ///   was given out, is queued to be, or is planned. No work that is queued or planned is lost. The options stay, whether there
+    ///   are other members, and whom fetches are asked of and after how long again.
     /// - `ignored`: what is of no use is counted, and nothing else.
     /// - `bounded`: where each vote that is held was a member's, and of no view above those whose votes are taken, each still is.
     /// - `failed`, `error`, `refused`: after an error, which is `OutOfMemory` or `Failed`, it has failed; one that has failed answers
@@ -96,7 +98,8 @@ impl<S: Assembly<D>, L: Elector<S>, D: Digest> Engine<S, L, D> {
     ///
     /// # Errors
     ///
-    /// `OutOfMemory` fails the engine. After it each call answers `Failed`, and so does one that would take 2^64 steps.
+    /// `OutOfMemory` fails the engine. After it each call answers `Failed`, and so does one that would take 2^64 steps, or whose
+    /// resolver refuses what it is told.
     pub fn handle(&mut self, input: Input<S, D>, now: u64) -> Result<bool, Fault>
         ensures goes_on { GoesOn D.eq L.elect S.certificate_bytes (subject_in S.certificate_bytes input) self.old.core self.new.core }
         ensures votes { TakesVotes (votes_of_input input) self.old.batcher self.new.batcher }
@@ -114,7 +117,7 @@ impl<S: Assembly<D>, L: Elector<S>, D: Digest> Engine<S, L, D> {
         ensures ignored { IfOk result (λ is_of_use. self.new.plan.ignored
             ≡ (if is_of_use then self.old.plan.ignored else one_more self.old.plan.ignored)) }
         ensures failed { OnErr result (has_failed self.new.core ≡ true) }
-        ensures error { IfErr result (λ fault. (fault ≡ OutOfMemory) ⊎ (fault ≡ Failed)) }
+        ensures error { IfErr result IsFailure }
         ensures refused { has_failed self.old.core ≡ true → (result ≡ Err Failed) × (self.new ≡ self.old) }
     {
         if self.core.has_failed() {
@@ -136,14 +139,16 @@ impl<S: Assembly<D>, L: Elector<S>, D: Digest> Engine<S, L, D> {
     /// - `does`, `told`: no certificate is accepted, and no other proposal is queued to be told as final.
     /// - `held`: just the votes are forgotten that are of views below the lowest one that is kept, or none is.
     /// - `votes`, `bounded`, `failed`, `error`, `refused`: as of `handle`.
-    /// - `ignored`, `constants`: no input is counted as of no use; the options stay, and so does whether there are other members.
-    /// - `none`: where nothing is answered, all of the record was given out to be stored, and the member was asked last for all
-    ///   its work, its votes on the current view and the certificates of it, and had nothing new.
+    /// - `ignored`, `constants`: no input is counted as of no use; what stays by `handle` stays.
+    /// - `none`: where nothing is answered, all of the record was given out to be stored; in the last finalized view and above, the
+    ///   member has cast each vote that its rule allows, and has handed out each certificate; and it was asked last for work of the
+    ///   application, and had none.
     /// - `duties`: as of `handle`, with what is answered given out.
     /// - `waiting`: so where nothing is answered, each of these proposals and blocks was given out.
     /// - `works`: no work is lost: what is queued or planned is given out, or is so still.
     /// - `idle`: where nothing is answered, nothing is to be done at the moment: no step is queued, the timeout was asked for, and
     ///   no fetch is due.
+    /// - `ahead`: and no block is to be built of a view below the current one: it was given up.
     /// - `lowest`: where nothing is answered, no vote is held of a view below the lowest one that is kept.
     /// - `lacking`: and just what is lacking is asked for: each open fetch is of a view above the last finalized one, and of a
     ///   certificate that the state does not hold; and of each such view that the resolver has open, a nullification is asked for.
@@ -159,6 +164,7 @@ impl<S: Assembly<D>, L: Elector<S>, D: Digest> Engine<S, L, D> {
         ensures told { TellsNoMore (given_out result) self.old.core.outbox self.new.core.outbox }
         ensures none { IfOk result (λ out. IsNone out → IsSettled D.eq L.elect S.certificate_bytes self.new.core) }
         ensures idle { IfOk result (λ out. IsNone out → IsIdle now self.new.plan) }
+        ensures ahead { IfOk result (λ out. IsNone out → BuildsAhead self.new.core self.new.plan) }
         ensures lowest { IfOk result (λ out. IsNone out → HoldsFromKept self.new.core self.new.batcher) }
         ensures lacking { IfOk result (λ out. IsNone out → AsksForItsLacking self.new.core self.new.plan.repair) }
         ensures admitted { HoldsNoneAhead S.participants self.old.core self.old.batcher
@@ -172,7 +178,7 @@ impl<S: Assembly<D>, L: Elector<S>, D: Digest> Engine<S, L, D> {
         ensures ignored { OnOk result (self.new.plan.ignored ≡ self.old.plan.ignored) }
         ensures constants { OnOk result (constants_of self.new.plan ≡ constants_of self.old.plan) }
         ensures failed { OnErr result (has_failed self.new.core ≡ true) }
-        ensures error { IfErr result (λ fault. (fault ≡ OutOfMemory) ⊎ (fault ≡ Failed)) }
+        ensures error { IfErr result IsFailure }
         ensures refused { has_failed self.old.core ≡ true → (result ≡ Err Failed) × (self.new ≡ self.old) }
     {
         if self.core.has_failed() {
@@ -191,6 +197,7 @@ impl<S: Assembly<D>, L: Elector<S>, D: Digest> Engine<S, L, D> {
         ensures told { TellsNoMore (given_out result) self.old.core.outbox self.new.core.outbox }
         ensures none { IfOk result (λ out. IsNone out → IsSettled D.eq L.elect S.certificate_bytes self.new.core) }
         ensures idle { IfOk result (λ out. IsNone out → IsIdle now self.new.plan) }
+        ensures ahead { IfOk result (λ out. IsNone out → BuildsAhead self.new.core self.new.plan) }
         ensures lowest { IfOk result (λ out. IsNone out → HoldsFromKept self.new.core self.new.batcher) }
         ensures lacking { IfOk result (λ out. IsNone out → AsksForItsLacking self.new.core self.new.plan.repair) }
         ensures votes { TakesNone self.old.batcher self.new.batcher }
@@ -202,7 +209,7 @@ impl<S: Assembly<D>, L: Elector<S>, D: Digest> Engine<S, L, D> {
         ensures ignored { OnOk result (self.new.plan.ignored ≡ self.old.plan.ignored) }
         ensures constants { OnOk result (constants_of self.new.plan ≡ constants_of self.old.plan) }
         ensures failed { OnErr result (has_failed self.new.core ≡ true) }
-        ensures error { IfErr result (λ fault. (fault ≡ OutOfMemory) ⊎ (fault ≡ Failed)) }
+        ensures error { IfErr result IsFailure }
     {
         match self.work(now) {
             Ok(()) => Ok(self.core.next()),
@@ -290,7 +297,7 @@ impl<S: Assembly<D>, L: Elector<S>, D: Digest> Engine<S, L, D> {
 
 /// What an engine that fails answers: for want of memory just that, and else what it answers from then on.
 fn failure(fault: Fault) -> Fault
-    ensures { (result ≡ OutOfMemory) ⊎ (result ≡ Failed) }
+    ensures { IsFailure result }
 {
     match fault {
         Fault::OutOfMemory => Fault::OutOfMemory,

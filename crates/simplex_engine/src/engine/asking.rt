@@ -1,10 +1,10 @@
 //! Calls of the member, each with what follows from its answer.
 #![tactic(auto)]
 
-ghost use Rattle.std.specs.Prelude.{◌≡◌, None, IfOk, OnOk, IsTrue, not};
+ghost use Rattle.std.specs.Prelude.{◌≡◌, None, IfOk, OnOk, IsNone, IsTrue, not};
 ghost use Rattle.simplex_member.specs.Calls.{told};
 ghost use Rattle.simplex_plan.specs.Tasks.{call_of};
-ghost use Rattle.simplex_engine.specs.Quiet.{is_nothing, for_all};
+ghost use Rattle.simplex_engine.specs.Quiet.{is_nothing, for_work};
 ghost use Rattle.simplex_outbox.specs.Refusing.{is_lasting, says_nothing};
 
 use super::Engine;
@@ -19,31 +19,55 @@ use simplex_voter::voter::Verify;
 impl<S: Assembly<D>, L: Elector<S>, D: Digest> Engine<S, L, D> {
     ghost use Rattle.simplex_outbox.specs.Going.{GoesOn};
     ghost use Rattle.simplex_engine.specs.Alone.{GoesOnAlone};
-    ghost use Rattle.simplex_engine.specs.Quiet.{AnswersNothing, AnswerNothing};
+    ghost use Rattle.simplex_engine.specs.Quiet.{AnswersNothing, AnswerNothing, HasNothingDue};
     ghost use Rattle.simplex_engine.specs.Acting.{HasDoneTask};
     ghost use Rattle.simplex_engine.specs.Duties.{KeepsDuties};
     ghost use Rattle.simplex_plan.specs.PlannedWork.{work_of, KeepsPlanned, PlansToo};
 
-    /// Asks for all that may be due while the view is the current one: work of the application, this member's votes on the view, and
-    /// the certificates of it that are to be handed out. Whether there is nothing new.
-    pub(super) fn is_quiet(&mut self, view: View, now: u64) -> Result<bool, Fault>
+    /// Asks for work of the application. Whether there is none.
+    pub(super) fn has_no_work(&mut self, now: u64) -> Result<bool, Fault>
         ensures alone { GoesOnAlone D.eq L.elect S.certificate_bytes self.old self.new }
-        ensures quiet { IfOk result (λ quiet. IsTrue quiet
-            → AnswerNothing D.eq L.elect self.old.core.member.facts (for_all view) self.new.core.member.facts) }
+        ensures nothing { IfOk result (λ nothing. IsTrue nothing
+            → AnswerNothing D.eq L.elect self.old.core.member.facts for_work self.new.core.member.facts) }
         ensures duties { OnOk result (KeepsDuties self.old self.new) }
     {
-        let mut is_quiet = self.asks_nothing(Task::Verify, now)?;
-        is_quiet &= self.asks_nothing(Task::Propose, now)?;
-        is_quiet &= self.asks_nothing(Task::Candidates, now)?;
-        is_quiet &= self.asks_nothing(Task::Notarize(view), now)?;
-        is_quiet &= self.asks_nothing(Task::Finalize(view), now)?;
-        is_quiet &= self.asks_nothing(Task::BroadcastNotarization(view), now)?;
-        is_quiet &= self.asks_nothing(Task::BroadcastNullification(view), now)?;
-        is_quiet &= self.asks_nothing(Task::BroadcastFinalization(view), now)?;
-        Ok(is_quiet)
+        let mut has_none = self.asks_nothing(Task::Verify, now)?;
+        has_none &= self.asks_nothing(Task::Propose, now)?;
+        has_none &= self.asks_nothing(Task::Candidates, now)?;
+        Ok(has_none)
     }
 
-    /// Asks for what may be due, and follows the answer. Whether there is nothing new.
+    /// Plans to ask for the votes and the certificates of the lowest view where one is due. Whether none is.
+    ///
+    /// The views from the last finalized one on are gone over, so it comes last, once all else is done.
+    pub(super) fn has_nothing_due(&mut self) -> Result<bool, Fault>
+        ensures core { self.new.core ≡ self.old.core }
+        ensures batcher { self.new.batcher ≡ self.old.batcher }
+        ensures nothing { IfOk result (λ nothing. IsTrue nothing
+            → HasNothingDue D.eq L.elect self.new.core.member.facts × (self.new.plan ≡ self.old.plan)) }
+        ensures planned { OnOk result (KeepsPlanned self.old.plan self.new.plan) }
+    {
+        match self.first_due()? {
+            Some(view) => {
+                self.plan.touch(view)?;
+                Ok(false)
+            }
+            None => Ok(true),
+        }
+    }
+
+    /// The lowest view, from the last finalized one on, where a vote is allowed or a certificate was not handed out. A member that
+    /// has failed since found no memory.
+    fn first_due(&self) -> Result<Option<View>, Fault>
+        ensures { IfOk result (λ view. IsNone view → HasNothingDue D.eq L.elect self.now.core.member.facts) }
+    {
+        match self.core.state() {
+            Some(state) => Ok(state.first_due(state.last_finalized())),
+            None => Err(Fault::OutOfMemory),
+        }
+    }
+
+    /// Asks for work, and follows the answer. Whether there is nothing new.
     fn asks_nothing(&mut self, task: Task<D>, now: u64) -> Result<bool, Fault>
         ensures alone { GoesOnAlone D.eq L.elect S.certificate_bytes self.old self.new }
         ensures nothing { IfOk result (λ nothing. IsTrue nothing
@@ -134,9 +158,6 @@ fn is_nothing<S: CertificateScheme, D: Digest>(reply: &Reply<S, D>) -> bool
         },
         Reply::Request(request) => request.is_none(),
         Reply::Candidates(proposals, _) => proposals.is_empty(),
-        Reply::Notarize(vote) => vote.is_none(),
-        Reply::Finalize(vote) => vote.is_none(),
-        Reply::Certificate(certificate) => certificate.is_none(),
         _ => false,
     }
 }

@@ -13,9 +13,10 @@ use simplex_types::types::{Digest, Elector, Fault, View};
 impl<S: Assembly<D>, L: Elector<S>, D: Digest> Engine<S, L, D> {
     ghost use Rattle.simplex_outbox.specs.Going.{IsWhole};
     ghost use Rattle.simplex_engine.specs.Alone.{GoesOnAlone, GoesOnForgetting};
-    ghost use Rattle.simplex_engine.specs.Quiet.{view_in_life, HasNothingNew};
+    ghost use Rattle.simplex_engine.specs.Quiet.{HasNothingNew};
     ghost use Rattle.simplex_plan.specs.Planning.{IsIdle};
     ghost use Rattle.simplex_engine.specs.Bounds.{HoldsFromKept};
+    ghost use Rattle.simplex_engine.specs.Building.{BuildsAhead};
     ghost use Rattle.simplex_engine.specs.Lacking.{AsksForItsLacking};
     ghost use Rattle.simplex_engine.specs.Duties.{KeepsDuties, KeepsTaken};
     ghost use Rattle.simplex_plan.specs.PlannedWork.{work_planned, KeepsPlanned};
@@ -23,14 +24,15 @@ impl<S: Assembly<D>, L: Elector<S>, D: Digest> Engine<S, L, D> {
 
     /// Takes all steps that are due, until the member has nothing new, and queues what the record has grown by.
     ///
-    /// - `quiet`: it was asked for all that may be due last, and had nothing new.
-    /// - `idle`: nothing is to be done at the moment.
+    /// - `quiet`: it has cast its votes and handed out its certificates, was asked last for work, and had none.
+    /// - `idle`, `ahead`: nothing is to be done at the moment, and no block is to be built of a view that is over.
     /// - `lowest`, `lacking`: no vote is held of a view below the lowest one that is kept, and just what is lacking is asked for.
     pub(super) fn work(&mut self, now: u64) -> Result<(), Fault>
         ensures alone { GoesOnForgetting D.eq L.elect S.certificate_bytes self.old self.new }
         ensures whole { OnOk result (IsWhole S.certificate_bytes self.new.core) }
         ensures quiet { OnOk result (HasNothingNew D.eq L.elect self.new.core.member.facts) }
         ensures idle { OnOk result (IsIdle now self.new.plan) }
+        ensures ahead { OnOk result (BuildsAhead self.new.core self.new.plan) }
         ensures lowest { OnOk result (HoldsFromKept self.new.core self.new.batcher) }
         ensures lacking { OnOk result (AsksForItsLacking self.new.core self.new.plan.repair) }
         ensures duties { OnOk result (KeepsDuties self.old self.new) }
@@ -57,6 +59,7 @@ impl<S: Assembly<D>, L: Elector<S>, D: Digest> Engine<S, L, D> {
         ensures whole { OnOk result (IsWhole S.certificate_bytes self.new.core) }
         ensures quiet { OnOk result (HasNothingNew D.eq L.elect self.new.core.member.facts) }
         ensures idle { OnOk result (IsIdle now self.new.plan) }
+        ensures ahead { OnOk result (BuildsAhead self.new.core self.new.plan) }
         ensures lowest { OnOk result (HoldsFromKept self.new.core self.new.batcher) }
         ensures lacking { OnOk result (AsksForItsLacking self.new.core self.new.plan.repair) }
         ensures duties { OnOk result (KeepsDuties self.old self.new) }
@@ -71,6 +74,7 @@ impl<S: Assembly<D>, L: Elector<S>, D: Digest> Engine<S, L, D> {
         ensures alone { GoesOnForgetting D.eq L.elect S.certificate_bytes self.old self.new }
         ensures member { self.new.core.member ≡ self.old.core.member }
         ensures idle { (now : ℕ) → IsIdle now self.old.plan → IsIdle now self.new.plan }
+        ensures builds { self.new.plan.builds.items ≡ self.old.plan.builds.items }
         ensures whole { OnOk result (IsWhole S.certificate_bytes self.new.core) }
         ensures lowest { OnOk result (HoldsFromKept self.new.core self.new.batcher) }
         ensures lacking { OnOk result (AsksForItsLacking self.new.core self.new.plan.repair) }
@@ -86,6 +90,7 @@ impl<S: Assembly<D>, L: Elector<S>, D: Digest> Engine<S, L, D> {
         ensures alone { GoesOnAlone D.eq L.elect S.certificate_bytes self.old self.new }
         ensures quiet { OnOk result (HasNothingNew D.eq L.elect self.new.core.member.facts) }
         ensures idle { OnOk result (IsIdle now self.new.plan) }
+        ensures ahead { OnOk result (BuildsAhead self.new.core self.new.plan) }
         ensures duties { OnOk result (KeepsDuties self.old self.new) }
     {
         for _ in 0..u64::MAX {
@@ -96,40 +101,33 @@ impl<S: Assembly<D>, L: Elector<S>, D: Digest> Engine<S, L, D> {
         Err(Fault::Failed)
     }
 
-    /// Takes steps until none is due, and asks for all that may be due. Whether there is nothing new, and nothing follows.
+    /// Takes steps until none is due, and asks for all that may be. Whether there is nothing new, and nothing follows.
     fn is_settled(&mut self, now: u64) -> Result<bool, Fault>
         ensures alone { GoesOnAlone D.eq L.elect S.certificate_bytes self.old self.new }
         ensures quiet { IfOk result (λ settled. IsTrue settled → HasNothingNew D.eq L.elect self.new.core.member.facts) }
         ensures idle { IfOk result (λ settled. IsTrue settled → IsIdle now self.new.plan) }
+        ensures ahead { IfOk result (λ settled. IsTrue settled → BuildsAhead self.new.core self.new.plan) }
         ensures duties { OnOk result (KeepsDuties self.old self.new) }
     {
         self.run(now)?;
-        let view = self.current_view()?;
-        if !self.is_quiet(view, now)? {
+        if !self.has_no_work(now)? {
             return Ok(false);
         }
-        if !self.is_current(view) {
+        if !self.plan.is_idle(now) {
             return Ok(false);
         }
-        Ok(self.plan.is_idle(now))
-    }
-
-    /// The current view. A member that has failed since found no memory.
-    fn current_view(&self) -> Result<View, Fault>
-        ensures { IfOk result (λ view. view_in_life self.now.core.member.facts ≡ Some view) }
-    {
-        match self.core.state() {
-            Some(state) => Ok(state.current_view()),
-            None => Err(Fault::OutOfMemory),
+        if !self.builds_ahead() {
+            return Ok(false);
         }
+        self.has_nothing_due()
     }
 
-    /// Whether the view is the current one.
-    fn is_current(&self, view: View) -> bool
-        ensures { IsTrue result → view_in_life self.now.core.member.facts ≡ Some view }
+    /// Whether no block is to be built of a view below the current one.
+    fn builds_ahead(&self) -> bool
+        ensures { IsTrue result → BuildsAhead self.now.core self.now.plan }
     {
         match self.core.state() {
-            Some(state) => state.current_view() == view,
+            Some(state) => self.plan.builds_from(state.current_view()),
             None => false,
         }
     }
@@ -195,6 +193,7 @@ impl<S: Assembly<D>, L: Elector<S>, D: Digest> Engine<S, L, D> {
         ensures alone { GoesOnForgetting D.eq L.elect S.certificate_bytes self.old self.new }
         ensures member { self.new.core.member ≡ self.old.core.member }
         ensures idle { (now : ℕ) → IsIdle now self.old.plan → IsIdle now self.new.plan }
+        ensures builds { self.new.plan.builds.items ≡ self.old.plan.builds.items }
         ensures lowest { OnOk result (HoldsFromKept self.new.core self.new.batcher) }
         ensures lacking { OnOk result (AsksForItsLacking self.new.core self.new.plan.repair) }
         ensures duties { OnOk result (KeepsDuties self.old self.new) }
@@ -220,6 +219,7 @@ impl<S: Assembly<D>, L: Elector<S>, D: Digest> Engine<S, L, D> {
         ensures core { self.new.core ≡ self.old.core }
         ensures batcher { self.new.batcher ≡ self.old.batcher }
         ensures idle { (now : ℕ) → IsIdle now self.old.plan → IsIdle now self.new.plan }
+        ensures builds { self.new.plan.builds.items ≡ self.old.plan.builds.items }
         ensures lacking { OnOk result (AsksForItsLacking self.new.core self.new.plan.repair) }
         ensures planned { KeepsPlanned self.old.plan self.new.plan }
     {

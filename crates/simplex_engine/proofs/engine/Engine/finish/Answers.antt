@@ -2,6 +2,7 @@
 use Rattle.std.proofs.Common.{sym, subst}
 use Rattle.simplex_engine.specs.Quiet.{HasNothingNew}
 use Rattle.simplex_engine.proofs.Alone.{forgets_further, forgets_none}
+use Rattle.simplex_engine.proofs.Duties.{ahead_still}
 use Rattle.simplex_engine.proofs.Tells.{tells_further}
 use Rattle.simplex_engine.proofs.engine.Engine.finish.Goals as goal
 
@@ -17,6 +18,7 @@ returns g c = record {
   whole = c.in_ok-settle.ensures.whole;
   quiet = subst (λ m. HasNothingNew g.D.PartialEq.eq g.L.Elector.elect m.facts) (sym c.settle.ensures.member) c.in_ok-run_all.ensures.quiet;
   idle = c.settle.ensures.idle c.args.now c.in_ok-run_all.ensures.idle;
+  ahead = ahead_still c.run_all.new.self c.settle.new.self c.settle.ensures.member c.settle.ensures.builds c.in_ok-run_all.ensures.ahead;
   lowest = c.in_ok-settle.ensures.lowest;
   lacking = c.in_ok-settle.ensures.lacking;
   duties = tells_further c.in_ok-run_all.ensures.duties c.in_ok-settle.ensures.duties;

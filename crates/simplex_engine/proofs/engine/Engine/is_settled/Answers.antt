@@ -1,44 +1,69 @@
--- That the steps and the calls go on one behind the other.
+-- That the steps and the calls go on one behind the other, and that nothing changes where nothing is due.
+use Rattle.std.proofs.Common.{None, sym, subst}
 use Rattle.std.proofs.lemmas.Bool.{false≢true}
-use Rattle.simplex_engine.proofs.Alone.{alone_further}
-use Rattle.simplex_engine.proofs.Tells.{tells_further}
+use Rattle.std.proofs.lemmas.Result.{IfOk-weaker}
+use Rattle.simplex_outbox.specs.Going.{GoesOn}
+use Rattle.simplex_outbox.proofs.Going.{stays}
+use Rattle.simplex_plan.specs.Planning.{IsIdle}
+use Rattle.simplex_plan.proofs.Planning.{on_ok}
+use Rattle.simplex_engine.specs.Building.{BuildsAhead}
+use Rattle.simplex_engine.specs.Quiet.{for_work, AnswerNothing}
+use Rattle.simplex_engine.proofs.Alone.{alone_further, alone_with}
+use Rattle.simplex_engine.proofs.Tells.{tells_further, tells_planned}
 use Rattle.simplex_engine.proofs.engine.Engine.is_settled.Goals as goal
 
 pub returns-in_err-run-clause-alone : goal.returns-in_err-run-clause-alone
 returns-in_err-run-clause-alone g c = c.run.ensures.alone
 
-pub returns-in_err-view-clause-alone : goal.returns-in_err-view-clause-alone
-returns-in_err-view-clause-alone g c = c.run.ensures.alone
-
-pub returns-in_err-is_quiet-clause-alone : goal.returns-in_err-is_quiet-clause-alone
-returns-in_err-is_quiet-clause-alone g c = alone_further c.run.ensures.alone c.is_quiet.ensures.alone
+pub returns-in_err-has_no_work-clause-alone : goal.returns-in_err-has_no_work-clause-alone
+returns-in_err-has_no_work-clause-alone g c = alone_further c.run.ensures.alone c.has_no_work.ensures.alone
 
 pub returns-then-not-branch : goal.returns-then-not-branch
 returns-then-not-branch g c = record {
-  alone = alone_further c.run.ensures.alone c.is_quiet.ensures.alone;
+  alone = alone_further c.run.ensures.alone c.has_no_work.ensures.alone;
   quiet = λ is. absurd (false≢true is);
   idle = λ is. absurd (false≢true is);
-  duties = tells_further c.in_ok-run.ensures.duties c.in_ok-is_quiet.ensures.duties;
+  ahead = λ is. absurd (false≢true is);
+  duties = tells_further c.in_ok-run.ensures.duties c.in_ok-has_no_work.ensures.duties;
 }
 
-pub returns-then-not-is_current : goal.returns-then-not-is_current
-returns-then-not-is_current g c = record {
-  alone = alone_further c.run.ensures.alone c.is_quiet.ensures.alone;
+pub returns-then-not-is_idle : goal.returns-then-not-is_idle
+returns-then-not-is_idle g c = record {
+  alone = alone_further c.run.ensures.alone c.has_no_work.ensures.alone;
   quiet = λ is. absurd (false≢true is);
   idle = λ is. absurd (false≢true is);
-  duties = tells_further c.in_ok-run.ensures.duties c.in_ok-is_quiet.ensures.duties;
+  ahead = λ is. absurd (false≢true is);
+  duties = tells_further c.in_ok-run.ensures.duties c.in_ok-has_no_work.ensures.duties;
 }
 
-pub returns-clause-alone : goal.returns-clause-alone
-returns-clause-alone g c = alone_further c.run.ensures.alone c.is_quiet.ensures.alone
-
-pub returns-clause-quiet : goal.returns-clause-quiet
-returns-clause-quiet g c = λ is. record {
-  view = c.in_ok-view.view;
-  current = c.is_current.ensures c.if-not-is_current.false;
-  before = c.run.new.self.core.member.facts;
-  asked = c.in_ok-is_quiet.ensures.quiet c.if-not-branch.false;
+pub returns-then-not-builds_ahead : goal.returns-then-not-builds_ahead
+returns-then-not-builds_ahead g c = record {
+  alone = alone_further c.run.ensures.alone c.has_no_work.ensures.alone;
+  quiet = λ is. absurd (false≢true is);
+  idle = λ is. absurd (false≢true is);
+  ahead = λ is. absurd (false≢true is);
+  duties = tells_further c.in_ok-run.ensures.duties c.in_ok-has_no_work.ensures.duties;
 }
 
-pub returns-clause-duties : goal.returns-clause-duties
-returns-clause-duties g c = tells_further c.in_ok-run.ensures.duties c.in_ok-is_quiet.ensures.duties
+pub returns : goal.returns
+returns g c =
+    let same = g.D.PartialEq.eq in
+    let elect = g.L.Elector.elect in
+    let before = c.run.new.self.core.member.facts in
+    let asked = c.has_no_work.new.self in
+    let left = c.has_nothing_due.new.self in
+    let is = c.has_nothing_due.ensures in
+    record {
+      alone = alone_further c.run.ensures.alone (alone_further c.has_no_work.ensures.alone
+          (alone_with asked left (subst (GoesOn same elect g.S.CertificateScheme.certificate_bytes None asked.core) (sym is.core) (stays asked.core)) is.batcher));
+      quiet = IfOk-weaker c.has_nothing_due.result _ _ (λ nothing holds none. record {
+        before = before;
+        asked = subst (λ core. AnswerNothing same elect before for_work core.member.facts) (sym is.core) (c.in_ok-has_no_work.ensures.nothing c.if-not-branch.false);
+        own = (holds none).0;
+      }) is.nothing;
+      idle = IfOk-weaker c.has_nothing_due.result _ _ (λ nothing holds none. subst (IsIdle c.args.now) (sym (holds none).1) (c.is_idle.ensures.0 c.if-not-is_idle.false)) is.nothing;
+      ahead = IfOk-weaker c.has_nothing_due.result _ _ (λ nothing holds none. subst (BuildsAhead left.core) (sym (holds none).1)
+          (subst (λ core. BuildsAhead core asked.plan) (sym is.core) (c.builds_ahead.ensures c.if-not-builds_ahead.false))) is.nothing;
+      duties = on_ok c.has_nothing_due.result is.planned
+          (λ planned. tells_further c.in_ok-run.ensures.duties (tells_further c.in_ok-has_no_work.ensures.duties (tells_planned asked left is.core planned)));
+    }

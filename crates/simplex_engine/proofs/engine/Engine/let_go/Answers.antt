@@ -29,6 +29,9 @@ returns-in_err-tell_forgotten-clause-member g c = c.tell_forgotten.ensures.membe
 pub returns-in_err-tell_forgotten-clause-idle : goal.returns-in_err-tell_forgotten-clause-idle
 returns-in_err-tell_forgotten-clause-idle g c = λ now idle. subst (IsIdle now) (sym c.tell_forgotten.ensures.plan) idle
 
+pub returns-in_err-tell_forgotten-clause-builds : goal.returns-in_err-tell_forgotten-clause-builds
+returns-in_err-tell_forgotten-clause-builds g c = ap (λ plan. plan.builds.items) c.tell_forgotten.ensures.plan
+
 pub returns : goal.returns
 returns g c =
     let core = c.tell_forgotten.new.self.core in
@@ -48,6 +51,7 @@ returns g c =
       };
       member = ap (λ core. core.member) c.let_fetches_go.ensures.core ∙ c.tell_forgotten.ensures.member;
       idle = λ now idle. c.let_fetches_go.ensures.idle now (subst (IsIdle now) (sym c.tell_forgotten.ensures.plan) idle);
+      builds = c.let_fetches_go.ensures.builds ∙ ap (λ plan. plan.builds.items) c.tell_forgotten.ensures.plan;
       lowest = on_ok c.let_fetches_go.result c.let_fetches_go.ensures.lacking
           (λ _. subst (λ now. IfSome now.member.facts.life (λ x. HoldsFrom (min_active x) c.let_fetches_go.new.self.batcher)) (sym c.let_fetches_go.ensures.core)
           (subst (λ batcher. IfSome core.member.facts.life (λ x. HoldsFrom (min_active x) batcher)) (sym c.let_fetches_go.ensures.batcher)

@@ -1,5 +1,5 @@
 -- That only the steps have done anything, and that an error fails the engine.
-use Rattle.std.proofs.Common.{refl, ap, sym, subst, length, ◌≤◌}
+use Rattle.std.proofs.Common.{◌≡◌, true, refl, ap, sym, subst, length, ◌≤◌}
 use Rattle.std.specs.Prelude.{IfSome, option_to_list}
 use Rattle.simplex_voter.specs.Windows.{min_active}
 use Rattle.simplex_batcher.specs.Batching.{HoldsFrom}
@@ -12,6 +12,7 @@ use Rattle.simplex_engine.proofs.Bounds.{bounded_still, bounded_further, bounded
 use Rattle.simplex_outbox.proofs.Going.{goes_further, gives_nothing, does_more, tells_no_other, tells_no_other_then}
 use Rattle.simplex_engine.proofs.Tells.{tells_given, all_left, works_given}
 use Rattle.simplex_engine.specs.Duties.{work_in}
+use Rattle.simplex_plan.specs.Building.{builds_from}
 use Rattle.simplex_plan.proofs.PlannedWork.{among_further}
 use Rattle.simplex_engine.proofs.engine.Engine.poll_after_work.Goals as goal
 
@@ -58,6 +59,10 @@ returns-in-Err-clause-failed g c = ap has_failed c.fail.ensures.failed
 pub returns-in-Ok-clause-lowest : goal.returns-in-Ok-clause-lowest
 returns-in-Ok-clause-lowest g c none =
     subst (λ m. IfSome m.facts.life (λ x. HoldsFrom (min_active x) c.work.new.self.batcher)) (sym c.next.ensures.same.0) c.in-Ok.ensures.lowest
+
+pub returns-in-Ok-clause-ahead : goal.returns-in-Ok-clause-ahead
+returns-in-Ok-clause-ahead g c none =
+    subst (λ m. IfSome m.facts.life (λ x. builds_from x.current c.work.new.self.plan.builds.items ≡ true)) (sym c.next.ensures.same.0) c.in-Ok.ensures.ahead
 
 pub returns-in-Ok-clause-lacking : goal.returns-in-Ok-clause-lacking
 returns-in-Ok-clause-lacking g c none =

@@ -11,6 +11,7 @@ returns-then-branch g c = record {
   alone = alone_further c.loop.invariant.alone c.is_settled.ensures.alone;
   quiet = c.in_ok-is_settled.ensures.quiet c.if-branch.true;
   idle = c.in_ok-is_settled.ensures.idle c.if-branch.true;
+  ahead = c.in_ok-is_settled.ensures.ahead c.if-branch.true;
   duties = tells_further c.loop.invariant.duties c.in_ok-is_settled.ensures.duties;
 }
 
@@ -24,4 +25,4 @@ loop-preserved g c = record {
 }
 
 pub returns : goal.returns
-returns g c = record { alone = c.loop.invariant.alone; quiet = tt; idle = tt; duties = tt }
+returns g c = record { alone = c.loop.invariant.alone; quiet = tt; idle = tt; ahead = tt; duties = tt }

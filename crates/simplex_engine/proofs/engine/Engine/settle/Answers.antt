@@ -27,6 +27,12 @@ returns-in_err-store-clause-member g c = c.store.ensures.member ∙ c.let_go.ens
 pub returns-in_err-store-clause-idle : goal.returns-in_err-store-clause-idle
 returns-in_err-store-clause-idle g c = c.let_go.ensures.idle
 
+pub returns-in_err-let_go-clause-builds : goal.returns-in_err-let_go-clause-builds
+returns-in_err-let_go-clause-builds g c = c.let_go.ensures.builds
+
+pub returns-in_err-store-clause-builds : goal.returns-in_err-store-clause-builds
+returns-in_err-store-clause-builds g c = c.let_go.ensures.builds
+
 pub returns : goal.returns
 returns g c =
     let repair = c.let_go.new.self.plan.repair in
@@ -34,6 +40,7 @@ returns g c =
       alone = forgets_then c.let_go.ensures.alone c.store.ensures.goes_on c.store.ensures.member refl;
       member = c.store.ensures.member ∙ c.let_go.ensures.member;
       idle = c.let_go.ensures.idle;
+      builds = c.let_go.ensures.builds;
       whole = c.in_ok-store.ensures.whole;
       lowest = subst (λ m. IfSome m.facts.life (λ x. HoldsFrom (min_active x) c.let_go.new.self.batcher)) (sym c.store.ensures.member) c.in_ok-let_go.ensures.lowest;
       lacking = subst (λ m. IfSome m.facts.life (λ x. AsksForTheLacking repair.resolver.open_fetches x repair.fetches.wanted.items)) (sym c.store.ensures.member)

@@ -13,6 +13,7 @@ returns g c = record {
   whole = c.finish.ensures.whole;
   quiet = c.finish.ensures.quiet;
   idle = c.finish.ensures.idle;
+  ahead = c.finish.ensures.ahead;
   lowest = c.finish.ensures.lowest;
   lacking = c.finish.ensures.lacking;
   duties = on_ok c.finish.result c.finish.ensures.duties (tells_further c.in_ok-prepare.ensures.duties);
