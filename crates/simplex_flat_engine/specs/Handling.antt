@@ -1,7 +1,7 @@
 -- How an engine behind a handle is told and asked.
 use Rattle.std.specs.Prelude.{◌≡◌, ◌⊎◌, ◌+◌, ◌-◌, ◌^◌, ◌++◌, min, ℕ, Bool, true, false, List, [], length, Option, Some, None, option_to_list, Result, Ok, Err, OnErr, OnOk, IfErr, IfOk, IsFalse, IsTrue, if◌then◌else◌}
 use Rattle.simplex_types.specs.declared.types.fault.Fault.{Fault}
-use Rattle.simplex_types.specs.declared.types.fault.Fault.TheVariants.{OutOfMemory, Failed}
+use Rattle.simplex_types.specs.declared.types.fault.Fault.TheVariants.{Failed}
 use Rattle.simplex_types.specs.declared.types.messages.Subject.{Subject}
 use Rattle.simplex_codec.specs.declared.digest.BytesDigest.{BytesDigest}
 use Rattle.simplex_host.specs.declared.scheme.HostCertificate.{HostCertificate}
@@ -25,6 +25,8 @@ use Rattle.simplex_outbox.specs.Journals.{IsRecordOf, journal_of}
 use Rattle.simplex_plan.specs.PlannedWork.{AreAmong, constants_of}
 use Rattle.simplex_plan.specs.Planning.{IsIdle}
 use Rattle.simplex_engine.specs.Settled.{IsSettled}
+use Rattle.simplex_engine.specs.Building.{BuildsAhead}
+use Rattle.simplex_engine.specs.Failing.{IsFailure}
 use Rattle.simplex_flat.specs.declared.journal.NotWritten.{NotWritten}
 use Rattle.simplex_flat.specs.declared.shown.FlatStored.{FlatStored}
 use Rattle.simplex_flat.specs.Journals.{framed}
@@ -44,10 +46,6 @@ pub record HasShownNothing (held : HeldEngine) : Type 0 where
   pub nothing : held.last ≡ None
   pub lost : held.is_lost ≡ false
   pub shown : held.shown.items ≡ []
-
--- why an engine fails, or had failed
-abbrev pub IsFailure : Fault → Type 0
-IsFailure fault = (fault ≡ OutOfMemory) ⊎ (fault ≡ Failed)
 
 -- whether it was of use, or why the engine has failed
 abbrev pub IsAnswer : Result Bool Fault → FlatTaken → Type 0
@@ -170,12 +168,13 @@ HoldsRecord given held =
     held.engine.core.failed ≡ false → held.engine.core.outbox.queue.items ≡ [] → IsWhole certificate_bytes held.engine.core
     → IsRecordOf certificate_bytes held.engine.core.member (journal_of given)
 
--- an engine has nothing more to do at a moment, holds no vote of views that are over, and asks for just what is lacking; where each
--- proposal to verify or certify and each block to build was told, it was given out; where no vote was held above those that are taken, each that is held is a
--- member's, and of a view whose votes are taken
+-- an engine has nothing more to do at a moment, builds no block and holds no vote of views that are over, and asks for just what is
+-- lacking; where each proposal to verify or certify and each block to build was told, it was given out; where no vote was held above
+-- those that are taken, each that is held is a member's, and of a view whose votes are taken
 pub record IsAtRest (now : ℕ) (old new : HostEngine) : Type 0 where
   pub settled : IsSettled same_host_payload host_leader certificate_bytes new.core
   pub idle : IsIdle now new.plan
+  pub ahead : BuildsAhead new.core new.plan
   pub lowest : HoldsFromKept new.core new.batcher
   pub lacking : AsksForItsLacking new.core new.plan.repair
   pub waiting : (given : List HostOutput) → HasToldAll given old → AllIsGivenOut given new

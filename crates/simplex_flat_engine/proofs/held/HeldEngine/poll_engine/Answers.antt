@@ -72,6 +72,7 @@ returns-in-Ok-None c =
               idle = (rw none at c.in-Ok-None.ensures.idle) refl;
               lowest = (rw none at c.in-Ok-None.ensures.lowest) refl;
               lacking = (rw none at c.in-Ok-None.ensures.lacking) refl;
+              ahead = (rw none at c.in-Ok-None.ensures.ahead) refl;
               waiting = (rw none at c.in-Ok-None.ensures.waiting) refl;
               admitted = λ before. (rw none at c.in-Ok-None.ensures.admitted before) refl;
             },
