@@ -71,7 +71,7 @@ WRONG = (
     Wrong("a certificate of votes is thrown away", "simplex_engine/src/engine/counting.rt",
           "match self.accept(&certificate, now) {", "match self.see() {"),
     Wrong("a timeout is never due", "simplex_plan/src/plan/following.rt", "if moment <= now {", "if moment < moment.min(now) {"),
-    Wrong("a long record is never made short", "simplex_engine/src/engine/steps.rt", "self.options.long_record < count", "count < self.options.long_record"),
+    Wrong("a long record is never made short", "simplex_engine/src/engine/steps.rt", "self.plan.long_record() < count", "count < self.plan.long_record()"),
 )
 
 

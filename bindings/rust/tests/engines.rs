@@ -6,7 +6,7 @@ mod network;
 use network::{Disk, Message, Network, Node, Sent, is_good, signature};
 use simplex_view_state::{
     Certificate, CertificateKind, Config, Context, Digest, Engine, EngineError, EntryCount, Epoch, FetchKind, Finalization, Input, Leaders,
-    Member, Moment, Notarization, Nullification, OpenError, Options, Output, Participant, Proposal, Round, SettingsError, Subject,
+    Member, Moment, Notarization, Nullification, OpenError, Options, Output, Participant, Proposal, Round, SettingsError, Subject, Terms,
     TimeoutReason, View, Vote,
 };
 use std::collections::BTreeMap;
@@ -322,6 +322,61 @@ fn what_is_of_no_use_changes_nothing() -> Tested {
     }
     assert!(!engine.is_failed());
     assert_eq!((outputs(&mut engine, START)?, engine.views()), (Vec::new(), before));
+    Ok(())
+}
+
+/// Member 1 gives view 1 up, and then learns that views 1 and 2 of the term are notarized, and certifies both.
+fn gives_up_what_others_certify() -> Result<Engine, Box<dyn Error>> {
+    let term = Config {
+        terms: Terms {
+            length: 3.try_into()?,
+            ..Terms::ONE_VIEW
+        },
+        ..config(1)
+    };
+    let mut engine = Engine::start(&term, &Options::default(), START)?;
+    let (view, reason) = (View::new(1), TimeoutReason::Inactivity);
+    assert!(engine.handle(Input::GivenUp { view, reason }, START)?);
+    assert!(casts(&mut engine, Subject::Nullify(round(1)))?);
+    for view in [1, 2] {
+        assert!(engine.handle(Input::Certificate(notarization(view)), START)?);
+        assert!(!casts(&mut engine, Subject::Finalize(proposal(view, 1)))?);
+        let (view, is_success) = (View::new(view), true);
+        assert!(engine.handle(Input::Certified { view, is_success }, START)?);
+    }
+    Ok(engine)
+}
+
+/// Whether the vote is among all outputs until there is none.
+fn casts(engine: &mut Engine, subject: Subject) -> Result<bool, EngineError> {
+    let given = outputs(engine, START)?;
+    Ok(given.iter().any(|it| matches!(it, Output::Vote(vote) if vote.subject == subject)))
+}
+
+#[test]
+fn a_finalization_lets_out_the_votes_that_a_vote_to_nullify_forbade() -> Tested {
+    let mut engine = gives_up_what_others_certify()?;
+    let final_above = Subject::Finalize(proposal(2, 1));
+    assert!(!casts(&mut engine, final_above)?);
+    assert!(engine.handle(Input::Certificate(finalization(1)), START)?);
+    assert!(casts(&mut engine, final_above)?);
+    Ok(())
+}
+
+#[test]
+fn a_block_of_a_view_that_is_over_is_given_up() -> Tested {
+    let mut engine = engine(1)?;
+    engine.handle(Input::Certificate(nullification(1)), START)?;
+    let asked = outputs(&mut engine, START)?.into_iter().find_map(|it| match it {
+        Output::Build(context) => Some(context),
+        _ => None,
+    });
+    let context = asked.ok_or("it leads view 2")?;
+    assert_eq!(context.round, round(2));
+    engine.handle(Input::Certificate(nullification(2)), START)?;
+    assert!(outputs(&mut engine, START)?.contains(&Output::StopBuilding(View::new(2))));
+    let payload = Digest::default();
+    assert!(!engine.handle(Input::Built { context, payload }, START)?);
     Ok(())
 }
 
