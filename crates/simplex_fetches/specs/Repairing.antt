@@ -8,13 +8,18 @@ use Rattle.simplex_fetches.specs.declared.fetches.Fetch.{Fetch}
 use Rattle.simplex_fetches.specs.declared.repair.Repair.{Repair}
 use Rattle.simplex_fetches.specs.Wanted.{after_effects}
 
--- the fetches have become these, asked of the same peers in turn, and else the same is so
-pub record HasFetches (fetches : List Fetch) (old new : Repair) : Type 0 where
+-- the fetches have become these, asked of the same peers in turn, and a finalization passed this view; else the same is so
+pub record HasPassed (view : ℕ) (fetches : List Fetch) (old new : Repair) : Type 0 where
   pub fetches_now : new.fetches.wanted.items ≡ fetches
   pub peers : new.fetches.peers ≡ old.fetches.peers
   pub retry : new.fetches.retry ≡ old.fetches.retry
   pub resolver : new.resolver ≡ old.resolver
+  pub passed : new.passed ≡ view
   pub behind : new.is_behind ≡ old.is_behind
+
+-- the fetches have become these, and no other view was passed
+abbrev pub HasFetches : List Fetch → Repair → Repair → Type 0
+HasFetches fetches old new = HasPassed old.passed fetches old new
 
 -- the call is made of the resolver, its effects open and end fetches, and else the same is so
 pub record IsRepaired (moment : ℕ) (call : Call) (old new : Repair) : Type 0 where

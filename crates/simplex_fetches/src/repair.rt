@@ -32,7 +32,7 @@ pub struct Repair {
 }
 
 impl Repair {
-    ghost use Rattle.simplex_fetches.specs.Repairing.{HasFetches, IsRepaired, IsUnrepaired};
+    ghost use Rattle.simplex_fetches.specs.Repairing.{HasFetches, HasPassed, IsRepaired, IsUnrepaired};
 
     /// What the resolver has open is asked for at once, beside what is open already.
     ///
@@ -158,8 +158,7 @@ impl Repair {
 
     /// The view is final: nothing is asked for of the views up to it.
     pub fn pass(&mut self, finalized: View)
-        ensures fetches { HasFetches (passed finalized self.old.fetches.wanted.items) self.old self.new }
-        ensures passed { self.new.passed ≡ max self.old.passed finalized }
+        ensures { HasPassed (max self.old.passed finalized) (passed finalized self.old.fetches.wanted.items) self.old self.new }
     {
         self.fetches.pass(finalized);
         self.passed = later_of(self.passed, finalized);
@@ -190,8 +189,8 @@ impl Repair {
         &mut self,
         state: &State<S, L, D>,
     ) -> Result<(), Fault>
-        ensures kept { OnOk result (HasFetches (filter (is_lacking self.old.resolver.open_fetches state.now) self.old.fetches.wanted.items)
-            self.old self.new) }
+        ensures kept { OnOk result (HasPassed state.now.finalized
+            (filter (is_lacking self.old.resolver.open_fetches state.now) self.old.fetches.wanted.items) self.old self.new) }
         ensures answers { IsOk result ↔ ((self.old.is_behind ≡ false) × (self.old.passed ≤ state.now.finalized)) }
         ensures refused { IfErr result (λ fault. (fault ≡ Failed) × (self.new ≡ self.old)) }
         ensures lacking { OnOk result (AsksForTheLacking self.new.resolver.open_fetches state.now self.new.fetches.wanted.items) }

@@ -8,7 +8,7 @@ use Rattle.simplex_types.specs.declared.types.fault.Fault.{Fault}
 use Rattle.simplex_types.specs.declared.types.fault.Fault.TheVariants.{Failed}
 use Rattle.simplex_fetches.specs.declared.fetches.Fetch.{Fetch}
 use Rattle.simplex_fetches.specs.declared.repair.Repair.{Repair}
-use Rattle.simplex_fetches.specs.Repairing.{HasFetches}
+use Rattle.simplex_fetches.specs.Repairing.{HasFetches, HasPassed}
 use Rattle.simplex_member.specs.Calls.{Told}
 use Rattle.simplex_outbox.specs.declared.output.Work.{Work}
 use Rattle.simplex_plan.specs.declared.plan.Building.{Building}
@@ -129,10 +129,10 @@ module _ {S D K G C : Type 0} where
   plans_opened opened kept old new (Ok x) is opens refuses = plans_repaired old new is opens.peers opens.retry
   plans_opened opened kept old new (Err e) is opens refuses = plans_repaired old new is refuses.peers refuses.retry
 
-  pub plans_let_go : {X : Type 0} (kept : List Fetch) (old new : Plan S D K G C) (r : Result X Fault) → new ≡ record old { repair = new.repair }
-      → OnOk r (HasFetches kept old.repair new.repair) → IfErr r (λ fault. (fault ≡ Failed) × (new ≡ old)) → KeepsPlanned old new
-  plans_let_go kept old new (Ok x) is closes refuses = plans_repaired old new is closes.peers closes.retry
-  plans_let_go kept old new (Err e) is closes refuses = plans_same old new refuses.1
+  pub plans_let_go : {X : Type 0} (view : ℕ) (kept : List Fetch) (old new : Plan S D K G C) (r : Result X Fault)
+      → new ≡ record old { repair = new.repair } → OnOk r (HasPassed view kept old.repair new.repair) → IfErr r (λ fault. (fault ≡ Failed) × (new ≡ old)) → KeepsPlanned old new
+  plans_let_go view kept old new (Ok x) is closes refuses = plans_repaired old new is closes.peers closes.retry
+  plans_let_go view kept old new (Err e) is closes refuses = plans_same old new refuses.1
 
   pub plans_begun : (old new : Plan S D K G C) → new ≡ record old { is_timeout_due = true; is_prune_due = true } → KeepsPlanned old new
   plans_begun old new is = plans_beside old (record old { is_timeout_due = true; is_prune_due = true }) new is refl refl refl

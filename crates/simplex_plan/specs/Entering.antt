@@ -1,8 +1,8 @@
 -- What is planned once the member has come to other views.
-use Rattle.std.specs.Prelude.{◌≡◌, ℕ, Bool, true, false, not, ◌&&◌, ◌||◌, ◌==◌, nat_le, nat_lt, List, [], ◌∷◌, ◌++◌, map, filter, if◌then◌else◌}
+use Rattle.std.specs.Prelude.{◌≡◌, ℕ, Bool, true, false, not, ◌&&◌, ◌||◌, ◌==◌, nat_le, nat_lt, max, List, [], ◌∷◌, ◌++◌, map, filter, if◌then◌else◌}
 use Rattle.simplex_fetches.specs.declared.repair.Repair.{Repair}
 use Rattle.simplex_fetches.specs.Fetches.{passed}
-use Rattle.simplex_fetches.specs.Repairing.{HasFetches}
+use Rattle.simplex_fetches.specs.Repairing.{HasPassed}
 use Rattle.simplex_plan.specs.declared.plan.Building.{Building}
 use Rattle.simplex_plan.specs.declared.plan.Plan.{Plan}
 use Rattle.simplex_plan.specs.declared.plan.Step.{Step}
@@ -50,7 +50,7 @@ module _ {S D K G C : Type 0} where
 
 -- fetches of the views up to the last finalized one are closed, where it is a later one than before
 abbrev pub IsPassedWhere : Bool → ℕ → Repair → Repair → Type 0
-IsPassedWhere true finalized old new = HasFetches (passed finalized old.fetches.wanted.items) old new
+IsPassedWhere true finalized old new = HasPassed (max old.passed finalized) (passed finalized old.fetches.wanted.items) old new
 IsPassedWhere false finalized old new = new ≡ old
 
 module _ {S D K G C : Type 0} where

@@ -11,7 +11,7 @@ mod working;
 
 ghost use Rattle.std.specs.Prelude.{◌≡◌, ◌+◌, ◌-◌, ◌^◌, ℕ, min, max, true, [], ◌∷◌, ◌++◌, filter, OnOk, IfErr, IsOk, IsTrue, ◌↔◌, ◌≤◌, false};
 ghost use Rattle.simplex_types.specs.declared.types.fault.Fault.TheVariants.{Failed};
-ghost use Rattle.simplex_fetches.specs.Repairing.{HasFetches};
+ghost use Rattle.simplex_fetches.specs.Repairing.{HasPassed};
 ghost use Rattle.simplex_fetches.specs.Wanted.{is_lacking, AsksForTheLacking};
 ghost use Rattle.simplex_plan.specs.Planning.{IsIdle, IsWake, HasPlanned, asking_for_votes, asking_for_certificates, touching, watching};
 ghost use Rattle.simplex_plan.specs.Building.{builds_from};
@@ -152,7 +152,7 @@ impl<S: CertificateScheme, D: Digest> Plan<S, D> {
         self.repair.fetches()
     }
 
-    /// The record is made short once it has more entries than this.
+    /// How many entries a record may have that is not made short, however many views it has.
     pub fn long_record(&self) -> usize
         ensures { result ≡ self.now.options.long_record }
     {
@@ -203,7 +203,8 @@ impl<S: CertificateScheme, D: Digest> Plan<S, D> {
     pub fn let_go<L: Elector<S>>(&mut self, state: &State<S, L, D>) -> Result<(), Fault>
         ensures same { self.new ≡ record self.old { repair = self.new.repair } }
         ensures kept { let repair = self.old.repair in
-            OnOk result (HasFetches (filter (is_lacking repair.resolver.open_fetches state.now) repair.fetches.wanted.items) repair self.new.repair) }
+            OnOk result (HasPassed state.now.finalized
+            (filter (is_lacking repair.resolver.open_fetches state.now) repair.fetches.wanted.items) repair self.new.repair) }
         ensures answers { IsOk result ↔ ((self.old.repair.is_behind ≡ false) × (self.old.repair.passed ≤ state.now.finalized)) }
         ensures refused { IfErr result (λ fault. (fault ≡ Failed) × (self.new ≡ self.old)) }
         ensures lacking { OnOk result (AsksForTheLacking self.new.repair.resolver.open_fetches state.now self.new.repair.fetches.wanted.items) }

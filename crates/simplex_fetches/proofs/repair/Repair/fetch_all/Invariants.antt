@@ -9,5 +9,6 @@ invariant-loop-fetch l = record {
   peers : l.self.fetches.peers ≡ l.initial.self.fetches.peers;
   retry : l.self.fetches.retry ≡ l.initial.self.fetches.retry;
   resolver : l.self.resolver ≡ l.initial.self.resolver;
+  passed : l.self.passed ≡ l.initial.self.passed;
   behind : l.self.is_behind ≡ l.initial.self.is_behind;
 }

@@ -43,5 +43,6 @@ returns-clause-kept g c =
       peers = c.keep_lacking.ensures.same.0;
       retry = c.keep_lacking.ensures.same.1;
       resolver = refl;
+      passed = c.last_finalized-finalized.ensures;
       behind = refl;
     }
