@@ -1,6 +1,6 @@
 -- For the code of the engine.
 -- What each step of a member with its outbox keeps.
-use Rattle.std.proofs.Common.{◌≡◌, ℕ, Bool, true, false, nat_lt, List, [], ◌∷◌, ◌++◌, drop, length, Option, Some, None, refl, ap, sym, subst, ◌∙◌, append_assoc}
+use Rattle.std.proofs.Common.{◌≡◌, ℕ, Bool, true, false, nat_lt, List, [], ◌∷◌, ◌++◌, drop, filter, length, Option, Some, None, refl, ap, sym, subst, ◌∙◌, append_assoc}
 use Rattle.std.specs.Prelude.{IfSome}
 use Rattle.std.proofs.lemmas.List.{length-map}
 use Rattle.std.proofs.lemmas.List.Elements.{All-nil}
@@ -9,7 +9,7 @@ use Rattle.simplex_types.specs.declared.types.messages.Artifact.{Artifact}
 use Rattle.simplex_types.specs.declared.types.messages.Proposal.{Proposal}
 use Rattle.simplex_types.specs.declared.types.messages.Subject.{Subject}
 use Rattle.simplex_voter.specs.Facts.{Elect}
-use Rattle.simplex_record.specs.Entries.{entries_of}
+use Rattle.simplex_record.specs.Entries.{entries_of, entry_view}
 use Rattle.simplex_record.specs.Votes.{SignedVote, votes_of}
 use Rattle.simplex_member.specs.Journal.{stored_of, votes_since}
 use Rattle.simplex_member.specs.Lives.{HasGrown}
@@ -24,12 +24,16 @@ use Rattle.simplex_batcher.specs.declared.votes.Vote.{Vote}
 use Rattle.simplex_outbox.specs.Doing.{IsDoneOn}
 use Rattle.simplex_outbox.specs.Finals.{TellsRising}
 use Rattle.simplex_outbox.specs.Outboxes.{IsLawfulOutbox, HasBecome, HasStayed, IsStored, IsReplaced, IsRepeated, IsToldWhere, IsTold, QueuesMore}
-use Rattle.simplex_outbox.specs.Outputs.{storing}
-use Rattle.simplex_outbox.specs.Journals.{journal_of, IsBeginningOf}
+use Rattle.simplex_outbox.specs.Outputs.{entries_in, storing}
+use Rattle.simplex_outbox.specs.Journals.{journal_of, IsRecordOf, IsBeginningOf}
 use Rattle.simplex_outbox.specs.Going.{IsKept, GoesOn, HasRisen}
 use Rattle.simplex_outbox.proofs.Finals.{stayed_tells, become_tells, storing_tells_none}
 use Rattle.simplex_outbox.proofs.Going.{does_nothing, risen_not}
 use Rattle.simplex_outbox.proofs.Journals.{behind_others, stored_behind, still_begun, stored_too, stored_whole, copied_votes}
+use Rattle.simplex_outbox.proofs.Leaving.{leave_plain, leave_stored, leave_replaced, leave_told, was_stored, none_is_new}
+use Rattle.simplex_outbox.specs.Leaving.{AllLeave}
+use Rattle.simplex_outbox.specs.Reaching.{ReachesTo}
+use Rattle.simplex_outbox.proofs.Reaching.{reaches_still}
 
 -- the last finalized view is the highest one that was told
 abbrev pub HasToldLast : {S L D K G C : Type 0} → Journaled S L D K G C → Type 0
@@ -61,48 +65,59 @@ module _ {S L D K G C : Type 0} (bytes_of : C → List ℕ) (old new : Journaled
   journal_told given (Some p) is = journal_where given p (nat_lt old.outbox.told p.round.view) is
 
   -- a call, and what is told as final by it
-  pub called : new.stored ≡ old.stored → new.failed ≡ old.failed → HasGrown old.member.facts new.member.facts
+  pub called : new.stored ≡ old.stored → new.reach ≡ old.reach → new.failed ≡ old.failed → HasGrown old.member.facts new.member.facts
       → (votes : List (SignedVote D G)) → new.member.votes ≡ old.member.votes ++ votes → stored_of new.member.facts ≡ stored_of old.member.facts
       → ((given : List (Output S D Stored K G C)) → IsLawfulOutbox given old.outbox → IsLawfulOutbox given new.outbox)
       → (finalized : Option (Proposal D)) → IsTold finalized old.outbox new.outbox → (HasToldLast old → HasToldLast new) → Keeps
-  called same_stored same_failed grown votes voted same lawful finalized tells last given kept = record {
+  called same_stored same_reach same_failed grown votes voted same lawful finalized tells last given kept = record {
     lawful = lawful given kept.lawful;
     stored = λ lives.
         subst (λ journal. IsBeginningOf bytes_of new.member new.stored journal) (sym (journal_told given finalized tells))
         (subst (λ n. IsBeginningOf bytes_of new.member n (journal_of (before given))) (sym same_stored)
         (still_begun bytes_of old.member old.stored (journal_of (before given)) (kept.stored (sym same_failed ∙ lives)) new.member grown.0 votes grown.1 voted same));
+    leaving = λ lives. leave_told given old.outbox new.outbox finalized tells (kept.leaving (sym same_failed ∙ lives));
     told = last kept.told;
+    reaching = subst (λ count. ReachesTo new.reach count new.member.facts.entries) (sym same_stored) (subst (λ reach. ReachesTo reach old.stored new.member.facts.entries) (sym same_reach)
+        (reaches_still old.reach old.stored old.member.facts new.member.facts grown kept.reaching));
   }
 
+  -- one output more, which stores nothing
+  leaves_with : (given : List (Output S D Stored K G C)) (out : Output S D Stored K G C) → HasBecome (out ∷ []) old.outbox.repeat old.outbox new.outbox → entries_in out ≡ [] → AllLeave (before given) → AllLeave (given ++ new.outbox.queue.items)
+  leaves_with given out become plain leaving = subst AllLeave (sym (queued given (out ∷ []) old.outbox.repeat become)) (leave_plain (before given) out plain leaving)
+
   -- the same journal
-  same_journal : (given : List (Output S D Stored K G C)) → IsKept bytes_of given old → new.member ≡ old.member → new.stored ≡ old.stored → new.failed ≡ old.failed → journal_of (given ++ new.outbox.queue.items) ≡ journal_of (before given) → IsLawfulOutbox given new.outbox → HasToldLast new → IsKept bytes_of given new
-  same_journal given kept same_member same_stored same_failed same lawful last = record {
+  same_journal : (given : List (Output S D Stored K G C)) → IsKept bytes_of given old → new.member ≡ old.member → new.stored ≡ old.stored → new.reach ≡ old.reach → new.failed ≡ old.failed → journal_of (given ++ new.outbox.queue.items) ≡ journal_of (before given) → IsLawfulOutbox given new.outbox → (AllLeave (before given) → AllLeave (given ++ new.outbox.queue.items)) → HasToldLast new → IsKept bytes_of given new
+  same_journal given kept same_member same_stored same_reach same_failed same lawful leaving last = record {
     lawful = lawful;
     stored = λ lives.
         subst (λ journal. IsBeginningOf bytes_of new.member new.stored journal) (sym same)
         (subst (λ n. IsBeginningOf bytes_of new.member n (journal_of (before given))) (sym same_stored)
         (subst (λ member. IsBeginningOf bytes_of member old.stored (journal_of (before given))) (sym same_member) (kept.stored (sym same_failed ∙ lives))));
+    leaving = λ lives. leaving (kept.leaving (sym same_failed ∙ lives));
     told = last;
+    reaching = subst (λ member. ReachesTo new.reach new.stored member.facts.entries) (sym same_member) (subst (λ count. ReachesTo new.reach count old.member.facts.entries) (sym same_stored)
+        (subst (λ reach. ReachesTo reach old.stored old.member.facts.entries) (sym same_reach) kept.reaching));
   }
 
-  module _ (same_member : new.member ≡ old.member) (same_stored : new.stored ≡ old.stored) (same_failed : new.failed ≡ old.failed) (lawful : (given : List (Output S D Stored K G C)) → IsLawfulOutbox given old.outbox → IsLawfulOutbox given new.outbox) where
+  module _ (same_member : new.member ≡ old.member) (same_stored : new.stored ≡ old.stored) (same_reach : new.reach ≡ old.reach) (same_failed : new.failed ≡ old.failed) (lawful : (given : List (Output S D Stored K G C)) → IsLawfulOutbox given old.outbox → IsLawfulOutbox given new.outbox) where
     -- nothing was queued
     pub kept_as_it_was : HasStayed old.outbox new.outbox → Keeps
-    kept_as_it_was stayed given kept = same_journal given kept same_member same_stored same_failed (ap (λ q. journal_of (given ++ q)) stayed.0) (lawful given kept.lawful)
+    kept_as_it_was stayed given kept = same_journal given kept same_member same_stored same_reach same_failed (ap (λ q. journal_of (given ++ q)) stayed.0) (lawful given kept.lawful)
+        (subst (λ q. AllLeave (given ++ q)) (sym stayed.0))
         (told_last_still old new same_member stayed.2 kept.told)
 
     -- work was
     pub pushed : (work : Work S D K G C) → HasBecome (output.Work work ∷ []) old.outbox.repeat old.outbox new.outbox → Keeps
     pushed work become given kept =
-        same_journal given kept same_member same_stored same_failed
+        same_journal given kept same_member same_stored same_reach same_failed
         (ap journal_of (queued given (output.Work work ∷ []) old.outbox.repeat become) ∙ behind_others (before given) (output.Work work ∷ []))
-        (lawful given kept.lawful) (told_last_still old new same_member become.told_is kept.told)
+        (lawful given kept.lawful) (leaves_with given (output.Work work) become refl) (told_last_still old new same_member become.told_is kept.told)
 
     voted : (vote : Vote D G) → HasBecome (output.Vote vote ∷ []) old.outbox.repeat old.outbox new.outbox → Keeps
     voted vote become given kept =
-        same_journal given kept same_member same_stored same_failed
+        same_journal given kept same_member same_stored same_reach same_failed
         (ap journal_of (queued given (output.Vote vote ∷ []) old.outbox.repeat become) ∙ behind_others (before given) (output.Vote vote ∷ []))
-        (lawful given kept.lawful) (told_last_still old new same_member become.told_is kept.told)
+        (lawful given kept.lawful) (leaves_with given (output.Vote vote) become refl) (told_last_still old new same_member become.told_is kept.told)
 
     repeated_by : (view : ℕ) (repeat : Option (Vote D G)) (sent : Bool) → IsRepeated view repeat sent old.outbox new.outbox → Keeps
     repeated_by view (Some vote) true repeated = voted vote repeated.1
@@ -130,10 +145,10 @@ module _ {S L D K G C : Type 0} (bytes_of : C → List ℕ) (old new : Journaled
   replaced_tells all beside is = become_tells (output.Replace is.0 beside ∷ []) _ old.outbox new.outbox refl is.2
 
   -- what the record has grown by was
-  pub stored : new.member ≡ old.member → new.failed ≡ old.failed → ((given : List (Output S D Stored K G C)) → IsLawfulOutbox given old.outbox → IsLawfulOutbox given new.outbox)
+  pub stored : new.member ≡ old.member → new.failed ≡ old.failed → (ReachesTo old.reach old.stored old.member.facts.entries → ReachesTo new.reach new.stored old.member.facts.entries) → ((given : List (Output S D Stored K G C)) → IsLawfulOutbox given old.outbox → IsLawfulOutbox given new.outbox)
       → (all fresh : List (Artifact S D K G C)) → new.stored ≡ length all → entries_of bytes_of all ≡ old.member.facts.entries → votes_of all ≡ old.member.votes
       → entries_of bytes_of fresh ≡ drop old.stored old.member.facts.entries → votes_of fresh ≡ votes_since old.stored old.member → IsStored bytes_of fresh old.outbox new.outbox → Keeps
-  stored same_member same_failed lawful all fresh counted all_entries all_votes fresh_entries fresh_votes is given kept = record {
+  stored same_member same_failed reaches lawful all fresh counted all_entries all_votes fresh_entries fresh_votes is given kept = record {
     lawful = lawful given kept.lawful;
     stored = λ lives.
         subst (λ journal. IsBeginningOf bytes_of new.member new.stored journal) (sym (ap journal_of (queued given (storing is.0) _ is.2) ∙ stored_behind (before given) is.0))
@@ -141,26 +156,43 @@ module _ {S L D K G C : Type 0} (bytes_of : C → List ℕ) (old new : Journaled
         (subst (λ member. IsBeginningOf bytes_of member (length all) (record { entries = (journal_of (before given)).entries ++ is.0.items; beside = (journal_of (before given)).beside })) (sym same_member)
         (stored_too bytes_of old.member old.stored (journal_of (before given)) (kept.stored (sym same_failed ∙ lives)) all all_entries all_votes is.0.items
         (is.1.0 ∙ fresh_entries) (copied_votes bytes_of fresh is.0.items is.1 ∙ fresh_votes))));
+    leaving = λ lives. subst AllLeave (sym (queued given (storing is.0) _ is.2)) (leave_stored (before given) is.0 (kept.leaving (sym same_failed ∙ lives)));
     told = told_last_still old new same_member is.2.told_is kept.told;
+    reaching = subst (λ member. ReachesTo new.reach new.stored member.facts.entries) (sym same_member) (reaches kept.reaching);
   }
 
   -- a whole record was
-  pub replaced : ((given : List (Output S D Stored K G C)) → IsLawfulOutbox given old.outbox → IsLawfulOutbox given new.outbox)
+  pub replaced : (given : List (Output S D Stored K G C)) → ((given : List (Output S D Stored K G C)) → IsLawfulOutbox given old.outbox → IsLawfulOutbox given new.outbox)
       → (all : List (Artifact S D K G C)) → new.stored ≡ length all → entries_of bytes_of all ≡ new.member.facts.entries → votes_of all ≡ new.member.votes
-      → IsReplaced bytes_of all (stored_of new.member.facts) old.outbox new.outbox → (HasToldLast old → HasToldLast new) → Keeps
-  replaced lawful all counted all_entries all_votes is last given kept = record {
+      → IsReplaced bytes_of all (stored_of new.member.facts) old.outbox new.outbox
+      → (new.failed ≡ false → AllLeave (given ++ new.outbox.queue.items)) → (HasToldLast old → HasToldLast new) → ReachesTo new.reach new.stored new.member.facts.entries → IsKept bytes_of given old → IsKept bytes_of given new
+  replaced given lawful all counted all_entries all_votes is leaving last reaches kept = record {
     lawful = lawful given kept.lawful;
     stored = λ lives.
         subst (λ journal. IsBeginningOf bytes_of new.member new.stored journal)
         (sym (ap journal_of (queued given (output.Replace is.0 (stored_of new.member.facts) ∷ []) _ is.2) ∙ behind_others (before given) (output.Replace is.0 (stored_of new.member.facts) ∷ [])))
         (subst (λ n. IsBeginningOf bytes_of new.member n (record { entries = is.0.items; beside = Some (stored_of new.member.facts) })) (sym counted)
         (stored_whole bytes_of new.member all is.0.items all_entries all_votes is.1));
+    leaving = leaving;
     told = last kept.told;
+    reaching = reaches;
   }
 
+  -- of a record that is pruned and stored in place of all no vote leaves, and each left before
+  pub still_leaving : (given : List (Output S D Stored K G C)) (stays : ℕ → Bool) → AllLeave (before given) → IsRecordOf bytes_of old.member (journal_of (before given))
+      → (all : List (Artifact S D K G C)) → votes_of all ≡ filter (λ v. stays (entry_view v.vote)) old.member.votes
+      → (beside : Stored) → IsReplaced bytes_of all beside old.outbox new.outbox → AllLeave (given ++ new.outbox.queue.items)
+  still_leaving given stays leaving holds all left beside is =
+      let is_left : votes_of is.0.items ≡ filter (λ v. stays (entry_view v.vote)) (votes_of (journal_of (before given)).entries) =
+      copied_votes bytes_of all is.0.items is.1 ∙ left ∙ ap (filter (λ v. stays (entry_view v.vote))) (sym holds.votes) in
+      subst AllLeave (sym (queued given (output.Replace is.0 beside ∷ []) _ is.2))
+      (leave_replaced (before given) is.0 beside
+      (λ vote has. was_stored (before given) vote (none_is_new (λ v. stays (entry_view v.vote)) (journal_of (before given)).entries is.0.items is_left vote has))
+      leaving)
+
   -- nothing more is given out
-  pub ended : new.failed ≡ true → ((given : List (Output S D Stored K G C)) → IsLawfulOutbox given old.outbox → IsLawfulOutbox given new.outbox) → (HasToldLast old → HasToldLast new) → Keeps
-  ended failed lawful last given kept = record { lawful = lawful given kept.lawful; stored = λ lives. cc; told = last kept.told }
+  pub ended : new.failed ≡ true → (ReachesTo old.reach old.stored old.member.facts.entries → ReachesTo new.reach new.stored new.member.facts.entries) → ((given : List (Output S D Stored K G C)) → IsLawfulOutbox given old.outbox → IsLawfulOutbox given new.outbox) → (HasToldLast old → HasToldLast new) → Keeps
+  ended failed reaches lawful last given kept = record { lawful = lawful given kept.lawful; stored = λ lives. cc; leaving = λ lives. cc; told = last kept.told; reaching = reaches kept.reaching }
 
 -- nothing is done
 pub does_no_more : {S L D K G C : Type 0} {same : D → D → Bool} {elect : Elect L} {bytes_of : C → List ℕ} {taken : Option (Subject D)} (old new : Journaled S L D K G C) → new.member ≡ old.member → Keeps bytes_of old new → TellsRising [] old.outbox new.outbox → QueuesMore old.outbox new.outbox → GoesOn same elect bytes_of taken old new

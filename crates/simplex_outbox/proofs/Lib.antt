@@ -4,6 +4,9 @@ pub mod Finals
 pub mod Lawfully
 pub mod Finalizing
 pub mod Queued
+pub mod Leaving
+pub mod Reaching
+pub mod Overgrown
 pub mod Going
 pub mod Journals
 pub mod Doing

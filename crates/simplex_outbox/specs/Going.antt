@@ -10,9 +10,11 @@ use Rattle.simplex_laws.specs.LifeLaws.{NeverFalls, WhileAlive}
 use Rattle.simplex_outbox.specs.declared.journaled.Journaled.{Journaled}
 use Rattle.simplex_outbox.specs.declared.output.Output.{Output}
 use Rattle.simplex_outbox.specs.Finals.{finals_in, finals_by, TellsRising}
+use Rattle.simplex_outbox.specs.Leaving.{AllLeave}
 use Rattle.simplex_outbox.specs.Outboxes.{IsLawfulOutbox, QueuesMore}
-use Rattle.simplex_outbox.specs.Journals.{journal_of, IsBeginningOf}
+use Rattle.simplex_outbox.specs.Journals.{journal_of, IsRecordOf, IsBeginningOf}
 use Rattle.simplex_outbox.specs.Doing.{IsDoneOn}
+use Rattle.simplex_outbox.specs.Reaching.{ReachesTo}
 
 module _ {S L D K G C : Type 0} where
   -- it has failed, or its member has
@@ -25,16 +27,24 @@ module _ {S L D K G C : Type 0} where
 
 module _ {S L D K G C : Type 0} (bytes_of : C → List ℕ) where
   -- over all that was given out and what is queued: each vote stands behind an output that stores it, and the proposals that are told
-  -- as final rise; until the engine fails, a journal that carries them out holds a beginning of the record; and the last finalized
-  -- view of the member is the highest one that was told
+  -- as final rise; until the engine fails, a journal that carries them out holds a beginning of the record, and each vote that is stored
+  -- leaves; the last finalized view of the member is the highest one that was told; and how far back the stored entries reach is noted
   pub record IsKept (given : List (Output S D Stored K G C)) (member : Journaled S L D K G C) : Type 0 where
     pub lawful : IsLawfulOutbox given member.outbox
     pub stored : member.failed ≡ false → IsBeginningOf bytes_of member.member member.stored (journal_of (given ++ member.outbox.queue.items))
+    pub leaving : member.failed ≡ false → AllLeave (given ++ member.outbox.queue.items)
     pub told : IfSome member.member.facts.life (λ x. member.outbox.told ≡ x.finalized)
+    pub reaching : ReachesTo member.reach member.stored member.member.facts.entries
 
   -- all of the record is queued to be stored, or was
   abbrev pub IsWhole : Journaled S L D K G C → Type 0
   IsWhole member = length member.member.facts.entries ≤ member.stored
+
+  -- until it fails, a journal that carries out what was given out and what is queued holds the record
+  abbrev pub StoresRecord : Journaled S L D K G C → Type 0
+  StoresRecord member =
+      (given : List (Output S D Stored K G C)) → IsKept given member → member.failed ≡ false
+      → IsRecordOf bytes_of member.member (journal_of (given ++ member.outbox.queue.items))
 
   -- unless it has failed
   abbrev pub IsWholeAlive : Journaled S L D K G C → Type 0

@@ -1,5 +1,6 @@
 -- What a journal holds that carried outputs out, and that it is a member's record.
-use Rattle.std.specs.Prelude.{◌≡◌, ℕ, List, [], ◌∷◌, ◌++◌, length, Option, Some, None}
+use Rattle.std.specs.Prelude.{◌≡◌, ℕ, List, [], ◌∷◌, ◌++◌, length, Option, Some, None, Vec}
+use Rattle.std.specs.declared.alloc.Global.{Global}
 use Rattle.simplex_types.specs.Certificates.{ArtifactFacts}
 use Rattle.simplex_types.specs.declared.types.messages.Artifact.{Artifact}
 use Rattle.simplex_record.specs.Entries.{entries_of}
@@ -41,6 +42,13 @@ module _ {S L D K G C : Type 0} (bytes_of : C → List ℕ) where
     pub entries : entries_of bytes_of journal.entries ≡ member.facts.entries
     pub votes : votes_of journal.entries ≡ member.votes
     pub beside : journal.beside ≡ Some (stored_of member.facts)
+
+  -- there is one output, which stores a member's record in place of all that is stored
+  pub record BeginsWith (member : SignedMember K L D G) (outs : List (Output S D Stored K G C)) : Type 0 where
+    pub copies : Vec (Artifact S D K G C) Global
+    pub outs_are : outs ≡ Replace copies (stored_of member.facts) ∷ []
+    pub entries : entries_of bytes_of copies.items ≡ member.facts.entries
+    pub votes : votes_of copies.items ≡ member.votes
 
   -- a journal holds the first so many entries of a member's record
   pub record IsBeginningOf (member : SignedMember K L D G) (count : ℕ) (journal : Journal S D Stored K G C) : Type 0 where

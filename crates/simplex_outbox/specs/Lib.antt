@@ -4,6 +4,9 @@ pub mod Finals
 pub mod Outboxes
 pub mod Journals
 pub mod Doing
+pub mod Leaving
 pub mod Going
+pub mod Reaching
+pub mod Overgrown
 pub mod Refusing
 pub mod Handing

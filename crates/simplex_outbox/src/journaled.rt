@@ -16,8 +16,11 @@ ghost use Rattle.simplex_outbox.specs.Doing.{IsDoneOn, final_by};
 ghost use Rattle.simplex_outbox.specs.Finals.{finals_by};
 ghost use Rattle.simplex_outbox.specs.declared.output.Output.TheVariants as output;
 
+mod reach;
+
 use crate::outbox::Outbox;
 use crate::output::{Output, Work};
+use reach::lowest_of;
 use simplex_lawful::lawful::LawfulMember;
 use simplex_member::member::{Call, Reply, Stored};
 use simplex_types::types::{
@@ -37,6 +40,8 @@ pub struct Journaled<S: CertificateScheme, L: Elector<S>, D: Digest> {
     outbox: Outbox<S, D, Stored>,
     /// How many entries of the record are queued to be stored, or were.
     stored: usize,
+    /// The lowest view of these; 2^64 - 1 where there are none.
+    reach: View,
     /// What was done can no longer be told, and nothing more is given out.
     failed: bool,
 }
@@ -50,11 +55,13 @@ impl<S: Scheme<D>, L: Elector<S>, D: Digest> Journaled<S, L, D> {
     ghost use Rattle.simplex_laws.specs.Lawful.{IsLawful};
     ghost use Rattle.simplex_laws.specs.Living.{OfAllDone, MayBeDoneBy};
     ghost use Rattle.simplex_member.specs.Journal.{stored_of};
+    ghost use Rattle.simplex_member.specs.Pruning.{pruned_member};
     ghost use Rattle.simplex_outbox.specs.Outputs.{AreBehind};
     ghost use Rattle.simplex_outbox.specs.Outboxes.{HasRoom, IsRepeated};
     ghost use Rattle.simplex_outbox.specs.Finals.{finals_in, RiseByView, EndsAt, TellsNoMore};
-    ghost use Rattle.simplex_outbox.specs.Journals.{journal_of, IsRecordOf};
-    ghost use Rattle.simplex_outbox.specs.Going.{IsKept, IsWhole, GoesOn, TellsNothing, has_failed};
+    ghost use Rattle.simplex_outbox.specs.Journals.{journal_of, IsRecordOf, BeginsWith};
+    ghost use Rattle.simplex_outbox.specs.Going.{IsKept, IsWhole, StoresRecord, GoesOn, TellsNothing, has_failed};
+    ghost use Rattle.simplex_outbox.specs.Leaving.{AllLeave};
     ghost use Rattle.simplex_outbox.specs.Refusing.{is_refused, says_nothing, IsLeftByCall};
 
     /// A life begins: the whole record is to be stored in place of all that is stored, before anything else. What is final already is
@@ -63,6 +70,7 @@ impl<S: Scheme<D>, L: Elector<S>, D: Digest> Journaled<S, L, D> {
     /// - `kept`: nothing was given out.
     /// - `whole`: all of the record is queued.
     /// - `told`: no proposal is queued to be told as final.
+    /// - `begins`: nothing else is queued.
     pub fn begin(
         alloc: Global,
         member: LawfulMember<S, L, D>,
@@ -71,14 +79,17 @@ impl<S: Scheme<D>, L: Elector<S>, D: Digest> Journaled<S, L, D> {
         ensures whole { IfOk result (λ j. IsWhole S.certificate_bytes j) }
         ensures told { IfOk result TellsNothing }
         ensures member { IfOk result (λ j. j.member ≡ member) }
+        ensures begins { IfOk result (λ j. BeginsWith S.certificate_bytes member j.outbox.queue.items) }
     {
         let mut outbox = Outbox::new(alloc, last_finalized(&member));
         outbox.replace(member.record(), member.stored())?;
         let stored = member.record().len();
+        let reach = lowest_of(View::new(u64::MAX), member.record());
         Ok(Journaled {
             member,
             outbox,
             stored,
+            reach,
             failed: false,
         })
     }
@@ -145,41 +156,56 @@ impl<S: Scheme<D>, L: Elector<S>, D: Digest> Journaled<S, L, D> {
 
     /// Queues what the record has grown by, and behind it each vote in it. Without memory nothing has changed.
     ///
-    /// - `whole`: all of the record is queued, or was.
+    /// - `whole`, `holds`: all of the record is queued, or was; so a journal that carries it out holds the record.
     pub fn store(&mut self) -> Result<(), AllocError>
         ensures goes_on { GoesOn D.eq L.elect S.certificate_bytes None self.old self.new }
         ensures whole { OnOk result (IsWhole S.certificate_bytes self.new) }
+        ensures holds { OnOk result (StoresRecord S.certificate_bytes self.new) }
         ensures member { self.new.member ≡ self.old.member }
     {
         let count = self.member.record().len();
         if count <= self.stored {
             return Ok(());
         }
+        let reach = lowest_of(self.reach, self.member.record_since(self.stored));
         self.outbox.store(self.member.record_since(self.stored))?;
         self.stored = count;
+        self.reach = reach;
         Ok(())
     }
 
-    /// Prunes the record, behind the state's own prune, and queues what is left in place of all that is stored. Without memory it
-    /// fails: what is stored is no longer the record.
+    /// Prunes the record, behind the state's own prune, and queues what is left in place of all that is stored; before that, what the
+    /// record has grown by is queued, since by a record that is replaced no vote leaves. Without memory it may fail: what is stored is
+    /// no longer the record then.
     ///
     /// - `whole`: all of the record is queued.
     /// - `waiting`: what the member waits for is the same.
+    /// - `pruned`: the record is pruned, as by `Member::prune_record`, and nothing else has changed of the member.
     pub fn prune_record(&mut self) -> Result<(), AllocError>
         ensures goes_on { GoesOn D.eq L.elect S.certificate_bytes None self.old self.new }
         ensures waiting { self.new.member.facts.outstanding_work ≡ self.old.member.facts.outstanding_work }
         ensures whole { OnOk result (IsWhole S.certificate_bytes self.new) }
+        ensures pruned { OnOk result (self.new.member.facts ≡ pruned_member self.old.member.facts) }
+    {
+        self.store()?;
+        self.replace()
+    }
+
+    /// Prunes the record, of which all is queued to be stored or was, and queues what is left in place of all that is stored.
+    fn replace(&mut self) -> Result<(), AllocError>
+        requires { StoresRecord S.certificate_bytes self.old }
+        ensures goes_on { GoesOn D.eq L.elect S.certificate_bytes None self.old self.new }
+        ensures whole { OnOk result (IsWhole S.certificate_bytes self.new) }
+        ensures pruned { self.new.member.facts ≡ pruned_member self.old.member.facts }
     {
         self.member.prune_record();
-        let count = self.member.record().len();
+        self.stored = self.member.record().len();
+        self.reach = lowest_of(View::new(u64::MAX), self.member.record());
         match self
             .outbox
             .replace(self.member.record(), self.member.stored())
         {
-            Ok(()) => {
-                self.stored = count;
-                Ok(())
-            }
+            Ok(()) => Ok(()),
             Err(refused) => {
                 self.failed = true;
                 Err(refused)
@@ -216,7 +242,8 @@ impl<S: Scheme<D>, L: Elector<S>, D: Digest> Journaled<S, L, D> {
         ensures told { TellsNoMore (option_to_list result) self.old.outbox self.new.outbox }
         ensures front { self.old.outbox.queue.items ≡ option_to_list result ++ self.new.outbox.queue.items }
         ensures none { IsNone result → self.new.outbox.queue.items ≡ [] }
-        ensures same { (self.new.member ≡ self.old.member) × (self.new.stored ≡ self.old.stored) × (self.new.failed ≡ self.old.failed) }
+        ensures same { (self.new.member ≡ self.old.member) × (self.new.stored ≡ self.old.stored) × (self.new.reach ≡ self.old.reach)
+            × (self.new.failed ≡ self.old.failed) }
     {
         self.outbox.next()
     }
@@ -272,6 +299,8 @@ impl<S: Scheme<D>, L: Elector<S>, D: Digest> Journaled<S, L, D> {
     /// - `stored`: until it fails, where all of the record is queued or was, a journal that carries out what was given out and
     ///   what is queued holds the record, and beside it what a journal stores: so a member that is resumed from it goes on from
     ///   the record.
+    /// - `leaving`: until it fails, each vote that is stored was given out or is queued, but those of the record that the life began
+    ///   with, which the first output stores.
     /// - `rising`: the views of the proposals rise that it told as final.
     /// - `last`: the last of them, of those that it told and those that are queued, is of the member's last finalized view.
     /// - `lawful`: what its member has done keeps the voting rules, over all its lives.
@@ -280,6 +309,8 @@ impl<S: Scheme<D>, L: Elector<S>, D: Digest> Journaled<S, L, D> {
         ensures behind { (given : _) → IsKept S.certificate_bytes given self.now → AreBehind [] given }
         ensures stored { (given : _) → IsKept S.certificate_bytes given self.now → self.now.failed ≡ false → IsWhole S.certificate_bytes self.now
             → IsRecordOf S.certificate_bytes self.now.member (journal_of (given ++ self.now.outbox.queue.items)) }
+        ensures leaving { (given : _) → IsKept S.certificate_bytes given self.now → self.now.failed ≡ false
+            → AllLeave (given ++ self.now.outbox.queue.items) }
         ensures rising { (given : _) → IsKept S.certificate_bytes given self.now → RiseByView (finals_in given) }
         ensures last { (given : _) → IsKept S.certificate_bytes given self.now → IfSome self.now.member.facts.life (λ x.
             EndsAt x.finalized (finals_in (given ++ self.now.outbox.queue.items))) }

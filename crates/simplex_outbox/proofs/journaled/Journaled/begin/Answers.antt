@@ -1,10 +1,14 @@
-use Rattle.std.proofs.Common.{◌≡◌, ap, sym, subst, ◌∙◌, [], ◌∷◌, ◌++◌, length, arith}
+use Rattle.std.proofs.Common.{◌≡◌, ◌-◌, ◌^◌, ap, sym, subst, ◌∙◌, [], ◌∷◌, ◌++◌, length, arith}
 use Rattle.std.specs.Prelude.{IfSome}
 use Rattle.simplex_outbox.specs.declared.output.Output.TheVariants as output
 use Rattle.simplex_outbox.specs.Finals.{finals_in}
 use Rattle.simplex_outbox.specs.Outboxes.{IsReplaced}
 use Rattle.simplex_outbox.proofs.Begun.{begun}
+use Rattle.simplex_record.specs.Entries.{entries_of}
+use Rattle.simplex_outbox.specs.Reaching.{lowest_of}
+use Rattle.simplex_outbox.proofs.Journals.{copied_votes}
 use Rattle.simplex_outbox.proofs.Kept.{counted}
+use Rattle.simplex_outbox.proofs.Reaching.{reaches_whole}
 use Rattle.simplex_outbox.proofs.journaled.Journaled.begin.Goals as goal
 
 pub returns-clause-kept : goal.returns-clause-kept
@@ -14,9 +18,11 @@ returns-clause-kept g c =
     let all = c.record in
     let entries = member.facts.entries in
     let same_length : length c.record-stored.result.now ≡ length all.result.now = sym (counted bytes_of c.record-stored.result.now entries c.record-stored.ensures.entries) ∙ counted bytes_of all.result.now entries all.ensures.entries in
-    begun bytes_of member c.new-outbox.result c.replace.new.self (length c.record-stored.result.now) c.new-outbox.ensures.begins c.in_ok-replace.ensures.queued.2.told_is
+    begun bytes_of member c.new-outbox.result c.replace.new.self (length c.record-stored.result.now) c.lowest_of-reach.result c.new-outbox.ensures.begins c.new-outbox.ensures.empty.0 c.in_ok-replace.ensures.queued.2.told_is
     (subst (λ t. IfSome member.facts.life (λ x. t ≡ x.finalized)) (sym c.new-outbox.ensures.empty.2) c.last_finalized.ensures) c.replace.ensures.goes_on all.result.now same_length all.ensures.entries all.ensures.votes
     (subst (λ beside. IsReplaced bytes_of all.result.now beside c.new-outbox.result c.replace.new.self) c.stored.ensures c.in_ok-replace.ensures.queued)
+    (reaches_whole c.lowest_of-reach.result (length c.record-stored.result.now) entries (counted bytes_of c.record-stored.result.now entries c.record-stored.ensures.entries)
+    (c.lowest_of-reach.ensures ∙ ap (λ v. lowest_of v (entries_of bytes_of c.record-2.result.now)) c.new.ensures ∙ ap (lowest_of (2 ^ 64 - 1)) c.record-2.ensures.entries))
 
 pub returns-clause-whole : goal.returns-clause-whole
 returns-clause-whole g c =
@@ -26,3 +32,16 @@ returns-clause-whole g c =
 pub returns-clause-told : goal.returns-clause-told
 returns-clause-told g c =
     ap finals_in (c.in_ok-replace.ensures.queued.2.queue ∙ ap (λ q. q ++ output.Replace c.in_ok-replace.ensures.queued.0 c.stored.result ∷ []) c.new-outbox.ensures.empty.0)
+
+pub returns-clause-begins : goal.returns-clause-begins
+returns-clause-begins g c =
+    let is = c.in_ok-replace.ensures.queued in
+    let bytes_of = g.S.CertificateScheme.certificate_bytes in
+    record {
+      copies = is.0;
+      outs_are =
+          is.2.queue ∙ ap (λ q. q ++ output.Replace is.0 c.stored.result ∷ []) c.new-outbox.ensures.empty.0
+          ∙ ap (λ beside. output.Replace is.0 beside ∷ []) c.stored.ensures;
+      entries = is.1.0 ∙ c.record.ensures.entries;
+      votes = copied_votes bytes_of c.record.result.now is.0.items is.1 ∙ c.record.ensures.votes;
+    }

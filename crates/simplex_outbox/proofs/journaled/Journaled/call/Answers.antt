@@ -21,7 +21,7 @@ returns-clause-goes_on g c taken may no_final =
     let old = c.args.self.now in
     let none = final_none c.args.call c.call.result no_final in
     record {
-      kept = called bytes_of old (record old { member = c.call.new.self }) refl refl c.call.ensures.grown (signed_reply c.call.result) c.call.ensures.votes c.call.ensures.stored
+      kept = called bytes_of old (record old { member = c.call.new.self }) refl refl refl c.call.ensures.grown (signed_reply c.call.result) c.call.ensures.votes c.call.ensures.stored
           (λ given lawful. lawful) None (refl, refl, refl)
           (λ last. told_by_call g.D.PartialEq.eq g.L.Elector.elect bytes_of old.member.facts c.call.new.self.facts c.args.call c.call.result c.call.ensures.answered
           old.outbox.told old.outbox.told last (sym (ap (raised_to old.outbox.told) none)));

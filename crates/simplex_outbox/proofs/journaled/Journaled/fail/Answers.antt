@@ -8,4 +8,4 @@ pub returns-clause-goes_on : goal.returns-clause-goes_on
 returns-clause-goes_on g c =
     let old = c.args.self.now in
     let new = record old { failed = true } in
-    does_no_more old new refl (ended g.S.CertificateScheme.certificate_bytes old new refl (λ given lawful. lawful) (λ last. last)) (tells_none old.outbox old.outbox refl refl) (queues_none old.outbox)
+    does_no_more old new refl (ended g.S.CertificateScheme.certificate_bytes old new refl (λ reaches. reaches) (λ given lawful. lawful) (λ last. last)) (tells_none old.outbox old.outbox refl refl) (queues_none old.outbox)

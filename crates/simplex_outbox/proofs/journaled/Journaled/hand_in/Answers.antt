@@ -11,7 +11,7 @@ returns-in-Ok-clause-goes_on g c =
     let old = c.args.self.now in
     let ready = record old { outbox = c.make_room.new.self } in
     goes_further {c = c.take.new.self}
-    (does_no_more old ready refl (kept_as_it_was bytes_of old ready refl refl refl c.make_room.ensures.goes_on c.make_room.ensures.kept)
+    (does_no_more old ready refl (kept_as_it_was bytes_of old ready refl refl refl refl c.make_room.ensures.goes_on c.make_room.ensures.kept)
     (stayed_tells old.outbox ready.outbox c.make_room.ensures.kept) c.make_room.ensures.grown) c.take.ensures.goes_on
 
 pub returns-in-Err-clause-goes_on : goal.returns-in-Err-clause-goes_on
@@ -19,5 +19,5 @@ returns-in-Err-clause-goes_on g c =
     let bytes_of = g.S.CertificateScheme.certificate_bytes in
     let old = c.args.self.now in
     let ready = record old { outbox = c.make_room.new.self } in
-    does_no_more old ready refl (kept_as_it_was bytes_of old ready refl refl refl c.make_room.ensures.goes_on c.make_room.ensures.kept)
+    does_no_more old ready refl (kept_as_it_was bytes_of old ready refl refl refl refl c.make_room.ensures.goes_on c.make_room.ensures.kept)
     (stayed_tells old.outbox ready.outbox c.make_room.ensures.kept) c.make_room.ensures.grown

@@ -22,3 +22,6 @@ pub returns-clause-last : goal.returns-clause-last
 returns-clause-last g c given kept =
     let it = c.args.self.now in
     ends_last (finals_in (given ++ it.outbox.queue.items)) it.member.facts.life it.outbox.told kept.told kept.lawful.told
+
+pub returns-clause-leaving : goal.returns-clause-leaving
+returns-clause-leaving g c given kept lives = kept.leaving lives

@@ -2,6 +2,7 @@
 use Rattle.std.proofs.Common.{◌≡◌, ◌++◌, ap, sym, subst, ◌∙◌, append_assoc}
 use Rattle.std.specs.Prelude.{IfSome, option_to_list}
 use Rattle.simplex_outbox.specs.Finals.{finals_in}
+use Rattle.simplex_outbox.specs.Leaving.{AllLeave}
 use Rattle.simplex_outbox.specs.Journals.{journal_of, IsBeginningOf}
 use Rattle.simplex_outbox.proofs.journaled.Journaled.next.Goals as goal
 
@@ -15,7 +16,9 @@ returns-clause-kept g c = λ given kept.
           subst (IsBeginningOf g.S.CertificateScheme.certificate_bytes old.member old.stored)
           (ap (λ queued. journal_of (given ++ queued)) c.next.ensures.front ∙ ap journal_of (sym (append_assoc given out c.next.new.self.queue.items)))
           (kept.stored lives);
+      leaving = λ lives. subst AllLeave (ap (λ queued. given ++ queued) c.next.ensures.front ∙ sym (append_assoc given out c.next.new.self.queue.items)) (kept.leaving lives);
       told = subst (λ t. IfSome old.member.facts.life (λ x. t ≡ x.finalized)) (sym c.next.ensures.told) kept.told;
+      reaching = kept.reaching;
     }
 
 pub returns-clause-told : goal.returns-clause-told

@@ -1,68 +1,24 @@
-use Rattle.std.proofs.Common.{◌≡◌, ℕ, [], true, None, refl, ap, sym, subst, ◌∙◌, length, arith}
-use Rattle.std.proofs.lemmas.List.Elements.{All-nil}
-use Rattle.simplex_laws.specs.LifeLaws.{WhileAlive}
-use Rattle.std.specs.Prelude.{IfSome}
+-- What the record has grown by is queued, and then what a pruning leaves of it.
+use Rattle.std.proofs.Common.{◌≡◌, ◌∙◌, Result, Ok, Err, ap}
+use Rattle.std.specs.Prelude.{OnOk}
 use Rattle.simplex_member.specs.Lives.{MemberFacts}
 use Rattle.simplex_member.specs.Pruning.{pruned_member}
-use Rattle.simplex_outbox.specs.Doing.{IsDoneOn}
-use Rattle.simplex_outbox.specs.Going.{HasRisen}
-use Rattle.simplex_outbox.specs.Outboxes.{IsReplaced}
-use Rattle.simplex_outbox.proofs.Finals.{stayed_tells}
-use Rattle.simplex_outbox.proofs.Going.{risen_not}
-use Rattle.simplex_outbox.proofs.Kept.{replaced, replaced_tells, ended, counted}
+use Rattle.simplex_outbox.proofs.Going.{goes_further}
 use Rattle.simplex_outbox.proofs.journaled.Journaled.prune_record.Goals as goal
 
--- a record that is pruned is of the same life
-still_told : {K L D : Type 0} (old new : MemberFacts K L D) → new ≡ pruned_member old → (before after : ℕ) → after ≡ before
-    → IfSome old.life (λ x. before ≡ x.finalized) → IfSome new.life (λ x. after ≡ x.finalized)
-still_told old new is before after same last =
-    subst (λ t. IfSome new.life (λ x. t ≡ x.finalized)) (sym same) (subst (λ m. IfSome m.life (λ x. before ≡ x.finalized)) (sym is) last)
+anyway : {X E P : Type 0} (r : Result X E) → P → OnOk r P
+anyway (Ok x) holds = holds
+anyway (Err e) holds = tt
 
 still_waiting : {K L D : Type 0} (old new : MemberFacts K L D) → new ≡ pruned_member old → new.outstanding_work ≡ old.outstanding_work
 still_waiting {K} {L} {D} old new is = ap (λ (m : MemberFacts K L D). m.outstanding_work) is
 
-pub returns-in-Ok-clause-goes_on : goal.returns-in-Ok-clause-goes_on
-returns-in-Ok-clause-goes_on g c =
-    let bytes_of = g.S.CertificateScheme.certificate_bytes in
-    let old = c.args.self.now in
-    let all = c.record in
-    let entries = c.prune_record.new.self.facts.entries in
-    let new = record old { member = c.prune_record.new.self; outbox = c.replace.new.self; stored = length c.record-count.result.now } in
-    let same_length : length c.record-count.result.now ≡ length all.result.now = sym (counted bytes_of c.record-count.result.now entries c.record-count.ensures.entries) ∙ counted bytes_of all.result.now entries all.ensures.entries in
-    record {
-      kept = replaced bytes_of old new c.replace.ensures.goes_on all.result.now same_length all.ensures.entries all.ensures.votes
-          (subst (λ beside. IsReplaced bytes_of all.result.now beside old.outbox c.replace.new.self) c.stored.ensures c.in-Ok.ensures.queued)
-          (still_told old.member.facts c.prune_record.new.self.facts c.prune_record.ensures.pruned old.outbox.told c.replace.new.self.told c.in-Ok.ensures.queued.2.told_is);
-      more = [];
-      on_this = All-nil (IsDoneOn None);
-      done = c.prune_record.ensures.goes_on;
-      told = replaced_tells bytes_of old new all.result.now c.stored.result c.in-Ok.ensures.queued;
-      queued = c.replace.ensures.grown;
-      risen = subst (λ m. WhileAlive HasRisen old.member.facts.life m.life) (sym c.prune_record.ensures.pruned) (risen_not old.member.facts);
-    }
+pub returns-clause-goes_on : goal.returns-clause-goes_on
+returns-clause-goes_on g c = goes_further c.store.ensures.goes_on c.replace.ensures.goes_on
 
-pub returns-in-Err-clause-goes_on : goal.returns-in-Err-clause-goes_on
-returns-in-Err-clause-goes_on g c =
-    let old = c.args.self.now in
-    let new = record old { member = c.prune_record.new.self; outbox = c.replace.new.self; failed = true } in
-    record {
-      kept = ended g.S.CertificateScheme.certificate_bytes old new refl c.replace.ensures.goes_on
-          (still_told old.member.facts c.prune_record.new.self.facts c.prune_record.ensures.pruned old.outbox.told c.replace.new.self.told c.in-Err.ensures.kept.2);
-      more = [];
-      on_this = All-nil (IsDoneOn None);
-      done = c.prune_record.ensures.goes_on;
-      told = stayed_tells old.outbox c.replace.new.self c.in-Err.ensures.kept;
-      queued = c.replace.ensures.grown;
-      risen = subst (λ m. WhileAlive HasRisen old.member.facts.life m.life) (sym c.prune_record.ensures.pruned) (risen_not old.member.facts);
-    }
+pub returns-clause-pruned : goal.returns-clause-pruned
+returns-clause-pruned g c = anyway c.replace.result (c.replace.ensures.pruned ∙ ap (λ m. pruned_member m.facts) c.store.ensures.member)
 
-pub returns-in-Ok-clause-whole : goal.returns-in-Ok-clause-whole
-returns-in-Ok-clause-whole g c =
-    let same_length = counted g.S.CertificateScheme.certificate_bytes c.record-count.result.now c.prune_record.new.self.facts.entries c.record-count.ensures.entries in
-    omega (arith, same_length)
-
-pub returns-in-Ok-clause-waiting : goal.returns-in-Ok-clause-waiting
-returns-in-Ok-clause-waiting g c = still_waiting c.args.self.now.member.facts c.prune_record.new.self.facts c.prune_record.ensures.pruned
-
-pub returns-in-Err-clause-waiting : goal.returns-in-Err-clause-waiting
-returns-in-Err-clause-waiting g c = still_waiting c.args.self.now.member.facts c.prune_record.new.self.facts c.prune_record.ensures.pruned
+pub returns-clause-waiting : goal.returns-clause-waiting
+returns-clause-waiting g c =
+    still_waiting c.store.new.self.member.facts c.replace.new.self.member.facts c.replace.ensures.pruned ∙ ap (λ m. m.facts.outstanding_work) c.store.ensures.member

@@ -12,8 +12,8 @@ returns-clause-goes_on g c =
     let new = record old { outbox = c.push.new.self } in
     does_no_more old new refl
     (by_result c.push.result c.push.ensures.queued c.push.ensures.kept
-    (pushed bytes_of old new refl refl refl c.push.ensures.goes_on c.args.work)
-    (kept_as_it_was bytes_of old new refl refl refl c.push.ensures.goes_on))
+    (pushed bytes_of old new refl refl refl refl c.push.ensures.goes_on c.args.work)
+    (kept_as_it_was bytes_of old new refl refl refl refl c.push.ensures.goes_on))
     (by_result c.push.result c.push.ensures.queued c.push.ensures.kept
     (become_tells (output.Work c.args.work ∷ []) old.outbox.repeat old.outbox new.outbox refl)
     (stayed_tells old.outbox new.outbox)) c.push.ensures.grown

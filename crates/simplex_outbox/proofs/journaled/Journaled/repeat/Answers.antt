@@ -11,8 +11,8 @@ returns-clause-goes_on g c =
     let new = record old { outbox = c.repeat.new.self } in
     does_no_more old new refl
     (by_answer c.repeat.result c.repeat.ensures.queued c.repeat.ensures.kept
-    (repeated bytes_of old new refl refl refl c.repeat.ensures.goes_on c.args.view)
-    (kept_as_it_was bytes_of old new refl refl refl c.repeat.ensures.goes_on))
+    (repeated bytes_of old new refl refl refl refl c.repeat.ensures.goes_on c.args.view)
+    (kept_as_it_was bytes_of old new refl refl refl refl c.repeat.ensures.goes_on))
     (by_answer c.repeat.result c.repeat.ensures.queued c.repeat.ensures.kept
     (repeated_tells bytes_of old new c.args.view)
     (stayed_tells old.outbox new.outbox)) c.repeat.ensures.grown

@@ -37,7 +37,7 @@ returns-clause-goes_on g c =
     let rising : TellsRising (finals_by more) old.outbox c.tell.new.self =
     subst (λ ps. TellsRising ps old.outbox c.tell.new.self) (sym finals) (told_tells tells old.outbox c.tell.new.self is_told) in
     record {
-      kept = called bytes_of old (record old { member = c.call-reply.new.self; outbox = c.tell.new.self }) refl refl c.call-reply.ensures.grown (signed_reply answer)
+      kept = called bytes_of old (record old { member = c.call-reply.new.self; outbox = c.tell.new.self }) refl refl refl c.call-reply.ensures.grown (signed_reply answer)
           c.call-reply.ensures.votes c.call-reply.ensures.stored c.tell.ensures.goes_on tells is_told
           (λ last. told_by_call same elect bytes_of old.member.facts c.call-reply.new.self.facts call answer c.call-reply.ensures.answered
           old.outbox.told c.tell.new.self.told last rising.told);

@@ -1,0 +1,70 @@
+use Rattle.std.proofs.Common.{◌≡◌, ◌-◌, ◌^◌, ℕ, [], true, None, refl, ap, sym, subst, ◌∙◌, length, arith}
+use Rattle.std.proofs.lemmas.List.Elements.{All-nil}
+use Rattle.simplex_laws.specs.LifeLaws.{WhileAlive}
+use Rattle.std.specs.Prelude.{IfSome}
+use Rattle.simplex_member.specs.Lives.{MemberFacts}
+use Rattle.simplex_member.specs.Pruning.{pruned_member, stays_within}
+use Rattle.simplex_outbox.specs.Doing.{IsDoneOn}
+use Rattle.simplex_outbox.specs.Going.{HasRisen}
+use Rattle.simplex_outbox.specs.Outboxes.{IsReplaced}
+use Rattle.simplex_outbox.proofs.Finals.{stayed_tells}
+use Rattle.simplex_outbox.proofs.Going.{risen_not}
+use Rattle.simplex_record.specs.Entries.{entries_of}
+use Rattle.simplex_outbox.specs.Reaching.{lowest_of}
+use Rattle.simplex_outbox.proofs.Kept.{replaced, replaced_tells, still_leaving, ended, counted}
+use Rattle.simplex_outbox.proofs.Reaching.{reaches_whole}
+use Rattle.simplex_outbox.proofs.journaled.Journaled.replace.Goals as goal
+
+-- a record that is pruned is of the same life
+still_told : {K L D : Type 0} (old new : MemberFacts K L D) → new ≡ pruned_member old → (before after : ℕ) → after ≡ before
+    → IfSome old.life (λ x. before ≡ x.finalized) → IfSome new.life (λ x. after ≡ x.finalized)
+still_told old new is before after same last =
+    subst (λ t. IfSome new.life (λ x. t ≡ x.finalized)) (sym same) (subst (λ m. IfSome m.life (λ x. before ≡ x.finalized)) (sym is) last)
+
+pub returns-in-Ok-clause-goes_on : goal.returns-in-Ok-clause-goes_on
+returns-in-Ok-clause-goes_on g c =
+    let bytes_of = g.S.CertificateScheme.certificate_bytes in
+    let old = c.args.self.now in
+    let all = c.record-3 in
+    let entries = c.prune_record.new.self.facts.entries in
+    let new = record old { member = c.prune_record.new.self; outbox = c.replace.new.self; stored = length c.record.result.now; reach = c.lowest_of-self.result } in
+    let same_length : length c.record.result.now ≡ length all.result.now = sym (counted bytes_of c.record.result.now entries c.record.ensures.entries) ∙ counted bytes_of all.result.now entries all.ensures.entries in
+    record {
+      kept = λ given kept. replaced bytes_of old new given c.replace.ensures.goes_on all.result.now same_length all.ensures.entries all.ensures.votes
+          (subst (λ beside. IsReplaced bytes_of all.result.now beside old.outbox c.replace.new.self) c.stored.ensures c.in-Ok.ensures.queued)
+          (λ lives. still_leaving bytes_of old new given (stays_within old.member.facts) (kept.leaving lives) (c.requires given kept lives)
+          all.result.now (all.ensures.votes ∙ c.prune_record.ensures.votes) c.stored.result c.in-Ok.ensures.queued)
+          (still_told old.member.facts c.prune_record.new.self.facts c.prune_record.ensures.pruned old.outbox.told c.replace.new.self.told c.in-Ok.ensures.queued.2.told_is)
+          (reaches_whole c.lowest_of-self.result (length c.record.result.now) entries (counted bytes_of c.record.result.now entries c.record.ensures.entries)
+          (c.lowest_of-self.ensures ∙ ap (λ v. lowest_of v (entries_of bytes_of c.record-2.result.now)) c.new.ensures ∙ ap (lowest_of (2 ^ 64 - 1)) c.record-2.ensures.entries)) kept;
+      more = [];
+      on_this = All-nil (IsDoneOn None);
+      done = c.prune_record.ensures.goes_on;
+      told = replaced_tells bytes_of old new all.result.now c.stored.result c.in-Ok.ensures.queued;
+      queued = c.replace.ensures.grown;
+      risen = subst (λ m. WhileAlive HasRisen old.member.facts.life m.life) (sym c.prune_record.ensures.pruned) (risen_not old.member.facts);
+    }
+
+pub returns-in-Err-clause-goes_on : goal.returns-in-Err-clause-goes_on
+returns-in-Err-clause-goes_on g c =
+    let bytes_of = g.S.CertificateScheme.certificate_bytes in
+    let old = c.args.self.now in
+    let entries = c.prune_record.new.self.facts.entries in
+    let new = record old { member = c.prune_record.new.self; outbox = c.replace.new.self; stored = length c.record.result.now; reach = c.lowest_of-self.result; failed = true } in
+    record {
+      kept = ended bytes_of old new refl
+          (λ _. reaches_whole c.lowest_of-self.result (length c.record.result.now) entries (counted bytes_of c.record.result.now entries c.record.ensures.entries)
+          (c.lowest_of-self.ensures ∙ ap (λ v. lowest_of v (entries_of bytes_of c.record-2.result.now)) c.new.ensures ∙ ap (lowest_of (2 ^ 64 - 1)) c.record-2.ensures.entries)) c.replace.ensures.goes_on
+          (still_told old.member.facts c.prune_record.new.self.facts c.prune_record.ensures.pruned old.outbox.told c.replace.new.self.told c.in-Err.ensures.kept.2);
+      more = [];
+      on_this = All-nil (IsDoneOn None);
+      done = c.prune_record.ensures.goes_on;
+      told = stayed_tells old.outbox c.replace.new.self c.in-Err.ensures.kept;
+      queued = c.replace.ensures.grown;
+      risen = subst (λ m. WhileAlive HasRisen old.member.facts.life m.life) (sym c.prune_record.ensures.pruned) (risen_not old.member.facts);
+    }
+
+pub returns-in-Ok-clause-whole : goal.returns-in-Ok-clause-whole
+returns-in-Ok-clause-whole g c =
+    let same_length = counted g.S.CertificateScheme.certificate_bytes c.record.result.now c.prune_record.new.self.facts.entries c.record.ensures.entries in
+    omega (arith, same_length)
