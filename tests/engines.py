@@ -31,7 +31,7 @@ from lib.preload import compiled
 from refusals import REFUSED
 
 SECONDS = 600
-# A record is made short past 400 entries, and then at twice what was left, which a window of ten views and the open term hold.
+# A record is made short past 400 entries, once more of its views would go than stay, which a window of ten views and the open term hold.
 MOST_ENTRIES = 1600
 MOST_OPEN = 8
 
@@ -71,7 +71,8 @@ WRONG = (
     Wrong("a certificate of votes is thrown away", "simplex_engine/src/engine/counting.rt",
           "match self.accept(&certificate, now) {", "match self.see() {"),
     Wrong("a timeout is never due", "simplex_plan/src/plan/following.rt", "if moment <= now {", "if moment < moment.min(now) {"),
-    Wrong("a long record is never made short", "simplex_engine/src/engine/steps.rt", "self.plan.long_record() < count", "count < self.plan.long_record()"),
+    Wrong("a long record is never made short", "simplex_outbox/src/journaled/reach.rt",
+          "long < self.member.record().len()", "self.member.record().len() < long"),
 )
 
 

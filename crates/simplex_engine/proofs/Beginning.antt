@@ -37,16 +37,15 @@ pub begun_with : {S L D K G C : Type 0} (bytes : D → List ℕ) (keys_of : S �
     (company : Company S D K G C) (member : MemberFacts K L D) (engine : Engine S L D K G C) → IsCompanyOf keys_of keys me term_length company
     → engine.batcher ≡ company.batcher
     → IsPlanOf bytes company.term_length company.peers company.is_alone options member engine.plan
-    → engine.core.member.facts ≡ member → engine.compacted ≡ 0 → engine.forgotten ≡ 0
+    → engine.core.member.facts ≡ member → engine.forgotten ≡ 0
     → HasBegunWith bytes keys_of keys me term_length options engine
-begun_with bytes keys_of keys me term_length options company member engine is batcher plan of compacted forgotten = record {
+begun_with bytes keys_of keys me term_length options company member engine is batcher plan of forgotten = record {
   votes = subst (AreGiven []) (sym batcher) is.votes;
   keys_now = ap (λ b. keys_of b.scheme) batcher ∙ is.keys_now;
   plan = subst (λ m. IsPlanOf bytes term_length (others_of keys me) (length keys == 1) options m engine.plan) (sym of)
       (subst (λ t. IsPlanOf bytes t (others_of keys me) (length keys == 1) options member engine.plan) is.term
       (subst (λ p. IsPlanOf bytes company.term_length p (length keys == 1) options member engine.plan) is.peers
       (subst (λ b. IsPlanOf bytes company.term_length company.peers b options member engine.plan) is.alone plan)));
-  compacted = compacted;
   forgotten = forgotten;
 }
 

@@ -33,6 +33,8 @@ use Rattle.simplex_engine.specs.Building.{BuildsAhead}
 use Rattle.simplex_engine.specs.Duties.{is_verify_of, is_certify_of, is_build_of, work_in, IsToldIn}
 use Rattle.simplex_plan.specs.Building.{builds_from}
 use Rattle.simplex_plan.specs.declared.plan.Building.{Building}
+use Rattle.simplex_plan.specs.declared.plan.Options.{Options}
+use Rattle.simplex_outbox.specs.Reaching.{IsShort}
 use Rattle.simplex_plan.specs.PlannedWork.{AreAmong, work_of}
 use Rattle.simplex_plan.proofs.PlannedWork.{any_either, any_left, any_right, among_more}
 
@@ -247,3 +249,10 @@ pub ahead_still : {S L D K G C : Type 0} (a b : Engine S L D K G C) → b.core.m
 ahead_still {D = D} {K = K} {G = G} a b member builds is =
     subst (λ (builds : List (Building D K)). IfSome b.core.member.facts.life (λ x. builds_from x.current builds ≡ true)) (sym builds)
     (subst (λ (m : SignedMember K _ D G). IfSome m.facts.life (λ x. builds_from x.current a.plan.builds.items ≡ true)) (sym member) is)
+
+-- the record, beside a member and options that are the same
+pub short_still : {S L D K G C : Type 0} (a b : Engine S L D K G C) → b.plan.options ≡ a.plan.options → b.core.member ≡ a.core.member
+    → IsShort a.plan.options.long_record a.core.member.facts → IsShort b.plan.options.long_record b.core.member.facts
+short_still {D = D} {K = K} {G = G} a b options member is =
+    subst (λ (o : Options). IsShort o.long_record b.core.member.facts) (sym options)
+    (subst (λ (m : SignedMember K _ D G). IsShort a.plan.options.long_record m.facts) (sym member) is)

@@ -64,14 +64,13 @@ pub record IsCompanyOf {S D K G C : Type 0} (keys_of : S → List K) (keys : Lis
   pub term : company.term_length ≡ term_length
   pub alone : company.is_alone ≡ (length keys == 1)
 
--- an engine begins with these options, of a member among others with these keys: its batcher makes certificates by their number, its
--- record was not made short and no view forgotten in this life
+-- an engine begins with these options, of a member among others with these keys: its batcher makes certificates by their number, and no
+-- view was forgotten in this life
 pub record HasBegunWith {S L D K G C : Type 0} (bytes : D → List ℕ) (keys_of : S → List K) (keys : List K) (me : Option ℕ) (term_length : ℕ)
     (options : Options) (engine : Engine S L D K G C) : Type 0 where
   pub votes : AreGiven [] engine.batcher
   pub keys_now : keys_of engine.batcher.scheme ≡ keys
   pub plan : IsPlanOf bytes term_length (others_of keys me) (length keys == 1) options engine.core.member.facts engine.plan
-  pub compacted : engine.compacted ≡ 0
   pub forgotten : engine.forgotten ≡ 0
 
 -- ---- why none begins

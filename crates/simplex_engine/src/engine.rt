@@ -40,8 +40,6 @@ pub struct Engine<S: CertificateScheme, L: Elector<S>, D: Digest> {
     core: Journaled<S, L, D>,
     batcher: Batcher<S, D>,
     plan: Plan<S, D>,
-    /// How many entries the record had when it was made short last in this life.
-    compacted: usize,
     /// The views below were forgotten last.
     forgotten: View,
 }
@@ -55,6 +53,8 @@ impl<S: Assembly<D>, L: Elector<S>, D: Digest> Engine<S, L, D> {
     ghost use Rattle.simplex_outbox.specs.Outputs.{AreBehind};
     ghost use Rattle.simplex_outbox.specs.Finals.{finals_in, RiseByView, EndsAt, TellsNoMore};
     ghost use Rattle.simplex_outbox.specs.Journals.{journal_of, IsRecordOf};
+    ghost use Rattle.simplex_outbox.specs.Leaving.{AllLeave};
+    ghost use Rattle.simplex_outbox.specs.Reaching.{IsShort};
     ghost use Rattle.simplex_outbox.specs.Going.{IsKept, IsWhole, GoesOn, DoesMoreOn, HasGivenOut, has_failed};
     ghost use Rattle.simplex_engine.specs.Settled.{IsSettled};
     ghost use Rattle.simplex_plan.specs.PlannedWork.{constants_of, AreAmong};
@@ -149,6 +149,8 @@ impl<S: Assembly<D>, L: Elector<S>, D: Digest> Engine<S, L, D> {
     /// - `idle`: where nothing is answered, nothing is to be done at the moment: no step is queued, the timeout was asked for, and
     ///   no fetch is due.
     /// - `ahead`: and no block is to be built of a view below the current one: it was given up.
+    /// - `short`: and the record has no more entries than the options say, or by a pruning no more views of it go than stay: no entry
+    ///   lies further below the lowest view that is left than the current view lies above that.
     /// - `lowest`: where nothing is answered, no vote is held of a view below the lowest one that is kept.
     /// - `lacking`: and just what is lacking is asked for: each open fetch is of a view above the last finalized one, and of a
     ///   certificate that the state does not hold; and of each such view that the resolver has open, a nullification is asked for.
@@ -165,6 +167,8 @@ impl<S: Assembly<D>, L: Elector<S>, D: Digest> Engine<S, L, D> {
         ensures none { IfOk result (λ out. IsNone out → IsSettled D.eq L.elect S.certificate_bytes self.new.core) }
         ensures idle { IfOk result (λ out. IsNone out → IsIdle now self.new.plan) }
         ensures ahead { IfOk result (λ out. IsNone out → BuildsAhead self.new.core self.new.plan) }
+        ensures short { (given : _) → IsKept S.certificate_bytes given self.old.core
+            → IfOk result (λ out. IsNone out → IsShort self.new.plan.options.long_record self.new.core.member.facts) }
         ensures lowest { IfOk result (λ out. IsNone out → HoldsFromKept self.new.core self.new.batcher) }
         ensures lacking { IfOk result (λ out. IsNone out → AsksForItsLacking self.new.core self.new.plan.repair) }
         ensures admitted { HoldsNoneAhead S.participants self.old.core self.old.batcher
@@ -198,6 +202,8 @@ impl<S: Assembly<D>, L: Elector<S>, D: Digest> Engine<S, L, D> {
         ensures none { IfOk result (λ out. IsNone out → IsSettled D.eq L.elect S.certificate_bytes self.new.core) }
         ensures idle { IfOk result (λ out. IsNone out → IsIdle now self.new.plan) }
         ensures ahead { IfOk result (λ out. IsNone out → BuildsAhead self.new.core self.new.plan) }
+        ensures short { (given : _) → IsKept S.certificate_bytes given self.old.core
+            → IfOk result (λ out. IsNone out → IsShort self.new.plan.options.long_record self.new.core.member.facts) }
         ensures lowest { IfOk result (λ out. IsNone out → HoldsFromKept self.new.core self.new.batcher) }
         ensures lacking { IfOk result (λ out. IsNone out → AsksForItsLacking self.new.core self.new.plan.repair) }
         ensures votes { TakesNone self.old.batcher self.new.batcher }
@@ -276,6 +282,8 @@ impl<S: Assembly<D>, L: Elector<S>, D: Digest> Engine<S, L, D> {
     /// - `behind`: each vote stands behind an output that stores it, with its very signature.
     /// - `stored`: until it fails, where all of the record is queued or was given out, a journal that carries out what was given
     ///   out and what is queued holds the record, and beside it what a journal stores.
+    /// - `leaving`: until it fails, each vote that is stored was given out or is queued, but those of the record that the life began
+    ///   with, which the first output stores.
     /// - `rising`: the views of the proposals rise that it told as final.
     /// - `last`: the last of them, of those that it told and those that are queued, is of the member's last finalized view.
     /// - `lawful`: what its member has done keeps the voting rules, over all its lives.
@@ -285,6 +293,8 @@ impl<S: Assembly<D>, L: Elector<S>, D: Digest> Engine<S, L, D> {
         ensures stored { (given : _) → IsKept S.certificate_bytes given self.now.core → self.now.core.failed ≡ false
             → IsWhole S.certificate_bytes self.now.core
             → IsRecordOf S.certificate_bytes self.now.core.member (journal_of (given ++ self.now.core.outbox.queue.items)) }
+        ensures leaving { (given : _) → IsKept S.certificate_bytes given self.now.core → self.now.core.failed ≡ false
+            → AllLeave (given ++ self.now.core.outbox.queue.items) }
         ensures rising { (given : _) → IsKept S.certificate_bytes given self.now.core → RiseByView (finals_in given) }
         ensures last { (given : _) → IsKept S.certificate_bytes given self.now.core → IfSome self.now.core.member.facts.life (λ x.
             EndsAt x.finalized (finals_in (given ++ self.now.core.outbox.queue.items))) }

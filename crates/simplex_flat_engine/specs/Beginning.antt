@@ -15,6 +15,7 @@ use Rattle.simplex_engine.specs.declared.engine.begin.StartError.TheVariants as 
 use Rattle.simplex_plan.specs.declared.plan.Options.{Options}
 use Rattle.simplex_engine.specs.Bounds.{HoldsNoneAhead}
 use Rattle.simplex_outbox.specs.Going.{IsWhole, TellsNothing}
+use Rattle.simplex_outbox.specs.Journals.{BeginsWith}
 use Rattle.simplex_flat.specs.declared.flat.FlatSettings.{FlatSettings}
 use Rattle.simplex_flat.specs.declared.opening.NotResumed.TheVariants as not_resumed
 use Rattle.simplex_flat.specs.declared.resolving.NotReplayed.TheVariants as not_replayed
@@ -36,11 +37,12 @@ use Rattle.simplex_flat_engine.specs.Handling.{IsAllGiven, HasShownNothing}
 abbrev pub options_of : FlatOptions → Options
 options_of f = record { retry = f.retry; on_its_way = f.on_its_way; long_record = f.long_record }
 
--- nothing was given out; the whole record is to be stored in place of all that is, no proposal to be told as final, the member waits
--- for nothing, and leaders are drawn as set
+-- nothing was given out; the whole record is to be stored in place of all that is and nothing else is queued, no proposal to be told as
+-- final, the member waits for nothing, and leaders are drawn as set
 pub record HasGivenNothing (f : FlatSettings) (held : HeldEngine) : Type 0 where
   pub kept : IsAllGiven [] held
   pub whole : IsWhole certificate_bytes held.engine.core
+  pub queued : BeginsWith certificate_bytes held.engine.core.member held.engine.core.outbox.queue.items
   pub told : TellsNothing held.engine.core
   pub bounded : HoldsNoneAhead host_keys held.engine.core held.engine.batcher
   pub duties : HasToldAll [] held.engine

@@ -22,6 +22,7 @@ use Rattle.simplex_outbox.specs.Finals.{TellsNoMore}
 use Rattle.simplex_outbox.specs.Going.{DoesMoreOn, GoesOn, IsKept, IsWhole, has_failed}
 use Rattle.simplex_engine.specs.Inputs.{subject_in}
 use Rattle.simplex_outbox.specs.Journals.{IsRecordOf, journal_of}
+use Rattle.simplex_outbox.specs.Reaching.{IsShort}
 use Rattle.simplex_plan.specs.PlannedWork.{AreAmong, constants_of}
 use Rattle.simplex_plan.specs.Planning.{IsIdle}
 use Rattle.simplex_engine.specs.Settled.{IsSettled}
@@ -168,8 +169,8 @@ HoldsRecord given held =
     held.engine.core.failed ≡ false → held.engine.core.outbox.queue.items ≡ [] → IsWhole certificate_bytes held.engine.core
     → IsRecordOf certificate_bytes held.engine.core.member (journal_of given)
 
--- an engine has nothing more to do at a moment, builds no block and holds no vote of views that are over, and asks for just what is
--- lacking; where each proposal to verify or certify and each block to build was told, it was given out; where no vote was held above
+-- an engine has nothing more to do at a moment, builds no block and holds no vote of views that are over, has a short record, and asks
+-- for just what is lacking; where each proposal to verify or certify and each block to build was told, it was given out; where no vote was held above
 -- those that are taken, each that is held is a member's, and of a view whose votes are taken
 pub record IsAtRest (now : ℕ) (old new : HostEngine) : Type 0 where
   pub settled : IsSettled same_host_payload host_leader certificate_bytes new.core
@@ -177,6 +178,7 @@ pub record IsAtRest (now : ℕ) (old new : HostEngine) : Type 0 where
   pub ahead : BuildsAhead new.core new.plan
   pub lowest : HoldsFromKept new.core new.batcher
   pub lacking : AsksForItsLacking new.core new.plan.repair
+  pub short : (given : List HostOutput) → IsKept certificate_bytes given old.core → IsShort new.plan.options.long_record new.core.member.facts
   pub waiting : (given : List HostOutput) → HasToldAll given old → AllIsGivenOut given new
   pub admitted : HoldsNoneAhead host_keys old.core old.batcher → HoldsAdmitted host_keys new.core new.batcher
 

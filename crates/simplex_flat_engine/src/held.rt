@@ -1,6 +1,6 @@
 //! An engine behind a handle, with what it gave out last: its bytes are read of it, and never lack memory.
 
-ghost use Rattle.std.specs.Prelude.{◌≡◌, ◌+◌, ◌-◌, ◌^◌, [], true, false, min, length, None, OnOk};
+ghost use Rattle.std.specs.Prelude.{◌≡◌, ◌++◌, ◌+◌, ◌-◌, ◌^◌, [], true, false, min, length, None, OnOk};
 ghost use Rattle.simplex_flat.specs.Journals.{framed};
 ghost use Rattle.simplex_flat.specs.Opening.{IsFlatStored};
 ghost use Rattle.simplex_flat.specs.Statuses.{not_written_number};
@@ -49,6 +49,7 @@ impl HeldEngine {
     ghost use Rattle.simplex_flat_engine.specs.Handling.{HoldsRecord, IsAllGiven, first_bytes, second_bytes};
     ghost use Rattle.simplex_laws.specs.Lawful.{IsLawful};
     ghost use Rattle.simplex_laws.specs.Living.{OfAllDone, MayBeDoneBy};
+    ghost use Rattle.simplex_outbox.specs.Leaving.{AllLeave};
     ghost use Rattle.simplex_outbox.specs.Outputs.{AreBehind};
     ghost use Rattle.simplex_outbox.specs.Finals.{finals_in, RiseByView};
     ghost use Rattle.simplex_flat.specs.Serving.{host_leader, same_host_payload};
@@ -218,12 +219,16 @@ impl HeldEngine {
     /// - `behind`: each vote stands behind an output that stores it, with its very order.
     /// - `stored`: where all of the record was given out, a journal that carries out what was given out holds the record, and beside
     ///   it what a journal stores.
+    /// - `leaving`: until it fails, each vote that is stored was given out or is queued, but those of the record that the life began
+    ///   with, which the first output stores.
     /// - `rising`: the views of the proposals rise that it told as final.
     /// - `lawful`: what its member has done keeps the voting rules, over all its lives.
     /// - `ran`: a network of `agreement` may have it as member `i`.
     pub fn keeps_the_laws(&self)
         ensures behind { (given : _) → IsAllGiven given self.now → self.now.is_lost ≡ false → AreBehind [] given }
         ensures stored { (given : _) → IsAllGiven given self.now → self.now.is_lost ≡ false → HoldsRecord given self.now }
+        ensures leaving { (given : _) → IsAllGiven given self.now → self.now.is_lost ≡ false → self.now.engine.core.failed ≡ false
+            → AllLeave (given ++ self.now.engine.core.outbox.queue.items) }
         ensures rising { (given : _) → IsAllGiven given self.now → self.now.is_lost ≡ false → RiseByView (finals_in given) }
         ensures lawful { OfAllDone same_host_payload host_leader self.now.engine.core.member.facts (λ term_length i all. IsLawful term_length all) }
         ensures ran { OfAllDone same_host_payload host_leader self.now.engine.core.member.facts (MayBeDoneBy HostKey same_host_payload host_leader) }

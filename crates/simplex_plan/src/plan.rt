@@ -38,7 +38,7 @@ pub struct Options {
     pub retry: u64,
     /// How long a certificate that is lacking may be on its way before it is asked for.
     pub on_its_way: u64,
-    /// The record is made short once it has more entries than this, and twice as many as when it was made short last in this life.
+    /// The record is made short once it has more entries than this, and by a pruning more views of it would go than stay.
     pub long_record: usize,
 }
 

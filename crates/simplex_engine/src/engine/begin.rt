@@ -8,6 +8,7 @@ ghost use Rattle.simplex_resolver.specs.Told.{HasBeenTold};
 ghost use Rattle.simplex_record.specs.Entries.{entries_of};
 ghost use Rattle.simplex_engine.specs.Beginning.{with_a_retry, IsPlanOf, IsCompanyOf, HasBegunWith, IsNotReplayed};
 ghost use Rattle.simplex_outbox.specs.Going.{IsKept, IsWhole, TellsNothing};
+ghost use Rattle.simplex_outbox.specs.Journals.{BeginsWith};
 
 use super::Engine;
 use simplex_assembly::assembly::Assembly;
@@ -84,8 +85,8 @@ impl<S: Assembly<D>, L: Elector<S>, D: Digest> Engine<S, L, D> {
     /// The elector's members are the scheme's participants.
     /// - `started`: its member is the one that `LawfulMember::start` makes.
     /// - `begins`: it has accepted the floor's finalization, if there is one, and done nothing else.
-    /// - `kept`, `whole`, `told`, `bounded`, `duties`: nothing was given out, the whole record stands to be stored in place of all that
-    ///   is, no proposal to be told as final, and the member waits for nothing.
+    /// - `kept`, `whole`, `queued`, `told`, `bounded`, `duties`: nothing was given out, the whole record stands to be stored in place of
+    ///   all that is and nothing else is queued, no proposal to be told as final, and the member waits for nothing.
     /// - `begun`: no vote is held, and certificates are made by the number of the scheme's participants; the resolver was told of the
     ///   record, and what it has open is asked for at once, of all participants but this member; no input was of no use.
     /// - `refused`: why there is none.
@@ -101,6 +102,7 @@ impl<S: Assembly<D>, L: Elector<S>, D: Digest> Engine<S, L, D> {
         requires { L.members start.settings.elector ≡ length (S.participants start.settings.scheme) }
         ensures kept { IfOk result (λ engine. IsKept S.certificate_bytes [] engine.core) }
         ensures whole { IfOk result (λ engine. IsWhole S.certificate_bytes engine.core) }
+        ensures queued { IfOk result (λ engine. BeginsWith S.certificate_bytes engine.core.member engine.core.outbox.queue.items) }
         ensures told { IfOk result (λ engine. TellsNothing engine.core) }
         ensures duties { IfOk result (HasToldAll []) }
         ensures bounded { IfOk result (λ engine. HoldsNoneAhead S.participants engine.core engine.batcher) }
@@ -129,7 +131,7 @@ impl<S: Assembly<D>, L: Elector<S>, D: Digest> Engine<S, L, D> {
     /// - `resumed`: its member is the one that `LawfulMember::resume` makes.
     /// - `goes_on`: in terms of the same length and with the key of the same member or none, what was done before stays done,
     ///   and the floor's finalization is accepted too.
-    /// - `kept`, `whole`, `told`, `bounded`, `duties`, `begun`, `refused`: as of `start`.
+    /// - `kept`, `whole`, `queued`, `told`, `bounded`, `duties`, `begun`, `refused`: as of `start`.
     ///
     /// # Errors
     ///
@@ -144,6 +146,7 @@ impl<S: Assembly<D>, L: Elector<S>, D: Digest> Engine<S, L, D> {
         requires { L.members start.settings.elector ≡ length (S.participants start.settings.scheme) }
         ensures kept { IfOk result (λ engine. IsKept S.certificate_bytes [] engine.core) }
         ensures whole { IfOk result (λ engine. IsWhole S.certificate_bytes engine.core) }
+        ensures queued { IfOk result (λ engine. BeginsWith S.certificate_bytes engine.core.member engine.core.outbox.queue.items) }
         ensures told { IfOk result (λ engine. TellsNothing engine.core) }
         ensures duties { IfOk result (HasToldAll []) }
         ensures bounded { IfOk result (λ engine. HoldsNoneAhead S.participants engine.core engine.batcher) }
@@ -188,9 +191,6 @@ fn company_of<S: Assembly<D>, L: Elector<S>, D: Digest>(
 }
 
 /// An engine round a member that has begun: its resolver is told of the record, and what is wanted is asked for at once.
-///
-/// A record that is long already is made short at the first `poll`: else lives that are cut off before they double it would let it
-/// grow.
 fn begin<S: Assembly<D>, L: Elector<S>, D: Digest>(
     alloc: Global,
     member: LawfulMember<S, L, D>,
@@ -201,6 +201,7 @@ fn begin<S: Assembly<D>, L: Elector<S>, D: Digest>(
     ensures whole { IfOk result (λ engine. IsWhole S.certificate_bytes engine.core) }
     ensures told { IfOk result (λ engine. TellsNothing engine.core) }
     ensures member { IfOk result (λ engine. engine.core.member ≡ member) }
+    ensures queued { IfOk result (λ engine. BeginsWith S.certificate_bytes engine.core.member engine.core.outbox.queue.items) }
     ensures begun { (keys : List S.PublicKey) (me : Option ℕ) (term_length : ℕ) → IsCompanyOf S.participants keys me term_length company
         → IfOk result (HasBegunWith D.bytes S.participants keys me term_length (with_a_retry options)) }
     ensures refused { IfErr result (IsNotReplayed member.facts.entries) }
@@ -212,7 +213,6 @@ fn begin<S: Assembly<D>, L: Elector<S>, D: Digest>(
         core,
         batcher: company.batcher,
         plan,
-        compacted: 0,
         forgotten: View::zero(),
     })
 }

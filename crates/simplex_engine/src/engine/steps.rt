@@ -11,7 +11,8 @@ use simplex_plan::task::Task;
 use simplex_types::types::{Digest, Elector, Fault, View};
 
 impl<S: Assembly<D>, L: Elector<S>, D: Digest> Engine<S, L, D> {
-    ghost use Rattle.simplex_outbox.specs.Going.{IsWhole};
+    ghost use Rattle.simplex_outbox.specs.Going.{IsKept, IsWhole};
+    ghost use Rattle.simplex_outbox.specs.Reaching.{IsShort};
     ghost use Rattle.simplex_engine.specs.Alone.{GoesOnAlone, GoesOnForgetting};
     ghost use Rattle.simplex_engine.specs.Quiet.{HasNothingNew};
     ghost use Rattle.simplex_plan.specs.Planning.{IsIdle};
@@ -26,6 +27,7 @@ impl<S: Assembly<D>, L: Elector<S>, D: Digest> Engine<S, L, D> {
     ///
     /// - `quiet`: it has cast its votes and handed out its certificates, was asked last for work, and had none.
     /// - `idle`, `ahead`: nothing is to be done at the moment, and no block is to be built of a view that is over.
+    /// - `short`: by a pruning no more views of the record go than stay, or it has few entries.
     /// - `lowest`, `lacking`: no vote is held of a view below the lowest one that is kept, and just what is lacking is asked for.
     pub(super) fn work(&mut self, now: u64) -> Result<(), Fault>
         ensures alone { GoesOnForgetting D.eq L.elect S.certificate_bytes self.old self.new }
@@ -33,24 +35,14 @@ impl<S: Assembly<D>, L: Elector<S>, D: Digest> Engine<S, L, D> {
         ensures quiet { OnOk result (HasNothingNew D.eq L.elect self.new.core.member.facts) }
         ensures idle { OnOk result (IsIdle now self.new.plan) }
         ensures ahead { OnOk result (BuildsAhead self.new.core self.new.plan) }
+        ensures short { (given : _) → IsKept S.certificate_bytes given self.old.core
+            → OnOk result (IsShort self.new.plan.options.long_record self.new.core.member.facts) }
         ensures lowest { OnOk result (HoldsFromKept self.new.core self.new.batcher) }
         ensures lacking { OnOk result (AsksForItsLacking self.new.core self.new.plan.repair) }
         ensures duties { OnOk result (KeepsDuties self.old self.new) }
     {
-        self.prepare(now)?;
-        self.finish(now)
-    }
-
-    /// A moment has come; a record that is long is made short before anything else.
-    fn prepare(&mut self, now: u64) -> Result<(), Fault>
-        ensures alone { GoesOnAlone D.eq L.elect S.certificate_bytes self.old self.new }
-        ensures duties { OnOk result (KeepsDuties self.old self.new) }
-    {
         self.plan.begin();
-        if self.is_long() {
-            return self.prune_record(now);
-        }
-        Ok(())
+        self.finish(now)
     }
 
     /// Takes all steps, lets go what is kept of views that are not, and queues what the record has grown by.
@@ -60,13 +52,48 @@ impl<S: Assembly<D>, L: Elector<S>, D: Digest> Engine<S, L, D> {
         ensures quiet { OnOk result (HasNothingNew D.eq L.elect self.new.core.member.facts) }
         ensures idle { OnOk result (IsIdle now self.new.plan) }
         ensures ahead { OnOk result (BuildsAhead self.new.core self.new.plan) }
+        ensures short { (given : _) → IsKept S.certificate_bytes given self.old.core
+            → OnOk result (IsShort self.new.plan.options.long_record self.new.core.member.facts) }
         ensures lowest { OnOk result (HoldsFromKept self.new.core self.new.batcher) }
         ensures lacking { OnOk result (AsksForItsLacking self.new.core self.new.plan.repair) }
         ensures duties { OnOk result (KeepsDuties self.old self.new) }
     {
-        self.run_all(now)?;
+        self.run_to_short(now)?;
         self.settle()?;
         Ok(())
+    }
+
+    /// Takes all steps, and prunes the record where more views of it go than stay, until nothing of both is left.
+    fn run_to_short(&mut self, now: u64) -> Result<(), Fault>
+        ensures alone { GoesOnAlone D.eq L.elect S.certificate_bytes self.old self.new }
+        ensures quiet { OnOk result (HasNothingNew D.eq L.elect self.new.core.member.facts) }
+        ensures idle { OnOk result (IsIdle now self.new.plan) }
+        ensures ahead { OnOk result (BuildsAhead self.new.core self.new.plan) }
+        ensures short { (given : _) → IsKept S.certificate_bytes given self.old.core
+            → OnOk result (IsShort self.new.plan.options.long_record self.new.core.member.facts) }
+        ensures duties { OnOk result (KeepsDuties self.old self.new) }
+    {
+        for _ in 0..u64::MAX {
+            self.run_all(now)?;
+            if self.is_short()? {
+                return Ok(());
+            }
+            self.prune_record(now)?;
+        }
+        Err(Fault::Failed)
+    }
+
+    /// Queues what the record has grown by. Whether the record is short.
+    fn is_short(&mut self) -> Result<bool, Fault>
+        ensures alone { GoesOnAlone D.eq L.elect S.certificate_bytes self.old self.new }
+        ensures member { self.new.core.member ≡ self.old.core.member }
+        ensures plan { self.new.plan ≡ self.old.plan }
+        ensures short { (given : _) → IsKept S.certificate_bytes given self.old.core
+            → IfOk result (λ short. IsTrue short → IsShort self.new.plan.options.long_record self.new.core.member.facts) }
+        ensures duties { OnOk result (KeepsDuties self.old self.new) }
+    {
+        self.core.store()?;
+        Ok(!self.core.is_overgrown(self.plan.long_record()))
     }
 
     /// Lets go what is held of views that are not kept, and queues what the record has grown by.
@@ -244,21 +271,14 @@ impl<S: Assembly<D>, L: Elector<S>, D: Digest> Engine<S, L, D> {
         Ok(())
     }
 
-    /// Whether the record has grown long since it was made short last.
-    fn is_long(&self) -> bool {
-        let count = self.core.record().len();
-        self.plan.long_record() < count && self.compacted < count / 2
-    }
-
-    /// Makes the record short. The member drops the views that are over first: the entries of a view stay as long as it is tracked, and
-    /// at the begin of a life all views of the record are.
+    /// Prunes the record. The member drops the views that are over first: the entries of a view stay as long as it is tracked, and at
+    /// the begin of a life all views of the record are.
     fn prune_record(&mut self, now: u64) -> Result<(), Fault>
         ensures alone { GoesOnAlone D.eq L.elect S.certificate_bytes self.old self.new }
         ensures duties { OnOk result (KeepsDuties self.old self.new) }
     {
         self.ask(Task::Prune, now)?;
         self.core.prune_record()?;
-        self.compacted = self.core.record().len();
         Ok(())
     }
 }

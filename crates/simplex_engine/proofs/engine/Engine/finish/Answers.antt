@@ -1,25 +1,28 @@
 -- That what is let go behind all steps goes on from them, and nothing is due that was not.
-use Rattle.std.proofs.Common.{sym, subst}
+use Rattle.std.proofs.Common.{ap, sym, subst}
 use Rattle.simplex_engine.specs.Quiet.{HasNothingNew}
 use Rattle.simplex_engine.proofs.Alone.{forgets_further, forgets_none}
-use Rattle.simplex_engine.proofs.Duties.{ahead_still}
+use Rattle.simplex_engine.proofs.Duties.{ahead_still, short_still}
+use Rattle.simplex_plan.specs.PlannedWork.{Constants}
 use Rattle.simplex_engine.proofs.Tells.{tells_further}
 use Rattle.simplex_engine.proofs.engine.Engine.finish.Goals as goal
 
-pub returns-in_err-run_all-clause-alone : goal.returns-in_err-run_all-clause-alone
-returns-in_err-run_all-clause-alone g c = forgets_none c.run_all.ensures.alone
+pub returns-in_err-run_to_short-clause-alone : goal.returns-in_err-run_to_short-clause-alone
+returns-in_err-run_to_short-clause-alone g c = forgets_none c.run_to_short.ensures.alone
 
 pub returns-in_err-settle-clause-alone : goal.returns-in_err-settle-clause-alone
-returns-in_err-settle-clause-alone g c = forgets_further c.run_all.ensures.alone c.settle.ensures.alone
+returns-in_err-settle-clause-alone g c = forgets_further c.run_to_short.ensures.alone c.settle.ensures.alone
 
 pub returns : goal.returns
 returns g c = record {
-  alone = forgets_further c.run_all.ensures.alone c.settle.ensures.alone;
+  alone = forgets_further c.run_to_short.ensures.alone c.settle.ensures.alone;
   whole = c.in_ok-settle.ensures.whole;
-  quiet = subst (λ m. HasNothingNew g.D.PartialEq.eq g.L.Elector.elect m.facts) (sym c.settle.ensures.member) c.in_ok-run_all.ensures.quiet;
-  idle = c.settle.ensures.idle c.args.now c.in_ok-run_all.ensures.idle;
-  ahead = ahead_still c.run_all.new.self c.settle.new.self c.settle.ensures.member c.settle.ensures.builds c.in_ok-run_all.ensures.ahead;
+  quiet = subst (λ m. HasNothingNew g.D.PartialEq.eq g.L.Elector.elect m.facts) (sym c.settle.ensures.member) c.in_ok-run_to_short.ensures.quiet;
+  idle = c.settle.ensures.idle c.args.now c.in_ok-run_to_short.ensures.idle;
+  ahead = ahead_still c.run_to_short.new.self c.settle.new.self c.settle.ensures.member c.settle.ensures.builds c.in_ok-run_to_short.ensures.ahead;
+  short = λ given kept. short_still c.run_to_short.new.self c.settle.new.self (ap (λ (constants : Constants). constants.options) c.in_ok-settle.ensures.duties.constants)
+      c.settle.ensures.member (c.in_ok-run_to_short.ensures.short given kept);
   lowest = c.in_ok-settle.ensures.lowest;
   lacking = c.in_ok-settle.ensures.lacking;
-  duties = tells_further c.in_ok-run_all.ensures.duties c.in_ok-settle.ensures.duties;
+  duties = tells_further c.in_ok-run_to_short.ensures.duties c.in_ok-settle.ensures.duties;
 }

@@ -73,3 +73,6 @@ pub returns-in-None-clause-works : goal.returns-in-None-clause-works
 returns-in-None-clause-works g c =
     on_ok c.poll_after_work.result c.poll_after_work.ensures.works (among_further (works_given c.args.self.now (record c.args.self.now { core = c.next.new.self }) [] refl
     (subst (λ out. c.args.self.now.core.outbox.queue.items ≡ option_to_list out ++ c.next.new.self.outbox.queue.items) c.in-None.is c.next.ensures.front)))
+
+pub returns-in-None-clause-short : goal.returns-in-None-clause-short
+returns-in-None-clause-short g c = λ given kept. c.poll_after_work.ensures.short (given ++ option_to_list c.next.result) (c.next.ensures.kept given kept)

@@ -5,6 +5,7 @@ use Rattle.simplex_voter.specs.Windows.{min_active}
 use Rattle.simplex_batcher.specs.Batching.{HoldsFrom}
 use Rattle.simplex_fetches.specs.Wanted.{AsksForTheLacking}
 use Rattle.simplex_outbox.specs.Going.{has_failed}
+use Rattle.simplex_outbox.specs.Reaching.{IsShort}
 use Rattle.simplex_engine.specs.Quiet.{HasNothingNew}
 use Rattle.simplex_engine.proofs.Backing.{takes_nothing}
 use Rattle.simplex_engine.proofs.Alone.{forgets_as}
@@ -100,3 +101,7 @@ pub returns-in-Ok-clause-works : goal.returns-in-Ok-clause-works
 returns-in-Ok-clause-works g c =
     among_further c.in-Ok.ensures.duties.works
     (works_given c.work.new.self (record (c.work.new.self) { core = c.next.new.self }) (option_to_list c.next.result) refl c.next.ensures.front)
+
+pub returns-in-Ok-clause-short : goal.returns-in-Ok-clause-short
+returns-in-Ok-clause-short g c given kept none =
+    subst (λ m. IsShort c.work.new.self.plan.options.long_record m.facts) (sym c.next.ensures.same.0) (c.in-Ok.ensures.short given kept)

@@ -73,6 +73,7 @@ returns-in-Ok-None c =
               lowest = (rw none at c.in-Ok-None.ensures.lowest) refl;
               lacking = (rw none at c.in-Ok-None.ensures.lacking) refl;
               ahead = (rw none at c.in-Ok-None.ensures.ahead) refl;
+              short = λ before kept. (rw none at c.in-Ok-None.ensures.short before kept) refl;
               waiting = (rw none at c.in-Ok-None.ensures.waiting) refl;
               admitted = λ before. (rw none at c.in-Ok-None.ensures.admitted before) refl;
             },

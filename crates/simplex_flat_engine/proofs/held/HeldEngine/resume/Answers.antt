@@ -29,6 +29,7 @@ returns-in-Ok-resume-clause-resumed c =
       nothing = record {
         kept = λ _. rw c.new.ensures.engine c.in-Ok-resume.ensures.kept;
         whole = rw c.new.ensures.engine c.in-Ok-resume.ensures.whole;
+        queued = rw c.new.ensures.engine c.in-Ok-resume.ensures.queued;
         told = rw c.new.ensures.engine c.in-Ok-resume.ensures.told;
         bounded = rw c.new.ensures.engine c.in-Ok-resume.ensures.bounded;
         duties = rw c.new.ensures.engine c.in-Ok-resume.ensures.duties;

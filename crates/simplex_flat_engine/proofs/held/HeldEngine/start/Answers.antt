@@ -20,6 +20,7 @@ returns-in-Ok-start-clause-begun c = record {
   nothing = record {
     kept = λ _. rw c.new.ensures.engine c.in-Ok-start.ensures.kept;
     whole = rw c.new.ensures.engine c.in-Ok-start.ensures.whole;
+    queued = rw c.new.ensures.engine c.in-Ok-start.ensures.queued;
     told = rw c.new.ensures.engine c.in-Ok-start.ensures.told;
     bounded = rw c.new.ensures.engine c.in-Ok-start.ensures.bounded;
     duties = rw c.new.ensures.engine c.in-Ok-start.ensures.duties;

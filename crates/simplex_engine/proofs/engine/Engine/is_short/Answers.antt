@@ -1,0 +1,27 @@
+-- That all of the record is queued, and then short.
+use Rattle.std.proofs.Common.{◌≡◌, Bool, true, false, not, refl, ap, subst}
+use Rattle.std.proofs.lemmas.Bool.{false≢true}
+use Rattle.simplex_outbox.specs.Reaching.{IsShort}
+use Rattle.simplex_plan.proofs.PlannedWork.{keeps_still}
+use Rattle.simplex_engine.proofs.Tells.{tells_same}
+use Rattle.simplex_engine.proofs.engine.Engine.is_short.Goals as goal
+
+is_not : (b : Bool) → not b ≡ true → b ≡ false
+is_not false is = refl
+is_not true is = absurd (false≢true is)
+
+pub returns-in_err-store-clause-alone : goal.returns-in_err-store-clause-alone
+returns-in_err-store-clause-alone g c = record { goes_on = c.store.ensures.goes_on; batcher = refl }
+
+pub returns-clause-alone : goal.returns-clause-alone
+returns-clause-alone g c = record { goes_on = c.store.ensures.goes_on; batcher = refl }
+
+pub returns-clause-short : goal.returns-clause-short
+returns-clause-short g c = λ given kept is.
+    subst (λ long. IsShort long c.store.new.self.member.facts) c.long_record.ensures
+    (c.is_overgrown.ensures.short (is_not c.is_overgrown.result is) (c.store.ensures.goes_on.kept given kept).reaching c.in_ok-store.ensures.whole)
+
+pub returns-clause-duties : goal.returns-clause-duties
+returns-clause-duties g c =
+    tells_same c.args.self.now (record c.args.self.now { core = c.store.new.self }) (ap (λ m. m.facts.outstanding_work) c.store.ensures.member)
+    c.store.ensures.goes_on.queued keeps_still

@@ -1,0 +1,44 @@
+-- That steps and prunings go on one behind the other, and that all is done where the record is short.
+use Rattle.std.proofs.Common.{refl, sym, subst}
+use Rattle.simplex_plan.specs.Planning.{IsIdle}
+use Rattle.simplex_engine.specs.Building.{BuildsAhead}
+use Rattle.simplex_engine.specs.Quiet.{HasNothingNew}
+use Rattle.simplex_engine.proofs.Alone.{alone_still, alone_further}
+use Rattle.simplex_engine.proofs.Duties.{ahead_still}
+use Rattle.simplex_engine.proofs.Tells.{tells_still, tells_further}
+use Rattle.simplex_engine.proofs.engine.Engine.run_to_short.Goals as goal
+
+pub returns-in_err-run_all-clause-alone : goal.returns-in_err-run_all-clause-alone
+returns-in_err-run_all-clause-alone g c = alone_further c.loop.invariant.alone c.run_all.ensures.alone
+
+pub returns-in_err-is_short-clause-alone : goal.returns-in_err-is_short-clause-alone
+returns-in_err-is_short-clause-alone g c = alone_further c.loop.invariant.alone (alone_further c.run_all.ensures.alone c.is_short.ensures.alone)
+
+pub returns-in_err-prune_record-clause-alone : goal.returns-in_err-prune_record-clause-alone
+returns-in_err-prune_record-clause-alone g c =
+    alone_further c.loop.invariant.alone (alone_further c.run_all.ensures.alone (alone_further c.is_short.ensures.alone c.prune_record.ensures.alone))
+
+pub returns-then-branch : goal.returns-then-branch
+returns-then-branch g c =
+    let is = c.is_short.ensures in
+    record {
+      alone = alone_further c.loop.invariant.alone (alone_further c.run_all.ensures.alone is.alone);
+      quiet = subst (λ m. HasNothingNew g.D.PartialEq.eq g.L.Elector.elect m.facts) (sym is.member) c.in_ok-run_all.ensures.quiet;
+      idle = subst (IsIdle c.args.now) (sym is.plan) c.in_ok-run_all.ensures.idle;
+      ahead = subst (BuildsAhead c.is_short.new.self.core) (sym is.plan) (ahead_still c.run_all.new.self (record (c.run_all.new.self) { core = c.is_short.new.self.core }) is.member refl c.in_ok-run_all.ensures.ahead);
+      short = λ given kept. c.in_ok-is_short.ensures.short given (c.run_all.ensures.alone.goes_on.kept given (c.loop.invariant.alone.goes_on.kept given kept)) c.if-branch.true;
+      duties = tells_further c.loop.invariant.duties (tells_further c.in_ok-run_all.ensures.duties c.in_ok-is_short.ensures.duties);
+    }
+
+pub loop-init : goal.loop-init
+loop-init g c = record { alone = alone_still c.args.self.now; duties = tells_still c.args.self.now }
+
+pub loop-preserved : goal.loop-preserved
+loop-preserved g c = record {
+  alone = alone_further c.loop.invariant.alone (alone_further c.run_all.ensures.alone (alone_further c.is_short.ensures.alone c.prune_record.ensures.alone));
+  duties = tells_further c.loop.invariant.duties
+      (tells_further c.in_ok-run_all.ensures.duties (tells_further c.in_ok-is_short.ensures.duties c.in_ok-prune_record.ensures.duties));
+}
+
+pub returns : goal.returns
+returns g c = record { alone = c.loop.invariant.alone; quiet = tt; idle = tt; ahead = tt; short = λ given kept. tt; duties = tt }
