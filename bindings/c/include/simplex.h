@@ -501,7 +501,7 @@ SIMPLEX_SIZE(struct simplex_subject, 64);
 struct simplex_options {
     uint64_t retry;       /* after how long a fetch is asked again, of the next member: 1 ms at least */
     uint64_t on_its_way;  /* how long a certificate that is lacking may be on its way before it is asked for */
-    uint64_t long_record; /* the record is made short once it has more entries, and twice as many as it had then in this life */
+    uint64_t long_record; /* the record is made short once it has more entries, and more of its views would go than stay */
 };
 SIMPLEX_SIZE(struct simplex_options, 24);
 

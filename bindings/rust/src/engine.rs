@@ -26,7 +26,7 @@ pub struct Options {
     pub retry: Duration,
     /// How long a certificate that is lacking may be on its way before it is asked for.
     pub on_its_way: Duration,
-    /// The record is made short once it has more entries than this, and twice as many as when it was made short last in this life.
+    /// The record is made short once it has more entries than this, and by a pruning more views of it would go than stay.
     pub long_record: EntryCount,
 }
 

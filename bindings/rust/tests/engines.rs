@@ -228,6 +228,30 @@ fn a_long_record_is_made_short_when_a_life_begins() -> Tested {
 }
 
 #[test]
+fn a_record_stays_short_within_a_life() -> Tested {
+    let options = Options {
+        long_record: EntryCount::new(4),
+        ..Options::default()
+    };
+    let mut engine = Engine::start(&config(1), &options, START)?;
+    let (mut longest, mut replaced) = (0, 0);
+    for view in 1..=200 {
+        engine.handle(Input::Certificate(finalization(view)), START)?;
+        for output in outputs(&mut engine, START)? {
+            match output {
+                Output::Store(entries) => longest = longest.max(entries.stored.entries.get()),
+                Output::Replace(_) => replaced += 1,
+                _ => {}
+            }
+        }
+    }
+    assert!(longest < 60, "{longest} entries");
+    // Each time half of its views go, so it is seldom written once more.
+    assert!((5..40).contains(&replaced), "{replaced} times");
+    Ok(())
+}
+
+#[test]
 fn a_member_that_contradicts_itself_is_shown_with_both_votes() -> Tested {
     let mut network = Network::start(MEMBERS.try_into()?, 0, 1)?;
     let votes = [1, 2].map(|payload| vote(3, Subject::Notarize(proposal(1, payload))));
