@@ -31,7 +31,7 @@ from lib.preload import compiled
 from refusals import REFUSED
 
 SECONDS = 600
-# A record is made short past 400 entries, once more of its views would go than stay, which a window of ten views and the open term hold.
+# A record is made short past 400 entries, once more of its views would go than stay: a window of ten views and the open term stay.
 MOST_ENTRIES = 1600
 MOST_OPEN = 8
 
