@@ -12,6 +12,7 @@ pub mod Proposals
 pub mod VotedParents
 pub mod OutstandingWork
 pub mod Scanned
+pub mod Requests
 pub mod HeldProposals
 pub mod NotarizeVotesShown
 pub mod NotarizeVotesByWork

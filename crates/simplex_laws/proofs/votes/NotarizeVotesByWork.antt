@@ -5,7 +5,6 @@ use Rattle.std.specs.List.{filter_map}
 use Rattle.std.specs.Option.{option_map_or}
 use Rattle.std.proofs.lemmas.Bool.{false≢true, cases_eq, eqb-true, eq-eqb}
 use Rattle.std.proofs.lemmas.Bool.Decides.{nat_tests}
-use Rattle.simplex_types.specs.Terms.{next_term_start}
 use Rattle.simplex_types.specs.Proposal.{same_proposal}
 use Rattle.simplex_types.proofs.Proposal.{same_proposal-true}
 use Rattle.simplex_types.specs.declared.types.messages.Context.{Context}
@@ -15,19 +14,18 @@ use Rattle.simplex_round.specs.declared.round.Leader.{Leader}
 use Rattle.simplex_round.specs.Slot.{SlotFacts, after_mark, holds_or_empty}
 use Rattle.simplex_round.specs.Round.{RoundFacts, new_round, is_nullify, signs_as, should_verify, should_propose, pending_proposal}
 use Rattle.simplex_voter.specs.Facts.{StateFacts, Elect, round_at, round_of, round_number, is_tracked, with_round, with_tracked}
-use Rattle.simplex_voter.specs.Windows.{min_active, is_term_start, is_admitted}
+use Rattle.simplex_voter.specs.Windows.{min_active, is_admitted}
 use Rattle.simplex_voter.specs.Refusals.{is_started, takes_round}
 use Rattle.simplex_voter.specs.Entering.{at_moment}
 use Rattle.simplex_voter.specs.Leaders.{with_next_view_ready}
-use Rattle.simplex_voter.specs.Parents.{verification_matches, find_parent}
+use Rattle.simplex_voter.specs.Parents.{verification_matches}
 use Rattle.simplex_voter.specs.Rules.{may_notarize}
 use Rattle.simplex_voter.specs.declared.voter.propose.ProposalRequest.{ProposalRequest}
-use Rattle.simplex_voter.specs.declared.voter.propose.ProposalRequest.TheVariants.{Prepare, Propose}
 use Rattle.simplex_voter.specs.declared.voter.verify.Standing.{Standing}
 use Rattle.simplex_voter.specs.declared.voter.verify.Standing.TheVariants.{NothingToDo, Invalid, Lacks, Ready}
 use Rattle.simplex_voter.specs.declared.voter.verify.Verify.{Verify}
 use Rattle.simplex_voter.specs.declared.voter.verify.Verify.TheVariants as verify
-use Rattle.simplex_voter.specs.Proposing.{request_context, request_on, request_in, context_on, propose_answer, proposed_answer, supersede_answer, context_stands, with_build, proposed_round, proposal_of, views_ahead, voted_nullify, parent_certified, after_proposed, after_supersede, after_release}
+use Rattle.simplex_voter.specs.Proposing.{request_context, request_in, propose_answer, proposed_answer, supersede_answer, context_stands, with_build, proposed_round, proposal_of, views_ahead, after_proposed, after_supersede, after_release}
 use Rattle.simplex_voter.specs.Verifying.{standing, parent_standing, is_answered, through, answer_at, answer_in, verify_answer, verifying_round, round_left, was_scanned, scan_left, with_mark, without_binding, takes_proposal, after_set_proposal, after_try_verify, after_verified, after_verification_failed}
 use Rattle.simplex_voter.specs.Timeouts.{with_timeout}
 use Rattle.simplex_voter.specs.Certification.{after_candidates}
@@ -52,8 +50,9 @@ use Rattle.simplex_laws.proofs.votes.Proposals.{Tidy, contrary, opposite, answer
 use Rattle.simplex_laws.proofs.votes.NotarizeVotesShown.{NotesStand, notes_calm}
 use Rattle.simplex_laws.proofs.votes.OutstandingWork.{among_others, now_among, got_others, still_open, now_open, some_still, still_placed, NoMoreContexts}
 use Rattle.simplex_laws.proofs.frames.InOrder.{InOrder}
-use Rattle.simplex_laws.proofs.lists.Filters.{Contains-filtered, filtered_passes}
+use Rattle.simplex_laws.proofs.lists.Filters.{Contains-filtered}
 use Rattle.simplex_laws.proofs.lists.Ordered.{found_in_order}
+use Rattle.simplex_laws.proofs.votes.Requests.{ahead_now, request_parts}
 use Rattle.simplex_laws.proofs.votes.Scanned.{among_through, any_there, first_through, tracked_scanned, round_scanned}
 
 module _ {K L D : Type 0} where
@@ -152,38 +151,6 @@ module _ {K D : Type 0} (r : RoundFacts K D) where
       by_test false other is = absurd (false≢true (ap is_some is))
       by_test true so is = (let parts = other r.leader so in (parts.0, parts.1, parts.2, held_one r.leader r.slot.held is))
 
-module _ {K L D : Type 0} (x : StateFacts K L D) where
-  ahead_now : (e : ℕ × RoundFacts K D) → Contains (views_ahead x) e → x.current ≤ e.0
-  ahead_now e h = let passes = filtered_passes (λ (f : ℕ × RoundFacts K D). nat_le x.current f.0 && nat_le f.0 (next_term_start x.terms.term_length x.current)) x.rounds e h in let first = (and_parts (nat_le x.current e.0) _ passes).0 in grind (arith, nat_tests, first)
-
-  -- what is requested on a parent is for the view
-  request_view : (same : D → D → Bool) (v : ℕ) (r : RoundFacts K D) (parent : ℕ × D) (request : ProposalRequest D K) → request_on same x v r parent ≡ Some request → (request_context request).round.view ≡ v
-  request_view same v r parent request is = by_start (is_term_start x v && not (parent_certified same x parent)) is
-    where
-      led_by : (make : Context D K → ProposalRequest D K) → ((c : Context D K) → request_context (make c) ≡ c) → (o : Option (Leader K)) → option_map (λ l. make (context_on x v parent l)) o ≡ Some request → (request_context request).round.view ≡ v
-      led_by make same_context None is = absurd (false≢true (ap is_some is))
-      led_by make same_context (Some l) is = (let one : make (context_on x v parent l) ≡ request = ap (λ o. unwrap_or o request) is in subst (λ (q : ProposalRequest D K). (request_context q).round.view ≡ v) one (ap (λ (c : Context D K). c.round.view) (same_context (context_on x v parent l))))
-
-      by_voted : (b : Bool) → (if b then None else option_map (λ l. Prepare (context_on x v parent l)) r.leader) ≡ Some request → (request_context request).round.view ≡ v
-      by_voted true is = absurd (false≢true (ap is_some is))
-      by_voted false is = led_by Prepare (λ c. refl) r.leader is
-
-      by_start : (b : Bool) → (if b then (if voted_nullify x x.current then None else option_map (λ l. Prepare (context_on x v parent l)) r.leader) else option_map (λ l. Propose (context_on x v parent l)) r.leader) ≡ Some request → (request_context request).round.view ≡ v
-      by_start true is = by_voted (voted_nullify x x.current) is
-      by_start false is = led_by Propose (λ c. refl) r.leader is
-
-  -- a request is for a view ahead that this member leads
-  request_parts : (same : D → D → Bool) (elect : Elect L) (e : ℕ × RoundFacts K D) (request : ProposalRequest D K) → request_in same elect x e ≡ Some request → (should_propose e.1 ≡ true) × ((request_context request).round.view ≡ e.0)
-  request_parts same elect e request is = by_test (is_admitted x e.0 && should_propose e.1) refl is
-    where
-      on_parent : (o : Option (ℕ × D)) → option_and_then (request_on same x e.0 e.1) o ≡ Some request → (request_context request).round.view ≡ e.0
-      on_parent None is = absurd (false≢true (ap is_some is))
-      on_parent (Some parent) is = request_view same e.0 e.1 parent request is
-
-      by_test : (b : Bool) → (is_admitted x e.0 && should_propose e.1) ≡ b → (if b then option_and_then (request_on same x e.0 e.1) (find_parent same elect x e.0) else None) ≡ Some request → (should_propose e.1 ≡ true) × ((request_context request).round.view ≡ e.0)
-      by_test true so is = ((and_parts (is_admitted x e.0) (should_propose e.1) so).1, on_parent (find_parent same elect x e.0) is)
-      by_test false other is = absurd (false≢true (ap is_some is))
-
 module _ {K L D : Type 0} (same : D → D → Bool) (decides : (d e : D) → same d e ≡ true → d ≡ e) (elect : Elect L) (base low : ℕ) (trace : List (TraceEvent D)) (o : OutstandingWork K D) (x : StateFacts K L D) (notes : NotesStand base low trace o x) where
   -- with nothing more open
 
@@ -254,7 +221,7 @@ module _ {K L D : Type 0} (same : D → D → Bool) (decides : (d e : D) → sam
       let context = request_context r in
       let there : round_of x e.0 ≡ e.1 = round_in_order x e ordered (Contains-filtered _ x.rounds e among) in
       let leads : leads_round (round_of x context.round.view) ≡ true = subst (λ v. leads_round (round_of x v) ≡ true) (sym parts.1) (ap leads_round there ∙ proposer_leads e.1 parts.0) in
-      let over : low ≤ context.round.view = (let ahead = ahead_now x e among in omega (arith, notes.reached, ahead, parts.1)) in
+      let over : low ≤ context.round.view = (let ahead = (ahead_now x e among).0 in omega (arith, notes.reached, ahead, parts.1)) in
       notes_calm base low trace (event.Release context.round.view) (with_context o context) (with_context o context) x (with_build x context.round.view true) (build_calm context.round.view true) (λ u is'. absurd (false≢true is')) (λ v is'. is') (λ v c is'. is') (opened_notes context leads over)
 
   -- an own proposal
@@ -456,7 +423,7 @@ module _ {K L D : Type 0} (same : D → D → Bool) (elect : Elect L) (base low 
 
       given : ScanGivesOut same elect x e.0
       given = record {
-        ahead = ahead_now x e among;
+        ahead = (ahead_now x e among).0;
         scanned = any_there (λ f. e.0 == f.0) (through (λ f. is_answered (standing same elect x f)) (views_ahead x)) e found.1 (eq-eqb e.0 e.0 refl);
         ready = ap (λ r. is_given_out (standing same elect x (e.0, r))) there ∙ ready.0;
       }
