@@ -64,6 +64,12 @@ admitted_on x on is =
 next_monotone : (length v w : ℕ) → v ≤ w → next_term_start length v ≤ next_term_start length w
 next_monotone length v w up = omega (arith, start_monotone length v w up)
 
+-- the first view of the next term does not fall
+pub next_rises : {K L D : Type 0} (x y : StateFacts K L D) → HasRisen x y → next_term_start x.terms.term_length x.current ≤ next_term_start y.terms.term_length y.current
+next_rises x y risen =
+    subst (λ t. next_term_start x.terms.term_length x.current ≤ next_term_start t.term_length y.current) (sym risen.terms)
+    (next_monotone x.terms.term_length x.current y.current risen.views.current)
+
 module _ {S L D K G C : Type 0} (keys_of : S → List K) where
   within_still : (old new : Option (StateFacts K L D)) → WhileAlive HasRisen old new → (held left : Batcher S D K G C) → TakesNone held left
       → IfSome old (λ x. HoldsUpTo (length (keys_of held.scheme)) (next_term_start x.terms.term_length x.current) held)
@@ -73,8 +79,7 @@ module _ {S L D K G C : Type 0} (keys_of : S → List K) where
   within_still (Some x) (Some y) risen held left none within =
       subst (λ scheme. HoldsUpTo (length (keys_of scheme)) (next_term_start y.terms.term_length y.current) left) (sym none.scheme)
       (up_further (length (keys_of held.scheme)) (next_term_start x.terms.term_length x.current) (next_term_start y.terms.term_length y.current)
-      (subst (λ t. next_term_start x.terms.term_length x.current ≤ next_term_start t.term_length y.current) (sym risen.terms)
-      (next_monotone x.terms.term_length x.current y.current risen.views.current)) none within)
+      (next_rises x y risen) none within)
 
   -- where no vote is taken
   pub bounded_still : {same : D → D → Bool} {elect : Elect L} {bytes_of : C → List ℕ} {taken : Option (Subject D)} {a b : Journaled S L D K G C} {c d : Batcher S D K G C}

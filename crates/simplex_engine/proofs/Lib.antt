@@ -1,7 +1,9 @@
 mod Backing
 mod Alone
 mod Bounds
+mod Building
 mod Duties
+mod Requests
 mod Tells
 mod Taking
 mod Beginning

@@ -29,7 +29,7 @@ use Rattle.simplex_engine.specs.Admitting.{admits_votes, is_so, is_input_admitte
 use Rattle.simplex_engine.specs.Backing.{votes_of_input, TakesVotes, IsBacked, IsBackedInput, KeepsVotes}
 use Rattle.simplex_batcher.specs.Batching.{AreGiven, HoldsAllTheSame, HoldsUpTo, held, IsCounted}
 use Rattle.simplex_engine.specs.Bounds.{StaysBounded}
-use Rattle.simplex_plan.specs.Building.{is_asked_in}
+use Rattle.simplex_plan.specs.Blocks.{is_asked_in}
 use Rattle.simplex_engine.specs.Dropping.{IsLeftByInput}
 use Rattle.simplex_outbox.specs.Refusing.{is_refused, says_nothing, IsLeftByCall}
 use Rattle.simplex_engine.specs.Duties.{KeepsDuties}
@@ -155,7 +155,7 @@ module _ {S L D K G C : Type 0} (same : D → D → Bool) (elect : Elect L) (byt
   acted_left (input.Verified view is_valid) old left batcher steps is_of_use acted vain =
       verified_left same elect now is_valid view (facts_of old) left is_of_use acted vain
   acted_left (input.Built context payload) old left batcher steps is_of_use acted vain =
-      block_left same elect now (list_any (is_asked_in same context) old.plan.builds.items) context.round.view payload (facts_of old) left is_of_use acted vain
+      block_left same elect now (list_any (is_asked_in same context) old.plan.builds.buildings.items) context.round.view payload (facts_of old) left is_of_use acted vain
   acted_left (input.Certified view success) old left batcher steps is_of_use acted vain =
       asked_left same elect now (task.Certified view success) (facts_of old) left is_of_use acted vain
   acted_left (input.GivenUp view reason) old left batcher steps is_of_use acted vain =
@@ -163,7 +163,7 @@ module _ {S L D K G C : Type 0} (same : D → D → Bool) (elect : Elect L) (byt
 
   -- one that was turned away
   turned_left : (what : Input S D K G C) (old new : Engine S L D K G C) → IsTurnedAway what old new → IsLeftByInput now what (facts_of old) (facts_of new)
-  turned_left (input.Proposal from proposal) old new turned = ap facts_of turned
+  turned_left (input.Proposal from proposal) old new turned = ap facts_of turned.same
   turned_left (input.Vote vote) old new turned = ap facts_of turned
   turned_left (input.Certificate certificate) old new turned = ap facts_of turned
   turned_left (input.Verified view is_valid) old new turned = ap facts_of turned
@@ -190,7 +190,7 @@ module _ {S L D K G C : Type 0} (same : D → D → Bool) (elect : Elect L) (byt
     unadmitted = unadmitted;
     bounded = bounded;
     acted = acted;
-    duties = on_ok answer duties (λ keeps. record { stays = keeps.stays; works = keeps.works; constants = keeps.constants });
+    duties = on_ok answer duties (λ keeps. record { stays = keeps.stays; works = keeps.works; near = keeps.near; seen = keeps.seen; constants = keeps.constants });
     ignored = not_counted answer duties;
   }
     where
@@ -273,7 +273,7 @@ module _ {S L D K G C : Type 0} (same : D → D → Bool) (elect : Elect L) (byt
       never P Q (Err e) otherwise both = tt
 
   turned_ignored : (what : Input S D K G C) (old new : Engine S L D K G C) → IsTurnedAway what old new → IsTurnedAway what (ignoring old) (ignoring new)
-  turned_ignored (input.Proposal from proposal) old new turned = ap ignoring turned
+  turned_ignored (input.Proposal from proposal) old new turned = record { kept = turned.kept; same = ap ignoring turned.same }
   turned_ignored (input.Vote vote) old new turned = ap ignoring turned
   turned_ignored (input.Certificate certificate) old new turned = ap ignoring turned
   turned_ignored (input.Verified view is_valid) old new turned = ap ignoring turned
@@ -296,6 +296,6 @@ module _ {S L D K G C : Type 0} (same : D → D → Bool) (elect : Elect L) (byt
         unadmitted = λ vain. (refl, turned_ignored what old mid (taken.unadmitted vain).1);
         bounded = taken.bounded;
         acted = taken.acted;
-        duties = record { stays = taken.duties.stays; works = taken.duties.works; constants = taken.duties.constants };
+        duties = record { stays = λ work told. (let is = taken.duties.stays work told in record { verified = is.verified; certified = is.certified; built = is.built }); works = taken.duties.works; near = taken.duties.near; seen = taken.duties.seen; constants = taken.duties.constants };
         ignored = ap one_more taken.ignored;
       })

@@ -1,21 +1,22 @@
 -- For the code of the engine.
 -- What the application is to be told of stays told, step by step.
-use Rattle.std.proofs.Common.{◌≡◌, ◌∙◌, refl, ap, sym, subst, ℕ, Bool, List, [], ◌∷◌, ◌++◌, append_assoc, append-nil, Option, Some, None, Result, Ok, Err, inl, inr, true, false}
+use Rattle.std.proofs.Common.{◌≡◌, ◌==◌, ◌∙◌, refl, ap, sym, subst, ℕ, Bool, List, [], ◌∷◌, ◌++◌, append_assoc, append-nil, Option, Some, None, Result, Ok, Err, inl, inr, true, false}
 use Rattle.std.specs.Prelude.{IsOk, OnOk, IsNone, MatchOption, option_to_list}
-use Rattle.std.proofs.lemmas.Bool.{false≢true}
+use Rattle.std.specs.List.{list_any}
+use Rattle.std.proofs.lemmas.Bool.{false≢true, or_left, or_right}
+use Rattle.simplex_types.specs.declared.types.messages.Subject.{Subject}
 use Rattle.simplex_types.specs.Certificates.{ArtifactFacts, CertificateFacts, Notarized, Nullified, Finalized}
 use Rattle.simplex_voter.specs.Facts.{StateFacts, Elect}
 use Rattle.simplex_record.specs.declared.record.error.RecoverError.{RecoverError}
 use Rattle.simplex_record.specs.Recovery.{recover_error}
 use Rattle.simplex_record.specs.Start.{new_state}
-use Rattle.simplex_member.specs.Calls.{CallFacts, Told}
+use Rattle.simplex_member.specs.Calls.{Told}
 use Rattle.simplex_member.specs.CallSemantics.{outstanding_work_after}
 use Rattle.simplex_member.specs.Lives.{MemberFacts, IsCall, SignedMember, without_life}
 use Rattle.simplex_member.specs.Restarts.{RestartFacts, cut_member, new_life, retention_grows, RecoversByView, IsRestart, IsRestartWhere}
 use Rattle.simplex_member.specs.OutstandingWork.{OutstandingWork, no_outstanding_work}
 use Rattle.simplex_member.specs.declared.member.journal.Stored.{Stored}
 use Rattle.simplex_engine.specs.declared.engine.Engine.{Engine}
-use Rattle.simplex_plan.specs.declared.plan.Options.{Options}
 use Rattle.simplex_plan.specs.declared.plan.Plan.{Plan}
 use Rattle.simplex_plan.specs.declared.plan.Step.{Step}
 use Rattle.simplex_outbox.specs.declared.journaled.Journaled.{Journaled}
@@ -23,12 +24,17 @@ use Rattle.simplex_outbox.specs.declared.output.Output.{Output}
 use Rattle.simplex_outbox.specs.declared.output.Output.TheVariants as output
 use Rattle.simplex_outbox.specs.declared.output.Work.{Work}
 use Rattle.simplex_outbox.specs.Handing.{hands_in}
-use Rattle.simplex_engine.specs.Duties.{work_in, work_ahead, IsToldIn, TellsBehind, KeepsDuties, KeepsTaken, HasToldAll, AllIsGivenOut}
-use Rattle.simplex_plan.specs.PlannedWork.{Constants, AreAmong, constants_of, work_planned, work_of, KeepsPlanned, PlansToo}
+use Rattle.simplex_outbox.specs.Going.{GoesOn}
+use Rattle.simplex_engine.specs.Views.{HasComeTo}
+use Rattle.simplex_engine.specs.Duties.{work_in, work_ahead, IsToldIn, KeepsDuties, KeepsTaken, HasToldAll, AllIsGivenOut}
+use Rattle.simplex_plan.specs.declared.task.Task.{Task}
+use Rattle.simplex_plan.specs.Tasks.{call_of}
+use Rattle.simplex_plan.specs.PlannedWork.{AreAmong, awaits, beside_of, constants_of, is_build_of, views_requested, work_planned, work_of, IsPlanned, KeepsPlanned, KeepsPlannedThen, PlansAnswerThen}
 use Rattle.simplex_outbox.specs.Outboxes.{QueuesMore}
-use Rattle.simplex_engine.proofs.Duties.{among_swapped, told_among, told_as_before, told_by_call, told_none, told_with, work_in-append}
-use Rattle.simplex_plan.proofs.PlannedWork.{ignored_of, among_all, among_both, among_further, among_more, among_still, planned-append}
-use Rattle.simplex_outbox.proofs.Queued.{queues_none}
+use Rattle.simplex_engine.proofs.Building.{come_beside, come_same, near_by_views, near_kept, near_same, risen_same}
+use Rattle.simplex_engine.proofs.Duties.{IsWorkIn, among_behind, among_swapped, block_further, told_among, told_by, told_none, waits_as_before, work_among, work_by_call, work_in-append}
+use Rattle.simplex_engine.proofs.Requests.{near_by_call, open_by_call}
+use Rattle.simplex_plan.proofs.PlannedWork.{among_all, among_both, among_further, among_more, among_still, has_further, keeps_own, plans_same, planned-append}
 
 module _ {S D K G C : Type 0} where
   -- the same work in another order
@@ -43,18 +49,16 @@ module _ {S D K G C : Type 0} where
       among_further (among_both (among_still a) (among_further (among_all (sym (append_assoc c b d))) (among_further (among_both (among_swapped c b) (among_still d)) (among_all (append_assoc b c d)))))
       (among_all (sym (append_assoc a b (c ++ d))))
 
--- as alone as before
-as_alone : {was is : Constants} → is ≡ was → is.is_alone ≡ was.is_alone
-as_alone same = ap (λ (constants : Constants). constants.is_alone) same
-
 module _ {S L D K G C : Type 0} where
   pub tells_still : (a : Engine S L D K G C) → KeepsDuties a a
-  tells_still a = record { stays = λ work told. told; works = among_still (work_ahead a); constants = refl; ignored = refl }
+  tells_still a = record { stays = λ work told. told; works = among_still (work_ahead a); near = λ near. near; seen = λ come. come; constants = refl; ignored = refl }
 
   pub tells_further : {a b c : Engine S L D K G C} → KeepsDuties a b → KeepsDuties b c → KeepsDuties a c
   tells_further first second = record {
     stays = λ work told. second.stays work (first.stays work told);
     works = among_further first.works second.works;
+    near = λ near. second.near (first.near near);
+    seen = λ come. second.seen (first.seen come);
     constants = second.constants ∙ first.constants;
     ignored = second.ignored ∙ first.ignored;
   }
@@ -65,51 +69,97 @@ module _ {S L D K G C : Type 0} where
       among_further (among_more (work_in a.core.outbox.queue.items) (work_in more.more))
       (among_all (sym (ap work_in more.queue_is ∙ work_in-append a.core.outbox.queue.items more.more)))
 
+  -- what is planned is behind all that was told and is queued
+  planned_last : (work : List (Work S D K G C)) (b : Engine S L D K G C) → AreAmong (work_planned b.plan.steps.items) (work ++ work_ahead b)
+  planned_last work b =
+      among_further (among_behind (work_in b.core.outbox.queue.items) (work_planned b.plan.steps.items)) (among_behind work (work_ahead b))
+
   -- the member waits for the same
-  pub tells_same : (a b : Engine S L D K G C) → b.core.member.facts.outstanding_work ≡ a.core.member.facts.outstanding_work → QueuesMore a.core.outbox b.core.outbox
-      → KeepsPlanned a.plan b.plan → KeepsDuties a b
-  tells_same a b same queues plans = record {
-    stays = λ work told. told_with (as_alone plans.constants)
-        (subst (IsToldIn a.plan.is_alone (work ++ work_ahead b)) (sym same) (told_among (among_both (among_still work) (among_both (queued_still a b queues) plans.found)) told));
-    works = among_both (queued_still a b queues) plans.found;
+  pub tells_same : {same : D → D → Bool} {elect : Elect L} {bytes_of : C → List ℕ} {taken : Option (Subject D)} (a b : Engine S L D K G C)
+      → b.core.member.facts.outstanding_work ≡ a.core.member.facts.outstanding_work → GoesOn same elect bytes_of taken a.core b.core
+      → (HasComeTo a.core.member.facts a.plan → HasComeTo b.core.member.facts b.plan) → KeepsPlannedThen a.plan b.plan → KeepsDuties a b
+  tells_same a b waits goes come plans = record {
+    stays = λ work told.
+        subst (IsToldIn (work ++ work_ahead b) (beside_of b.plan)) (sym waits)
+        (told_by (among_both (among_still work) (among_both (queued_still a b goes.queued) plans.found)) (planned_last work b) (λ view left. plans.building view left refl) told);
+    works = among_both (queued_still a b goes.queued) plans.found;
+    near = near_kept a b goes.risen plans.views;
+    seen = come;
     constants = plans.constants;
     ignored = plans.ignored;
   }
 
+  -- besides, its state and the plan are the same
+  pub tells_beside : {same : D → D → Bool} {elect : Elect L} {bytes_of : C → List ℕ} {taken : Option (Subject D)} (a b : Engine S L D K G C)
+      → b.core.member.facts.outstanding_work ≡ a.core.member.facts.outstanding_work → b.core.member.facts.life ≡ a.core.member.facts.life
+      → GoesOn same elect bytes_of taken a.core b.core → b.plan ≡ a.plan → KeepsDuties a b
+  tells_beside a b waits life goes plan =
+      tells_same a b waits goes (come_same a b life (ap (λ (p : Plan S D K G C). p.views) plan)) (keeps_own a.plan b.plan (plans_same a.plan b.plan plan))
+
   -- nothing of the member or of the outbox has changed
   pub tells_planned : (a b : Engine S L D K G C) → b.core ≡ a.core → KeepsPlanned a.plan b.plan → KeepsDuties a b
-  tells_planned a b same plans =
-      tells_same a b (ap (λ (core : Journaled S L D K G C). core.member.facts.outstanding_work) same)
-      (subst (λ (core : Journaled S L D K G C). QueuesMore a.core.outbox core.outbox) (sym same) (queues_none a.core.outbox)) plans
+  tells_planned a b is plans = record {
+    stays = λ work told.
+        subst (λ (core : Journaled S L D K G C). IsToldIn (work ++ (work_in core.outbox.queue.items ++ work_planned b.plan.steps.items)) (beside_of b.plan) core.member.facts.outstanding_work) (sym is)
+        (told_by (among_both (among_still work) (among_both (among_still queue) plans.found))
+        (among_further (among_behind queue (work_planned b.plan.steps.items)) (among_behind work (queue ++ work_planned b.plan.steps.items))) (λ view left. plans.building view left refl) told);
+    works = subst (λ (core : Journaled S L D K G C). AreAmong (work_ahead a) (work_in core.outbox.queue.items ++ work_planned b.plan.steps.items)) (sym is) (among_both (among_still queue) plans.found);
+    near = near_kept a b (risen_same a b (ap (λ (core : Journaled S L D K G C). core.member) is)) plans.views;
+    seen = come_same a b (ap (λ (core : Journaled S L D K G C). core.member.facts.life) is) plans.reached;
+    constants = plans.constants;
+    ignored = plans.ignored;
+  }
+    where
+      queue : List (Work S D K G C)
+      queue = work_in a.core.outbox.queue.items
 
-  -- a call of the member was made, and what it asks of the application is planned
-  pub tells_called : (same : D → D → Bool) (elect : Elect L) (a b : Engine S L D K G C) (asked : CallFacts D) (told : Told K D)
-      → IsCall same elect a.core.member.facts asked told b.core.member.facts → QueuesMore a.core.outbox b.core.outbox → PlansToo (work_of a.plan.is_alone told) a.plan b.plan → KeepsDuties a b
-  tells_called same elect a b asked told called queues plans = record {
+  -- a task was asked of the member, and what its answer asks of the application is planned
+  pub tells_called : {same : D → D → Bool} {elect : Elect L} {bytes_of : C → List ℕ} {taken : Option (Subject D)} (a b : Engine S L D K G C) (asked : Task D) (now : ℕ) (told : Told K D)
+      → IsCall same elect a.core.member.facts (call_of asked now) told b.core.member.facts → GoesOn same elect bytes_of taken a.core b.core → HasComeTo b.core.member.facts b.plan → PlansAnswerThen asked told a.plan b.plan → KeepsDuties a b
+  tells_called {same = same} {elect = elect} a b asked now told called goes come plans = record {
     stays = λ work is.
         let ahead = work_ahead a in
-        let all : IsToldIn a.plan.is_alone ((work ++ ahead) ++ work_of a.plan.is_alone told) b.core.member.facts.outstanding_work =
-        told_by_call {S = S} {L = L} {D = D} {K = K} {G = G} {C = C} same elect a.plan.is_alone (work ++ ahead) a.core.member.facts b.core.member.facts asked told called is in
-        let asks : List (Work S D K G C) = work_of a.plan.is_alone told in
-        told_with (as_alone plans.constants) (told_among (among_further (among_all (append_assoc work ahead asks))
-        (among_both (among_still work) (among_further (among_all (append_assoc (work_in a.core.outbox.queue.items) (work_planned a.plan.steps.items) asks))
-        (among_both (queued_still a b queues) plans.found)))) all);
-    works = among_both (queued_still a b queues) (among_further (among_more (work_planned a.plan.steps.items) (work_of a.plan.is_alone told)) plans.found);
+        let more : List (Work S D K G C) = work_of told in
+        let worked : IsWorkIn ((work ++ ahead) ++ more) b.core.member.facts.outstanding_work =
+        work_by_call same elect (work ++ ahead) a.core.member.facts b.core.member.facts (call_of asked now) told called (is.verified, is.certified) in
+        let among : AreAmong ((work ++ ahead) ++ more) (work ++ work_ahead b) =
+        among_further (among_all (append_assoc work ahead more))
+        (among_both (among_still work) (among_further (among_all (append_assoc (work_in a.core.outbox.queue.items) (work_planned a.plan.steps.items) more))
+        (among_both (queued_still a b goes.queued) plans.found))) in
+        let those = work_among b.core.member.facts.outstanding_work among worked in
+        record {
+          verified = those.0;
+          certified = those.1;
+          built = λ view opens. let opened = open_by_call same elect a.core.member.facts b.core.member.facts asked now told called view opens in elim opened.0 [
+            | inl requested ↦ has_further (beside_of b.plan) (beside_of b.plan) view (planned_last work b) (or_right (list_any (is_build_of view) (work ++ work_ahead b)) (awaits (beside_of b.plan) view))
+                (plans.building view (or_left (list_any (λ v. v == view) (views_requested told)) (awaits (beside_of a.plan) view) requested) opened.1)
+            | inr before ↦ block_further (beside_of a.plan) (beside_of b.plan) view (among_further (among_more (work ++ ahead) more) among) (planned_last work b)
+                (λ waits. plans.building view (or_right (list_any (λ v. v == view) (views_requested told)) (awaits (beside_of a.plan) view) waits) opened.1) (is.built view before)
+          ];
+        };
+    works = among_both (queued_still a b goes.queued) (among_further (among_more (work_planned a.plan.steps.items) (work_of told)) plans.found);
+    near = near_by_views (views_requested told) a.plan.builds.buildings.items b.plan.builds.buildings.items a.core.member.facts.life b.core.member.facts.life goes.risen plans.views
+        (near_by_call same elect a.core.member.facts b.core.member.facts asked now told called);
+    seen = λ before. come;
     constants = plans.constants;
     ignored = plans.ignored;
   }
 
   -- a certificate was handed in
-  pub tells_handed : (same : D → D → Bool) (elect : Elect L) (a b : Engine S L D K G C) (certificate : CertificateFacts D) (now : ℕ) (told : Told K D)
-      → IsCall same elect a.core.member.facts (hands_in certificate now) told b.core.member.facts → QueuesMore a.core.outbox b.core.outbox → KeepsPlanned a.plan b.plan → KeepsDuties a b
-  tells_handed same elect a b certificate now told called queues plans = record {
-    stays = λ work is.
-        told_with (as_alone plans.constants) (told_among (among_both (among_still work) (among_both (queued_still a b queues) plans.found))
-        (told_as_before {S = S} {L = L} {D = D} {K = K} {G = G} {C = C} same elect a.plan.is_alone (work ++ work_ahead a) a.core.member.facts b.core.member.facts (hands_in certificate now) told (plain certificate) called is));
-    works = among_both (queued_still a b queues) plans.found;
-    constants = plans.constants;
-    ignored = plans.ignored;
-  }
+  pub tells_handed : {same : D → D → Bool} {elect : Elect L} {bytes_of : C → List ℕ} {taken : Option (Subject D)} (a b : Engine S L D K G C) (certificate : CertificateFacts D) (now : ℕ) (told : Told K D)
+      → IsCall same elect a.core.member.facts (hands_in certificate now) told b.core.member.facts → GoesOn same elect bytes_of taken a.core b.core → HasComeTo b.core.member.facts b.plan → KeepsPlannedThen a.plan b.plan → KeepsDuties a b
+  tells_handed {same = same} {elect = elect} a b certificate now told called goes come plans =
+      elim (waits_as_before same elect a.core.member.facts b.core.member.facts (hands_in certificate now) told (plain certificate) called) [
+        | inl waits ↦ tells_same a b waits goes (λ before. come) plans
+        | inr none ↦ record {
+          stays = λ work is. subst (IsToldIn (work ++ work_ahead b) (beside_of b.plan)) (sym none) (told_none (work ++ work_ahead b) (beside_of b.plan));
+          works = among_both (queued_still a b goes.queued) plans.found;
+          near = near_kept a b goes.risen plans.views;
+          seen = λ before. come;
+          constants = plans.constants;
+          ignored = plans.ignored;
+        }
+      ]
     where
       plain : (c : CertificateFacts D) (x : StateFacts K L D) (o : OutstandingWork K D) → outstanding_work_after same elect x o (hands_in c now) ≡ o
       plain (Notarized _) x o = refl
@@ -123,33 +173,24 @@ module _ {S L D K G C : Type 0} where
       subst (λ facts. IsCall same elect m (hands_in facts now) told core.member.facts) is_copy
       (subst (λ (it : Journaled S L D K G C). IsCall same elect m (hands_in copy now) told it.member.facts) (sym stays) called)
 
-  -- no output of a call and what follows it is lost
-  pub queued_on : (a b c : Journaled S L D K G C) → b.outbox ≡ a.outbox → c ≡ b → QueuesMore a.outbox c.outbox
-  queued_on a b c first second = subst (QueuesMore a.outbox) (sym (ap (λ (core : Journaled S L D K G C). core.outbox) second ∙ first)) (queues_none a.outbox)
-
-  pub queued_then : (a b c : Journaled S L D K G C) → QueuesMore a.outbox b.outbox → c ≡ b → QueuesMore a.outbox c.outbox
-  queued_then a b c first second = subst (λ (core : Journaled S L D K G C). QueuesMore a.outbox core.outbox) (sym second) first
-
   -- a step that queues no work
   pub tells_other : (a b : Engine S L D K G C) (step this : Step S D K G C) → step ≡ this → work_planned (this ∷ []) ≡ [] → KeepsDuties a b → KeepsTaken (work_planned (step ∷ [])) a b
-  tells_other a b step this is none keeps = record {
-    stays = λ work told.
-        keeps.stays work (subst (λ behind. TellsBehind behind a) (append-nil work) (subst (λ more. TellsBehind (work ++ more) a) (ap (λ s. work_planned (s ∷ [])) is ∙ none) told));
-    works = subst (λ taken. AreAmong (taken ++ work_ahead a) (work_ahead b)) (sym (ap (λ s. work_planned (s ∷ [])) is ∙ none)) keeps.works;
-    constants = keeps.constants;
-    ignored = keeps.ignored;
-  }
+  tells_other a b step this is none keeps = subst (λ taken. KeepsTaken taken a b) (sym (ap (λ s. work_planned (s ∷ [])) is ∙ none)) keeps
 
   -- work is queued
   pub tells_pushed : (a b : Engine S L D K G C) (it : Work S D K G C) → b.core.member ≡ a.core.member → b.plan ≡ a.plan
       → b.core.outbox.queue.items ≡ a.core.outbox.queue.items ++ output.Work it ∷ [] → KeepsTaken (it ∷ []) a b
   tells_pushed a b it same_member same_plan queued = record {
     stays = λ work told.
-        told_with (as_alone (ap constants_of same_plan)) (subst (λ (m : SignedMember K L D G). IsToldIn a.plan.is_alone (work ++ work_ahead b) m.facts.outstanding_work) (sym same_member)
-        (told_among (among_further (among_moved work (it ∷ []) queue planned) (among_all (ap (λ ahead. work ++ ahead) (sym now)))) told));
+        subst (λ (m : SignedMember K L D G). IsToldIn (work ++ work_ahead b) (beside_of b.plan) m.facts.outstanding_work) (sym same_member)
+        (subst (λ (plan : Plan S D K G C). IsToldIn (work ++ work_ahead b) (beside_of plan) a.core.member.facts.outstanding_work) (sym same_plan)
+        (told_among (among_further (among_both (among_swapped (it ∷ []) work) (among_still (queue ++ planned)))
+        (among_further (among_moved work (it ∷ []) queue planned) (among_all (ap (λ ahead. work ++ ahead) (sym now))))) told));
     works = among_further (among_moved [] (it ∷ []) queue planned) (among_all (sym now));
+    near = near_same a b same_member same_plan;
+    seen = come_beside a b same_member same_plan;
     constants = ap constants_of same_plan;
-    ignored = ap ignored_of same_plan;
+    ignored = ap (λ (plan : Plan S D K G C). plan.ignored) same_plan;
   }
     where
       queue : List (Work S D K G C)
@@ -165,18 +206,25 @@ module _ {S L D K G C : Type 0} where
 
   -- the step in front is taken
   pub tells_taken : {X E : Type 0} (r : Result X E) (step : Step S D K G C) (a mid b : Engine S L D K G C) → mid.core ≡ a.core
-      → AreAmong (work_planned a.plan.steps.items) (work_planned (step ∷ mid.plan.steps.items)) → constants_of mid.plan ≡ constants_of a.plan → mid.plan.ignored ≡ a.plan.ignored
+      → IsPlanned [] (λ view. false) (work_planned a.plan.steps.items) (beside_of a.plan) (work_planned (step ∷ mid.plan.steps.items)) (beside_of mid.plan)
       → OnOk r (KeepsTaken (work_planned (step ∷ [])) mid b) → OnOk r (KeepsDuties a b)
-  tells_taken (Err e) step a mid b same front constants ignored takes = tt
-  tells_taken (Ok x) step a mid b same front constants ignored takes = record {
+  tells_taken (Err e) step a mid b same plans takes = tt
+  tells_taken (Ok x) step a mid b same plans takes = record {
     stays = λ work told.
-        takes.stays work (told_with (as_alone constants)
-        (subst (λ (core : Journaled S L D K G C). IsToldIn a.plan.is_alone ((work ++ taken) ++ (work_in core.outbox.queue.items ++ left)) core.member.facts.outstanding_work) (sym same)
-        (told_among (among_further (among_both (among_still work) (among_both (among_still queue) split)) (among_back work taken queue left)) told)));
+        takes.stays work
+        (subst (λ (core : Journaled S L D K G C). IsToldIn ((taken ++ work) ++ (work_in core.outbox.queue.items ++ left)) (beside_of mid.plan) core.member.facts.outstanding_work) (sym same)
+        (told_by (among_further (among_further (among_both (among_still work) (among_both (among_still queue) split)) (among_back work taken queue left))
+        (among_both (among_swapped work taken) (among_still (queue ++ left))))
+        (among_further (among_all front) (among_both (among_more taken work) (among_behind queue left)))
+        (λ view waits. plans.building view waits refl) told));
     works = among_further (subst (λ (core : Journaled S L D K G C). AreAmong (work_ahead a) (taken ++ (work_in core.outbox.queue.items ++ left))) (sym same)
         (among_further (among_both (among_still queue) split) (among_back [] taken queue left))) takes.works;
-    constants = takes.constants ∙ constants;
-    ignored = takes.ignored ∙ ignored;
+    near = λ near.
+        takes.near (near_by_views [] a.plan.builds.buildings.items mid.plan.builds.buildings.items a.core.member.facts.life mid.core.member.facts.life
+        (risen_same a mid (ap (λ (core : Journaled S L D K G C). core.member) same)) plans.views (λ x is w up. refl) near);
+    seen = λ come. takes.seen (come_same a mid (ap (λ (core : Journaled S L D K G C). core.member.facts.life) same) plans.reached come);
+    constants = takes.constants ∙ plans.constants;
+    ignored = takes.ignored ∙ plans.ignored;
   }
     where
       queue : List (Work S D K G C)
@@ -188,8 +236,11 @@ module _ {S L D K G C : Type 0} where
       left : List (Work S D K G C)
       left = work_planned mid.plan.steps.items
 
+      front : work_planned (step ∷ mid.plan.steps.items) ≡ taken ++ left
+      front = planned-append (step ∷ []) mid.plan.steps.items
+
       split : AreAmong (work_planned a.plan.steps.items) (taken ++ left)
-      split = among_further front (among_all (planned-append (step ∷ []) mid.plan.steps.items))
+      split = among_further plans.found (among_all front)
 
   -- what is given out
   pub tells_given : (a b : Engine S L D K G C) (out : List (Output S D Stored K G C)) → b.core.member ≡ a.core.member → b.plan ≡ a.plan
@@ -203,9 +254,9 @@ module _ {S L D K G C : Type 0} where
       ∙ append_assoc (work_in given) (work_in out) (left ++ planned)
       ∙ ap (λ items. work_in given ++ items) (sym (append_assoc (work_in out) left planned))
       ∙ ap (λ items. work_in given ++ (items ++ planned)) (sym (ap work_in front ∙ work_in-append out b.core.outbox.queue.items)) in
-      told_with (as_alone (ap constants_of same_plan))
-      (subst (λ (m : SignedMember K L D G). IsToldIn a.plan.is_alone (work_in (given ++ out) ++ work_ahead b) m.facts.outstanding_work) (sym same_member)
-      (subst (λ items. IsToldIn a.plan.is_alone items a.core.member.facts.outstanding_work) (sym now) told))
+      subst (λ (plan : Plan S D K G C). IsToldIn (work_in (given ++ out) ++ work_ahead b) (beside_of plan) b.core.member.facts.outstanding_work) (sym same_plan)
+      (subst (λ (m : SignedMember K L D G). IsToldIn (work_in (given ++ out) ++ work_ahead b) (beside_of a.plan) m.facts.outstanding_work) (sym same_member)
+      (subst (λ items. IsToldIn items (beside_of a.plan) a.core.member.facts.outstanding_work) (sym now) told))
 
   -- and the work in it is no longer ahead
   pub works_given : (a b : Engine S L D K G C) (out : List (Output S D Stored K G C)) → b.plan ≡ a.plan → a.core.outbox.queue.items ≡ out ++ b.core.outbox.queue.items
@@ -225,8 +276,8 @@ module _ {S L D K G C : Type 0} where
   -- where nothing is queued and nothing planned, all was
   pub all_given : (a : Engine S L D K G C) → a.core.outbox.queue.items ≡ [] → a.plan.steps.items ≡ [] → (given : List (Output S D Stored K G C)) → HasToldAll given a → AllIsGivenOut given a
   all_given a queue steps given told =
-      subst (λ items. IsToldIn a.plan.is_alone items a.core.member.facts.outstanding_work) (append-nil (work_in given))
-      (subst (λ ahead. IsToldIn a.plan.is_alone (work_in given ++ ahead) a.core.member.facts.outstanding_work) (ap (λ items. work_in items ++ work_planned a.plan.steps.items) queue ∙ ap work_planned steps) told)
+      subst (λ items. IsToldIn items (beside_of a.plan) a.core.member.facts.outstanding_work) (append-nil (work_in given))
+      (subst (λ ahead. IsToldIn (work_in given ++ ahead) (beside_of a.plan) a.core.member.facts.outstanding_work) (ap (λ items. work_in items ++ work_planned a.plan.steps.items) queue ∙ ap work_planned steps) told)
 
   pub all_left : (a b : Engine S L D K G C) (out : Option (Output S D Stored K G C)) → IsNone out → b.core.member ≡ a.core.member → b.core.outbox.queue.items ≡ [] → b.plan.steps.items ≡ []
       → b.plan ≡ a.plan → a.core.outbox.queue.items ≡ option_to_list out ++ b.core.outbox.queue.items → (given : List (Output S D Stored K G C)) → HasToldAll given a → AllIsGivenOut given b
@@ -236,7 +287,7 @@ module _ {S L D K G C : Type 0} where
 
   -- a member that waits for nothing
   pub tells_none : (a : Engine S L D K G C) → a.core.member.facts.outstanding_work ≡ no_outstanding_work → HasToldAll [] a
-  tells_none a none = subst (IsToldIn a.plan.is_alone (work_ahead a)) (sym none) (told_none a.plan.is_alone (work_ahead a))
+  tells_none a none = subst (IsToldIn (work_ahead a) (beside_of a.plan)) (sym none) (told_none (work_ahead a) (beside_of a.plan))
 
 pub restart_waits : {K L D : Type 0} (same : D → D → Bool) (elect : Elect L) (m : MemberFacts K L D) (r : RestartFacts K L D) (result : Result (Unit {0}) RecoverError) (left : MemberFacts K L D)
     → result ≡ Ok tt → IsRestart same elect m r result left → left.outstanding_work ≡ no_outstanding_work

@@ -21,7 +21,7 @@ use Rattle.simplex_outbox.specs.declared.output.Work.TheVariants as work
 use Rattle.simplex_batcher.specs.declared.votes.Vote.{Vote}
 use Rattle.simplex_engine.specs.Admitting.{admits, is_so}
 use Rattle.simplex_batcher.specs.Batching.{IsCounted}
-use Rattle.simplex_plan.specs.Building.{is_asked_in}
+use Rattle.simplex_plan.specs.Blocks.{is_asked_in}
 use Rattle.simplex_outbox.specs.Handing.{hands_in}
 use Rattle.simplex_outbox.specs.Refusing.{is_refused, says_nothing}
 use Rattle.simplex_plan.specs.Tasks.{call_of}
@@ -82,6 +82,6 @@ module _ {S L D K G C : Type 0} (same : D → D → Bool) (elect : Elect L) (byt
   IsActedOn (input.Certificate certificate) old left held steps = IsHandedIn same elect bytes_of now certificate old.core.member.facts left
   IsActedOn (input.Verified view is_valid) old left held steps = HasDoneTask same elect (verification_of is_valid view) now old.core.member.facts left
   IsActedOn (input.Built context payload) old left held steps =
-      IsBlockTaken same elect (list_any (is_asked_in same context) old.plan.builds.items) context.round.view payload now old.core.member.facts left
+      IsBlockTaken same elect (list_any (is_asked_in same context) old.plan.builds.buildings.items) context.round.view payload now old.core.member.facts left
   IsActedOn (input.Certified view success) old left held steps = HasDoneTask same elect (task.Certified view success) now old.core.member.facts left
   IsActedOn (input.GivenUp view reason) old left held steps = HasDoneTask same elect (task.GiveUp view reason) now old.core.member.facts left

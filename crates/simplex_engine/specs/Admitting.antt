@@ -1,7 +1,8 @@
 -- Which inputs an engine admits, by what its member's state knows.
-use Rattle.std.specs.Prelude.{◌≡◌, ◌+◌, ◌-◌, ◌^◌, ℕ, List, min, Bool, true, false, not, ◌&&◌, ◌==◌, is_none}
+use Rattle.std.specs.Prelude.{◌≡◌, ◌+◌, ◌-◌, ◌^◌, ℕ, List, [], ◌∷◌, ◌++◌, length, min, Bool, true, false, not, ◌&&◌, ◌==◌, is_none, if◌then◌else◌}
 use Rattle.std.specs.Option.{option_map_or}
 use Rattle.simplex_types.specs.Certificates.{CertificateFacts, Notarized, Nullified, Finalized, certificate_facts}
+use Rattle.simplex_types.specs.declared.types.messages.Proposal.{Proposal}
 use Rattle.simplex_types.specs.declared.types.numbers.Round.{Round}
 use Rattle.simplex_voter.specs.Facts.{StateFacts}
 use Rattle.simplex_voter.specs.Refusals.{is_started, takes_round}
@@ -12,15 +13,20 @@ use Rattle.simplex_engine.specs.declared.engine.Engine.{Engine}
 use Rattle.simplex_engine.specs.declared.input.Input.{Input}
 use Rattle.simplex_engine.specs.declared.input.Input.TheVariants as input
 use Rattle.simplex_batcher.specs.Subjects.{subject_round}
+use Rattle.simplex_plan.specs.Planning.{may_keep}
 
 -- a number that stops at 2^64 - 1, and one more
 abbrev pub one_more : ℕ → ℕ
 one_more count = min (count + 1) (2 ^ 64 - 1)
 
 module _ {K L D : Type 0} where
+  -- the round is of this epoch
+  abbrev pub is_of_epoch : StateFacts K L D → Round → Bool
+  is_of_epoch x round = round.epoch == x.settings.epoch
+
   -- votes of the round: of this epoch, and of a view that takes votes
   abbrev pub admits_votes : StateFacts K L D → Round → Bool
-  admits_votes x round = round.epoch == x.settings.epoch && (is_started x && admits_vote x round.view)
+  admits_votes x round = is_of_epoch x round && (is_started x && admits_vote x round.view)
 
   -- a proposal of the round by this member: it leads the view, votes of the round are admitted, and it is not the engine's own
   abbrev pub admits_proposal : StateFacts K L D → ℕ → Round → Bool
@@ -49,7 +55,20 @@ module _ {S L D K G C : Type 0} where
   abbrev pub ignoring : Engine S L D K G C → Engine S L D K G C
   ignoring engine = record engine { plan = record (engine.plan) { ignored = one_more engine.plan.ignored } }
 
-  -- an input that is not admitted changes nothing; but a proposal may be kept that comes early
+  -- a proposal that is not admitted is kept where it is of this epoch, and of one of the eight views after the current one, while fewer
+  -- than eight are kept
+  abbrev pub keeps_early : Engine S L D K G C → Proposal D → Bool
+  keeps_early engine proposal =
+      is_so (λ x. is_of_epoch x proposal.round) engine.core.member.facts
+      && may_keep engine.plan.views.current proposal.round.view (length engine.plan.early.proposals.items)
+
+  -- so it is kept behind the others, or none is; and nothing else changes
+  pub record IsKeptEarly (from : ℕ) (proposal : Proposal D) (old new : Engine S L D K G C) : Type 0 where
+    pub kept : let early = old.plan.early.proposals.items in new.plan.early.proposals.items
+        ≡ (if keeps_early old proposal then early ++ record { from = from; view = proposal.round.view; proposal = proposal } ∷ [] else early)
+    pub same : new ≡ record old { plan = record (old.plan) { early = new.plan.early } }
+
+  -- an input that is not admitted changes nothing; but a proposal that comes early is kept
   abbrev pub IsTurnedAway : Input S D K G C → Engine S L D K G C → Engine S L D K G C → Type 0
-  IsTurnedAway (input.Proposal _ _) old new = new ≡ record old { plan = record (old.plan) { early = new.plan.early } }
+  IsTurnedAway (input.Proposal from proposal) old new = IsKeptEarly from proposal old new
   IsTurnedAway _ old new = new ≡ old

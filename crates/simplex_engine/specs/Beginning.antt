@@ -1,12 +1,11 @@
 -- What an engine begins with, and why none begins.
-use Rattle.std.specs.Prelude.{◌≡◌, ◌⊎◌, ℕ, ◌-◌, ◌^◌, ◌==◌, min, max, Bool, true, false, List, [], ◌∷◌, length, reverse, Option, IfSome}
+use Rattle.std.specs.Prelude.{◌≡◌, ◌⊎◌, ℕ, ◌-◌, ◌^◌, ◌==◌, min, max, Bool, true, false, List, [], ◌∷◌, length, reverse, Option}
 use Rattle.simplex_types.specs.Certificates.{ArtifactFacts}
 use Rattle.simplex_resolver.specs.RecordCalls.{calls_of}
 use Rattle.simplex_resolver.specs.RecordRules.{record_error}
 use Rattle.simplex_resolver.specs.ReplayErrors.{IsDue}
 use Rattle.simplex_resolver.specs.Steps.{Replayed}
 use Rattle.simplex_resolver.specs.Told.{HasBeenTold}
-use Rattle.simplex_voter.specs.Facts.{StateFacts}
 use Rattle.simplex_record.specs.Start.{IsErrorDue}
 use Rattle.simplex_record.specs.declared.record.error.RecoverError.{RecoverError}
 use Rattle.simplex_record.specs.declared.record.error.RecoverError.TheVariants.{OutOfMemory}
@@ -21,6 +20,7 @@ use Rattle.simplex_fetches.specs.Wanted.{wanting}
 use Rattle.simplex_plan.specs.declared.plan.Options.{Options}
 use Rattle.simplex_plan.specs.declared.plan.Plan.{Plan}
 use Rattle.simplex_engine.specs.declared.engine.Engine.{Engine}
+use Rattle.simplex_engine.specs.Views.{HasComeTo}
 use Rattle.simplex_engine.specs.declared.engine.begin.Company.{Company}
 use Rattle.simplex_engine.specs.declared.engine.begin.StartError.{StartError}
 use Rattle.simplex_engine.specs.declared.engine.begin.StartError.TheVariants.{Resume, Replay}
@@ -50,9 +50,9 @@ pub record IsPlanOf {S L D K G C : Type 0} (bytes : D → List ℕ) (term_length
     (member : MemberFacts K L D) (plan : Plan S D K G C) : Type 0 where
   pub options_now : plan.options ≡ options
   pub alone : plan.is_alone ≡ is_alone
-  pub views : IfSome member.life (λ (x : StateFacts K L D). (plan.views.current ≡ x.current) × (plan.views.last_finalized ≡ x.finalized))
+  pub views : HasComeTo member plan
   pub repair : IsRepairOf bytes term_length member.entries peers options.retry plan.repair
-  pub nothing : (plan.steps.items ≡ []) × (plan.builds.items ≡ []) × (plan.early.proposals.items ≡ []) × (plan.ignored ≡ 0)
+  pub nothing : (plan.steps.items ≡ []) × (plan.builds.buildings.items ≡ []) × (plan.early.proposals.items ≡ []) × (plan.ignored ≡ 0)
   pub due : (plan.is_watch_due ≡ true) × (plan.is_timeout_due ≡ true) × (plan.is_prune_due ≡ true) × (plan.timeout ≡ 0)
 
 -- what an engine has beside its member, by the members' keys

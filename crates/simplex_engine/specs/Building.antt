@@ -1,9 +1,16 @@
 -- Which blocks are to be built.
-use Rattle.std.specs.Prelude.{◌≡◌, true, IfSome}
+use Rattle.std.specs.Prelude.{◌≡◌, true, false, IfSome}
+use Rattle.simplex_types.specs.Terms.{next_term_start}
 use Rattle.simplex_outbox.specs.declared.journaled.Journaled.{Journaled}
 use Rattle.simplex_plan.specs.declared.plan.Plan.{Plan}
-use Rattle.simplex_plan.specs.Building.{builds_from}
+use Rattle.simplex_plan.specs.Blocks.{builds_above, builds_from}
 
--- none of a view below the member's current one
-abbrev pub BuildsAhead : {S L D K G C : Type 0} → Journaled S L D K G C → Plan S D K G C → Type 0
-BuildsAhead core plan = IfSome core.member.facts.life (λ x. builds_from x.current plan.builds.items ≡ true)
+module _ {S L D K G C : Type 0} where
+  -- each is of a view above the member's current one, or of that one and the application was asked for it
+  abbrev pub BuildsAhead : Journaled S L D K G C → Plan S D K G C → Type 0
+  BuildsAhead core plan = IfSome core.member.facts.life (λ x. builds_from x.current plan.builds.buildings.items ≡ true)
+
+  -- none is of a view above the first one of the next term
+  abbrev pub BuildsNear : Journaled S L D K G C → Plan S D K G C → Type 0
+  BuildsNear core plan =
+      IfSome core.member.facts.life (λ x. builds_above (next_term_start x.terms.term_length x.current) plan.builds.buildings.items ≡ false)

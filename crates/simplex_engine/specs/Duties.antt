@@ -5,11 +5,13 @@ use Rattle.std.specs.List.{list_any}
 use Rattle.simplex_member.specs.declared.member.journal.Stored.{Stored}
 use Rattle.simplex_member.specs.OutstandingWork.{OutstandingWork, context_at, is_verifying, is_offered}
 use Rattle.simplex_engine.specs.declared.engine.Engine.{Engine}
-use Rattle.simplex_plan.specs.PlannedWork.{AreAmong, constants_of, work_planned}
+use Rattle.simplex_plan.specs.PlannedWork.{AreAmong, Beside, beside_of, constants_of, has_block, work_planned}
+use Rattle.simplex_engine.specs.Building.{BuildsNear}
+use Rattle.simplex_engine.specs.Views.{HasComeTo}
 use Rattle.simplex_outbox.specs.declared.output.Output.{Output}
 use Rattle.simplex_outbox.specs.declared.output.Output.TheVariants as output
 use Rattle.simplex_outbox.specs.declared.output.Work.{Work}
-use Rattle.simplex_outbox.specs.declared.output.Work.TheVariants.{Verify, Certify, Build}
+use Rattle.simplex_outbox.specs.declared.output.Work.TheVariants.{Verify, Certify}
 
 module _ {S D K G C : Type 0} where
   -- the application is to verify the view's proposal
@@ -22,23 +24,18 @@ module _ {S D K G C : Type 0} where
   is_certify_of view (Certify proposal) = proposal.round.view == view
   is_certify_of view _ = false
 
-  -- the application is to build a block in the view
-  abbrev pub is_build_of : ℕ → Work S D K G C → Bool
-  is_build_of view (Build context) = context.round.view == view
-  is_build_of view _ = false
-
   -- the work among outputs, in order
   abbrev pub work_in : {J : Type 0} → List (Output S D J K G C) → List (Work S D K G C)
   work_in [] = []
   work_in (output.Work work ∷ rest) = work ∷ work_in rest
   work_in (_ ∷ rest) = work_in rest
 
-  -- among this work is each proposal that is being verified; each that was offered for certification and has no verdict; and, of a
-  -- member that is not alone, the block of each view whose request to build is open
-  pub record IsToldIn (is_alone : Bool) (work : List (Work S D K G C)) (waiting : OutstandingWork K D) : Type 0 where
+  -- among this work is each proposal that is being verified; each that was offered for certification and has no verdict; and the block
+  -- of each view whose request to build is open, but where a member alone waits until it enters the view
+  pub record IsToldIn (work : List (Work S D K G C)) (beside : Beside K D) (waiting : OutstandingWork K D) : Type 0 where
     pub verified : (view : ℕ) → is_verifying waiting view ≡ true → list_any (is_verify_of view) work ≡ true
     pub certified : (view : ℕ) → is_offered waiting view ≡ true → list_any (is_certify_of view) work ≡ true
-    pub built : is_alone ≡ false → (view : ℕ) → is_some (context_at waiting view) ≡ true → list_any (is_build_of view) work ≡ true
+    pub built : (view : ℕ) → is_some (context_at waiting view) ≡ true → has_block work beside view ≡ true
 
 module _ {S L D K G C : Type 0} where
   -- the work that is queued to be given out, and behind it what is planned
@@ -47,27 +44,29 @@ module _ {S L D K G C : Type 0} where
 
   -- where this work was given out, each proposal and block that the application is to be told of was, is queued to be, or is planned
   abbrev pub TellsBehind : List (Work S D K G C) → Engine S L D K G C → Type 0
-  TellsBehind work engine = IsToldIn engine.plan.is_alone (work ++ work_ahead engine) engine.core.member.facts.outstanding_work
+  TellsBehind work engine = IsToldIn (work ++ work_ahead engine) (beside_of engine.plan) engine.core.member.facts.outstanding_work
 
-  -- behind whatever work, so it stays; no work that is ahead is lost; and the options stay, and whether there are other members
+  -- behind whatever work, so it stays; no work that is ahead is lost; no block comes to be built above the first view of the next term;
+  -- its views stay the member's; and the options stay, and whether there are other members
   pub record KeepsTelling (old new : Engine S L D K G C) : Type 0 where
     pub stays : (work : List (Work S D K G C)) → TellsBehind work old → TellsBehind work new
     pub works : AreAmong (work_ahead old) (work_ahead new)
+    pub near : BuildsNear old.core old.plan → BuildsNear new.core new.plan
+    pub seen : HasComeTo old.core.member.facts old.plan → HasComeTo new.core.member.facts new.plan
     pub constants : constants_of new.plan ≡ constants_of old.plan
 
-  -- so it does, and no input is counted as of no use
-  pub record KeepsDuties (old new : Engine S L D K G C) : Type 0 where
-    pub stays : (work : List (Work S D K G C)) → TellsBehind work old → TellsBehind work new
-    pub works : AreAmong (work_ahead old) (work_ahead new)
-    pub constants : constants_of new.plan ≡ constants_of old.plan
-    pub ignored : new.plan.ignored ≡ old.plan.ignored
-
-  -- so it does where this work was taken from what was planned
+  -- so it does where this work was taken from what was planned, and no input is counted as of no use
   pub record KeepsTaken (taken : List (Work S D K G C)) (old new : Engine S L D K G C) : Type 0 where
-    pub stays : (work : List (Work S D K G C)) → TellsBehind (work ++ taken) old → TellsBehind work new
+    pub stays : (work : List (Work S D K G C)) → TellsBehind (taken ++ work) old → TellsBehind work new
     pub works : AreAmong (taken ++ work_ahead old) (work_ahead new)
+    pub near : BuildsNear old.core old.plan → BuildsNear new.core new.plan
+    pub seen : HasComeTo old.core.member.facts old.plan → HasComeTo new.core.member.facts new.plan
     pub constants : constants_of new.plan ≡ constants_of old.plan
     pub ignored : new.plan.ignored ≡ old.plan.ignored
+
+  -- where none was taken
+  abbrev pub KeepsDuties : Engine S L D K G C → Engine S L D K G C → Type 0
+  KeepsDuties old new = KeepsTaken [] old new
 
   -- where these outputs were given out
   abbrev pub HasToldAll : List (Output S D Stored K G C) → Engine S L D K G C → Type 0
@@ -75,4 +74,4 @@ module _ {S L D K G C : Type 0} where
 
   -- each of them is among these outputs
   abbrev pub AllIsGivenOut : List (Output S D Stored K G C) → Engine S L D K G C → Type 0
-  AllIsGivenOut given engine = IsToldIn engine.plan.is_alone (work_in given) engine.core.member.facts.outstanding_work
+  AllIsGivenOut given engine = IsToldIn (work_in given) (beside_of engine.plan) engine.core.member.facts.outstanding_work

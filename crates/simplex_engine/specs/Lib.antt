@@ -1,4 +1,6 @@
 pub mod Inputs
+pub mod Views
+pub mod Building
 pub mod Quiet
 pub mod Lacking
 pub mod Settled
@@ -12,4 +14,3 @@ pub mod Duties
 pub mod Taking
 pub mod Beginning
 pub mod Failing
-pub mod Building

@@ -1,5 +1,5 @@
 -- That a member has nothing new.
-use Rattle.std.specs.Prelude.{◌≡◌, ◌≤◌, ℕ, Bool, true, false, List, [], ◌∷◌, Option, Some, None}
+use Rattle.std.specs.Prelude.{◌≡◌, ◌≤◌, ℕ, Bool, true, false, List, [], ◌∷◌, Some, None}
 use Rattle.simplex_voter.specs.Facts.{StateFacts, Elect}
 use Rattle.simplex_voter.specs.Due.{is_due}
 use Rattle.simplex_voter.specs.declared.voter.verify.Verify.TheVariants.{Wait, Resolve}

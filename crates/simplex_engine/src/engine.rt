@@ -63,8 +63,9 @@ impl<S: Assembly<D>, L: Elector<S>, D: Digest> Engine<S, L, D> {
     ghost use Rattle.simplex_engine.specs.Alone.{ForgetsNoOther};
     ghost use Rattle.simplex_engine.specs.Backing.{votes_of_input, KeepsVotes, TakesVotes, TakesNone, IsBackedInput};
     ghost use Rattle.simplex_engine.specs.Bounds.{HoldsFromKept, HoldsNoneAhead, StaysBounded, HoldsAdmitted};
-    ghost use Rattle.simplex_engine.specs.Building.{BuildsAhead};
+    ghost use Rattle.simplex_engine.specs.Building.{BuildsAhead, BuildsNear};
     ghost use Rattle.simplex_engine.specs.Lacking.{AsksForItsLacking};
+    ghost use Rattle.simplex_engine.specs.Views.{HasComeTo};
     ghost use Rattle.simplex_engine.specs.Dropping.{IsDropped};
     ghost use Rattle.simplex_engine.specs.Admitting.{is_input_admitted, one_more, IsTurnedAway, ignoring};
     ghost use Rattle.simplex_engine.specs.Acting.{IsActedOn};
@@ -84,13 +85,16 @@ impl<S: Assembly<D>, L: Elector<S>, D: Digest> Engine<S, L, D> {
     /// - `dropped`: what was of no use changed nothing of the member, and no vote was taken; a reason to give a view up or a
     ///   verdict leaves its moment all the same, and after the verdict none is waited for.
     /// - `unadmitted`: a proposal, a vote or a certificate that is not admitted is of no use, and changes nothing but how many
-    ///   inputs were; a proposal that comes early may be kept.
+    ///   inputs were; a proposal of this epoch is kept whose view is one of the eight after the current one, while fewer than eight
+    ///   are.
     /// - `acted`: one that is admitted is acted on: the member is asked what it stands for, or the vote is counted, and what follows
     ///   from that is of use exactly where the answer has anything.
     /// - `duties`: what the application is to be told of stays told: each proposal that is being verified, each that was offered for
-    ///   certification and has no verdict, and, where there are other members, the block of each view whose request to build is open,
-    ///   was given out, is queued to be, or is planned. No work that is queued or planned is lost. The options stay, whether there
-    ///   are other members, and whom fetches are asked of and after how long again.
+    ///   certification and has no verdict, and the block of each view whose request to build is open, was given out, is queued to
+    ///   be, or is planned, but a block that a member alone builds once it enters the view. No work that is queued or planned is
+    ///   lost. Where no block is to be built above the first view of the next term, none comes to be; where the views that it has
+    ///   come to are the member's, they stay so. The options stay, whether there are other members, and whom fetches are asked of
+    ///   and after how long again.
     /// - `ignored`: what is of no use is counted, and nothing else.
     /// - `bounded`: where each vote that is held was a member's, and of no view above those whose votes are taken, each still is.
     /// - `failed`, `error`, `refused`: after an error, which is `OutOfMemory` or `Failed`, it has failed; one that has failed answers
@@ -144,11 +148,14 @@ impl<S: Assembly<D>, L: Elector<S>, D: Digest> Engine<S, L, D> {
     ///   member has cast each vote that its rule allows, and has handed out each certificate; and it was asked last for work of the
     ///   application, and had none.
     /// - `duties`: as of `handle`, with what is answered given out.
-    /// - `waiting`: so where nothing is answered, each of these proposals and blocks was given out.
+    /// - `waiting`: so where nothing is answered, each of these proposals and blocks was given out, but where a member alone waits.
     /// - `works`: no work is lost: what is queued or planned is given out, or is so still.
     /// - `idle`: where nothing is answered, nothing is to be done at the moment: no step is queued, the timeout was asked for, and
     ///   no fetch is due.
-    /// - `ahead`: and no block is to be built of a view below the current one: it was given up.
+    /// - `ahead`: and each block that is to be built is of a view above the current one, or of that and was asked for: one of a view
+    ///   below was given up.
+    /// - `near`, `seen`: where no block is to be built above the first view of the next term, none comes to be; where the views that
+    ///   it has come to are the member's, they stay so.
     /// - `short`: and the record has no more entries than the options say, or by a pruning no more views of it go than stay: no entry
     ///   lies further below the lowest view that is left than the current view lies above that.
     /// - `lowest`: where nothing is answered, no vote is held of a view below the lowest one that is kept.
@@ -179,6 +186,8 @@ impl<S: Assembly<D>, L: Elector<S>, D: Digest> Engine<S, L, D> {
         ensures duties { OnOk result ((given : _) → HasToldAll given self.old → HasToldAll (given ++ given_out result) self.new) }
         ensures waiting { IfOk result (λ out. IsNone out → (given : _) → HasToldAll given self.old → AllIsGivenOut given self.new) }
         ensures works { OnOk result (AreAmong (work_ahead self.old) (work_in (given_out result) ++ work_ahead self.new)) }
+        ensures near { OnOk result (BuildsNear self.old.core self.old.plan → BuildsNear self.new.core self.new.plan) }
+        ensures seen { OnOk result (HasComeTo self.old.core.member.facts self.old.plan → HasComeTo self.new.core.member.facts self.new.plan) }
         ensures ignored { OnOk result (self.new.plan.ignored ≡ self.old.plan.ignored) }
         ensures constants { OnOk result (constants_of self.new.plan ≡ constants_of self.old.plan) }
         ensures failed { OnErr result (has_failed self.new.core ≡ true) }
@@ -212,6 +221,8 @@ impl<S: Assembly<D>, L: Elector<S>, D: Digest> Engine<S, L, D> {
         ensures duties { OnOk result ((given : _) → HasToldAll given self.old → HasToldAll (given ++ given_out result) self.new) }
         ensures waiting { IfOk result (λ out. IsNone out → (given : _) → HasToldAll given self.old → AllIsGivenOut given self.new) }
         ensures works { OnOk result (AreAmong (work_ahead self.old) (work_in (given_out result) ++ work_ahead self.new)) }
+        ensures near { OnOk result (BuildsNear self.old.core self.old.plan → BuildsNear self.new.core self.new.plan) }
+        ensures seen { OnOk result (HasComeTo self.old.core.member.facts self.old.plan → HasComeTo self.new.core.member.facts self.new.plan) }
         ensures ignored { OnOk result (self.new.plan.ignored ≡ self.old.plan.ignored) }
         ensures constants { OnOk result (constants_of self.new.plan ≡ constants_of self.old.plan) }
         ensures failed { OnErr result (has_failed self.new.core ≡ true) }

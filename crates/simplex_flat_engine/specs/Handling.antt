@@ -26,7 +26,8 @@ use Rattle.simplex_outbox.specs.Reaching.{IsShort}
 use Rattle.simplex_plan.specs.PlannedWork.{AreAmong, constants_of}
 use Rattle.simplex_plan.specs.Planning.{IsIdle}
 use Rattle.simplex_engine.specs.Settled.{IsSettled}
-use Rattle.simplex_engine.specs.Building.{BuildsAhead}
+use Rattle.simplex_engine.specs.Building.{BuildsAhead, BuildsNear}
+use Rattle.simplex_engine.specs.Views.{HasComeTo}
 use Rattle.simplex_engine.specs.Failing.{IsFailure}
 use Rattle.simplex_flat.specs.declared.journal.NotWritten.{NotWritten}
 use Rattle.simplex_flat.specs.declared.shown.FlatStored.{FlatStored}
@@ -170,8 +171,9 @@ HoldsRecord given held =
     → IsRecordOf certificate_bytes held.engine.core.member (journal_of given)
 
 -- an engine has nothing more to do at a moment, builds no block and holds no vote of views that are over, has a short record, and asks
--- for just what is lacking; where each proposal to verify or certify and each block to build was told, it was given out; where no vote was held above
--- those that are taken, each that is held is a member's, and of a view whose votes are taken
+-- for just what is lacking; where each proposal to verify or certify and each block to build was told, it was given out, or a member
+-- alone waits for the block's view; where no vote was held above those that are taken, each that is held is a member's, and of a view
+-- whose votes are taken
 pub record IsAtRest (now : ℕ) (old new : HostEngine) : Type 0 where
   pub settled : IsSettled same_host_payload host_leader certificate_bytes new.core
   pub idle : IsIdle now new.plan
@@ -207,6 +209,11 @@ pub record IsAsked (now : ℕ) (old : HeldEngine) (r : FlatOutput) (new : HeldEn
   -- no work is lost: what is queued or planned is given out, or is so still
   pub works : has_failed new.engine.core ≡ false → new.is_lost ≡ false
       → AreAmong (work_ahead old.engine) (work_in (option_to_list new.last) ++ work_ahead new.engine)
+  -- no block comes to be built above the first view of the next term
+  pub near : has_failed new.engine.core ≡ false → BuildsNear old.engine.core old.engine.plan → BuildsNear new.engine.core new.engine.plan
+  -- its views stay the member's
+  pub seen : has_failed new.engine.core ≡ false → HasComeTo old.engine.core.member.facts old.engine.plan
+      → HasComeTo new.engine.core.member.facts new.engine.plan
   -- no input is counted as of no use
   pub ignored : has_failed new.engine.core ≡ false → new.engine.plan.ignored ≡ old.engine.plan.ignored
   -- the options stay, and so does whether there are other members

@@ -11,9 +11,9 @@ use Rattle.simplex_plan.specs.declared.plan.Plan.{Plan}
 use Rattle.simplex_plan.specs.declared.plan.Step.{Step}
 use Rattle.simplex_plan.specs.Filling.{watching_where, fetching_one, IsFetchAsked, IsPruneAsked, IsTimeoutAsked, AreWatched, IsReady, HasTaken}
 use Rattle.simplex_plan.specs.Planning.{HasPlanned, IsIdle}
-use Rattle.simplex_plan.specs.PlannedWork.{AreAmong, work_planned, KeepsPlanned, constants_of}
+use Rattle.simplex_plan.specs.PlannedWork.{beside_of, work_planned, IsPlanned, KeepsPlanned}
 use Rattle.simplex_plan.proofs.Planning.{some_planned}
-use Rattle.simplex_plan.proofs.PlannedWork.{among_all, among_further, ignored_of, plans_behind, plans_same, repaired_constants}
+use Rattle.simplex_plan.proofs.PlannedWork.{keeps_as, keeps_further, plans_behind, plans_same, repaired_beside}
 
 module _ {A : Type 0} where
   -- what stands in front of a queue is taken from it, and where nothing is taken it was empty
@@ -52,22 +52,22 @@ module _ {S D K G C : Type 0} where
     asked_keeps old new is =
         let same = asking_same now old.repair.fetches new.repair.fetches is.ask is.asked in
         plans_behind old new (fetching_one is.ask) is.planned.steps
-        (ap constants_of is.planned.same ∙ repaired_constants old new.repair same.0 same.1) (ap ignored_of is.planned.same)
+        (ap beside_of is.planned.same ∙ repaired_beside old new.repair same.0 same.1)
 
     prune_keeps : (b : Bool) (old new : Plan S D K G C) → IsPruneAsked b now old new → KeepsPlanned old new
-    prune_keeps true old new is = plans_behind old new _ is.steps (ap constants_of is.same) (ap ignored_of is.same)
+    prune_keeps true old new is = plans_behind old new _ is.steps (ap beside_of is.same)
     prune_keeps false old new is = asked_keeps old new is
 
     timeout_keeps : (b : Bool) (old new : Plan S D K G C) → IsTimeoutAsked b now old new → KeepsPlanned old new
-    timeout_keeps true old new is = plans_behind old new _ is.steps (ap constants_of is.same) (ap ignored_of is.same)
+    timeout_keeps true old new is = plans_behind old new _ is.steps (ap beside_of is.same)
     timeout_keeps false old new is = prune_keeps old.is_prune_due old new is
 
     watched_keeps : (steps : List (Step S D K G C)) (old new : Plan S D K G C) → AreWatched steps now old new → KeepsPlanned old new
     watched_keeps [] old new is = timeout_keeps old.is_timeout_due old new is
-    watched_keeps (step ∷ steps) old new is = plans_behind old new _ is.steps (ap constants_of is.same) (ap ignored_of is.same)
+    watched_keeps (step ∷ steps) old new is = plans_behind old new _ is.steps (ap beside_of is.same)
 
     ready_keeps : (steps : List (Step S D K G C)) (old ready : Plan S D K G C) → IsReady steps now old ready → KeepsPlanned old ready
-    ready_keeps [] old ready is = watched_keeps (watching_where old.is_watch_due old.views.current old.builds.items) (record old { is_watch_due = false }) ready is
+    ready_keeps [] old ready is = watched_keeps (watching_where old.is_watch_due old.views.current old.builds.buildings.items) (record old { is_watch_due = false }) ready is
     ready_keeps (step ∷ steps) old ready is = plans_same old ready is
 
     -- where no step is queued then, nothing is to be done
@@ -94,7 +94,7 @@ module _ {S D K G C : Type 0} where
 
     ready_idle : (steps : List (Step S D K G C)) (old ready : Plan S D K G C) → old.steps.items ≡ steps → IsReady steps now old ready → ready.steps.items ≡ [] → IsIdle now ready
     ready_idle (step ∷ steps) old ready were is none = absurd (omega (arith, ap length (sym none ∙ ap (λ (p : Plan S D K G C). p.steps.items) is ∙ were)))
-    ready_idle [] old ready were is none = by_steps (watching_where old.is_watch_due old.views.current old.builds.items) is
+    ready_idle [] old ready were is none = by_steps (watching_where old.is_watch_due old.views.current old.builds.buildings.items) is
       where
         by_steps : (steps : List (Step S D K G C)) → AreWatched steps now (record old { is_watch_due = false }) ready → IsIdle now ready
         by_steps [] is = timeout_idle old.is_timeout_due (record old { is_watch_due = false }) ready refl refl is none
@@ -102,14 +102,9 @@ module _ {S D K G C : Type 0} where
 
     module _ (step : Option (Step S D K G C)) (old new : Plan S D K G C) (taken : HasTaken now step old new) where
       -- work that was planned is this step, or is planned still
-      pub taken_keeps : AreAmong (work_planned old.steps.items) (work_planned (option_to_list step ++ new.steps.items))
-      taken_keeps = among_further (ready_keeps old.steps.items old taken.ready taken.is_ready).found (among_all (ap work_planned taken.taken))
-
-      pub taken_constants : constants_of new ≡ constants_of old
-      taken_constants = ap constants_of taken.same ∙ (ready_keeps old.steps.items old taken.ready taken.is_ready).constants
-
-      pub taken_ignored : new.ignored ≡ old.ignored
-      taken_ignored = ap ignored_of taken.same ∙ (ready_keeps old.steps.items old taken.ready taken.is_ready).ignored
+      pub taken_keeps : IsPlanned [] (λ view. false) (work_planned old.steps.items) (beside_of old) (work_planned (option_to_list step ++ new.steps.items)) (beside_of new)
+      taken_keeps = keeps_further (ready_keeps old.steps.items old taken.ready taken.is_ready)
+          (keeps_as (sym (ap work_planned taken.taken)) (ap beside_of taken.same))
 
       -- there is none only where nothing is to be done
       pub taken_none : IsNone step → IsIdle now new

@@ -1,11 +1,12 @@
 -- What is planned for an answer: it is for just that answer, keeps what was planned, and tells the application what the answer asks of it.
-use Rattle.std.proofs.Common.{◌≡◌, ◌∙◌, refl, ap, sym, subst, ℕ, Bool, true, false, ◌==◌, nat_le, List, [], ◌∷◌, map, Option, Some, None, Result, Ok, Err, is_some, not, cond}
-use Rattle.std.specs.Prelude.{IfErr}
+use Rattle.std.proofs.Common.{◌≡◌, ◌∙◌, refl, ap, sym, subst, ℕ, Bool, true, false, ◌&&◌, ◌==◌, nat_le, List, [], ◌∷◌, ◌++◌, append-nil, map, Option, Some, None, Result, Ok, Err, is_some, not, cond}
+use Rattle.std.specs.Prelude.{IfErr, nat_lt}
+use Rattle.std.specs.List.{list_any}
+use Rattle.std.proofs.lemmas.Bool.{false≢true}
 use Rattle.simplex_types.specs.Viewed.{certificate_view}
 use Rattle.simplex_types.specs.declared.types.fault.Fault.{Fault}
 use Rattle.simplex_types.specs.declared.types.fault.Fault.TheVariants.{OutOfMemory, Failed, ViewTooLarge, TimeOverflow}
 use Rattle.simplex_types.specs.declared.types.messages.Certificate.{Certificate}
-use Rattle.simplex_types.specs.declared.types.messages.Context.{Context}
 use Rattle.simplex_types.specs.declared.types.messages.Notarization.{Notarization}
 use Rattle.simplex_types.specs.declared.types.messages.Nullify.{Nullify}
 use Rattle.simplex_types.specs.declared.types.messages.Proposal.{Proposal}
@@ -13,7 +14,7 @@ use Rattle.simplex_voter.specs.declared.voter.propose.ProposalRequest.{ProposalR
 use Rattle.simplex_voter.specs.declared.voter.propose.ProposalRequest.TheVariants.{Prepare, Propose}
 use Rattle.simplex_voter.specs.declared.voter.verify.Verify.{Verify}
 use Rattle.simplex_voter.specs.declared.voter.verify.Verify.TheVariants as verify
-use Rattle.simplex_member.specs.Calls.{Requested, Standing, Told, told}
+use Rattle.simplex_member.specs.Calls.{Requested, Standing, told}
 use Rattle.simplex_member.specs.declared.member.calls.Reply.{Reply}
 use Rattle.simplex_member.specs.declared.member.calls.Reply.TheVariants as reply
 use Rattle.simplex_plan.specs.declared.plan.Plan.{Plan}
@@ -21,11 +22,12 @@ use Rattle.simplex_plan.specs.declared.plan.Step.TheVariants.{Ask}
 use Rattle.simplex_plan.specs.declared.task.Task.{Task}
 use Rattle.simplex_plan.specs.declared.task.Task.TheVariants as task
 use Rattle.simplex_outbox.specs.declared.output.Work.TheVariants as work
-use Rattle.simplex_plan.specs.PlannedWork.{work_of, work_planned, KeepsPlanned, PlansToo, constants_of}
+use Rattle.simplex_plan.specs.PlannedWork.{work_planned, ended_in, IsPlanned, KeepsPlanned, PlansAnswer, beside_of, constants_of}
 use Rattle.simplex_plan.specs.Planning.{touching}
-use Rattle.simplex_plan.specs.Building.{asking_for}
-use Rattle.simplex_plan.specs.Following.{Consequence, Nothing, Touched, Built, Stopped, Ended, Asked, after_refusal, after_flag, after_watch, IsConsequence, IsVerifyFollowed, IsRequestFollowed, IsBroadcastFollowed, IsNullifyFollowed, certifying, IsVerdictFollowed, IsVerdictToldAbove, IsTakenInAbove, IsNewFollowed, IsCertificateFollowed, IsUnjudged, IsFollowed, IsUnfollowed}
-use Rattle.simplex_plan.proofs.PlannedWork.{ignored_of, has_builds, has_planned, keeps_further, plans_behind, plans_beside, plans_none, plans_same, plans_too, repaired_constants}
+use Rattle.simplex_plan.specs.Blocks.{is_asked_at}
+use Rattle.simplex_plan.specs.Building.{stopping}
+use Rattle.simplex_plan.specs.Following.{Consequence, Nothing, Touched, Built, Stopped, Ended, Asked, after_refusal, after_flag, after_watch, waits, IsConsequence, IsVerifyFollowed, IsRequestFollowed, IsBroadcastFollowed, IsNullifyFollowed, certifying, IsVerdictFollowed, IsVerdictToldAbove, IsTakenInAbove, IsNewFollowed, IsCertificateFollowed, IsUnjudged, IsFollowed, IsUnfollowed}
+use Rattle.simplex_plan.proofs.PlannedWork.{has_ended, has_planned, has_requested, keeps_further, plans_behind, plans_beside, plans_none, plans_nothing, plans_same, plans_too, repaired_beside}
 
 -- an answer that is this one is followed as this one
 pub followed : {S D K G C : Type 0} (bytes : D → List ℕ) (bytes_of : C → List ℕ) (now : ℕ) (asked : Task D) (old new : Plan S D K G C)
@@ -43,42 +45,41 @@ unjudged old new (Err ViewTooLarge) is refused = subst (λ it. IsUnfollowed View
 unjudged old new (Err TimeOverflow) is refused = subst (λ it. IsUnfollowed TimeOverflow it old new) (sym is) refused
 
 module _ {S D K G C : Type 0} (old new : Plan S D K G C) where
-  consequence_keeps : (following : Consequence D) → IsConsequence following old new → KeepsPlanned old new
-  consequence_keeps Nothing is = plans_same old new is
-  consequence_keeps (Touched view) is = plans_behind old new (touching view) is.steps (ap constants_of is.same) (ap ignored_of is.same)
-  consequence_keeps (Built view) is = plans_behind old new (touching view) is.steps (ap constants_of is.same) (ap ignored_of is.same)
-  consequence_keeps (Stopped view) is = has_builds is
-  consequence_keeps (Ended view) is = plans_beside old (record old { builds = new.builds }) new is.same refl refl refl
-  consequence_keeps (Asked call) is = has_planned is
+  consequence_plans : (following : Consequence D) → IsConsequence following old new
+      → IsPlanned [] (ended_in following) (work_planned old.steps.items) (beside_of old) (work_planned new.steps.items) (beside_of new)
+  consequence_plans Nothing is = plans_same old new is
+  consequence_plans (Touched view) is = plans_behind old new (touching view) is.steps (ap beside_of is.same)
+  consequence_plans (Built view) is = has_ended view (touching view) old new is.steps is.blocks (ap (λ (plan : Plan S D K G C). plan.views) is.same) (ap constants_of is.same) (ap (λ (plan : Plan S D K G C). plan.ignored) is.same)
+  consequence_plans (Stopped view) is = has_ended view (stopping view (list_any (is_asked_at view) old.builds.buildings.items)) old new is.steps is.blocks (ap (λ (plan : Plan S D K G C). plan.views) is.same) (ap constants_of is.same) (ap (λ (plan : Plan S D K G C). plan.ignored) is.same)
+  consequence_plans (Ended view) is =
+      has_ended view [] old new (ap (λ (plan : Plan S D K G C). plan.steps.items) is.same ∙ sym (append-nil old.steps.items)) is.blocks
+      (ap (λ (plan : Plan S D K G C). plan.views) is.same) (ap constants_of is.same) (ap (λ (plan : Plan S D K G C). plan.ignored) is.same)
+  consequence_plans (Asked call) is = has_planned is
 
-  -- an answer's work is planned
-  abbrev Follows : Told K D → Type 0
-  Follows told = PlansToo (work_of old.is_alone told) old new
+  -- a block that waits is one of a member alone
+  waits_alone : (is_alone after : Bool) → not (is_alone && after) ≡ false → is_alone ≡ true
+  waits_alone true after is = refl
+  waits_alone false after is = sym is
 
-  -- a block that a member alone builds later
-  asked_ahead : (context : Context D K) (is_alone : Bool) → work_planned (asking_for {S = S} {D = D} {K = K} {G = G} {C = C} context (not is_alone)) ≡ cond is_alone [] (work.Build context ∷ [])
-  asked_ahead context true = refl
-  asked_ahead context false = refl
-
-  request_followed : (request : Option (ProposalRequest D K)) → IsRequestFollowed request old new → Follows (Requested request)
-  request_followed None is = plans_none (plans_same old new is)
-  request_followed (Some (Prepare context)) is =
-      subst (λ works. PlansToo works old new) (asked_ahead context old.is_alone) (plans_too old new (asking_for context (not old.is_alone)) is.steps (ap constants_of is.same) (ap ignored_of is.same))
-  request_followed (Some (Propose context)) is = plans_too old new (asking_for context true) is.steps (ap constants_of is.same) (ap ignored_of is.same)
+  request_followed : (asked : Task D) (request : Option (ProposalRequest D K)) → IsRequestFollowed request old new → PlansAnswer asked (Requested request) old new
+  request_followed asked None is = plans_nothing (λ view. false) (plans_same old new is)
+  request_followed asked (Some (Prepare context)) is =
+      has_requested (λ view. false) context (not (waits old.is_alone old.views.current context)) old new (waits_alone old.is_alone (nat_lt old.views.current context.round.view)) is
+  request_followed asked (Some (Propose context)) is = has_requested (λ view. false) context true old new (λ never. absurd (false≢true (sym never))) is
 
   broadcast_followed : (certificate : Option (Certificate S D K G C)) → IsBroadcastFollowed certificate old new → KeepsPlanned old new
   broadcast_followed None is = plans_same old new is
   broadcast_followed (Some certificate) is = has_planned is
 
   nullify_followed : (now : ℕ) (answer : Option (Bool × Nullify S K G C)) → IsNullifyFollowed now answer old new → KeepsPlanned old new
-  nullify_followed now None is = plans_beside old _ new is refl refl refl
+  nullify_followed now None is = plans_beside old _ new is refl refl
   nullify_followed now (Some (true, vote)) is = has_planned is
   nullify_followed now (Some (false, vote)) is = has_planned is
 
-  verify_followed : (answer : Verify D K) → IsVerifyFollowed answer old new → Follows (Standing answer)
-  verify_followed (verify.Ready context proposal) is = plans_too old new _ is.steps (ap constants_of is.same) (ap ignored_of is.same)
-  verify_followed (verify.Resolve proposal view kind target) is = plans_none (has_planned is)
-  verify_followed verify.Wait is = plans_none (plans_same old new is)
+  verify_followed : (asked : Task D) (answer : Verify D K) → IsVerifyFollowed answer old new → PlansAnswer asked (Standing answer) old new
+  verify_followed asked (verify.Ready context proposal) is = plans_too (λ view. false) old new _ is.steps (ap beside_of is.same)
+  verify_followed asked (verify.Resolve proposal view kind target) is = plans_nothing (λ view. false) (has_planned is)
+  verify_followed asked verify.Wait is = plans_nothing (λ view. false) (plans_same old new is)
 
   verdict_followed : (bytes : D → List ℕ) (bytes_of : C → List ℕ) (now : ℕ) (is_success : Bool) (notarization : Option (Notarization S D K G C))
       → IsVerdictFollowed bytes bytes_of now is_success notarization old new → KeepsPlanned old new
@@ -89,7 +90,7 @@ module _ {S D K G C : Type 0} (old new : Plan S D K G C) where
       by_genesis true is = plans_same old new is
       by_genesis false is =
           plans_behind old new (touching n.proposal.round.view) is.planned.steps
-          (ap constants_of is.planned.same ∙ repaired_constants old new.repair is.repaired.peers is.repaired.retry) (ap ignored_of is.planned.same)
+          (ap beside_of is.planned.same ∙ repaired_beside old new.repair is.repaired.peers is.repaired.retry)
 
   -- the work of proposals that are certified
   certified_work : (proposals : List (Proposal D)) → work_planned (certifying {S = S} {D = D} {K = K} {G = G} {C = C} proposals) ≡ map work.Certify proposals
@@ -97,30 +98,31 @@ module _ {S D K G C : Type 0} (old new : Plan S D K G C) where
   certified_work (p ∷ rest) = ap (λ works. work.Certify p ∷ works) (certified_work rest)
 
   pub followed_plans : (bytes : D → List ℕ) (bytes_of : C → List ℕ) (now : ℕ) (asked : Task D) (answer : Reply S D K G C)
-      → IsFollowed bytes bytes_of now asked answer old new → Follows (told bytes_of answer)
-  followed_plans bytes bytes_of now asked (reply.Flag is_taken) is = plans_none (consequence_keeps (after_flag asked is_taken) is)
-  followed_plans bytes bytes_of now asked (reply.Triggered is_latched) is = plans_none (consequence_keeps (after_flag asked is_latched) is)
-  followed_plans bytes bytes_of now asked (reply.Released was_open) is = plans_none (consequence_keeps (after_flag asked was_open) is)
-  followed_plans bytes bytes_of now asked (reply.Abandoned reason) is = plans_none (consequence_keeps (after_watch asked (is_some reason)) is)
-  followed_plans bytes bytes_of now asked (reply.Work answer) is = verify_followed answer is
-  followed_plans bytes bytes_of now asked (reply.Request request) is = request_followed request is
+      → IsFollowed bytes bytes_of now asked answer old new → PlansAnswer asked (told bytes_of answer) old new
+  followed_plans bytes bytes_of now asked (reply.Flag is_taken) is = plans_none (consequence_plans (after_flag asked is_taken) is)
+  followed_plans bytes bytes_of now asked (reply.Triggered is_latched) is = plans_none (consequence_plans (after_flag asked is_latched) is)
+  followed_plans bytes bytes_of now asked (reply.Released was_open) is = plans_none (consequence_plans (after_flag asked was_open) is)
+  followed_plans bytes bytes_of now asked (reply.Abandoned reason) is = plans_none (consequence_plans (after_watch asked (is_some reason)) is)
+  followed_plans bytes bytes_of now asked (reply.Work answer) is = verify_followed asked answer is
+  followed_plans bytes bytes_of now asked (reply.Request request) is = request_followed asked request is
   followed_plans bytes bytes_of now asked (reply.Candidates proposals wanted) is =
-      subst (λ works. PlansToo works old new) (certified_work proposals.items) (plans_too old new (certifying proposals.items) is.steps
-      (ap constants_of is.same ∙ repaired_constants old new.repair is.fetched.peers is.fetched.retry) (ap ignored_of is.same))
-  followed_plans bytes bytes_of now asked (reply.Certified is_success notarization) is = plans_none (verdict_followed bytes bytes_of now is_success notarization is)
-  followed_plans bytes bytes_of now asked (reply.Nullify answer) is = plans_none (nullify_followed now answer is)
-  followed_plans bytes bytes_of now asked (reply.Certificate certificate) is = plans_none (broadcast_followed certificate is)
+      subst (λ works. IsPlanned [] (λ view. false) (work_planned old.steps.items ++ works) (beside_of old) (work_planned new.steps.items) (beside_of new))
+      (certified_work proposals.items) (plans_too (λ view. false) old new (certifying proposals.items) is.steps
+      (ap beside_of is.same ∙ repaired_beside old new.repair is.fetched.peers is.fetched.retry))
+  followed_plans bytes bytes_of now asked (reply.Certified is_success notarization) is = plans_nothing (λ view. false) (verdict_followed bytes bytes_of now is_success notarization is)
+  followed_plans bytes bytes_of now asked (reply.Nullify answer) is = plans_nothing (λ view. false) (nullify_followed now answer is)
+  followed_plans bytes bytes_of now asked (reply.Certificate certificate) is = plans_nothing (λ view. false) (broadcast_followed certificate is)
   followed_plans bytes bytes_of now asked (reply.Timeout moment reason) is =
-      plans_none (plans_behind old new (cond (nat_le moment now) (Ask (task.Nullify old.views.current reason) ∷ []) []) is.steps (ap constants_of is.same) (ap ignored_of is.same))
-  followed_plans bytes bytes_of now asked (reply.Fault fault) is = plans_none (consequence_keeps (after_refusal asked) is)
-  followed_plans bytes bytes_of now asked reply.NotAllowed is = plans_none (consequence_keeps (after_refusal asked) is)
-  followed_plans bytes bytes_of now asked reply.Unit is = plans_none (plans_same old new is)
-  followed_plans bytes bytes_of now asked (reply.Added newly leader) is = plans_none (plans_same old new is)
-  followed_plans bytes bytes_of now asked (reply.AddedNullification newly) is = plans_none (plans_same old new is)
-  followed_plans bytes bytes_of now asked (reply.Notarize vote) is = plans_none (plans_same old new is)
-  followed_plans bytes bytes_of now asked (reply.Finalize vote) is = plans_none (plans_same old new is)
-  followed_plans bytes bytes_of now asked (reply.Views views) is = plans_none (plans_same old new is)
-  followed_plans bytes bytes_of now asked reply.Restarted is = plans_none (plans_same old new is)
+      plans_nothing (λ view. false) (plans_behind old new (cond (nat_le moment now) (Ask (task.Nullify old.views.current reason) ∷ []) []) is.steps (ap beside_of is.same))
+  followed_plans bytes bytes_of now asked (reply.Fault fault) is = plans_nothing (λ view. false) (plans_same old new is)
+  followed_plans bytes bytes_of now asked reply.NotAllowed is = plans_none (consequence_plans (after_refusal asked) is)
+  followed_plans bytes bytes_of now asked reply.Unit is = plans_nothing (λ view. false) (plans_same old new is)
+  followed_plans bytes bytes_of now asked (reply.Added newly leader) is = plans_nothing (λ view. false) (plans_same old new is)
+  followed_plans bytes bytes_of now asked (reply.AddedNullification newly) is = plans_nothing (λ view. false) (plans_same old new is)
+  followed_plans bytes bytes_of now asked (reply.Notarize vote) is = plans_nothing (λ view. false) (plans_same old new is)
+  followed_plans bytes bytes_of now asked (reply.Finalize vote) is = plans_nothing (λ view. false) (plans_same old new is)
+  followed_plans bytes bytes_of now asked (reply.Views views) is = plans_nothing (λ view. false) (plans_same old new is)
+  followed_plans bytes bytes_of now asked reply.Restarted is = plans_nothing (λ view. false) (plans_same old new is)
 
 module _ {S D K G C : Type 0} (bytes : D → List ℕ) (bytes_of : C → List ℕ) (now : ℕ) where
   new_followed : (old new : Plan S D K G C) (is_new : Bool) (certificate : Certificate S D K G C) → IsNewFollowed bytes bytes_of now is_new certificate old new → KeepsPlanned old new
@@ -131,7 +133,7 @@ module _ {S D K G C : Type 0} (bytes : D → List ℕ) (bytes_of : C → List �
       by_genesis true is = plans_same old new is
       by_genesis false is =
           plans_behind old new (touching (certificate_view certificate)) is.planned.steps
-          (ap constants_of is.planned.same ∙ repaired_constants old new.repair is.heard.peers is.heard.retry) (ap ignored_of is.planned.same)
+          (ap beside_of is.planned.same ∙ repaired_beside old new.repair is.heard.peers is.heard.retry)
 
   pub certificate_followed : (old new : Plan S D K G C) (certificate : Certificate S D K G C) (answer : Reply S D K G C)
       → IsCertificateFollowed bytes bytes_of now certificate answer old new → KeepsPlanned old new

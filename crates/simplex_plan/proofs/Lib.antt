@@ -1,3 +1,4 @@
+pub mod Blocks
 pub mod Planning
 pub mod PlannedWork
 mod Accepting

@@ -1,23 +1,29 @@
--- Work that is planned stays planned.
-use Rattle.std.proofs.Common.{◌≡◌, ◌∙◌, refl, ap, sym, ℕ, ◌⊎◌, inl, inr, Bool, true, false, ◌||◌, List, [], ◌∷◌, ◌++◌, append-nil}
+-- Work that is planned stays planned, and blocks that wait go on to.
+use Rattle.std.proofs.Common.{◌≡◌, ◌∙◌, refl, ap, sym, subst, ℕ, ◌⊎◌, inl, inr, Bool, true, false, not, ◌||◌, ◌==◌, List, [], ◌∷◌, ◌++◌, append-nil}
 use Rattle.std.specs.List.{list_any}
 use Rattle.std.specs.Prelude.{Result, Ok, Err, OnOk, OnErr, IfErr}
-use Rattle.std.proofs.lemmas.Bool.{or_right}
+use Rattle.std.proofs.lemmas.Bool.{and_from, and_parts, cases_Bool, or_cases, or_left, or_right}
+use Rattle.std.proofs.lemmas.List.{map-append}
 use Rattle.std.proofs.lemmas.List.Folds.{list_any-append}
 use Rattle.simplex_types.specs.declared.types.fault.Fault.{Fault}
 use Rattle.simplex_types.specs.declared.types.fault.Fault.TheVariants.{Failed}
+use Rattle.simplex_types.specs.declared.types.messages.Context.{Context}
 use Rattle.simplex_fetches.specs.declared.fetches.Fetch.{Fetch}
 use Rattle.simplex_fetches.specs.declared.repair.Repair.{Repair}
 use Rattle.simplex_fetches.specs.Repairing.{HasFetches, HasPassed}
 use Rattle.simplex_member.specs.Calls.{Told}
 use Rattle.simplex_outbox.specs.declared.output.Work.{Work}
-use Rattle.simplex_plan.specs.declared.plan.Building.{Building}
+use Rattle.simplex_outbox.specs.declared.output.Work.TheVariants as work
+use Rattle.simplex_plan.specs.declared.plan.building.Building.{Building}
 use Rattle.simplex_plan.specs.declared.plan.Plan.{Plan}
 use Rattle.simplex_plan.specs.declared.plan.Step.{Step}
 use Rattle.simplex_plan.specs.declared.plan.Step.TheVariants as step
-use Rattle.simplex_plan.specs.Building.{HasBuilds}
+use Rattle.simplex_plan.specs.declared.task.Task.{Task}
+use Rattle.simplex_plan.specs.Blocks.{views_built, all_but_at, in_place, waits_for}
+use Rattle.simplex_plan.specs.Building.{asking_for, HasBuilds}
 use Rattle.simplex_plan.specs.Planning.{HasPlanned}
-use Rattle.simplex_plan.specs.PlannedWork.{Constants, AreAmong, work_planned, work_of, IsPlanned, KeepsPlanned, PlansToo, constants_of}
+use Rattle.simplex_plan.specs.PlannedWork.{AreAmong, Beside, work_planned, work_of, is_build_of, awaits, has_block, IsPlanned, KeepsPlanned, KeepsPlannedThen, PlansAnswer, PlansAnswerThen, constants_of, beside_of, views_requested}
+use Rattle.simplex_plan.proofs.Blocks.{left_waiting, views_left}
 
 -- tests that some pass
 
@@ -29,26 +35,22 @@ any_right test these those is = list_any-append test these those ∙ or_right (l
 
 -- a test that some of these or those pass
 pub any_either : {A : Type 0} (test : A → Bool) (these those : List A) → list_any test (these ++ those) ≡ true → (list_any test these ≡ true) ⊎ (list_any test those ≡ true)
-any_either test these those is = by_first (list_any test these) refl (sym (list_any-append test these those) ∙ is)
-  where
-    by_first : (b : Bool) → list_any test these ≡ b → (b || list_any test those) ≡ true → (list_any test these ≡ true) ⊎ (list_any test those ≡ true)
-    by_first true first is = inl first
-    by_first false first is = inr is
+any_either test these those is = or_cases (list_any test these) (list_any test those) (sym (list_any-append test these those) ∙ is)
 
-module _ {S D K G C : Type 0} where
-  pub among_all : {these those : List (Work S D K G C)} → these ≡ those → AreAmong these those
+module _ {A : Type 0} where
+  pub among_all : {these those : List A} → these ≡ those → AreAmong these those
   among_all is = record { found = λ test some. ap (list_any test) (sym is) ∙ some }
 
-  pub among_still : (these : List (Work S D K G C)) → AreAmong these these
+  pub among_still : (these : List A) → AreAmong these these
   among_still these = record { found = λ test some. some }
 
-  pub among_further : {a b c : List (Work S D K G C)} → AreAmong a b → AreAmong b c → AreAmong a c
+  pub among_further : {a b c : List A} → AreAmong a b → AreAmong b c → AreAmong a c
   among_further first second = record { found = λ test some. second.found test (first.found test some) }
 
-  pub among_more : (these those : List (Work S D K G C)) → AreAmong these (these ++ those)
+  pub among_more : (these those : List A) → AreAmong these (these ++ those)
   among_more these those = record { found = λ test. any_left test these those }
 
-  pub among_both : {a b c d : List (Work S D K G C)} → AreAmong a b → AreAmong c d → AreAmong (a ++ c) (b ++ d)
+  pub among_both : {a b c d : List A} → AreAmong a b → AreAmong c d → AreAmong (a ++ c) (b ++ d)
   among_both {a = a} {b = b} {c = c} {d = d} first second = record {
     found = λ test some. elim (any_either test a c some) [
       | inl this ↦ any_left test b d (first.found test this)
@@ -56,6 +58,7 @@ module _ {S D K G C : Type 0} where
     ];
   }
 
+module _ {S D K G C : Type 0} where
   pub planned-append : (steps more : List (Step S D K G C)) → work_planned (steps ++ more) ≡ work_planned steps ++ work_planned more
   planned-append [] more = refl
   planned-append (step.Ask _ ∷ steps) more = planned-append steps more
@@ -64,64 +67,191 @@ module _ {S D K G C : Type 0} where
   planned-append (step.Repeat _ ∷ steps) more = planned-append steps more
   planned-append (step.Push it ∷ steps) more = ap (λ works. it ∷ works) (planned-append steps more)
 
-  abbrev pub ignored_of : Plan S D K G C → ℕ
-  ignored_of plan = plan.ignored
-
   -- steps that stand behind others
+  planned_now : (old new more : List (Step S D K G C)) → new ≡ old ++ more → work_planned new ≡ work_planned old ++ work_planned more
+  planned_now old new more is = ap work_planned is ∙ planned-append old more
+
   pub planned_behind : (old new more : List (Step S D K G C)) → new ≡ old ++ more → AreAmong (work_planned old) (work_planned new)
-  planned_behind old new more is = among_further (among_more (work_planned old) (work_planned more)) (among_all (sym (ap work_planned is ∙ planned-append old more)))
+  planned_behind old new more is = among_further (among_more (work_planned old) (work_planned more)) (among_all (sym (planned_now old new more is)))
+
+  -- a block that was planned is planned still, and one that waited was asked for or waits still
+  pub has_further : {works planned : List (Work S D K G C)} (was is : Beside K D) (view : ℕ) → AreAmong works planned → (awaits was view ≡ true → has_block planned is view ≡ true)
+      → has_block works was view ≡ true → has_block planned is view ≡ true
+  has_further {works = works} {planned = planned} was is view among waiting has =
+      elim (or_cases (list_any (is_build_of view) works) (awaits was view) has) [
+        | inl told ↦ or_left (list_any (is_build_of view) planned) (awaits is view) (among.found (is_build_of view) told)
+        | inr waits ↦ waiting waits
+      ]
 
   -- a plan that is the same, or goes on through another
-  pub keeps_still : {works : List (Work S D K G C)} {constants : Constants} {ignored : ℕ} → IsPlanned works constants ignored works constants ignored
-  keeps_still {works = works} = record { found = among_still works; constants = refl; ignored = refl }
+  pub keeps_as : {works planned : List (Work S D K G C)} {was is : Beside K D} → planned ≡ works → is ≡ was → IsPlanned [] (λ view. false) works was planned is
+  keeps_as {planned = planned} {is = is} same beside = record {
+    found = among_all (sym same);
+    building = λ view waits un. or_right (list_any (is_build_of view) planned) (awaits is view) (ap (λ b. awaits b view) beside ∙ waits);
+    views = among_all (ap (λ (b : Beside K D). views_built b.blocks) beside);
+    reached = ap (λ (b : Beside K D). b.reached) beside;
+    constants = ap (λ (b : Beside K D). b.constants) beside;
+    ignored = ap (λ (b : Beside K D). b.ignored) beside;
+  }
 
-  pub keeps_further : {a b c : List (Work S D K G C)} {x y z : Constants} {i j k : ℕ} → IsPlanned a x i b y j → IsPlanned b y j c z k → IsPlanned a x i c z k
-  keeps_further first second = record {
+  pub keeps_still : {works : List (Work S D K G C)} {beside : Beside K D} → IsPlanned [] (λ view. false) works beside works beside
+  keeps_still = keeps_as refl refl
+
+  pub keeps_further : {requested : List ℕ} {ended : ℕ → Bool} {a b c : List (Work S D K G C)} {x y z : Beside K D}
+      → IsPlanned requested ended a x b y → IsPlanned [] (λ view. false) b y c z → IsPlanned requested ended a x c z
+  keeps_further {y = y} {z = z} first second = record {
     found = among_further first.found second.found;
+    building = λ view waits un. has_further y z view second.found (λ left. second.building view left refl) (first.building view waits un);
+    views = among_further second.views first.views;
+    reached = second.reached ∙ first.reached;
     constants = second.constants ∙ first.constants;
     ignored = second.ignored ∙ first.ignored;
   }
 
-  -- more steps are queued
-  pub plans_too : (old new : Plan S D K G C) (more : List (Step S D K G C)) → new.steps.items ≡ old.steps.items ++ more → constants_of new ≡ constants_of old → new.ignored ≡ old.ignored
-      → PlansToo (work_planned more) old new
-  plans_too old new more is constants ignored =
-      record { found = among_all (sym (ap work_planned is ∙ planned-append old.steps.items more)); constants = constants; ignored = ignored }
-
-  pub plans_behind : (old new : Plan S D K G C) (more : List (Step S D K G C)) → new.steps.items ≡ old.steps.items ++ more → constants_of new ≡ constants_of old → new.ignored ≡ old.ignored
-      → KeepsPlanned old new
-  plans_behind old new more is constants ignored = record { found = planned_behind old.steps.items new.steps.items more is; constants = constants; ignored = ignored }
-
-  pub has_planned : {more : List (Step S D K G C)} {old new : Plan S D K G C} → HasPlanned more old new → KeepsPlanned old new
-  has_planned {more = more} {old = old} {new = new} is = plans_behind old new more is.steps (ap constants_of is.same) (ap ignored_of is.same)
-
-  pub has_builds : {more : List (Step S D K G C)} {builds : List (Building D K)} {old new : Plan S D K G C} → HasBuilds more builds old new → KeepsPlanned old new
-  has_builds {more = more} {old = old} {new = new} is = plans_behind old new more is.steps (ap constants_of is.same) (ap ignored_of is.same)
-
-  -- none are
-  pub plans_none : {works planned : List (Work S D K G C)} {x y : Constants} {i j : ℕ} → IsPlanned works x i planned y j → IsPlanned (works ++ []) x i planned y j
-  plans_none {works = works} keeps = record { found = among_further (among_all (append-nil works)) keeps.found; constants = keeps.constants; ignored = keeps.ignored }
-
-  -- of a plan that is the same but for what else it keeps
-  pub plans_beside : (old beside new : Plan S D K G C) → new ≡ beside → beside.steps.items ≡ old.steps.items → constants_of beside ≡ constants_of old → beside.ignored ≡ old.ignored → KeepsPlanned old new
-  plans_beside old beside new is steps constants ignored = record {
-    found = among_all (ap work_planned (sym (ap (λ (plan : Plan S D K G C). plan.steps.items) is ∙ steps)));
-    constants = ap constants_of is ∙ constants;
-    ignored = ap ignored_of is ∙ ignored;
+  -- more steps are queued, and nothing else has changed
+  pub plans_too : (ended : ℕ → Bool) (old new : Plan S D K G C) (more : List (Step S D K G C)) → new.steps.items ≡ old.steps.items ++ more → beside_of new ≡ beside_of old
+      → IsPlanned [] ended (work_planned old.steps.items ++ work_planned more) (beside_of old) (work_planned new.steps.items) (beside_of new)
+  plans_too ended old new more is same = record {
+    found = among_all (sym (planned_now old.steps.items new.steps.items more is));
+    building = λ view waits un. or_right (list_any (is_build_of view) (work_planned new.steps.items)) (awaits (beside_of new) view) (ap (λ beside. awaits beside view) same ∙ waits);
+    views = among_all (ap (λ (beside : Beside K D). views_built beside.blocks) same);
+    reached = ap (λ (beside : Beside K D). beside.reached) same;
+    constants = ap (λ (beside : Beside K D). beside.constants) same;
+    ignored = ap (λ (beside : Beside K D). beside.ignored) same;
   }
 
+  pub plans_behind : (old new : Plan S D K G C) (more : List (Step S D K G C)) → new.steps.items ≡ old.steps.items ++ more → beside_of new ≡ beside_of old → KeepsPlanned old new
+  plans_behind old new more is same =
+      let too = plans_too (λ view. false) old new more is same in
+      record { found = planned_behind old.steps.items new.steps.items more is; building = too.building; views = too.views; reached = too.reached; constants = too.constants; ignored = too.ignored }
+
+  pub has_planned : {more : List (Step S D K G C)} {old new : Plan S D K G C} → HasPlanned more old new → KeepsPlanned old new
+  has_planned {more = more} {old = old} {new = new} is = plans_behind old new more is.steps (ap beside_of is.same)
+
+  -- nothing is built in a view any more
+  pub has_ended : (view : ℕ) (more : List (Step S D K G C)) (old new : Plan S D K G C) → new.steps.items ≡ old.steps.items ++ more → new.builds.buildings.items ≡ all_but_at view old.builds.buildings.items
+      → new.views ≡ old.views → constants_of new ≡ constants_of old → new.ignored ≡ old.ignored
+      → IsPlanned [] (λ other. view == other) (work_planned old.steps.items) (beside_of old) (work_planned new.steps.items) (beside_of new)
+  has_ended view more old new steps blocks reached constants ignored = record {
+    found = planned_behind old.steps.items new.steps.items more steps;
+    building = λ other waits un.
+        let parts = and_parts old.is_alone (list_any (waits_for other) old.builds.buildings.items) waits in
+        or_right (list_any (is_build_of other) (work_planned new.steps.items)) (awaits (beside_of new) other)
+        (and_from new.is_alone _ (ap (λ c. c.is_alone) constants ∙ parts.0)
+        (ap (list_any (waits_for other)) blocks ∙ left_waiting view other un old.builds.buildings.items parts.1));
+    views = record { found = λ test some. views_left test view old.builds.buildings.items (ap (λ builds. list_any test (views_built builds)) (sym blocks) ∙ some) };
+    reached = reached;
+    constants = constants;
+    ignored = ignored;
+  }
+
+  -- a block is to be built, at once or, by a member alone, later
+  pub has_requested : (ended : ℕ → Bool) (context : Context D K) (is_told : Bool) (old new : Plan S D K G C) → (is_told ≡ false → old.is_alone ≡ true)
+      → HasBuilds (asking_for context is_told) (in_place (record { context = context; is_told = is_told }) old.builds.buildings.items) old new
+      → IsPlanned (context.round.view ∷ []) ended (work_planned old.steps.items ++ []) (beside_of old) (work_planned new.steps.items) (beside_of new)
+  has_requested ended context is_told old new alone is = record {
+    found = among_further (among_all (append-nil (work_planned old.steps.items))) (planned_behind old.steps.items new.steps.items (asking_for context is_told) is.steps);
+    building = λ other waits un. elim (cases_Bool (context.round.view == other)) [
+      | inl at ↦ by_told is_told refl other at
+      | inr differs ↦ (elim (or_cases (context.round.view == other || false) (awaits (beside_of old) other) waits) [
+        | inl at ↦ absurd (no_other other differs at)
+        | inr before ↦ by_waiting other differs (and_parts old.is_alone (list_any (waits_for other) old.builds.buildings.items) before)
+      ])
+    ];
+    views = record {
+      found = λ test some.
+          let still = all_but_at context.round.view old.builds.buildings.items in
+          elim (any_either test (views_built still) (context.round.view ∷ [])
+          (ap (list_any test) (sym (map-append (λ (building : Building D K). building.context.round.view) still (block ∷ [])))
+          ∙ ap (λ builds. list_any test (views_built builds)) (sym is.blocks) ∙ some)) [
+            | inl before ↦ any_right test (context.round.view ∷ []) (views_built old.builds.buildings.items) (views_left test context.round.view old.builds.buildings.items before)
+            | inr now ↦ any_left test (context.round.view ∷ []) (views_built old.builds.buildings.items) now
+          ];
+    };
+    reached = ap (λ (plan : Plan S D K G C). plan.views) is.same;
+    constants = ap constants_of is.same;
+    ignored = ap (λ (plan : Plan S D K G C). plan.ignored) is.same;
+  }
+    where
+      block : Building D K
+      block = record { context = context; is_told = is_told }
+
+      no_other : (other : ℕ) → (context.round.view == other) ≡ false → (context.round.view == other || false) ≡ true → ⊥
+      no_other other differs at = (let e : false ≡ true = sym (ap (λ b. b || false) differs) ∙ at in cc)
+
+      alone_still : new.is_alone ≡ old.is_alone
+      alone_still = ap (λ (plan : Plan S D K G C). plan.is_alone) is.same
+
+      planned : (told : Bool) → is_told ≡ told → work_planned new.steps.items ≡ work_planned old.steps.items ++ work_planned (asking_for {S = S} {D = D} {K = K} {G = G} {C = C} context told)
+      planned told now = planned_now old.steps.items new.steps.items (asking_for context told) (is.steps ∙ ap (λ t. old.steps.items ++ asking_for context t) now)
+
+      -- the block that is requested
+      by_told : (told : Bool) → is_told ≡ told → (other : ℕ) → (context.round.view == other) ≡ true → has_block (work_planned new.steps.items) (beside_of new) other ≡ true
+      by_told true now other at =
+          or_left (list_any (is_build_of other) (work_planned new.steps.items)) (awaits (beside_of new) other)
+          (ap (list_any (is_build_of other)) (planned true now)
+          ∙ any_right (is_build_of other) (work_planned old.steps.items) (work.Build context ∷ []) (or_left (context.round.view == other) false at))
+      by_told false now other at =
+          or_right (list_any (is_build_of other) (work_planned new.steps.items)) (awaits (beside_of new) other)
+          (and_from new.is_alone _ (alone_still ∙ alone now)
+          (ap (list_any (waits_for other)) is.blocks
+          ∙ any_right (waits_for other) (all_but_at context.round.view old.builds.buildings.items) (block ∷ [])
+          (or_left (waits_for other block) false (and_from (not is_told) (context.round.view == other) (ap not now) at))))
+
+      -- one of another view
+      by_waiting : (other : ℕ) → (context.round.view == other) ≡ false → (old.is_alone ≡ true) × (list_any (waits_for other) old.builds.buildings.items ≡ true)
+          → has_block (work_planned new.steps.items) (beside_of new) other ≡ true
+      by_waiting other differs parts =
+          or_right (list_any (is_build_of other) (work_planned new.steps.items)) (awaits (beside_of new) other)
+          (and_from new.is_alone _ (alone_still ∙ parts.0)
+          (ap (list_any (waits_for other)) is.blocks
+          ∙ any_left (waits_for other) (all_but_at context.round.view old.builds.buildings.items) (block ∷ []) (left_waiting context.round.view other differs old.builds.buildings.items parts.1)))
+
+  -- no work is asked for
+  pub plans_none : {requested : List ℕ} {ended : ℕ → Bool} {works planned : List (Work S D K G C)} {x y : Beside K D}
+      → IsPlanned requested ended works x planned y → IsPlanned requested ended (works ++ []) x planned y
+  plans_none {works = works} keeps = record {
+    found = among_further (among_all (append-nil works)) keeps.found;
+    building = keeps.building;
+    views = keeps.views;
+    reached = keeps.reached;
+    constants = keeps.constants;
+    ignored = keeps.ignored;
+  }
+
+  -- nor is any block ended
+  pub plans_nothing : (ended : ℕ → Bool) {works planned : List (Work S D K G C)} {x y : Beside K D}
+      → IsPlanned [] (λ view. false) works x planned y → IsPlanned [] ended (works ++ []) x planned y
+  plans_nothing ended {works = works} keeps = record {
+    found = among_further (among_all (append-nil works)) keeps.found;
+    building = λ view waits un. keeps.building view waits refl;
+    views = keeps.views;
+    reached = keeps.reached;
+    constants = keeps.constants;
+    ignored = keeps.ignored;
+  }
+
+  -- of a plan that is the same but for what else it keeps
+  pub plans_beside : (old beside new : Plan S D K G C) → new ≡ beside → beside.steps.items ≡ old.steps.items → beside_of beside ≡ beside_of old → KeepsPlanned old new
+  plans_beside old beside new is steps same =
+      plans_behind old new [] (ap (λ (plan : Plan S D K G C). plan.steps.items) is ∙ steps ∙ sym (append-nil old.steps.items)) (ap beside_of is ∙ same)
+
   pub plans_same : (old new : Plan S D K G C) → new ≡ old → KeepsPlanned old new
-  plans_same old new is = plans_beside old old new is refl refl refl
+  plans_same old new is = plans_beside old old new is refl refl
 
   -- of a plan with other fetches, which the same peers are asked for
-  pub repaired_constants : (old : Plan S D K G C) (repair : Repair) → repair.fetches.peers ≡ old.repair.fetches.peers → repair.fetches.retry ≡ old.repair.fetches.retry
-      → constants_of (record old { repair = repair }) ≡ constants_of old
-  repaired_constants old repair peers retry = λ i. record { is_alone = old.is_alone; options = old.options; peers = peers i; retry = retry i }
+  pub repaired_beside : (old : Plan S D K G C) (repair : Repair) → repair.fetches.peers ≡ old.repair.fetches.peers → repair.fetches.retry ≡ old.repair.fetches.retry
+      → beside_of (record old { repair = repair }) ≡ beside_of old
+  repaired_beside old repair peers retry = λ i. record {
+    reached = old.views;
+    blocks = old.builds.buildings.items;
+    constants = record { is_alone = old.is_alone; options = old.options; peers = peers i; retry = retry i };
+    ignored = old.ignored;
+  }
 
   pub plans_repaired : (old new : Plan S D K G C) → new ≡ record old { repair = new.repair } → new.repair.fetches.peers ≡ old.repair.fetches.peers
       → new.repair.fetches.retry ≡ old.repair.fetches.retry → KeepsPlanned old new
-  plans_repaired old new is peers retry =
-      plans_beside old (record old { repair = new.repair }) new is refl (repaired_constants old new.repair peers retry) refl
+  plans_repaired old new is peers retry = plans_beside old (record old { repair = new.repair }) new is refl (repaired_beside old new.repair peers retry)
 
   -- so it is after a call that may be refused
   pub plans_opened : {X E : Type 0} (opened kept : List Fetch) (old new : Plan S D K G C) (r : Result X E) → new ≡ record old { repair = new.repair }
@@ -135,12 +265,31 @@ module _ {S D K G C : Type 0} where
   plans_let_go view kept old new (Err e) is closes refuses = plans_same old new refuses.1
 
   pub plans_begun : (old new : Plan S D K G C) → new ≡ record old { is_timeout_due = true; is_prune_due = true } → KeepsPlanned old new
-  plans_begun old new is = plans_beside old (record old { is_timeout_due = true; is_prune_due = true }) new is refl refl refl
+  plans_begun old new is = plans_beside old (record old { is_timeout_due = true; is_prune_due = true }) new is refl refl
 
   -- what is planned behind a change of something else
-  pub plans_then : (a b c : Plan S D K G C) (told : Told K D) → KeepsPlanned a b → PlansToo (work_of b.is_alone told) b c → PlansToo (work_of a.is_alone told) a c
-  plans_then a b c told first second = record {
-    found = among_further (among_both first.found (among_all (ap (λ (constants : Constants). work_of constants.is_alone told) (sym first.constants)))) second.found;
+  pub plans_then : (a b c : Plan S D K G C) (asked : Task D) (told : Told K D) → KeepsPlanned a b → PlansAnswer asked told b c → PlansAnswer asked told a c
+  plans_then a b c asked told first second = record {
+    found = among_further (among_both first.found (among_still (work_of told))) second.found;
+    building = λ view waits un. elim (or_cases (list_any (λ v. v == view) (views_requested told)) (awaits (beside_of a) view) waits) [
+      | inl now ↦ second.building view (or_left (list_any (λ v. v == view) (views_requested told)) (awaits (beside_of b) view) now) un
+      | inr before ↦ has_further (beside_of b) (beside_of c) view (among_further (among_more (work_planned b.steps.items) (work_of told)) second.found)
+          (λ left. second.building view (or_right (list_any (λ v. v == view) (views_requested told)) (awaits (beside_of b) view) left) un) (first.building view before refl)
+    ];
+    views = among_further second.views (among_both (among_still (views_requested told)) first.views);
+    reached = second.reached ∙ first.reached;
     constants = second.constants ∙ first.constants;
     ignored = second.ignored ∙ first.ignored;
   }
+
+  -- where other views were come to before the first
+  pub plans_seen : (a b c : Plan S D K G C) (asked : Task D) (told : Told K D) → KeepsPlannedThen a b → PlansAnswer asked told b c → PlansAnswerThen asked told a c
+  plans_seen a b c asked told first second =
+      subst (λ views. PlansAnswer asked told (record a { views = views }) c) (sym second.reached) (plans_then (record a { views = b.views }) b c asked told first second)
+
+  pub keeps_seen : (a b c : Plan S D K G C) → KeepsPlannedThen a b → KeepsPlanned b c → KeepsPlannedThen a c
+  keeps_seen a b c first second = subst (λ views. KeepsPlanned (record a { views = views }) c) (sym second.reached) (keeps_further first second)
+
+  -- or none were
+  pub keeps_own : (a b : Plan S D K G C) → KeepsPlanned a b → KeepsPlannedThen a b
+  keeps_own a b keeps = subst (λ views. KeepsPlanned (record a { views = views }) b) (sym keeps.reached) keeps

@@ -1,25 +1,17 @@
 -- What is planned once the member has come to other views.
-use Rattle.std.specs.Prelude.{◌≡◌, ℕ, Bool, true, false, not, ◌&&◌, ◌||◌, ◌==◌, nat_le, nat_lt, max, List, [], ◌∷◌, ◌++◌, map, filter, if◌then◌else◌}
+use Rattle.std.specs.Prelude.{◌≡◌, ℕ, Bool, true, false, not, ◌==◌, nat_le, nat_lt, max, List, [], ◌∷◌, ◌++◌, map, filter, if◌then◌else◌}
 use Rattle.simplex_fetches.specs.declared.repair.Repair.{Repair}
 use Rattle.simplex_fetches.specs.Fetches.{passed}
 use Rattle.simplex_fetches.specs.Repairing.{HasPassed}
-use Rattle.simplex_plan.specs.declared.plan.Building.{Building}
+use Rattle.simplex_plan.specs.declared.plan.building.Building.{Building}
 use Rattle.simplex_plan.specs.declared.plan.Plan.{Plan}
 use Rattle.simplex_plan.specs.declared.plan.Step.{Step}
 use Rattle.simplex_plan.specs.declared.plan.Step.TheVariants.{Offer}
 use Rattle.simplex_plan.specs.declared.plan.Views.{Views}
 use Rattle.simplex_plan.specs.declared.plan.early.Early.{Early}
+use Rattle.simplex_plan.specs.Blocks.{has_waited, told_by}
 use Rattle.simplex_plan.specs.Building.{asking_for}
 use Rattle.simplex_plan.specs.Planning.{touching, watching}
-
-module _ {K D : Type 0} where
-  -- the block was to be asked for in this view, or in one below it, and was not yet
-  abbrev pub has_waited : ℕ → Building D K → Bool
-  has_waited view building = not building.is_told && nat_le building.context.round.view view
-
-  -- it was by now
-  abbrev pub told_by : ℕ → Building D K → Building D K
-  told_by view building = record building { is_told = building.is_told || nat_le building.context.round.view view }
 
 module _ {S D K G C : Type 0} where
   -- the application is asked for the blocks that have waited
@@ -38,8 +30,8 @@ module _ {S D K G C : Type 0} where
 
   -- the view is entered: it is touched, and behind that comes what waited for it
   pub record HasEntered (view : ℕ) (old new : Plan S D K G C) : Type 0 where
-    pub steps : new.steps.items ≡ old.steps.items ++ touching view ++ asking_by view old.builds.items ++ offering view old.early.proposals.items
-    pub blocks : new.builds.items ≡ map (told_by view) old.builds.items
+    pub steps : new.steps.items ≡ old.steps.items ++ touching view ++ asking_by view old.builds.buildings.items ++ offering view old.early.proposals.items
+    pub blocks : new.builds.buildings.items ≡ map (told_by view) old.builds.buildings.items
     pub early : new.early.proposals.items ≡ filter (λ (early : Early D). nat_lt view early.view) old.early.proposals.items
     pub same : new ≡ record (watching old) { steps = new.steps; builds = new.builds; early = new.early }
 

@@ -3,7 +3,7 @@ use Rattle.std.specs.Prelude.{◌≡◌, ℕ, nat_lt, Bool, true, false, List, [
 use Rattle.simplex_fetches.specs.declared.fetches.Ask.{Ask}
 use Rattle.simplex_fetches.specs.Asking.{IsAsking}
 use Rattle.simplex_outbox.specs.declared.output.Work.TheVariants.{Fetch}
-use Rattle.simplex_plan.specs.declared.plan.Building.{Building}
+use Rattle.simplex_plan.specs.declared.plan.building.Building.{Building}
 use Rattle.simplex_plan.specs.declared.plan.Plan.{Plan}
 use Rattle.simplex_plan.specs.declared.plan.Step.{Step}
 use Rattle.simplex_plan.specs.declared.plan.Step.TheVariants as step
@@ -53,7 +53,7 @@ module _ {S D K G C : Type 0} where
 
   -- what is due is planned
   abbrev pub IsFilled : ℕ → Plan S D K G C → Plan S D K G C → Type 0
-  IsFilled now old new = AreWatched (watching_where old.is_watch_due old.views.current old.builds.items) now (record old { is_watch_due = false }) new
+  IsFilled now old new = AreWatched (watching_where old.is_watch_due old.views.current old.builds.buildings.items) now (record old { is_watch_due = false }) new
 
   -- where no step is queued
   abbrev pub IsReady : List (Step S D K G C) → ℕ → Plan S D K G C → Plan S D K G C → Type 0

@@ -1,5 +1,5 @@
 -- What is planned for an answer of the member.
-use Rattle.std.specs.Prelude.{◌≡◌, ℕ, ◌+◌, ◌-◌, ◌^◌, min, Bool, true, false, not, ◌==◌, nat_le, List, [], ◌∷◌, ◌++◌, Option, Some, None, is_some, if◌then◌else◌}
+use Rattle.std.specs.Prelude.{◌≡◌, ℕ, ◌+◌, ◌-◌, ◌^◌, min, Bool, true, false, not, ◌&&◌, ◌==◌, nat_le, nat_lt, List, [], ◌∷◌, ◌++◌, Option, Some, None, is_some, if◌then◌else◌}
 use Rattle.simplex_types.specs.Certificates.{certificate_facts, notarization_facts}
 use Rattle.simplex_types.specs.Viewed.{certificate_view}
 use Rattle.simplex_types.specs.declared.reasons.TimeoutReason.{TimeoutReason}
@@ -29,7 +29,8 @@ use Rattle.simplex_plan.specs.declared.task.Task.TheVariants as task
 use Rattle.simplex_fetches.specs.declared.fetches.Fetch.{Fetch}
 use Rattle.simplex_fetches.specs.declared.fetches.FetchKind.{FetchKind}
 use Rattle.simplex_outbox.specs.declared.output.Work.TheVariants as work
-use Rattle.simplex_plan.specs.Building.{all_but_at, asking_for, HasBuilds, IsEnded, IsStopped}
+use Rattle.simplex_plan.specs.Blocks.{all_but_at, in_place}
+use Rattle.simplex_plan.specs.Building.{asking_for, HasBuilds, IsEnded, IsStopped}
 use Rattle.simplex_fetches.specs.declared.fetches.FetchKind.TheVariants as fetch
 use Rattle.simplex_fetches.specs.declared.repair.Repair.{Repair}
 use Rattle.simplex_fetches.specs.Fetches.{fetch_kind, is_fetch_open, closed}
@@ -51,7 +52,7 @@ pub data Consequence (D : Type 0) : Type 0 where
   Asked : Task D → Consequence D
 
 module _ {D : Type 0} where
-  -- a call was refused: a block that it was about is of no use any more
+  -- a call was not allowed: a block that it was about is of no use any more
   abbrev pub after_refusal : Task D → Consequence D
   after_refusal (task.Abandon view) = Stopped view
   after_refusal (task.Supersede view) = Stopped view
@@ -74,12 +75,16 @@ module _ {D : Type 0} where
   after_watch (task.Abandon view) is_abandoned = Asked (if is_abandoned then task.Release view else task.Supersede view)
   after_watch _ is_abandoned = Nothing
 
+-- by a member alone no block is built on a parent that is not certified before it enters the view
+abbrev pub waits : {K D : Type 0} → Bool → ℕ → Context D K → Bool
+waits is_alone current context = is_alone && nat_lt current context.round.view
+
 module _ {S D K G C : Type 0} where
   -- what follows from an answer that says no more than yes, no, or that the call is refused
   abbrev pub IsConsequence : Consequence D → Plan S D K G C → Plan S D K G C → Type 0
   IsConsequence Nothing old new = new ≡ old
   IsConsequence (Touched view) old new = HasPlanned (touching view) (watching old) new
-  IsConsequence (Built view) old new = HasBuilds (touching view) (all_but_at view old.builds.items) (watching old) new
+  IsConsequence (Built view) old new = HasBuilds (touching view) (all_but_at view old.builds.buildings.items) (watching old) new
   IsConsequence (Stopped view) old new = IsStopped view old new
   IsConsequence (Ended view) old new = IsEnded view old new
   IsConsequence (Asked call) old new = HasPlanned (Ask call ∷ []) old new
@@ -94,13 +99,13 @@ module _ {S D K G C : Type 0} where
   IsVerifyFollowed (verify.Resolve proposal view kind _) old new = HasPlanned (lacking (fetch_kind kind) view proposal old.repair.fetches.wanted.items) old new
   IsVerifyFollowed verify.Wait old new = new ≡ old
 
-  -- a block is to be built: by a member alone not before it enters the view
+  -- a block is to be built, in place of one of its view: now, or once its view is entered
   abbrev pub IsBuilt : Bool → Context D K → Plan S D K G C → Plan S D K G C → Type 0
   IsBuilt is_told context old new =
-      HasBuilds (asking_for context is_told) (old.builds.items ++ record { context = context; is_told = is_told } ∷ []) old new
+      HasBuilds (asking_for context is_told) (in_place (record { context = context; is_told = is_told }) old.builds.buildings.items) old new
 
   abbrev pub IsRequestFollowed : Option (ProposalRequest D K) → Plan S D K G C → Plan S D K G C → Type 0
-  IsRequestFollowed (Some (Prepare context)) old new = IsBuilt (not old.is_alone) context old new
+  IsRequestFollowed (Some (Prepare context)) old new = IsBuilt (not (waits old.is_alone old.views.current context)) context old new
   IsRequestFollowed (Some (Propose context)) old new = IsBuilt true context old new
   IsRequestFollowed None old new = new ≡ old
 
@@ -216,7 +221,6 @@ module _ {S D K G C : Type 0} (bytes : D → List ℕ) (bytes_of : C → List �
   IsFollowed asked (reply.Nullify answer) old new = IsNullifyFollowed now answer old new
   IsFollowed asked (reply.Certificate certificate) old new = IsBroadcastFollowed certificate old new
   IsFollowed asked (reply.Timeout moment reason) old new = IsTimeoutFollowed now moment reason old new
-  IsFollowed asked (reply.Fault _) old new = IsConsequence (after_refusal asked) old new
   IsFollowed asked reply.NotAllowed old new = IsConsequence (after_refusal asked) old new
   IsFollowed asked _ old new = new ≡ old
 

@@ -1,5 +1,6 @@
 pub mod Tasks
 pub mod Planning
+pub mod Blocks
 pub mod Building
 pub mod Entering
 pub mod Filling

@@ -3,6 +3,7 @@
 //! Each call says just what it plans. An error is want of memory, or what the resolver answers; after one a plan is of no use any more.
 
 mod accepting;
+mod building;
 mod due;
 mod early;
 mod entering;
@@ -14,17 +15,18 @@ ghost use Rattle.simplex_types.specs.declared.types.fault.Fault.TheVariants.{Fai
 ghost use Rattle.simplex_fetches.specs.Repairing.{HasPassed};
 ghost use Rattle.simplex_fetches.specs.Wanted.{is_lacking, AsksForTheLacking};
 ghost use Rattle.simplex_plan.specs.Planning.{IsIdle, IsWake, HasPlanned, asking_for_votes, asking_for_certificates, touching, watching};
-ghost use Rattle.simplex_plan.specs.Building.{builds_from};
+ghost use Rattle.simplex_plan.specs.Blocks.{builds_from};
 ghost use Rattle.simplex_plan.specs.declared.plan.Step.TheVariants.{Ask, Push};
 
 use crate::task::Task;
+use building::{Builds, is_ahead};
 use early::EarlyProposals;
 use simplex_fetches::fetches::{FetchKind, Fetches};
 use simplex_fetches::repair::Repair;
 use simplex_outbox::output::Work;
 use simplex_resolver::replay::LawfulResolver;
 use simplex_types::types::{
-    CertificateScheme, Context, Digest, Elector, Fault, Participant, Proposal, View,
+    CertificateScheme, Digest, Elector, Fault, Participant, Proposal, View,
 };
 use simplex_voter::voter::State;
 use std::alloc::{AllocError, Global};
@@ -77,14 +79,6 @@ pub struct Views {
     pub last_finalized: View,
 }
 
-/// A block that is to be built.
-#[derive(Clone, Copy)]
-struct Building<D, P: Copy> {
-    context: Context<D, P>,
-    /// The application was asked for it.
-    is_told: bool,
-}
-
 /// What is to be done and looked after.
 #[derive(Drop)]
 pub struct Plan<S: CertificateScheme, D> {
@@ -95,7 +89,7 @@ pub struct Plan<S: CertificateScheme, D> {
     views: Views,
     steps: VecDeque<Step<S, D>>,
     repair: Repair,
-    builds: Vec<Building<D, S::PublicKey>>,
+    builds: Builds<D, S::PublicKey>,
     early: EarlyProposals<D>,
     is_watch_due: bool,
     is_timeout_due: bool,
@@ -118,7 +112,7 @@ impl<S: CertificateScheme, D: Digest> Plan<S, D> {
         ensures options { (result.options ≡ options) × (result.is_alone ≡ is_alone) }
         ensures views { result.views ≡ views }
         ensures repair { result.repair ≡ repair }
-        ensures nothing { (result.steps.items ≡ []) × (result.builds.items ≡ []) × (result.early.proposals.items ≡ []) × (result.ignored ≡ 0) }
+        ensures nothing { (result.steps.items ≡ []) × (result.builds.buildings.items ≡ []) × (result.early.proposals.items ≡ []) × (result.ignored ≡ 0) }
         ensures due { (result.is_watch_due ≡ true) × (result.is_timeout_due ≡ true) × (result.is_prune_due ≡ true) × (result.timeout ≡ 0) }
     {
         Plan {
@@ -128,7 +122,7 @@ impl<S: CertificateScheme, D: Digest> Plan<S, D> {
             views,
             steps: VecDeque::new(alloc),
             repair,
-            builds: Vec::new(alloc),
+            builds: Builds::new(alloc),
             early: EarlyProposals::new(alloc),
             is_watch_due: true,
             is_timeout_due: true,
@@ -224,11 +218,11 @@ impl<S: CertificateScheme, D: Digest> Plan<S, D> {
             && !self.fetches().is_due(now)
     }
 
-    /// Whether each block that is to be built is of the view or of one above.
+    /// Whether each block that is to be built is of a view above, or of the view and was asked for.
     pub fn builds_from(&self, view: View) -> bool
-        ensures { result ≡ builds_from view self.now.builds.items }
+        ensures { result ≡ builds_from view self.now.builds.buildings.items }
     {
-        self.builds.iter().all(|it| view <= it.context.round.view)
+        self.builds.all().iter().all(|it| is_ahead(it, view))
     }
 
     /// Plans a step.

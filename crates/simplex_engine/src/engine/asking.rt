@@ -22,7 +22,8 @@ impl<S: Assembly<D>, L: Elector<S>, D: Digest> Engine<S, L, D> {
     ghost use Rattle.simplex_engine.specs.Quiet.{AnswersNothing, AnswerNothing, HasNothingDue};
     ghost use Rattle.simplex_engine.specs.Acting.{HasDoneTask};
     ghost use Rattle.simplex_engine.specs.Duties.{KeepsDuties};
-    ghost use Rattle.simplex_plan.specs.PlannedWork.{work_of, KeepsPlanned, PlansToo};
+    ghost use Rattle.simplex_plan.specs.PlannedWork.{KeepsPlanned, KeepsPlannedThen, PlansAnswerThen};
+    ghost use Rattle.simplex_engine.specs.Views.{HasComeTo};
 
     /// Asks for work of the application. Whether there is none.
     pub(super) fn has_no_work(&mut self, now: u64) -> Result<bool, Fault>
@@ -96,7 +97,8 @@ impl<S: Assembly<D>, L: Elector<S>, D: Digest> Engine<S, L, D> {
         ensures core { self.new.core ≡ self.old.core }
         ensures batcher { self.new.batcher ≡ self.old.batcher }
         ensures of_use { IfOk result (λ is_of_use. is_of_use ≡ not (says_nothing (told S.certificate_bytes reply))) }
-        ensures planned { OnOk result (PlansToo (work_of self.old.plan.is_alone (told S.certificate_bytes reply)) self.old.plan self.new.plan) }
+        ensures planned { OnOk result (PlansAnswerThen task (told S.certificate_bytes reply) self.old.plan self.new.plan) }
+        ensures seen { OnOk result (HasComeTo self.new.core.member.facts self.new.plan) }
     {
         let is_of_use = !says_nothing(&reply);
         self.see()?;
@@ -108,7 +110,8 @@ impl<S: Assembly<D>, L: Elector<S>, D: Digest> Engine<S, L, D> {
     pub(super) fn see(&mut self) -> Result<(), Fault>
         ensures core { self.new.core ≡ self.old.core }
         ensures batcher { self.new.batcher ≡ self.old.batcher }
-        ensures planned { OnOk result (KeepsPlanned self.old.plan self.new.plan) }
+        ensures planned { OnOk result (KeepsPlannedThen self.old.plan self.new.plan) }
+        ensures seen { OnOk result (HasComeTo self.new.core.member.facts self.new.plan) }
     {
         let Some(state) = self.core.state() else {
             return Err(Fault::OutOfMemory);

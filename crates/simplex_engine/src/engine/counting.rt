@@ -26,7 +26,8 @@ impl<S: Assembly<D>, L: Elector<S>, D: Digest> Engine<S, L, D> {
     ghost use Rattle.simplex_engine.specs.Acting.{IsHandedIn, IsCountFollowed};
     ghost use Rattle.simplex_engine.specs.Taking.{IsInputTaken};
     ghost use Rattle.simplex_engine.specs.Duties.{KeepsDuties};
-    ghost use Rattle.simplex_plan.specs.PlannedWork.{KeepsPlanned};
+    ghost use Rattle.simplex_plan.specs.PlannedWork.{KeepsPlannedThen};
+    ghost use Rattle.simplex_engine.specs.Views.{HasComeTo};
     ghost use Rattle.simplex_engine.specs.declared.input.Input.TheVariants as input;
     ghost use Rattle.simplex_engine.specs.Admitting.{is_so};
 
@@ -130,7 +131,8 @@ impl<S: Assembly<D>, L: Elector<S>, D: Digest> Engine<S, L, D> {
         ensures votes { TakesNone self.old.batcher self.new.batcher }
         ensures batcher { self.new.batcher ≡ self.old.batcher }
         ensures of_use { IfOk result (λ is_of_use. is_of_use ≡ not (is_refused (told S.certificate_bytes reply.now))) }
-        ensures planned { OnOk result (KeepsPlanned self.old.plan self.new.plan) }
+        ensures planned { OnOk result (KeepsPlannedThen self.old.plan self.new.plan) }
+        ensures seen { OnOk result (HasComeTo self.new.core.member.facts self.new.plan) }
     {
         let is_of_use = !is_refused(reply);
         self.see()?;

@@ -5,7 +5,7 @@ ghost use Rattle.std.specs.Prelude.{◌≡◌, ◌≢◌, None, Ok, IfOk, OnOk, 
 ghost use Rattle.std.specs.List.{list_any};
 ghost use Rattle.std.specs.Option.{option_map_or};
 ghost use Rattle.simplex_engine.specs.Acting.{verification_of};
-ghost use Rattle.simplex_engine.specs.Admitting.{admits_proposal};
+ghost use Rattle.simplex_engine.specs.Admitting.{admits_proposal, is_of_epoch};
 ghost use Rattle.simplex_plan.specs.declared.task.Task.TheVariants.{SetProposal};
 
 use super::Engine;
@@ -21,10 +21,10 @@ use simplex_voter::voter::State;
 impl<S: Assembly<D>, L: Elector<S>, D: Digest> Engine<S, L, D> {
     ghost use Rattle.simplex_outbox.specs.Going.{GoesOn};
     ghost use Rattle.simplex_engine.specs.Taking.{IsInputTaken};
-    ghost use Rattle.simplex_plan.specs.Building.{is_asked_in};
+    ghost use Rattle.simplex_plan.specs.Blocks.{is_asked_in};
     ghost use Rattle.simplex_engine.specs.Acting.{HasDoneTask, IsBlockTaken};
     ghost use Rattle.simplex_engine.specs.Duties.{KeepsDuties};
-    ghost use Rattle.simplex_engine.specs.Admitting.{is_so, ignoring};
+    ghost use Rattle.simplex_engine.specs.Admitting.{is_so, ignoring, IsKeptEarly};
 
     /// Takes what came in, while the engine has not failed, and counts what is of no use.
     pub(super) fn take(&mut self, input: Input<S, D>, now: u64) -> Result<bool, Fault>
@@ -64,7 +64,7 @@ impl<S: Assembly<D>, L: Elector<S>, D: Digest> Engine<S, L, D> {
         ensures goes_on { GoesOn D.eq L.elect S.certificate_bytes None self.old.core self.new.core }
         ensures batcher { self.new.batcher ≡ self.old.batcher }
         ensures unadmitted { IsFalse (is_so (λ x. admits_proposal x from proposal.round) self.old.core.member.facts) → IfOk result (λ is_of_use.
-            IsFalse is_of_use × (self.new ≡ record self.old { plan = record (self.old.plan) { early = self.new.plan.early } })) }
+            IsFalse is_of_use × IsKeptEarly from proposal self.old self.new) }
         ensures acted { IsTrue (is_so (λ x. admits_proposal x from proposal.round) self.old.core.member.facts) → IfOk result
             (HasDoneTask D.eq L.elect (SetProposal proposal.round.view proposal) now self.old.core.member.facts self.new.core.member.facts) }
         ensures duties { OnOk result (KeepsDuties self.old self.new) }
@@ -78,7 +78,8 @@ impl<S: Assembly<D>, L: Elector<S>, D: Digest> Engine<S, L, D> {
 
     /// Keeps a proposal of this epoch whose view comes soon.
     fn keep_early(&mut self, from: Participant, proposal: Proposal<D>) -> Result<(), Fault>
-        ensures { self.new ≡ record self.old { plan = record (self.old.plan) { early = self.new.plan.early } } }
+        ensures same { self.new ≡ record self.old { plan = record (self.old.plan) { early = self.new.plan.early } } }
+        ensures kept { OnOk result (IsKeptEarly from proposal self.old self.new) }
     {
         if !self.is_of_this_epoch(proposal.round) {
             return Ok(());
@@ -98,7 +99,9 @@ impl<S: Assembly<D>, L: Elector<S>, D: Digest> Engine<S, L, D> {
     }
 
     /// Whether the round is of this epoch.
-    pub(super) fn is_of_this_epoch(&self, round: Round) -> bool {
+    pub(super) fn is_of_this_epoch(&self, round: Round) -> bool
+        ensures { result ≡ is_so (λ x. is_of_epoch x round) self.now.core.member.facts }
+    {
         match self.core.state() {
             Some(state) => state.epoch() == round.epoch,
             None => false,
@@ -114,7 +117,7 @@ impl<S: Assembly<D>, L: Elector<S>, D: Digest> Engine<S, L, D> {
     ) -> Result<bool, Fault>
         ensures goes_on { GoesOn D.eq L.elect S.certificate_bytes None self.old.core self.new.core }
         ensures batcher { self.new.batcher ≡ self.old.batcher }
-        ensures acted { IfOk result (IsBlockTaken D.eq L.elect (list_any (is_asked_in D.eq context.now) self.old.plan.builds.items)
+        ensures acted { IfOk result (IsBlockTaken D.eq L.elect (list_any (is_asked_in D.eq context.now) self.old.plan.builds.buildings.items)
             context.now.round.view payload now self.old.core.member.facts self.new.core.member.facts) }
         ensures duties { OnOk result (KeepsDuties self.old self.new) }
     {

@@ -101,7 +101,7 @@ impl<S: Assembly<D>, L: Elector<S>, D: Digest> Engine<S, L, D> {
         ensures alone { GoesOnForgetting D.eq L.elect S.certificate_bytes self.old self.new }
         ensures member { self.new.core.member ≡ self.old.core.member }
         ensures idle { (now : ℕ) → IsIdle now self.old.plan → IsIdle now self.new.plan }
-        ensures builds { self.new.plan.builds.items ≡ self.old.plan.builds.items }
+        ensures builds { self.new.plan.builds.buildings.items ≡ self.old.plan.builds.buildings.items }
         ensures whole { OnOk result (IsWhole S.certificate_bytes self.new.core) }
         ensures lowest { OnOk result (HoldsFromKept self.new.core self.new.batcher) }
         ensures lacking { OnOk result (AsksForItsLacking self.new.core self.new.plan.repair) }
@@ -220,7 +220,7 @@ impl<S: Assembly<D>, L: Elector<S>, D: Digest> Engine<S, L, D> {
         ensures alone { GoesOnForgetting D.eq L.elect S.certificate_bytes self.old self.new }
         ensures member { self.new.core.member ≡ self.old.core.member }
         ensures idle { (now : ℕ) → IsIdle now self.old.plan → IsIdle now self.new.plan }
-        ensures builds { self.new.plan.builds.items ≡ self.old.plan.builds.items }
+        ensures builds { self.new.plan.builds.buildings.items ≡ self.old.plan.builds.buildings.items }
         ensures lowest { OnOk result (HoldsFromKept self.new.core self.new.batcher) }
         ensures lacking { OnOk result (AsksForItsLacking self.new.core self.new.plan.repair) }
         ensures duties { OnOk result (KeepsDuties self.old self.new) }
@@ -246,7 +246,7 @@ impl<S: Assembly<D>, L: Elector<S>, D: Digest> Engine<S, L, D> {
         ensures core { self.new.core ≡ self.old.core }
         ensures batcher { self.new.batcher ≡ self.old.batcher }
         ensures idle { (now : ℕ) → IsIdle now self.old.plan → IsIdle now self.new.plan }
-        ensures builds { self.new.plan.builds.items ≡ self.old.plan.builds.items }
+        ensures builds { self.new.plan.builds.buildings.items ≡ self.old.plan.builds.buildings.items }
         ensures lacking { OnOk result (AsksForItsLacking self.new.core self.new.plan.repair) }
         ensures planned { KeepsPlanned self.old.plan self.new.plan }
     {

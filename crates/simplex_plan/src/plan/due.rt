@@ -4,7 +4,8 @@ ghost use Rattle.std.specs.Prelude.{◌≡◌, ◌++◌, false, IfOk, OnOk};
 ghost use Rattle.simplex_plan.specs.Planning.{HasPlanned};
 ghost use Rattle.simplex_plan.specs.Filling.{watching_one, watching_all, watching_where, IsFetchAsked, IsPruneAsked, IsTimeoutAsked, IsReady, HasTaken};
 
-use super::{Building, Plan, Step, queue};
+use super::building::Building;
+use super::{Plan, Step, queue};
 use crate::task::Task;
 use simplex_outbox::output::Work;
 use simplex_types::types::{CertificateScheme, Digest, View};
@@ -40,7 +41,7 @@ impl<S: CertificateScheme, D: Digest> Plan<S, D> {
 
     /// Plans to ask whether blocks are of use still, where something has changed since that was done last.
     fn watch(&mut self) -> Result<(), AllocError>
-        ensures { OnOk result (HasPlanned (watching_where self.old.is_watch_due self.old.views.current self.old.builds.items)
+        ensures { OnOk result (HasPlanned (watching_where self.old.is_watch_due self.old.views.current self.old.builds.buildings.items)
             (record self.old { is_watch_due = false }) self.new) }
     {
         if !self.is_watch_due {
@@ -52,9 +53,9 @@ impl<S: CertificateScheme, D: Digest> Plan<S, D> {
 
     /// Plans to give up the blocks of views that are over, and to ask of each other one whether it has to be.
     fn watch_builds(&mut self) -> Result<(), AllocError>
-        ensures { OnOk result (HasPlanned (watching_all self.old.views.current self.old.builds.items) self.old self.new) }
+        ensures { OnOk result (HasPlanned (watching_all self.old.views.current self.old.builds.buildings.items) self.old self.new) }
     {
-        watch_all(self.views.current, &self.builds, &mut self.steps)
+        watch_all(self.views.current, self.builds.all(), &mut self.steps)
     }
 
     /// Plans what is due: first the timeout, then what is dropped, and then what is asked of peers.

@@ -2,10 +2,12 @@
 
 ghost use Rattle.std.specs.Prelude.{◌≡◌, ◌++◌, map, filter, nat_lt, OnOk};
 ghost use Rattle.simplex_plan.specs.Building.{HasBuilds};
-ghost use Rattle.simplex_plan.specs.Entering.{has_waited, told_by, asking_by, offering, HasEntered, IsPassedWhere, HasSeen};
+ghost use Rattle.simplex_plan.specs.Blocks.{told_by};
+ghost use Rattle.simplex_plan.specs.Entering.{asking_by, offering, HasEntered, IsPassedWhere, HasSeen};
 
+use super::building::{Building, has_waited};
 use super::early::Early;
-use super::{Building, Plan, Step, Views, queue};
+use super::{Plan, Step, Views, queue};
 use simplex_outbox::output::Work;
 use simplex_types::types::{CertificateScheme, Digest, View};
 use std::alloc::AllocError;
@@ -49,10 +51,11 @@ impl<S: CertificateScheme, D: Digest> Plan<S, D> {
 
     /// Asks for the blocks that waited for the view.
     fn build_waiting(&mut self, view: View) -> Result<(), AllocError>
-        ensures { OnOk result (HasBuilds (asking_by view self.old.builds.items) (map (told_by view) self.old.builds.items) self.old self.new) }
+        ensures { let builds = self.old.builds.buildings.items in
+            OnOk result (HasBuilds (asking_by view builds) (map (told_by view) builds) self.old self.new) }
     {
-        ask_waiting(view, &self.builds, &mut self.steps)?;
-        tell_waiting(view, &mut self.builds);
+        ask_waiting(view, self.builds.all(), &mut self.steps)?;
+        self.builds.tell(view);
         Ok(())
     }
 
@@ -69,13 +72,6 @@ impl<S: CertificateScheme, D: Digest> Plan<S, D> {
     }
 }
 
-/// Whether the block was to be asked for in the view, or in one below it, and was not yet.
-fn has_waited<D: Digest, P: Copy>(building: &Building<D, P>, view: View) -> bool
-    ensures { result ≡ has_waited view building.now }
-{
-    !building.is_told && building.context.round.view <= view
-}
-
 /// Asks for the blocks that waited for the view.
 fn ask_waiting<S: CertificateScheme, D: Digest>(
     view: View,
@@ -90,25 +86,6 @@ fn ask_waiting<S: CertificateScheme, D: Digest>(
         }
     }
     Ok(())
-}
-
-/// The application was asked by now for each block of the view, and of those below it.
-fn tell_waiting<D: Digest, P: Copy>(view: View, builds: &mut [Building<D, P>])
-    ensures { builds.new ≡ map (told_by view) builds.old }
-{
-    for building in builds.iter_mut() {
-        *building = told_by(*building, view);
-    }
-}
-
-/// The block, once the application was asked for those of the view and below it.
-fn told_by<D: Digest, P: Copy>(building: Building<D, P>, view: View) -> Building<D, P>
-    ensures { result ≡ told_by view building }
-{
-    Building {
-        context: building.context,
-        is_told: building.is_told || building.context.round.view <= view,
-    }
 }
 
 /// Offers the early proposals of the views up to this one.

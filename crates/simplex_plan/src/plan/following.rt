@@ -5,7 +5,7 @@ ghost use Rattle.simplex_resolver.specs.Steps.{highest_named};
 ghost use Rattle.simplex_fetches.specs.Repairing.{IsUnrepaired};
 ghost use Rattle.simplex_plan.specs.Planning.{HasPlanned, touching};
 ghost use Rattle.simplex_plan.specs.declared.task.Task.TheVariants.{Release, Supersede};
-ghost use Rattle.simplex_plan.specs.Following.{Consequence, Nothing, Touched, Built, Stopped, Asked, after_refusal, after_flag, after_watch, IsConsequence, lacking, IsVerifyFollowed, IsRequestFollowed, IsBroadcastFollowed, repeating, IsNullifyFollowed, IsTimeoutFollowed, certifying, AreCertified, IsVerdictFollowed, IsVerdictToldAbove, IsUnjudged, IsFollowed, IsUnfollowed};
+ghost use Rattle.simplex_plan.specs.Following.{Consequence, Nothing, Touched, Built, Stopped, Asked, after_refusal, after_flag, after_watch, IsConsequence, lacking, IsVerifyFollowed, waits, IsRequestFollowed, IsBroadcastFollowed, repeating, IsNullifyFollowed, IsTimeoutFollowed, certifying, AreCertified, IsVerdictFollowed, IsVerdictToldAbove, IsUnjudged, IsFollowed, IsUnfollowed};
 
 use super::accepting::is_genesis;
 use super::{Plan, Step};
@@ -15,7 +15,8 @@ use simplex_member::member::Reply;
 use simplex_outbox::output::Work;
 use simplex_types::reasons::TimeoutReason;
 use simplex_types::types::{
-    Certificate, CertificateScheme, Digest, Fault, Notarization, Nullify, Proposal, View, Viewable,
+    Certificate, CertificateScheme, Context, Digest, Fault, Notarization, Nullify, Proposal, View,
+    Viewable,
 };
 use simplex_voter::voter::{CertificateFetch, ProposalRequest, Verify};
 use std::alloc::AllocError;
@@ -47,12 +48,12 @@ impl<S: CertificateScheme, D: Digest> Plan<S, D> {
             Reply::Certificate(certificate) => Ok(self.broadcast(certificate)?),
             Reply::Timeout(moment, reason) => Ok(self.follow_timeout(moment, reason, now)?),
             Reply::Fault(Fault::OutOfMemory) => Err(Fault::OutOfMemory),
-            Reply::Fault(_) | Reply::NotAllowed => Ok(self.follow_refusal(task)?),
+            Reply::NotAllowed => Ok(self.follow_refusal(task)?),
             _ => Ok(()),
         }
     }
 
-    /// A call was refused, and has changed nothing: what it was to go on with is over.
+    /// A call was not allowed, and has changed nothing: what it was to go on with is over.
     fn follow_refusal(&mut self, task: Task<D>) -> Result<(), AllocError>
         ensures { OnOk result (IsConsequence (after_refusal task) self.old self.new) }
     {
@@ -156,8 +157,8 @@ impl<S: CertificateScheme, D: Digest> Plan<S, D> {
         self.plan(Step::Resolve(kind, view, proposal))
     }
 
-    /// A block is to be built. A member alone builds none ahead of its parent's certification, but when it enters the view: its own
-    /// application may refuse the parent for good.
+    /// A block is to be built. A member alone builds none ahead of its parent's certification, but once it has entered the view: its
+    /// own application may refuse the parent for good.
     fn follow_request(
         &mut self,
         request: Option<ProposalRequest<D, S::PublicKey>>,
@@ -165,10 +166,17 @@ impl<S: CertificateScheme, D: Digest> Plan<S, D> {
         ensures { OnOk result (IsRequestFollowed request self.old self.new) }
     {
         match request {
-            Some(ProposalRequest::Prepare(context)) => self.build(context, !self.is_alone),
+            Some(ProposalRequest::Prepare(context)) => self.build(context, !self.waits(&context)),
             Some(ProposalRequest::Propose(context)) => self.build(context, true),
             None => Ok(()),
         }
+    }
+
+    /// Whether a block on a parent that is not certified waits until its view is entered.
+    fn waits(&self, context: &Context<D, S::PublicKey>) -> bool
+        ensures { result ≡ waits self.now.is_alone self.now.views.current context.now }
+    {
+        self.is_alone && self.views.current < context.round.view
     }
 
     /// A certificate is sent to all others, where there is one.

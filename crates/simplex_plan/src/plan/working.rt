@@ -5,10 +5,12 @@ ghost use Rattle.std.specs.Prelude.{◌≡◌, ◌+◌, ◌-◌, ◌^◌, min, i
 ghost use Rattle.simplex_fetches.specs.Fetches.{opened, place_of};
 ghost use Rattle.simplex_fetches.specs.Repairing.{HasFetches};
 ghost use Rattle.simplex_plan.specs.Planning.{may_keep, HasPlanned};
-ghost use Rattle.simplex_plan.specs.Building.{is_asked_in, is_asked_at, stopping, asking_for, HasBuilds, IsEnded, IsStopped};
+ghost use Rattle.simplex_plan.specs.Blocks.{is_asked_in, is_asked_at, in_place};
+ghost use Rattle.simplex_plan.specs.Building.{stopping, asking_for, HasBuilds, IsEnded, IsStopped};
 
+use super::Plan;
+use super::building::{is_asked_at, is_asked_in};
 use super::early::{Early, MOST_EARLY};
-use super::{Building, Plan};
 use simplex_fetches::fetches::FetchKind;
 use simplex_outbox::output::Work;
 use simplex_types::types::{CertificateScheme, Context, Digest, Participant, Proposal, View};
@@ -57,16 +59,16 @@ impl<S: CertificateScheme, D: Digest> Plan<S, D> {
         self.repair.open(kind, view, of, moment)
     }
 
-    /// A block is to be built in the context, at once or when its view is entered.
+    /// A block is to be built in the context, in place of one of its view, at once or when its view is entered.
     pub(super) fn build(
         &mut self,
         context: Context<D, S::PublicKey>,
         is_told: bool,
     ) -> Result<(), AllocError>
         ensures { OnOk result (HasBuilds (asking_for context is_told)
-            (self.old.builds.items ++ record { context = context; is_told = is_told } ∷ []) self.old self.new) }
+            (in_place (record { context = context; is_told = is_told }) self.old.builds.buildings.items) self.old self.new) }
     {
-        self.builds.push(Building { context, is_told })?;
+        self.builds.put(context, is_told)?;
         if is_told {
             self.push(Work::Build(context))?;
         }
@@ -75,16 +77,16 @@ impl<S: CertificateScheme, D: Digest> Plan<S, D> {
 
     /// Whether the application was asked for a block in just this context.
     pub fn is_building(&self, context: &Context<D, S::PublicKey>) -> bool
-        ensures { result ≡ list_any (is_asked_in D.eq context.now) self.now.builds.items }
+        ensures { result ≡ list_any (is_asked_in D.eq context.now) self.now.builds.buildings.items }
     {
-        self.builds.iter().any(|it| is_asked_in(it, context))
+        self.builds.all().iter().any(|it| is_asked_in(it, context))
     }
 
     /// Whether the application was asked for a block in the view.
     fn is_asked(&self, view: View) -> bool
-        ensures { result ≡ list_any (is_asked_at view) self.now.builds.items }
+        ensures { result ≡ list_any (is_asked_at view) self.now.builds.buildings.items }
     {
-        self.builds.iter().any(|it| is_asked_at(it, view))
+        self.builds.all().iter().any(|it| is_asked_at(it, view))
     }
 
     /// What is built in the view is of no use any more.
@@ -110,22 +112,6 @@ impl<S: CertificateScheme, D: Digest> Plan<S, D> {
     pub(super) fn end_building(&mut self, view: View)
         ensures { IsEnded view self.old self.new }
     {
-        self.builds.retain(|it| it.context.round.view != view);
+        self.builds.end(view);
     }
-}
-
-/// Whether the application was asked for the block in just this context.
-fn is_asked_in<D: Digest, P: Copy>(building: &Building<D, P>, context: &Context<D, P>) -> bool
-    ensures { result ≡ is_asked_in D.eq context.now building.now }
-{
-    building.is_told
-        && building.context.round == context.round
-        && building.context.parent == context.parent
-}
-
-/// Whether the application was asked for the block, in the view.
-fn is_asked_at<D: Digest, P: Copy>(building: &Building<D, P>, view: View) -> bool
-    ensures { result ≡ is_asked_at view building.now }
-{
-    building.is_told && building.context.round.view == view
 }

@@ -5,8 +5,8 @@ use Rattle.std.proofs.lemmas.Result.{IfOk-weaker}
 use Rattle.simplex_types.specs.Certificates.{certificate_facts}
 use Rattle.simplex_types.specs.Encoding.{certificate_subject}
 use Rattle.simplex_outbox.specs.Going.{GoesOn}
-use Rattle.simplex_engine.proofs.Tells.{handed_as, queued_then, tells_handed}
-use Rattle.simplex_plan.proofs.Planning.{on_ok}
+use Rattle.simplex_engine.proofs.Tells.{handed_as, tells_handed}
+use Rattle.simplex_plan.proofs.Planning.{on_ok_both}
 use Rattle.simplex_member.specs.Calls.{told}
 use Rattle.simplex_engine.proofs.engine.Engine.accept.Goals as goal
 
@@ -48,7 +48,8 @@ returns-clause-duties g c =
     let bytes_of = g.S.CertificateScheme.certificate_bytes in
     let handed = certificate_facts bytes_of c.args.certificate.now in
     let answer = told bytes_of c.in_ok-reply.reply in
-    on_ok c.follow_certificate.result c.follow_certificate.ensures.planned
-    (tells_handed same elect c.args.self.now c.follow_certificate.new.self handed c.args.now answer
+    on_ok_both c.follow_certificate.result c.follow_certificate.ensures.seen c.follow_certificate.ensures.planned
+    (tells_handed c.args.self.now c.follow_certificate.new.self handed c.args.now answer
     (handed_as same elect c.args.self.now.core.member.facts answer c.args.now c.in_ok-copy.ensures.same c.follow_certificate.ensures.core c.in_ok-reply.ensures.answered)
-    (queued_then c.args.self.now.core c.hand_in.new.self c.follow_certificate.new.self.core c.hand_in.ensures.goes_on.queued c.follow_certificate.ensures.core))
+    (subst (GoesOn same elect bytes_of (Some (certificate_subject (certificate_facts bytes_of c.in_ok-copy.copy))) c.args.self.now.core) (sym c.follow_certificate.ensures.core)
+    c.hand_in.ensures.goes_on))

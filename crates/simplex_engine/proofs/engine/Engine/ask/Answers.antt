@@ -1,12 +1,12 @@
 -- That a task accepts no certificate, and what its answer says.
 use Rattle.std.proofs.Common.{None, sym, subst}
 use Rattle.std.proofs.lemmas.Result.{IfOk-weaker}
-use Rattle.simplex_member.specs.Calls.{told, asked}
+use Rattle.simplex_member.specs.Calls.{told}
 use Rattle.simplex_member.specs.Lives.{IsCall}
 use Rattle.simplex_outbox.specs.Going.{GoesOn}
 use Rattle.simplex_plan.specs.Tasks.{call_of}
-use Rattle.simplex_engine.proofs.Tells.{tells_called, queued_on}
-use Rattle.simplex_plan.proofs.Planning.{on_ok}
+use Rattle.simplex_engine.proofs.Tells.{tells_called}
+use Rattle.simplex_plan.proofs.Planning.{on_ok_both}
 use Rattle.simplex_engine.proofs.engine.Engine.ask.Goals as goal
 
 pub returns : goal.returns
@@ -16,17 +16,17 @@ returns g c =
     let bytes_of = g.S.CertificateScheme.certificate_bytes in
     let before = c.args.self.now.core.member.facts in
     let answer = told bytes_of c.call-reply.result in
+    let goes = subst (GoesOn same elect bytes_of None c.args.self.now.core) (sym c.follow.ensures.core) (c.call-reply.ensures.quiet c.call.ensures.plain) in
+    let answered = subst (λ core. IsCall same elect before (call_of c.args.task c.args.now) answer core.member.facts) (sym c.follow.ensures.core)
+    (subst (λ call. IsCall same elect before call answer c.call-reply.new.self.member.facts) c.call.ensures.asked c.call-reply.ensures.answered) in
     record {
-      goes_on = subst (GoesOn same elect bytes_of None c.args.self.now.core) (sym c.follow.ensures.core) (c.call-reply.ensures.quiet c.call.ensures.plain);
+      goes_on = goes;
       batcher = c.follow.ensures.batcher;
       acted = IfOk-weaker c.follow.result _ _ (λ is_of_use of_use. record {
         answer = answer;
-        answered = subst (λ core. IsCall same elect before (call_of c.args.task c.args.now) answer core.member.facts) (sym c.follow.ensures.core)
-            (subst (λ call. IsCall same elect before call answer c.call-reply.new.self.member.facts) c.call.ensures.asked c.call-reply.ensures.answered);
+        answered = answered;
         told = of_use;
       }) c.follow.ensures.of_use;
-      duties = on_ok c.follow.result c.follow.ensures.planned
-          (tells_called same elect c.args.self.now c.follow.new.self (asked bytes_of c.call.result) answer
-          (subst (λ core. IsCall same elect before (asked bytes_of c.call.result) answer core.member.facts) (sym c.follow.ensures.core) c.call-reply.ensures.answered)
-          (queued_on c.args.self.now.core c.call-reply.new.self c.follow.new.self.core c.call-reply.ensures.outbox c.follow.ensures.core));
+      duties = on_ok_both c.follow.result c.follow.ensures.seen c.follow.ensures.planned
+          (tells_called c.args.self.now c.follow.new.self c.args.task c.args.now answer answered goes);
     }

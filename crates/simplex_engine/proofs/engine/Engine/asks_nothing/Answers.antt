@@ -1,12 +1,12 @@
 -- That the call accepts no certificate, and what its answer says.
 use Rattle.std.proofs.Common.{None, sym, subst, ◌∙◌}
-use Rattle.simplex_member.specs.Calls.{told, asked}
+use Rattle.simplex_member.specs.Calls.{told}
 use Rattle.simplex_member.specs.Lives.{IsCall}
 use Rattle.simplex_outbox.specs.Going.{GoesOn}
 use Rattle.simplex_plan.specs.Tasks.{call_of}
 use Rattle.simplex_engine.specs.Quiet.{AnswersNothing}
 use Rattle.simplex_engine.proofs.Alone.{alone_with}
-use Rattle.simplex_engine.proofs.Tells.{tells_called, queued_on}
+use Rattle.simplex_engine.proofs.Tells.{tells_called}
 use Rattle.simplex_engine.proofs.engine.Engine.asks_nothing.Goals as goal
 
 pub returns-in_err-follow-clause-alone : goal.returns-in_err-follow-clause-alone
@@ -22,14 +22,15 @@ returns g c =
     let bytes_of = g.S.CertificateScheme.certificate_bytes in
     let before = c.args.self.now.core.member.facts in
     let answer = told bytes_of c.call-reply.result in
+    let goes = subst (GoesOn same elect bytes_of None c.args.self.now.core) (sym c.follow.ensures.core) (c.call-reply.ensures.quiet c.call.ensures.plain) in
     record {
-      alone = alone_with c.args.self.now c.follow.new.self
-          (subst (GoesOn same elect bytes_of None c.args.self.now.core) (sym c.follow.ensures.core) (c.call-reply.ensures.quiet c.call.ensures.plain)) c.follow.ensures.batcher;
+      alone = alone_with c.args.self.now c.follow.new.self goes c.follow.ensures.batcher;
       nothing = λ is.
           subst (λ core. AnswersNothing same elect before (call_of c.args.task c.args.now) core.member.facts) (sym c.follow.ensures.core)
           (subst (λ call. AnswersNothing same elect before call c.call-reply.new.self.member.facts) c.call.ensures.asked
           (record { answer = answer; nothing = sym c.is_nothing-is_nothing.ensures ∙ is; answered = c.call-reply.ensures.answered }));
-      duties = tells_called same elect c.args.self.now c.follow.new.self (asked bytes_of c.call.result) answer
-          (subst (λ core. IsCall same elect before (asked bytes_of c.call.result) answer core.member.facts) (sym c.follow.ensures.core) c.call-reply.ensures.answered)
-          (queued_on c.args.self.now.core c.call-reply.new.self c.follow.new.self.core c.call-reply.ensures.outbox c.follow.ensures.core) c.in_ok-follow.ensures.planned;
+      duties = tells_called c.args.self.now c.follow.new.self c.args.task c.args.now answer
+          (subst (λ core. IsCall same elect before (call_of c.args.task c.args.now) answer core.member.facts) (sym c.follow.ensures.core)
+          (subst (λ call. IsCall same elect before call answer c.call-reply.new.self.member.facts) c.call.ensures.asked c.call-reply.ensures.answered))
+          goes c.in_ok-follow.ensures.seen c.in_ok-follow.ensures.planned;
     }

@@ -23,7 +23,7 @@ returns-then-not-admits_votes g c =
       bounded = bounded_same keys_of engine.core engine.core engine.batcher refl;
       acted = λ is. absurd (false≢true
           (sym c.if-not-admits_votes.true ∙ c.admits_votes.ensures ∙ ap (λ round. is_so (λ x. admits_votes x round) engine.core.member.facts) c.round_of.ensures.round ∙ is));
-      duties = record { stays = λ work told. told; works = among_still (work_ahead engine); constants = refl };
+      duties = record { stays = λ work told. told; works = among_still (work_ahead engine); near = λ near. near; seen = λ come. come; constants = refl };
       ignored = refl;
     }
 

@@ -1,9 +1,10 @@
 -- That nothing but what is planned changes.
-use Rattle.std.proofs.Common.{ap}
+use Rattle.std.proofs.Common.{ap, refl}
 use Rattle.std.specs.Prelude.{not}
 use Rattle.simplex_member.specs.Calls.{told}
-use Rattle.simplex_plan.proofs.PlannedWork.{plans_then}
+use Rattle.simplex_plan.proofs.PlannedWork.{plans_seen}
 use Rattle.simplex_plan.proofs.Following.{followed_plans}
+use Rattle.simplex_engine.proofs.Building.{come_same}
 use Rattle.simplex_engine.proofs.engine.Engine.follow.Goals as goal
 
 pub returns-in_err-see-clause-core : goal.returns-in_err-see-clause-core
@@ -21,10 +22,11 @@ returns-in_err-follow-clause-batcher g c = c.see.ensures.batcher
 pub returns : goal.returns
 returns g c =
     let bytes_of = g.S.CertificateScheme.certificate_bytes in
+    let follows = followed_plans c.see.new.self.plan c.follow.new.self g.D.Digest.bytes bytes_of c.args.now c.args.task c.args.reply c.in_ok-follow.ensures.followed in
     record {
       core = c.see.ensures.core;
       batcher = c.see.ensures.batcher;
       of_use = ap not c.says_nothing-is_of_use.ensures;
-      planned = plans_then c.args.self.now.plan c.see.new.self.plan c.follow.new.self (told bytes_of c.args.reply) c.in_ok-see.ensures.planned
-          (followed_plans c.see.new.self.plan c.follow.new.self g.D.Digest.bytes bytes_of c.args.now c.args.task c.args.reply c.in_ok-follow.ensures.followed);
+      planned = plans_seen c.args.self.now.plan c.see.new.self.plan c.follow.new.self c.args.task (told bytes_of c.args.reply) c.in_ok-see.ensures.planned follows;
+      seen = come_same c.see.new.self (record (c.see.new.self) { plan = c.follow.new.self }) refl follows.reached c.in_ok-see.ensures.seen;
     }

@@ -2,8 +2,7 @@
 use Rattle.std.proofs.Common.{◌≡◌, Bool, true, false, not, refl, ap, subst}
 use Rattle.std.proofs.lemmas.Bool.{false≢true}
 use Rattle.simplex_outbox.specs.Reaching.{IsShort}
-use Rattle.simplex_plan.proofs.PlannedWork.{keeps_still}
-use Rattle.simplex_engine.proofs.Tells.{tells_same}
+use Rattle.simplex_engine.proofs.Tells.{tells_beside}
 use Rattle.simplex_engine.proofs.engine.Engine.is_short.Goals as goal
 
 is_not : (b : Bool) → not b ≡ true → b ≡ false
@@ -23,5 +22,6 @@ returns-clause-short g c = λ given kept is.
 
 pub returns-clause-duties : goal.returns-clause-duties
 returns-clause-duties g c =
-    tells_same c.args.self.now (record c.args.self.now { core = c.store.new.self }) (ap (λ m. m.facts.outstanding_work) c.store.ensures.member)
-    c.store.ensures.goes_on.queued keeps_still
+    tells_beside c.args.self.now (record c.args.self.now { core = c.store.new.self }) (ap (λ m. m.facts.outstanding_work) c.store.ensures.member)
+    (ap (λ m. m.facts.life) c.store.ensures.member)
+    c.store.ensures.goes_on refl

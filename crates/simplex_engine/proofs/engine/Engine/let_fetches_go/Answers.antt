@@ -7,4 +7,4 @@ pub returns-in-Some-clause-planned : goal.returns-in-Some-clause-planned
 returns-in-Some-clause-planned g c = plans_let_go _ _ c.args.self.now.plan c.let_go.new.self c.let_go.result c.let_go.ensures.same c.let_go.ensures.kept c.let_go.ensures.refused
 
 pub returns-in-Some-clause-builds : goal.returns-in-Some-clause-builds
-returns-in-Some-clause-builds g c = ap (λ plan. plan.builds.items) c.let_go.ensures.same
+returns-in-Some-clause-builds g c = ap (λ plan. plan.builds.buildings.items) c.let_go.ensures.same

@@ -30,7 +30,7 @@ pub returns-in_err-tell_forgotten-clause-idle : goal.returns-in_err-tell_forgott
 returns-in_err-tell_forgotten-clause-idle g c = λ now idle. subst (IsIdle now) (sym c.tell_forgotten.ensures.plan) idle
 
 pub returns-in_err-tell_forgotten-clause-builds : goal.returns-in_err-tell_forgotten-clause-builds
-returns-in_err-tell_forgotten-clause-builds g c = ap (λ plan. plan.builds.items) c.tell_forgotten.ensures.plan
+returns-in_err-tell_forgotten-clause-builds g c = ap (λ plan. plan.builds.buildings.items) c.tell_forgotten.ensures.plan
 
 pub returns : goal.returns
 returns g c =
@@ -51,7 +51,7 @@ returns g c =
       };
       member = ap (λ core. core.member) c.let_fetches_go.ensures.core ∙ c.tell_forgotten.ensures.member;
       idle = λ now idle. c.let_fetches_go.ensures.idle now (subst (IsIdle now) (sym c.tell_forgotten.ensures.plan) idle);
-      builds = c.let_fetches_go.ensures.builds ∙ ap (λ plan. plan.builds.items) c.tell_forgotten.ensures.plan;
+      builds = c.let_fetches_go.ensures.builds ∙ ap (λ plan. plan.builds.buildings.items) c.tell_forgotten.ensures.plan;
       lowest = on_ok c.let_fetches_go.result c.let_fetches_go.ensures.lacking
           (λ _. subst (λ now. IfSome now.member.facts.life (λ x. HoldsFrom (min_active x) c.let_fetches_go.new.self.batcher)) (sym c.let_fetches_go.ensures.core)
           (subst (λ batcher. IfSome core.member.facts.life (λ x. HoldsFrom (min_active x) batcher)) (sym c.let_fetches_go.ensures.batcher)
@@ -61,5 +61,5 @@ returns g c =
       duties = on_ok c.let_fetches_go.result c.let_fetches_go.ensures.lacking (λ _. tells_further c.in_ok-tell_forgotten.ensures.duties
           (let keeps = tells_planned (record (c.tell_forgotten.new.self) { batcher = c.forget.new.self }) c.let_fetches_go.new.self
           c.let_fetches_go.ensures.core c.let_fetches_go.ensures.planned in
-          record { stays = keeps.stays; works = keeps.works; constants = keeps.constants; ignored = keeps.ignored }));
+          record { stays = keeps.stays; works = keeps.works; near = keeps.near; seen = keeps.seen; constants = keeps.constants; ignored = keeps.ignored }));
     }

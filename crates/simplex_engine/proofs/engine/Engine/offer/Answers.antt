@@ -23,18 +23,18 @@ returns-then-admits_proposal g c = record {
 pub returns-in_err-keep_early-clause-goes_on : goal.returns-in_err-keep_early-clause-goes_on
 returns-in_err-keep_early-clause-goes_on g c =
     subst (GoesOn g.D.PartialEq.eq g.L.Elector.elect g.S.CertificateScheme.certificate_bytes None c.args.self.now.core)
-    (sym (ap (λ engine. engine.core) c.keep_early.ensures)) (stays c.args.self.now.core)
+    (sym (ap (λ engine. engine.core) c.keep_early.ensures.same)) (stays c.args.self.now.core)
 
 pub returns-in_err-keep_early-clause-batcher : goal.returns-in_err-keep_early-clause-batcher
-returns-in_err-keep_early-clause-batcher g c = ap (λ engine. engine.batcher) c.keep_early.ensures
+returns-in_err-keep_early-clause-batcher g c = ap (λ engine. engine.batcher) c.keep_early.ensures.same
 
 pub returns : goal.returns
 returns g c = record {
   goes_on = subst (GoesOn g.D.PartialEq.eq g.L.Elector.elect g.S.CertificateScheme.certificate_bytes None c.args.self.now.core)
-      (sym (ap (λ engine. engine.core) c.keep_early.ensures)) (stays c.args.self.now.core);
-  batcher = ap (λ engine. engine.batcher) c.keep_early.ensures;
-  unadmitted = λ _. (refl, c.keep_early.ensures);
+      (sym (ap (λ engine. engine.core) c.keep_early.ensures.same)) (stays c.args.self.now.core);
+  batcher = ap (λ engine. engine.batcher) c.keep_early.ensures.same;
+  unadmitted = λ _. (refl, c.in_ok-keep_early.ensures.kept);
   acted = λ is. absurd (false≢true (sym c.if-admits_proposal.false ∙ c.admits_proposal.ensures ∙ is));
-  duties = subst (KeepsDuties c.args.self.now) (sym c.keep_early.ensures)
-      (record { stays = λ work told. told; works = among_still (work_ahead c.args.self.now); constants = refl; ignored = refl });
+  duties = subst (KeepsDuties c.args.self.now) (sym c.keep_early.ensures.same)
+      (record { stays = λ work told. told; works = among_still (work_ahead c.args.self.now); near = λ near. near; seen = λ come. come; constants = refl; ignored = refl });
 }

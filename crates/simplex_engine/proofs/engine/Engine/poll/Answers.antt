@@ -5,6 +5,7 @@ use Rattle.simplex_outbox.specs.Finals.{TellsNoMore}
 use Rattle.simplex_engine.specs.Inputs.{given_out}
 use Rattle.simplex_outbox.proofs.Finals.{tells_still}
 use Rattle.simplex_engine.proofs.Alone.{forgets_nothing}
+use Rattle.simplex_engine.proofs.Building.{come_beside, near_same}
 use Rattle.simplex_engine.proofs.Bounds.{bounded_same, bounded_admitted}
 use Rattle.simplex_outbox.proofs.Going.{does_nothing_more, where_ok}
 use Rattle.simplex_engine.proofs.Tells.{tells_given, still_told, works_given}
@@ -76,3 +77,19 @@ returns-in-None-clause-works g c =
 
 pub returns-in-None-clause-short : goal.returns-in-None-clause-short
 returns-in-None-clause-short g c = λ given kept. c.poll_after_work.ensures.short (given ++ option_to_list c.next.result) (c.next.ensures.kept given kept)
+
+pub returns-in-Some-clause-near : goal.returns-in-Some-clause-near
+returns-in-Some-clause-near g c = near_same c.args.self.now (record c.args.self.now { core = c.next.new.self }) c.next.ensures.same.0 refl
+
+pub returns-in-None-clause-near : goal.returns-in-None-clause-near
+returns-in-None-clause-near g c =
+    on_ok c.poll_after_work.result c.poll_after_work.ensures.near
+    (λ more near. more (near_same c.args.self.now (record c.args.self.now { core = c.next.new.self }) c.next.ensures.same.0 refl near))
+
+pub returns-in-Some-clause-seen : goal.returns-in-Some-clause-seen
+returns-in-Some-clause-seen g c = come_beside c.args.self.now (record c.args.self.now { core = c.next.new.self }) c.next.ensures.same.0 refl
+
+pub returns-in-None-clause-seen : goal.returns-in-None-clause-seen
+returns-in-None-clause-seen g c =
+    on_ok c.poll_after_work.result c.poll_after_work.ensures.seen
+    (λ more come. more (come_beside c.args.self.now (record c.args.self.now { core = c.next.new.self }) c.next.ensures.same.0 refl come))

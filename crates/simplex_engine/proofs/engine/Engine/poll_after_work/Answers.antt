@@ -13,8 +13,9 @@ use Rattle.simplex_engine.proofs.Bounds.{bounded_still, bounded_further, bounded
 use Rattle.simplex_outbox.proofs.Going.{goes_further, gives_nothing, does_more, tells_no_other, tells_no_other_then}
 use Rattle.simplex_engine.proofs.Tells.{tells_given, all_left, works_given}
 use Rattle.simplex_engine.specs.Duties.{work_in}
-use Rattle.simplex_plan.specs.Building.{builds_from}
+use Rattle.simplex_plan.specs.Blocks.{builds_from}
 use Rattle.simplex_plan.proofs.PlannedWork.{among_further}
+use Rattle.simplex_engine.proofs.Building.{come_beside, near_same}
 use Rattle.simplex_engine.proofs.engine.Engine.poll_after_work.Goals as goal
 
 pub returns-in-Ok-clause-given : goal.returns-in-Ok-clause-given
@@ -63,7 +64,7 @@ returns-in-Ok-clause-lowest g c none =
 
 pub returns-in-Ok-clause-ahead : goal.returns-in-Ok-clause-ahead
 returns-in-Ok-clause-ahead g c none =
-    subst (λ m. IfSome m.facts.life (λ x. builds_from x.current c.work.new.self.plan.builds.items ≡ true)) (sym c.next.ensures.same.0) c.in-Ok.ensures.ahead
+    subst (λ m. IfSome m.facts.life (λ x. builds_from x.current c.work.new.self.plan.builds.buildings.items ≡ true)) (sym c.next.ensures.same.0) c.in-Ok.ensures.ahead
 
 pub returns-in-Ok-clause-lacking : goal.returns-in-Ok-clause-lacking
 returns-in-Ok-clause-lacking g c none =
@@ -105,3 +106,11 @@ returns-in-Ok-clause-works g c =
 pub returns-in-Ok-clause-short : goal.returns-in-Ok-clause-short
 returns-in-Ok-clause-short g c given kept none =
     subst (λ m. IsShort c.work.new.self.plan.options.long_record m.facts) (sym c.next.ensures.same.0) (c.in-Ok.ensures.short given kept)
+
+pub returns-in-Ok-clause-near : goal.returns-in-Ok-clause-near
+returns-in-Ok-clause-near g c near =
+    near_same c.work.new.self (record (c.work.new.self) { core = c.next.new.self }) c.next.ensures.same.0 refl (c.in-Ok.ensures.duties.near near)
+
+pub returns-in-Ok-clause-seen : goal.returns-in-Ok-clause-seen
+returns-in-Ok-clause-seen g c come =
+    come_beside c.work.new.self (record (c.work.new.self) { core = c.next.new.self }) c.next.ensures.same.0 refl (c.in-Ok.ensures.duties.seen come)

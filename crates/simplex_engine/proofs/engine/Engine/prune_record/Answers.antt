@@ -1,7 +1,7 @@
 -- That the views which are over are dropped first, and then the record is made short.
-use Rattle.simplex_plan.proofs.PlannedWork.{keeps_still}
+use Rattle.std.proofs.Common.{ap, refl}
 use Rattle.simplex_outbox.proofs.Going.{goes_further}
-use Rattle.simplex_engine.proofs.Tells.{tells_further, tells_same}
+use Rattle.simplex_engine.proofs.Tells.{tells_further, tells_beside}
 use Rattle.simplex_engine.proofs.engine.Engine.prune_record.Goals as goal
 
 pub returns-in_err-ask-clause-alone : goal.returns-in_err-ask-clause-alone
@@ -15,6 +15,6 @@ returns g c = record {
   alone = record { goes_on = goes_further c.ask.ensures.goes_on c.prune_record.ensures.goes_on; batcher = c.ask.ensures.batcher };
   duties =
       let keeps = tells_further c.in_ok-ask.ensures.duties
-      (tells_same c.ask.new.self (record (c.ask.new.self) { core = c.prune_record.new.self }) c.prune_record.ensures.waiting c.prune_record.ensures.goes_on.queued keeps_still) in
-      record { stays = keeps.stays; works = keeps.works; constants = keeps.constants; ignored = keeps.ignored };
+      (tells_beside c.ask.new.self (record (c.ask.new.self) { core = c.prune_record.new.self }) c.prune_record.ensures.waiting (ap (λ m. m.life) c.in_ok-prune_record.ensures.pruned) c.prune_record.ensures.goes_on refl) in
+      record { stays = keeps.stays; works = keeps.works; near = keeps.near; seen = keeps.seen; constants = keeps.constants; ignored = keeps.ignored };
 }

@@ -1,7 +1,6 @@
 -- That nothing is done but to queue a vote once more.
 use Rattle.std.proofs.Common.{refl, ap}
-use Rattle.simplex_plan.proofs.PlannedWork.{keeps_still}
-use Rattle.simplex_engine.proofs.Tells.{tells_same}
+use Rattle.simplex_engine.proofs.Tells.{tells_beside}
 use Rattle.simplex_engine.proofs.engine.Engine.repeat.Goals as goal
 
 pub returns-in_err-repeat-clause-alone : goal.returns-in_err-repeat-clause-alone
@@ -10,6 +9,7 @@ returns-in_err-repeat-clause-alone g c = record { goes_on = c.repeat.ensures.goe
 pub returns : goal.returns
 returns g c = record {
   alone = record { goes_on = c.repeat.ensures.goes_on; batcher = refl };
-  duties = tells_same c.args.self.now (record c.args.self.now { core = c.repeat.new.self }) (ap (λ m. m.facts.outstanding_work) c.repeat.ensures.member)
-      c.repeat.ensures.goes_on.queued keeps_still;
+  duties = tells_beside c.args.self.now (record c.args.self.now { core = c.repeat.new.self }) (ap (λ m. m.facts.outstanding_work) c.repeat.ensures.member)
+      (ap (λ m. m.facts.life) c.repeat.ensures.member)
+      c.repeat.ensures.goes_on refl;
 }

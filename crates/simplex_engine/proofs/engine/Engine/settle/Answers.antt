@@ -5,8 +5,7 @@ use Rattle.simplex_voter.specs.Windows.{min_active}
 use Rattle.simplex_batcher.specs.Batching.{HoldsFrom}
 use Rattle.simplex_fetches.specs.Wanted.{AsksForTheLacking}
 use Rattle.simplex_engine.proofs.Alone.{forgets_then}
-use Rattle.simplex_engine.proofs.Tells.{tells_further, tells_same}
-use Rattle.simplex_plan.proofs.PlannedWork.{keeps_still}
+use Rattle.simplex_engine.proofs.Tells.{tells_further, tells_beside}
 use Rattle.simplex_engine.proofs.engine.Engine.settle.Goals as goal
 
 pub returns-in_err-let_go-clause-alone : goal.returns-in_err-let_go-clause-alone
@@ -46,6 +45,7 @@ returns g c =
       lacking = subst (λ m. IfSome m.facts.life (λ x. AsksForTheLacking repair.resolver.open_fetches x repair.fetches.wanted.items)) (sym c.store.ensures.member)
           c.in_ok-let_go.ensures.lacking;
       duties = tells_further c.in_ok-let_go.ensures.duties
-          (tells_same c.let_go.new.self (record (c.let_go.new.self) { core = c.store.new.self }) (ap (λ m. m.facts.outstanding_work) c.store.ensures.member)
-          c.store.ensures.goes_on.queued keeps_still);
+          (tells_beside c.let_go.new.self (record (c.let_go.new.self) { core = c.store.new.self }) (ap (λ m. m.facts.outstanding_work) c.store.ensures.member)
+          (ap (λ m. m.facts.life) c.store.ensures.member)
+          c.store.ensures.goes_on refl);
     }

@@ -1,8 +1,7 @@
 -- That nothing is done but to queue the work.
 use Rattle.std.proofs.Common.{refl, ap}
 use Rattle.simplex_engine.proofs.Alone.{alone_still}
-use Rattle.simplex_engine.proofs.Tells.{tells_same, tells_still}
-use Rattle.simplex_plan.proofs.PlannedWork.{keeps_still}
+use Rattle.simplex_engine.proofs.Tells.{tells_beside, tells_still}
 use Rattle.simplex_engine.proofs.engine.Engine.tell_forgotten.Goals as goal
 
 pub returns-then-le : goal.returns-then-le
@@ -16,6 +15,7 @@ returns g c = record {
   alone = record { goes_on = c.push.ensures.goes_on; batcher = refl };
   member = c.push.ensures.member;
   plan = refl;
-  duties = tells_same c.args.self.now (record c.args.self.now { core = c.push.new.self; forgotten = c.args.lowest }) (ap (λ m. m.facts.outstanding_work) c.push.ensures.member)
-      c.push.ensures.goes_on.queued keeps_still;
+  duties = tells_beside c.args.self.now (record c.args.self.now { core = c.push.new.self; forgotten = c.args.lowest }) (ap (λ m. m.facts.outstanding_work) c.push.ensures.member)
+      (ap (λ m. m.facts.life) c.push.ensures.member)
+      c.push.ensures.goes_on refl;
 }

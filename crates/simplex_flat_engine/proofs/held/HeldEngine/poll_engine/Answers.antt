@@ -32,6 +32,8 @@ returns-in-Ok-Some c =
               (rw rest.0 (rw c.in-Ok-Some.field-0-is at c.in-Ok-Some.ensures.duties)) c.give_out.ensures.given;
           works = λ _. works_given c.in-Ok-Some.output c.args.self.now.stored c.give_out.result c.args.self.now c.give_out.new.self
               (rw rest.0 (rw c.in-Ok-Some.field-0-is at c.in-Ok-Some.ensures.works)) c.give_out.ensures.given;
+          near = λ _. rw rest.0 c.in-Ok-Some.ensures.near;
+          seen = λ _. rw rest.0 c.in-Ok-Some.ensures.seen;
           ignored = λ _. rw rest.0 c.in-Ok-Some.ensures.ignored;
           constants = λ _. rw rest.0 c.in-Ok-Some.ensures.constants;
           outcome = inl (c.in-Ok-Some.output, c.give_out.ensures.given);
@@ -63,6 +65,8 @@ returns-in-Ok-None c =
               (sym c.requires.last) (rw none at c.in-Ok-None.ensures.duties);
           works = λ _ alive. subst (λ last. AreAmong (work_ahead c.args.self.now.engine) (work_in (option_to_list last) ++ work_ahead c.poll.new.self))
               (sym c.requires.last) (rw none at c.in-Ok-None.ensures.works);
+          near = λ _. c.in-Ok-None.ensures.near;
+          seen = λ _. c.in-Ok-None.ensures.seen;
           ignored = λ _. c.in-Ok-None.ensures.ignored;
           constants = λ _. c.in-Ok-None.ensures.constants;
           outcome = inr (inl (
@@ -103,6 +107,8 @@ returns-in-Err c =
           bounded = c.in-Err.ensures.bounded;
           duties = λ alive. absurd (false≢true (sym alive ∙ failed));
           works = λ alive. absurd (false≢true (sym alive ∙ failed));
+          near = λ alive. absurd (false≢true (sym alive ∙ failed));
+          seen = λ alive. absurd (false≢true (sym alive ∙ failed));
           ignored = λ alive. absurd (false≢true (sym alive ∙ failed));
           constants = λ alive. absurd (false≢true (sym alive ∙ failed));
           outcome = inr (inr (

@@ -1,5 +1,5 @@
 -- That each step is queued behind those before.
-use Rattle.std.proofs.Common.{◌≡◌, ◌∙◌, ◌∷◌, ◌++◌, [], refl, ap, arith}
+use Rattle.std.proofs.Common.{◌∙◌, ◌∷◌, ◌++◌, [], refl, ap, arith}
 use Rattle.simplex_plan.specs.declared.plan.Step.TheVariants.{Ask}
 use Rattle.simplex_plan.specs.Filling.{watching_one, watching_all}
 use Rattle.simplex_plan.proofs.Entering.{more_queued}

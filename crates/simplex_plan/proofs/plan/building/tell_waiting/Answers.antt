@@ -1,9 +1,9 @@
 -- That one block more was told of.
-use Rattle.std.proofs.Common.{◌≡◌, ◌∙◌, ap, sym, arith}
+use Rattle.std.proofs.Common.{◌∙◌, ap, sym, arith}
 use Rattle.std.specs.Prelude.{slice_set}
 use Rattle.std.proofs.lemmas.List.Edits.{map_over_more}
-use Rattle.simplex_plan.specs.Entering.{told_by}
-use Rattle.simplex_plan.proofs.plan.entering.tell_waiting.Goals as goal
+use Rattle.simplex_plan.specs.Blocks.{told_by}
+use Rattle.simplex_plan.proofs.plan.building.tell_waiting.Goals as goal
 
 pub loop-building-preserved : goal.loop-building-preserved
 loop-building-preserved g c =
