@@ -1,6 +1,6 @@
 -- That no block comes to be built far ahead.
 use Rattle.std.proofs.Common.{◌≡◌, ap, ◌∙◌, refl, sym, subst, ℕ, ◌≤◌, inl, inr, true, false, List, [], ◌∷◌, ◌++◌, Option, Some, None, arith}
-use Rattle.std.specs.Prelude.{IfSome, nat_lt}
+use Rattle.std.specs.Prelude.{IfSome, filter, nat_lt}
 use Rattle.std.specs.List.{list_any}
 use Rattle.std.proofs.lemmas.Bool.{false≢true, false_from_ne_true, lt-ltb, ltb-true, or_cases, or_left, or_right}
 use Rattle.simplex_types.specs.Terms.{next_term_start}
@@ -13,11 +13,13 @@ use Rattle.simplex_plan.specs.declared.plan.building.Building.{Building}
 use Rattle.simplex_plan.specs.Blocks.{views_built, builds_above}
 use Rattle.simplex_plan.specs.declared.plan.Plan.{Plan}
 use Rattle.simplex_plan.specs.declared.plan.Views.{Views}
-use Rattle.simplex_plan.specs.PlannedWork.{AreAmong}
-use Rattle.simplex_plan.proofs.PlannedWork.{among_all, any_either}
+use Rattle.simplex_plan.specs.declared.plan.early.Early.{Early}
+use Rattle.simplex_laws.proofs.lives.WithinLives.{alive_joined}
+use Rattle.simplex_plan.specs.PlannedWork.{AreAmong, is_early}
+use Rattle.simplex_plan.proofs.PlannedWork.{among_all, among_further, among_kept, any_either, kept_further}
 use Rattle.simplex_engine.specs.declared.engine.Engine.{Engine}
 use Rattle.simplex_engine.specs.Building.{BuildsNear}
-use Rattle.simplex_engine.specs.Views.{HasComeTo}
+use Rattle.simplex_engine.specs.Views.{HasComeTo, StaysEarly}
 use Rattle.simplex_engine.proofs.Bounds.{next_rises}
 
 -- what is above a view is above each below it
@@ -69,3 +71,36 @@ module _ {S L D K G C : Type 0} (a b : Engine S L D K G C) where
   pub come_beside : b.core.member ≡ a.core.member → b.plan ≡ a.plan → HasComeTo a.core.member.facts a.plan → HasComeTo b.core.member.facts b.plan
   come_beside member plan =
       come_same (ap (λ (m : SignedMember K L D G). m.facts.life) member) (ap (λ (p : Plan S D K G C). p.views) plan)
+
+  -- the proposals that are early by the plan's views are by the member's
+  pub early_planned : HasComeTo b.core.member.facts b.plan → AreAmong (filter (is_early b.plan.views.current) a.plan.early.proposals.items) b.plan.early.proposals.items
+      → StaysEarly a.plan b.core.member.facts b.plan
+  early_planned come among = by_life b.core.member.facts.life come
+    where
+      by_life : (life : Option (StateFacts K L D)) → IfSome life (λ x. (b.plan.views.current ≡ x.current) × (b.plan.views.last_finalized ≡ x.finalized))
+          → IfSome life (λ x. AreAmong (filter (is_early x.current) a.plan.early.proposals.items) b.plan.early.proposals.items)
+      by_life None come = tt
+      by_life (Some x) come = subst (λ v. AreAmong (filter (is_early v) a.plan.early.proposals.items) b.plan.early.proposals.items) come.0 among
+
+  -- and where each is kept, whatever the view
+  pub early_anyway : AreAmong a.plan.early.proposals.items b.plan.early.proposals.items → StaysEarly a.plan b.core.member.facts b.plan
+  early_anyway among = by_life b.core.member.facts.life
+    where
+      by_life : (life : Option (StateFacts K L D)) → IfSome life (λ x. AreAmong (filter (is_early x.current) a.plan.early.proposals.items) b.plan.early.proposals.items)
+      by_life None = tt
+      by_life (Some x) = among_further (among_kept (is_early x.current) a.plan.early.proposals.items) among
+
+module _ {K L D : Type 0} (was mid is : List (Early D)) where
+  -- from one moment to a later one, and on to one later still
+  pub early_further : (before after : Option (StateFacts K L D)) → WhileAlive HasRisen before after → IfSome before (λ x. AreAmong (filter (is_early x.current) was) mid)
+      → IfSome after (λ x. AreAmong (filter (is_early x.current) mid) is) → IfSome after (λ x. AreAmong (filter (is_early x.current) was) is)
+  early_further before None risen first second = tt
+  early_further None (Some y) risen first second = absurd risen
+  early_further (Some x) (Some y) risen first second =
+      kept_further was (is_early x.current) (is_early y.current) (λ e above. lt-ltb x.current e.view (omega (arith, risen.views.current, ltb-true y.current e.view above))) first second
+
+-- the views of a member do not fall, one behind the other
+pub risen_on : {K L D : Type 0} (a b c : Option (StateFacts K L D)) → WhileAlive HasRisen a b → WhileAlive HasRisen b c → WhileAlive HasRisen a c
+risen_on a b c =
+    alive_joined HasRisen HasRisen HasRisen a b c
+    (λ x y z p q. record { terms = q.terms ∙ p.terms; views = record { current = omega (arith, p.views.current, q.views.current); finalized = omega (arith, p.views.finalized, q.views.finalized) } })

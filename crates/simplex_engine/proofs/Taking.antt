@@ -190,7 +190,7 @@ module _ {S L D K G C : Type 0} (same : D → D → Bool) (elect : Elect L) (byt
     unadmitted = unadmitted;
     bounded = bounded;
     acted = acted;
-    duties = on_ok answer duties (λ keeps. record { stays = keeps.stays; works = keeps.works; near = keeps.near; seen = keeps.seen; constants = keeps.constants });
+    duties = on_ok answer duties (λ keeps. record { stays = keeps.stays; works = keeps.works; near = keeps.near; seen = keeps.seen; early = keeps.early; constants = keeps.constants });
     ignored = not_counted answer duties;
   }
     where
@@ -296,6 +296,6 @@ module _ {S L D K G C : Type 0} (same : D → D → Bool) (elect : Elect L) (byt
         unadmitted = λ vain. (refl, turned_ignored what old mid (taken.unadmitted vain).1);
         bounded = taken.bounded;
         acted = taken.acted;
-        duties = record { stays = λ work told. (let is = taken.duties.stays work told in record { verified = is.verified; certified = is.certified; built = is.built }); works = taken.duties.works; near = taken.duties.near; seen = taken.duties.seen; constants = taken.duties.constants };
+        duties = record { stays = λ work told. (let is = taken.duties.stays work told in record { verified = is.verified; certified = is.certified; built = is.built }); works = taken.duties.works; near = taken.duties.near; seen = taken.duties.seen; early = taken.duties.early; constants = taken.duties.constants };
         ignored = ap one_more taken.ignored;
       })

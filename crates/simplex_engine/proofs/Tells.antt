@@ -24,14 +24,16 @@ use Rattle.simplex_outbox.specs.declared.output.Output.{Output}
 use Rattle.simplex_outbox.specs.declared.output.Output.TheVariants as output
 use Rattle.simplex_outbox.specs.declared.output.Work.{Work}
 use Rattle.simplex_outbox.specs.Handing.{hands_in}
-use Rattle.simplex_outbox.specs.Going.{GoesOn}
+use Rattle.simplex_outbox.specs.Going.{GoesOn, HasRisen}
+use Rattle.simplex_outbox.proofs.Going.{risen_not}
+use Rattle.simplex_laws.specs.LifeLaws.{WhileAlive}
 use Rattle.simplex_engine.specs.Views.{HasComeTo}
 use Rattle.simplex_engine.specs.Duties.{work_in, work_ahead, IsToldIn, KeepsDuties, KeepsTaken, HasToldAll, AllIsGivenOut}
 use Rattle.simplex_plan.specs.declared.task.Task.{Task}
 use Rattle.simplex_plan.specs.Tasks.{call_of}
 use Rattle.simplex_plan.specs.PlannedWork.{AreAmong, awaits, beside_of, constants_of, is_build_of, views_requested, work_planned, work_of, IsPlanned, KeepsPlanned, KeepsPlannedThen, PlansAnswerThen}
 use Rattle.simplex_outbox.specs.Outboxes.{QueuesMore}
-use Rattle.simplex_engine.proofs.Building.{come_beside, come_same, near_by_views, near_kept, near_same, risen_same}
+use Rattle.simplex_engine.proofs.Building.{come_beside, come_same, early_anyway, early_further, early_planned, near_by_views, near_kept, near_same, risen_on, risen_same}
 use Rattle.simplex_engine.proofs.Duties.{IsWorkIn, among_behind, among_swapped, block_further, told_among, told_by, told_none, waits_as_before, work_among, work_by_call, work_in-append}
 use Rattle.simplex_engine.proofs.Requests.{near_by_call, open_by_call}
 use Rattle.simplex_plan.proofs.PlannedWork.{among_all, among_both, among_further, among_more, among_still, has_further, keeps_own, plans_same, planned-append}
@@ -51,10 +53,13 @@ module _ {S D K G C : Type 0} where
 
 module _ {S L D K G C : Type 0} where
   pub tells_still : (a : Engine S L D K G C) → KeepsDuties a a
-  tells_still a = record { stays = λ work told. told; works = among_still (work_ahead a); near = λ near. near; seen = λ come. come; constants = refl; ignored = refl }
+  tells_still a = record { stays = λ work told. told; works = among_still (work_ahead a); near = λ near. near; seen = λ come. come; early = λ come. early_anyway a a (among_still a.plan.early.proposals.items); constants = refl; risen = risen_not a.core.member.facts; ignored = refl }
 
   pub tells_further : {a b c : Engine S L D K G C} → KeepsDuties a b → KeepsDuties b c → KeepsDuties a c
-  tells_further first second = record {
+  tells_further {a = a} {b = b} {c = c} first second = record {
+    early = λ come. early_further a.plan.early.proposals.items b.plan.early.proposals.items c.plan.early.proposals.items b.core.member.facts.life c.core.member.facts.life second.risen
+        (first.early come) (second.early (first.seen come));
+    risen = risen_on a.core.member.facts.life b.core.member.facts.life c.core.member.facts.life first.risen second.risen;
     stays = λ work told. second.stays work (first.stays work told);
     works = among_further first.works second.works;
     near = λ near. second.near (first.near near);
@@ -85,6 +90,8 @@ module _ {S L D K G C : Type 0} where
     works = among_both (queued_still a b goes.queued) plans.found;
     near = near_kept a b goes.risen plans.views;
     seen = come;
+    early = λ before. early_planned a b (come before) plans.early;
+    risen = goes.risen;
     constants = plans.constants;
     ignored = plans.ignored;
   }
@@ -106,6 +113,8 @@ module _ {S L D K G C : Type 0} where
     works = subst (λ (core : Journaled S L D K G C). AreAmong (work_ahead a) (work_in core.outbox.queue.items ++ work_planned b.plan.steps.items)) (sym is) (among_both (among_still queue) plans.found);
     near = near_kept a b (risen_same a b (ap (λ (core : Journaled S L D K G C). core.member) is)) plans.views;
     seen = come_same a b (ap (λ (core : Journaled S L D K G C). core.member.facts.life) is) plans.reached;
+    early = λ come. early_planned a b (come_same a b (ap (λ (core : Journaled S L D K G C). core.member.facts.life) is) plans.reached come) plans.early;
+    risen = risen_same a b (ap (λ (core : Journaled S L D K G C). core.member) is);
     constants = plans.constants;
     ignored = plans.ignored;
   }
@@ -141,6 +150,8 @@ module _ {S L D K G C : Type 0} where
     near = near_by_views (views_requested told) a.plan.builds.buildings.items b.plan.builds.buildings.items a.core.member.facts.life b.core.member.facts.life goes.risen plans.views
         (near_by_call same elect a.core.member.facts b.core.member.facts asked now told called);
     seen = λ before. come;
+    early = λ before. early_planned a b come plans.early;
+    risen = goes.risen;
     constants = plans.constants;
     ignored = plans.ignored;
   }
@@ -156,6 +167,8 @@ module _ {S L D K G C : Type 0} where
           works = among_both (queued_still a b goes.queued) plans.found;
           near = near_kept a b goes.risen plans.views;
           seen = λ before. come;
+          early = λ before. early_planned a b come plans.early;
+          risen = goes.risen;
           constants = plans.constants;
           ignored = plans.ignored;
         }
@@ -189,6 +202,8 @@ module _ {S L D K G C : Type 0} where
     works = among_further (among_moved [] (it ∷ []) queue planned) (among_all (sym now));
     near = near_same a b same_member same_plan;
     seen = come_beside a b same_member same_plan;
+    early = λ come. early_anyway a b (among_all (ap (λ (plan : Plan S D K G C). plan.early.proposals.items) (sym same_plan)));
+    risen = risen_same a b same_member;
     constants = ap constants_of same_plan;
     ignored = ap (λ (plan : Plan S D K G C). plan.ignored) same_plan;
   }
@@ -223,6 +238,11 @@ module _ {S L D K G C : Type 0} where
         takes.near (near_by_views [] a.plan.builds.buildings.items mid.plan.builds.buildings.items a.core.member.facts.life mid.core.member.facts.life
         (risen_same a mid (ap (λ (core : Journaled S L D K G C). core.member) same)) plans.views (λ x is w up. refl) near);
     seen = λ come. takes.seen (come_same a mid (ap (λ (core : Journaled S L D K G C). core.member.facts.life) same) plans.reached come);
+    early = λ come.
+        let now = come_same a mid (ap (λ (core : Journaled S L D K G C). core.member.facts.life) same) plans.reached come in
+        early_further a.plan.early.proposals.items mid.plan.early.proposals.items b.plan.early.proposals.items mid.core.member.facts.life b.core.member.facts.life takes.risen
+        (early_planned a mid now plans.early) (takes.early now);
+    risen = subst (λ (core : Journaled S L D K G C). WhileAlive HasRisen core.member.facts.life b.core.member.facts.life) same takes.risen;
     constants = takes.constants ∙ plans.constants;
     ignored = takes.ignored ∙ plans.ignored;
   }

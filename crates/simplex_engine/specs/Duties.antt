@@ -7,7 +7,9 @@ use Rattle.simplex_member.specs.OutstandingWork.{OutstandingWork, context_at, is
 use Rattle.simplex_engine.specs.declared.engine.Engine.{Engine}
 use Rattle.simplex_plan.specs.PlannedWork.{AreAmong, Beside, beside_of, constants_of, has_block, work_planned}
 use Rattle.simplex_engine.specs.Building.{BuildsNear}
-use Rattle.simplex_engine.specs.Views.{HasComeTo}
+use Rattle.simplex_engine.specs.Views.{HasComeTo, StaysEarly}
+use Rattle.simplex_laws.specs.LifeLaws.{WhileAlive}
+use Rattle.simplex_outbox.specs.Going.{HasRisen}
 use Rattle.simplex_outbox.specs.declared.output.Output.{Output}
 use Rattle.simplex_outbox.specs.declared.output.Output.TheVariants as output
 use Rattle.simplex_outbox.specs.declared.output.Work.{Work}
@@ -47,21 +49,24 @@ module _ {S L D K G C : Type 0} where
   TellsBehind work engine = IsToldIn (work ++ work_ahead engine) (beside_of engine.plan) engine.core.member.facts.outstanding_work
 
   -- behind whatever work, so it stays; no work that is ahead is lost; no block comes to be built above the first view of the next term;
-  -- its views stay the member's; and the options stay, and whether there are other members
+  -- its views stay the member's, and no proposal is lost that is early by them; and the options stay, and whether there are other members
   pub record KeepsTelling (old new : Engine S L D K G C) : Type 0 where
     pub stays : (work : List (Work S D K G C)) → TellsBehind work old → TellsBehind work new
     pub works : AreAmong (work_ahead old) (work_ahead new)
     pub near : BuildsNear old.core old.plan → BuildsNear new.core new.plan
     pub seen : HasComeTo old.core.member.facts old.plan → HasComeTo new.core.member.facts new.plan
+    pub early : HasComeTo old.core.member.facts old.plan → StaysEarly old.plan new.core.member.facts new.plan
     pub constants : constants_of new.plan ≡ constants_of old.plan
 
-  -- so it does where this work was taken from what was planned, and no input is counted as of no use
+  -- so it does where this work was taken from what was planned; the member's views do not fall, and no input is counted as of no use
   pub record KeepsTaken (taken : List (Work S D K G C)) (old new : Engine S L D K G C) : Type 0 where
     pub stays : (work : List (Work S D K G C)) → TellsBehind (taken ++ work) old → TellsBehind work new
     pub works : AreAmong (taken ++ work_ahead old) (work_ahead new)
     pub near : BuildsNear old.core old.plan → BuildsNear new.core new.plan
     pub seen : HasComeTo old.core.member.facts old.plan → HasComeTo new.core.member.facts new.plan
+    pub early : HasComeTo old.core.member.facts old.plan → StaysEarly old.plan new.core.member.facts new.plan
     pub constants : constants_of new.plan ≡ constants_of old.plan
+    pub risen : WhileAlive HasRisen old.core.member.facts.life new.core.member.facts.life
     pub ignored : new.plan.ignored ≡ old.plan.ignored
 
   -- where none was taken

@@ -65,7 +65,7 @@ impl<S: Assembly<D>, L: Elector<S>, D: Digest> Engine<S, L, D> {
     ghost use Rattle.simplex_engine.specs.Bounds.{HoldsFromKept, HoldsNoneAhead, StaysBounded, HoldsAdmitted};
     ghost use Rattle.simplex_engine.specs.Building.{BuildsAhead, BuildsNear};
     ghost use Rattle.simplex_engine.specs.Lacking.{AsksForItsLacking};
-    ghost use Rattle.simplex_engine.specs.Views.{HasComeTo};
+    ghost use Rattle.simplex_engine.specs.Views.{HasComeTo, StaysEarly};
     ghost use Rattle.simplex_engine.specs.Dropping.{IsDropped};
     ghost use Rattle.simplex_engine.specs.Admitting.{is_input_admitted, one_more, IsTurnedAway, ignoring};
     ghost use Rattle.simplex_engine.specs.Acting.{IsActedOn};
@@ -93,8 +93,8 @@ impl<S: Assembly<D>, L: Elector<S>, D: Digest> Engine<S, L, D> {
     ///   certification and has no verdict, and the block of each view whose request to build is open, was given out, is queued to
     ///   be, or is planned, but a block that a member alone builds once it enters the view. No work that is queued or planned is
     ///   lost. Where no block is to be built above the first view of the next term, none comes to be; where the views that it has
-    ///   come to are the member's, they stay so. The options stay, whether there are other members, and whom fetches are asked of
-    ///   and after how long again.
+    ///   come to are the member's, they stay so, and no proposal is lost that came early, until its view is entered. The options
+    ///   stay, whether there are other members, and whom fetches are asked of and after how long again.
     /// - `ignored`: what is of no use is counted, and nothing else.
     /// - `bounded`: where each vote that is held was a member's, and of no view above those whose votes are taken, each still is.
     /// - `failed`, `error`, `refused`: after an error, which is `OutOfMemory` or `Failed`, it has failed; one that has failed answers
@@ -156,6 +156,7 @@ impl<S: Assembly<D>, L: Elector<S>, D: Digest> Engine<S, L, D> {
     ///   below was given up.
     /// - `near`, `seen`: where no block is to be built above the first view of the next term, none comes to be; where the views that
     ///   it has come to are the member's, they stay so.
+    /// - `early`: then no proposal is lost that came early, until its view is entered.
     /// - `short`: and the record has no more entries than the options say, or by a pruning no more views of it go than stay: no entry
     ///   lies further below the lowest view that is left than the current view lies above that.
     /// - `lowest`: where nothing is answered, no vote is held of a view below the lowest one that is kept.
@@ -188,6 +189,8 @@ impl<S: Assembly<D>, L: Elector<S>, D: Digest> Engine<S, L, D> {
         ensures works { OnOk result (AreAmong (work_ahead self.old) (work_in (given_out result) ++ work_ahead self.new)) }
         ensures near { OnOk result (BuildsNear self.old.core self.old.plan → BuildsNear self.new.core self.new.plan) }
         ensures seen { OnOk result (HasComeTo self.old.core.member.facts self.old.plan → HasComeTo self.new.core.member.facts self.new.plan) }
+        ensures early { OnOk result (HasComeTo self.old.core.member.facts self.old.plan
+            → StaysEarly self.old.plan self.new.core.member.facts self.new.plan) }
         ensures ignored { OnOk result (self.new.plan.ignored ≡ self.old.plan.ignored) }
         ensures constants { OnOk result (constants_of self.new.plan ≡ constants_of self.old.plan) }
         ensures failed { OnErr result (has_failed self.new.core ≡ true) }
@@ -223,6 +226,8 @@ impl<S: Assembly<D>, L: Elector<S>, D: Digest> Engine<S, L, D> {
         ensures works { OnOk result (AreAmong (work_ahead self.old) (work_in (given_out result) ++ work_ahead self.new)) }
         ensures near { OnOk result (BuildsNear self.old.core self.old.plan → BuildsNear self.new.core self.new.plan) }
         ensures seen { OnOk result (HasComeTo self.old.core.member.facts self.old.plan → HasComeTo self.new.core.member.facts self.new.plan) }
+        ensures early { OnOk result (HasComeTo self.old.core.member.facts self.old.plan
+            → StaysEarly self.old.plan self.new.core.member.facts self.new.plan) }
         ensures ignored { OnOk result (self.new.plan.ignored ≡ self.old.plan.ignored) }
         ensures constants { OnOk result (constants_of self.new.plan ≡ constants_of self.old.plan) }
         ensures failed { OnErr result (has_failed self.new.core ≡ true) }

@@ -27,7 +27,7 @@ use Rattle.simplex_plan.specs.PlannedWork.{AreAmong, constants_of}
 use Rattle.simplex_plan.specs.Planning.{IsIdle}
 use Rattle.simplex_engine.specs.Settled.{IsSettled}
 use Rattle.simplex_engine.specs.Building.{BuildsAhead, BuildsNear}
-use Rattle.simplex_engine.specs.Views.{HasComeTo}
+use Rattle.simplex_engine.specs.Views.{HasComeTo, StaysEarly}
 use Rattle.simplex_engine.specs.Failing.{IsFailure}
 use Rattle.simplex_flat.specs.declared.journal.NotWritten.{NotWritten}
 use Rattle.simplex_flat.specs.declared.shown.FlatStored.{FlatStored}
@@ -214,6 +214,9 @@ pub record IsAsked (now : ℕ) (old : HeldEngine) (r : FlatOutput) (new : HeldEn
   -- its views stay the member's
   pub seen : has_failed new.engine.core ≡ false → HasComeTo old.engine.core.member.facts old.engine.plan
       → HasComeTo new.engine.core.member.facts new.engine.plan
+  -- no proposal is lost that came early, until its view is entered
+  pub early : has_failed new.engine.core ≡ false → HasComeTo old.engine.core.member.facts old.engine.plan
+      → StaysEarly old.engine.plan new.engine.core.member.facts new.engine.plan
   -- no input is counted as of no use
   pub ignored : has_failed new.engine.core ≡ false → new.engine.plan.ignored ≡ old.engine.plan.ignored
   -- the options stay, and so does whether there are other members

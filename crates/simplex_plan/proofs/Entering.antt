@@ -14,7 +14,7 @@ use Rattle.simplex_plan.specs.declared.plan.building.Building.{Building}
 use Rattle.simplex_plan.specs.Blocks.{has_waited, told_by, views_built, waits_for}
 use Rattle.simplex_plan.specs.Entering.{asking_by, offering, HasEntered, HasEnteredWhere, IsPassedWhere, HasSeen}
 use Rattle.simplex_plan.specs.Planning.{HasPlanned, touching, watching}
-use Rattle.simplex_plan.specs.PlannedWork.{awaits, beside_of, constants_of, is_build_of, work_planned, KeepsPlanned, KeepsPlannedThen}
+use Rattle.simplex_plan.specs.PlannedWork.{awaits, beside_of, is_early, constants_of, is_build_of, work_planned, KeepsPlanned, KeepsPlannedThen}
 use Rattle.simplex_plan.proofs.Blocks.{views_told}
 use Rattle.simplex_plan.proofs.PlannedWork.{among_all, any_left, any_right, keeps_further, planned-append, planned_behind, plans_beside, plans_same, repaired_beside}
 
@@ -102,23 +102,27 @@ module _ {S D K G C : Type 0} where
       by_view true is = ap (λ (plan : Plan S D K G C). plan.views) is.same
       by_view false is = ap (λ (plan : Plan S D K G C). plan.views) is
 
-  entered_keeps : (view : ℕ) (old new : Plan S D K G C) → HasEntered view old new → KeepsPlanned old new
-  entered_keeps view old new is = record {
+  entered_keeps : (old new : Plan S D K G C) → HasEntered old.views.current old new → KeepsPlanned old new
+  entered_keeps old new is = record {
+    early = among_all (ap (λ (plan : Plan S D K G C). filter (is_early plan.views.current) old.early.proposals.items) is.same ∙ sym is.early);
     found = planned_behind old.steps.items new.steps.items more steps;
     building = λ other waits un.
         let parts = and_parts old.is_alone (list_any (waits_for other) old.builds.buildings.items) waits in
-        elim (or_cases (list_any (is_build_of other) (work_planned asks)) (list_any (waits_for other) (map (told_by view) old.builds.buildings.items))
-        (asked_or_waits S G C view other old.builds.buildings.items parts.1)) [
+        elim (or_cases (list_any (is_build_of other) (work_planned asks)) (list_any (waits_for other) (map (told_by old.views.current) old.builds.buildings.items))
+        (asked_or_waits S G C old.views.current other old.builds.buildings.items parts.1)) [
           | inl asked ↦ or_left (list_any (is_build_of other) (work_planned new.steps.items)) (awaits (beside_of new) other) (all_planned other asked)
           | inr left ↦ or_right (list_any (is_build_of other) (work_planned new.steps.items)) (awaits (beside_of new) other)
               (and_from new.is_alone _ (ap (λ (plan : Plan S D K G C). plan.is_alone) is.same ∙ parts.0) (ap (list_any (waits_for other)) is.blocks ∙ left))
         ];
-    views = among_all (ap views_built is.blocks ∙ views_told view old.builds.buildings.items);
+    views = among_all (ap views_built is.blocks ∙ views_told old.views.current old.builds.buildings.items);
     reached = ap (λ (plan : Plan S D K G C). plan.views) is.same;
     constants = ap constants_of is.same;
     ignored = ap (λ (plan : Plan S D K G C). plan.ignored) is.same;
   }
     where
+      view : ℕ
+      view = old.views.current
+
       asks : List (Step S D K G C)
       asks = asking_by view old.builds.buildings.items
 
@@ -151,5 +155,5 @@ module _ {S D K G C : Type 0} where
           plans_beside (record old { views = views }) passed passed refl refl (repaired_beside (record old { views = views }) new.repair same.0 same.1)
 
       by_view : (b : Bool) → HasEnteredWhere b views.current passed new → KeepsPlanned passed new
-      by_view true is = entered_keeps views.current passed new is
+      by_view true is = entered_keeps passed new is
       by_view false is = plans_same passed new is

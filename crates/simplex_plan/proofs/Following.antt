@@ -49,11 +49,11 @@ module _ {S D K G C : Type 0} (old new : Plan S D K G C) where
       → IsPlanned [] (ended_in following) (work_planned old.steps.items) (beside_of old) (work_planned new.steps.items) (beside_of new)
   consequence_plans Nothing is = plans_same old new is
   consequence_plans (Touched view) is = plans_behind old new (touching view) is.steps (ap beside_of is.same)
-  consequence_plans (Built view) is = has_ended view (touching view) old new is.steps is.blocks (ap (λ (plan : Plan S D K G C). plan.views) is.same) (ap constants_of is.same) (ap (λ (plan : Plan S D K G C). plan.ignored) is.same)
-  consequence_plans (Stopped view) is = has_ended view (stopping view (list_any (is_asked_at view) old.builds.buildings.items)) old new is.steps is.blocks (ap (λ (plan : Plan S D K G C). plan.views) is.same) (ap constants_of is.same) (ap (λ (plan : Plan S D K G C). plan.ignored) is.same)
+  consequence_plans (Built view) is = has_ended view (touching view) old new is.steps is.blocks (ap (λ (plan : Plan S D K G C). plan.early.proposals.items) is.same) (ap (λ (plan : Plan S D K G C). plan.views) is.same) (ap constants_of is.same) (ap (λ (plan : Plan S D K G C). plan.ignored) is.same)
+  consequence_plans (Stopped view) is = has_ended view (stopping view (list_any (is_asked_at view) old.builds.buildings.items)) old new is.steps is.blocks (ap (λ (plan : Plan S D K G C). plan.early.proposals.items) is.same) (ap (λ (plan : Plan S D K G C). plan.views) is.same) (ap constants_of is.same) (ap (λ (plan : Plan S D K G C). plan.ignored) is.same)
   consequence_plans (Ended view) is =
       has_ended view [] old new (ap (λ (plan : Plan S D K G C). plan.steps.items) is.same ∙ sym (append-nil old.steps.items)) is.blocks
-      (ap (λ (plan : Plan S D K G C). plan.views) is.same) (ap constants_of is.same) (ap (λ (plan : Plan S D K G C). plan.ignored) is.same)
+      (ap (λ (plan : Plan S D K G C). plan.early.proposals.items) is.same) (ap (λ (plan : Plan S D K G C). plan.views) is.same) (ap constants_of is.same) (ap (λ (plan : Plan S D K G C). plan.ignored) is.same)
   consequence_plans (Asked call) is = has_planned is
 
   -- a block that waits is one of a member alone

@@ -1,9 +1,12 @@
 -- Work that is planned stays planned, and blocks that wait go on to.
-use Rattle.std.proofs.Common.{◌≡◌, ◌∙◌, refl, ap, sym, subst, ℕ, ◌⊎◌, inl, inr, Bool, true, false, not, ◌||◌, ◌==◌, List, [], ◌∷◌, ◌++◌, append-nil}
+use Rattle.std.proofs.Common.{◌≡◌, ◌∙◌, refl, ap, sym, subst, ℕ, ◌⊎◌, inl, inr, Bool, true, false, not, ◌||◌, ◌&&◌, ◌==◌, List, [], ◌∷◌, ◌++◌, append-nil, filter}
 use Rattle.std.specs.List.{list_any}
 use Rattle.std.specs.Prelude.{Result, Ok, Err, OnOk, OnErr, IfErr}
 use Rattle.std.proofs.lemmas.Bool.{and_from, and_parts, cases_Bool, or_cases, or_left, or_right}
 use Rattle.std.proofs.lemmas.List.{map-append}
+use Rattle.simplex_voter.proofs.Between.{any-filter}
+use Rattle.simplex_laws.proofs.votes.OutstandingWork.{any_of_kept}
+use Rattle.simplex_plan.specs.declared.plan.Views.{Views}
 use Rattle.std.proofs.lemmas.List.Folds.{list_any-append}
 use Rattle.simplex_types.specs.declared.types.fault.Fault.{Fault}
 use Rattle.simplex_types.specs.declared.types.fault.Fault.TheVariants.{Failed}
@@ -22,7 +25,7 @@ use Rattle.simplex_plan.specs.declared.task.Task.{Task}
 use Rattle.simplex_plan.specs.Blocks.{views_built, all_but_at, in_place, waits_for}
 use Rattle.simplex_plan.specs.Building.{asking_for, HasBuilds}
 use Rattle.simplex_plan.specs.Planning.{HasPlanned}
-use Rattle.simplex_plan.specs.PlannedWork.{AreAmong, Beside, work_planned, work_of, is_build_of, awaits, has_block, IsPlanned, KeepsPlanned, KeepsPlannedThen, PlansAnswer, PlansAnswerThen, constants_of, beside_of, views_requested}
+use Rattle.simplex_plan.specs.PlannedWork.{AreAmong, Beside, work_planned, work_of, is_build_of, awaits, has_block, IsPlanned, KeepsPlanned, KeepsPlannedThen, PlansAnswer, PlansAnswerThen, constants_of, beside_of, views_requested, is_early}
 use Rattle.simplex_plan.proofs.Blocks.{left_waiting, views_left}
 
 -- tests that some pass
@@ -58,6 +61,38 @@ module _ {A : Type 0} where
     ];
   }
 
+  -- what stays among some that stay among others
+  pub among_kept : (keep : A → Bool) (items : List A) → AreAmong (filter keep items) items
+  among_kept keep items = record { found = λ test. any_of_kept test keep items }
+
+  any_weaker : (p q : A → Bool) → ((a : A) → p a ≡ true → q a ≡ true) → (items : List A) → list_any p items ≡ true → list_any q items ≡ true
+  any_weaker p q weaker [] some = some
+  any_weaker p q weaker (a ∷ items) some = elim (or_cases (p a) (list_any p items) some) [
+    | inl this ↦ or_left (q a) (list_any q items) (weaker a this)
+    | inr that ↦ or_right (q a) (list_any q items) (any_weaker p q weaker items that)
+  ]
+
+  -- a stricter test, the second time
+  pub kept_further : (a : List A) {b c : List A} (keep stricter : A → Bool) → ((x : A) → stricter x ≡ true → keep x ≡ true) → AreAmong (filter keep a) b → AreAmong (filter stricter b) c
+      → AreAmong (filter stricter a) c
+  kept_further a {b = b} keep stricter weaker first second = record {
+    found = λ test some.
+        let both : A → Bool = λ x. stricter x && test x in
+        let all : list_any both (filter keep a) ≡ true = any-filter keep both a ∙ any_weaker both (λ x. keep x && both x)
+        (λ x is. and_from (keep x) (both x) (weaker x (and_parts (stricter x) (test x) is).0) is) a (sym (any-filter stricter test a) ∙ some) in
+        second.found test (any-filter stricter test b ∙ first.found both all);
+  }
+
+module _ {K D : Type 0} where
+  -- the proposals that came early, where all is the same, or goes on
+  early_same : (was is : Beside K D) → is ≡ was → AreAmong (filter (is_early is.reached.current) was.early) is.early
+  early_same was is same = among_further (among_kept (is_early is.reached.current) was.early) (among_all (ap (λ (b : Beside K D). b.early) (sym same)))
+
+  early_further : (was mid is : Beside K D) → AreAmong (filter (is_early mid.reached.current) was.early) mid.early → AreAmong (filter (is_early is.reached.current) mid.early) is.early
+      → is.reached ≡ mid.reached → AreAmong (filter (is_early is.reached.current) was.early) is.early
+  early_further was mid is first second reached =
+      kept_further was.early (is_early mid.reached.current) (is_early is.reached.current) (λ e above. ap (λ (v : Views). is_early v.current e) (sym reached) ∙ above) first second
+
 module _ {S D K G C : Type 0} where
   pub planned-append : (steps more : List (Step S D K G C)) → work_planned (steps ++ more) ≡ work_planned steps ++ work_planned more
   planned-append [] more = refl
@@ -85,7 +120,8 @@ module _ {S D K G C : Type 0} where
 
   -- a plan that is the same, or goes on through another
   pub keeps_as : {works planned : List (Work S D K G C)} {was is : Beside K D} → planned ≡ works → is ≡ was → IsPlanned [] (λ view. false) works was planned is
-  keeps_as {planned = planned} {is = is} same beside = record {
+  keeps_as {planned = planned} {was = was} {is = is} same beside = record {
+    early = early_same was is beside;
     found = among_all (sym same);
     building = λ view waits un. or_right (list_any (is_build_of view) planned) (awaits is view) (ap (λ b. awaits b view) beside ∙ waits);
     views = among_all (ap (λ (b : Beside K D). views_built b.blocks) beside);
@@ -99,7 +135,8 @@ module _ {S D K G C : Type 0} where
 
   pub keeps_further : {requested : List ℕ} {ended : ℕ → Bool} {a b c : List (Work S D K G C)} {x y z : Beside K D}
       → IsPlanned requested ended a x b y → IsPlanned [] (λ view. false) b y c z → IsPlanned requested ended a x c z
-  keeps_further {y = y} {z = z} first second = record {
+  keeps_further {x = x} {y = y} {z = z} first second = record {
+    early = early_further x y z first.early second.early second.reached;
     found = among_further first.found second.found;
     building = λ view waits un. has_further y z view second.found (λ left. second.building view left refl) (first.building view waits un);
     views = among_further second.views first.views;
@@ -112,6 +149,7 @@ module _ {S D K G C : Type 0} where
   pub plans_too : (ended : ℕ → Bool) (old new : Plan S D K G C) (more : List (Step S D K G C)) → new.steps.items ≡ old.steps.items ++ more → beside_of new ≡ beside_of old
       → IsPlanned [] ended (work_planned old.steps.items ++ work_planned more) (beside_of old) (work_planned new.steps.items) (beside_of new)
   plans_too ended old new more is same = record {
+    early = early_same (beside_of old) (beside_of new) same;
     found = among_all (sym (planned_now old.steps.items new.steps.items more is));
     building = λ view waits un. or_right (list_any (is_build_of view) (work_planned new.steps.items)) (awaits (beside_of new) view) (ap (λ beside. awaits beside view) same ∙ waits);
     views = among_all (ap (λ (beside : Beside K D). views_built beside.blocks) same);
@@ -123,16 +161,17 @@ module _ {S D K G C : Type 0} where
   pub plans_behind : (old new : Plan S D K G C) (more : List (Step S D K G C)) → new.steps.items ≡ old.steps.items ++ more → beside_of new ≡ beside_of old → KeepsPlanned old new
   plans_behind old new more is same =
       let too = plans_too (λ view. false) old new more is same in
-      record { found = planned_behind old.steps.items new.steps.items more is; building = too.building; views = too.views; reached = too.reached; constants = too.constants; ignored = too.ignored }
+      record { found = planned_behind old.steps.items new.steps.items more is; building = too.building; views = too.views; early = too.early; reached = too.reached; constants = too.constants; ignored = too.ignored }
 
   pub has_planned : {more : List (Step S D K G C)} {old new : Plan S D K G C} → HasPlanned more old new → KeepsPlanned old new
   has_planned {more = more} {old = old} {new = new} is = plans_behind old new more is.steps (ap beside_of is.same)
 
   -- nothing is built in a view any more
   pub has_ended : (view : ℕ) (more : List (Step S D K G C)) (old new : Plan S D K G C) → new.steps.items ≡ old.steps.items ++ more → new.builds.buildings.items ≡ all_but_at view old.builds.buildings.items
-      → new.views ≡ old.views → constants_of new ≡ constants_of old → new.ignored ≡ old.ignored
+      → new.early.proposals.items ≡ old.early.proposals.items → new.views ≡ old.views → constants_of new ≡ constants_of old → new.ignored ≡ old.ignored
       → IsPlanned [] (λ other. view == other) (work_planned old.steps.items) (beside_of old) (work_planned new.steps.items) (beside_of new)
-  has_ended view more old new steps blocks reached constants ignored = record {
+  has_ended view more old new steps blocks early reached constants ignored = record {
+    early = among_further (among_kept (is_early new.views.current) old.early.proposals.items) (among_all (sym early));
     found = planned_behind old.steps.items new.steps.items more steps;
     building = λ other waits un.
         let parts = and_parts old.is_alone (list_any (waits_for other) old.builds.buildings.items) waits in
@@ -150,6 +189,8 @@ module _ {S D K G C : Type 0} where
       → HasBuilds (asking_for context is_told) (in_place (record { context = context; is_told = is_told }) old.builds.buildings.items) old new
       → IsPlanned (context.round.view ∷ []) ended (work_planned old.steps.items ++ []) (beside_of old) (work_planned new.steps.items) (beside_of new)
   has_requested ended context is_told old new alone is = record {
+    early = among_further (among_kept (is_early new.views.current) old.early.proposals.items)
+        (among_all (ap (λ (plan : Plan S D K G C). plan.early.proposals.items) (sym is.same)));
     found = among_further (among_all (append-nil (work_planned old.steps.items))) (planned_behind old.steps.items new.steps.items (asking_for context is_told) is.steps);
     building = λ other waits un. elim (cases_Bool (context.round.view == other)) [
       | inl at ↦ by_told is_told refl other at
@@ -213,6 +254,7 @@ module _ {S D K G C : Type 0} where
   plans_none {works = works} keeps = record {
     found = among_further (among_all (append-nil works)) keeps.found;
     building = keeps.building;
+    early = keeps.early;
     views = keeps.views;
     reached = keeps.reached;
     constants = keeps.constants;
@@ -225,6 +267,7 @@ module _ {S D K G C : Type 0} where
   plans_nothing ended {works = works} keeps = record {
     found = among_further (among_all (append-nil works)) keeps.found;
     building = λ view waits un. keeps.building view waits refl;
+    early = keeps.early;
     views = keeps.views;
     reached = keeps.reached;
     constants = keeps.constants;
@@ -236,6 +279,19 @@ module _ {S D K G C : Type 0} where
   plans_beside old beside new is steps same =
       plans_behind old new [] (ap (λ (plan : Plan S D K G C). plan.steps.items) is ∙ steps ∙ sym (append-nil old.steps.items)) (ap beside_of is ∙ same)
 
+  -- of a plan that has kept one more proposal, maybe
+  pub plans_kept : (old new : Plan S D K G C) → new ≡ record old { early = new.early } → AreAmong old.early.proposals.items new.early.proposals.items → KeepsPlanned old new
+  plans_kept old new is among = record {
+    found = among_all (ap (λ (plan : Plan S D K G C). work_planned plan.steps.items) (sym is));
+    building = λ view waits un. or_right (list_any (is_build_of view) (work_planned new.steps.items)) (awaits (beside_of new) view)
+        (ap (λ (plan : Plan S D K G C). awaits (beside_of plan) view) is ∙ waits);
+    views = among_all (ap (λ (plan : Plan S D K G C). views_built plan.builds.buildings.items) is);
+    early = among_further (among_kept (is_early new.views.current) old.early.proposals.items) among;
+    reached = ap (λ (plan : Plan S D K G C). plan.views) is;
+    constants = ap constants_of is;
+    ignored = ap (λ (plan : Plan S D K G C). plan.ignored) is;
+  }
+
   pub plans_same : (old new : Plan S D K G C) → new ≡ old → KeepsPlanned old new
   plans_same old new is = plans_beside old old new is refl refl
 
@@ -245,6 +301,7 @@ module _ {S D K G C : Type 0} where
   repaired_beside old repair peers retry = λ i. record {
     reached = old.views;
     blocks = old.builds.buildings.items;
+    early = old.early.proposals.items;
     constants = record { is_alone = old.is_alone; options = old.options; peers = peers i; retry = retry i };
     ignored = old.ignored;
   }
@@ -270,6 +327,7 @@ module _ {S D K G C : Type 0} where
   -- what is planned behind a change of something else
   pub plans_then : (a b c : Plan S D K G C) (asked : Task D) (told : Told K D) → KeepsPlanned a b → PlansAnswer asked told b c → PlansAnswer asked told a c
   plans_then a b c asked told first second = record {
+    early = early_further (beside_of a) (beside_of b) (beside_of c) first.early second.early second.reached;
     found = among_further (among_both first.found (among_still (work_of told))) second.found;
     building = λ view waits un. elim (or_cases (list_any (λ v. v == view) (views_requested told)) (awaits (beside_of a) view) waits) [
       | inl now ↦ second.building view (or_left (list_any (λ v. v == view) (views_requested told)) (awaits (beside_of b) view) now) un

@@ -1,5 +1,5 @@
 -- Work that is planned, and what an answer of the member asks for.
-use Rattle.std.specs.Prelude.{◌≡◌, ℕ, Bool, true, false, ◌&&◌, ◌||◌, ◌==◌, List, [], ◌∷◌, ◌++◌, map, Some, is_some}
+use Rattle.std.specs.Prelude.{◌≡◌, ℕ, Bool, true, false, ◌&&◌, ◌||◌, ◌==◌, List, [], ◌∷◌, ◌++◌, map, filter, nat_lt, Some, is_some}
 use Rattle.std.specs.List.{list_any}
 use Rattle.simplex_voter.specs.Proposing.{request_context}
 use Rattle.simplex_voter.specs.declared.voter.verify.Verify.TheVariants.{Ready}
@@ -12,6 +12,7 @@ use Rattle.simplex_plan.specs.declared.plan.Plan.{Plan}
 use Rattle.simplex_plan.specs.declared.plan.Step.{Step}
 use Rattle.simplex_plan.specs.declared.plan.Step.TheVariants.{Push}
 use Rattle.simplex_plan.specs.declared.plan.Views.{Views}
+use Rattle.simplex_plan.specs.declared.plan.early.Early.{Early}
 use Rattle.simplex_plan.specs.declared.plan.building.Building.{Building}
 use Rattle.simplex_plan.specs.declared.task.Task.{Task}
 use Rattle.simplex_plan.specs.Blocks.{views_built, waits_for}
@@ -76,17 +77,28 @@ module _ {S D K G C : Type 0} where
   abbrev pub constants_of : Plan S D K G C → Constants
   constants_of plan = record { is_alone = plan.is_alone; options = plan.options; peers = plan.repair.fetches.peers; retry = plan.repair.fetches.retry }
 
--- what a plan keeps beside its steps: the views that it has come to, the blocks that are to be built, what stays for a life, and how
--- many inputs were of no use
+-- what a plan keeps beside its steps: the views that it has come to, the blocks that are to be built, the proposals that came early,
+-- what stays for a life, and how many inputs were of no use
 pub record Beside (K D : Type 0) : Type 0 where
   pub reached : Views
   pub blocks : List (Building D K)
+  pub early : List (Early D)
   pub constants : Constants
   pub ignored : ℕ
 
 -- of a plan
 abbrev pub beside_of : {S D K G C : Type 0} → Plan S D K G C → Beside K D
-beside_of plan = record { reached = plan.views; blocks = plan.builds.buildings.items; constants = constants_of plan; ignored = plan.ignored }
+beside_of plan = record {
+  reached = plan.views;
+  blocks = plan.builds.buildings.items;
+  early = plan.early.proposals.items;
+  constants = constants_of plan;
+  ignored = plan.ignored;
+}
+
+-- a proposal came before its view, where this one is the current one
+abbrev pub is_early : {D : Type 0} → ℕ → Early D → Bool
+is_early current early = nat_lt current early.view
 
 -- the application of a member alone was not asked for this view's block yet
 abbrev pub awaits : {K D : Type 0} → Beside K D → ℕ → Bool
@@ -98,13 +110,15 @@ module _ {S D K G C : Type 0} where
   has_block work beside view = list_any (is_build_of view) work || awaits beside view
 
   -- this work is planned; of each view that was requested, or whose block waited, a block is planned or waits still, unless it is ended;
-  -- no block is to be built besides; the views and the constants are the same, and no input was counted as of no use
+  -- no block is to be built besides; each proposal that came before its view, and did still, is kept; the views and the constants are
+  -- the same, and no input was counted as of no use
   pub record IsPlanned (requested : List ℕ) (ended : ℕ → Bool) (work : List (Work S D K G C)) (was : Beside K D) (planned : List (Work S D K G C))
       (is : Beside K D) : Type 0 where
     pub found : AreAmong work planned
     pub building : (view : ℕ) → (list_any (λ v. v == view) requested || awaits was view) ≡ true → ended view ≡ false
         → has_block planned is view ≡ true
     pub views : AreAmong (views_built is.blocks) (requested ++ views_built was.blocks)
+    pub early : AreAmong (filter (is_early is.reached.current) was.early) is.early
     pub reached : is.reached ≡ was.reached
     pub constants : is.constants ≡ was.constants
     pub ignored : is.ignored ≡ was.ignored

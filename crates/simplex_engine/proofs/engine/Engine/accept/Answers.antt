@@ -5,7 +5,7 @@ use Rattle.std.proofs.lemmas.Result.{IfOk-weaker}
 use Rattle.simplex_types.specs.Certificates.{certificate_facts}
 use Rattle.simplex_types.specs.Encoding.{certificate_subject}
 use Rattle.simplex_outbox.specs.Going.{GoesOn}
-use Rattle.simplex_engine.proofs.Tells.{handed_as, tells_handed}
+use Rattle.simplex_engine.proofs.Tells.{handed_as, tells_handed, tells_still}
 use Rattle.simplex_plan.proofs.Planning.{on_ok_both}
 use Rattle.simplex_member.specs.Calls.{told}
 use Rattle.simplex_engine.proofs.engine.Engine.accept.Goals as goal
@@ -53,3 +53,6 @@ returns-clause-duties g c =
     (handed_as same elect c.args.self.now.core.member.facts answer c.args.now c.in_ok-copy.ensures.same c.follow_certificate.ensures.core c.in_ok-reply.ensures.answered)
     (subst (GoesOn same elect bytes_of (Some (certificate_subject (certificate_facts bytes_of c.in_ok-copy.copy))) c.args.self.now.core) (sym c.follow_certificate.ensures.core)
     c.hand_in.ensures.goes_on))
+
+pub returns-then-not-admits-clause-duties : goal.returns-then-not-admits-clause-duties
+returns-then-not-admits-clause-duties g c = tells_still c.args.self.now

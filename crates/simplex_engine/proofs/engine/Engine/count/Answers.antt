@@ -7,6 +7,7 @@ use Rattle.simplex_engine.proofs.Bounds.{bounded_same}
 use Rattle.simplex_outbox.proofs.Going.{stays}
 use Rattle.simplex_plan.proofs.PlannedWork.{among_still}
 use Rattle.simplex_engine.specs.Duties.{work_ahead}
+use Rattle.simplex_engine.proofs.Building.{early_anyway}
 use Rattle.simplex_engine.proofs.engine.Engine.count.Goals as goal
 
 pub returns-then-not-admits_votes : goal.returns-then-not-admits_votes
@@ -23,7 +24,7 @@ returns-then-not-admits_votes g c =
       bounded = bounded_same keys_of engine.core engine.core engine.batcher refl;
       acted = λ is. absurd (false≢true
           (sym c.if-not-admits_votes.true ∙ c.admits_votes.ensures ∙ ap (λ round. is_so (λ x. admits_votes x round) engine.core.member.facts) c.round_of.ensures.round ∙ is));
-      duties = record { stays = λ work told. told; works = among_still (work_ahead engine); near = λ near. near; seen = λ come. come; constants = refl };
+      duties = record { stays = λ work told. told; works = among_still (work_ahead engine); near = λ near. near; seen = λ come. come; early = λ come. early_anyway engine engine (among_still engine.plan.early.proposals.items); constants = refl };
       ignored = refl;
     }
 

@@ -30,4 +30,4 @@ returns-in-Ok g c =
     g.met.D.Digest.equal_is_same c.args.vote c.args.self.now c.follow_counted.new.self c.follow_counted.result c.count.new.self c.in-Ok.counted c.requires c.count.ensures.given
     c.count.ensures.within c.count.ensures.scheme c.in-Ok.ensures.counted c.follow_counted.ensures.goes_on c.follow_counted.ensures.batcher c.follow_counted.ensures.followed
     (on_ok c.follow_counted.result c.follow_counted.ensures.duties
-    (λ keeps. record { stays = keeps.stays; works = keeps.works; near = keeps.near; seen = keeps.seen; constants = keeps.constants; ignored = keeps.ignored }))
+    (λ keeps. record { stays = keeps.stays; works = keeps.works; near = keeps.near; seen = keeps.seen; early = keeps.early; risen = keeps.risen; constants = keeps.constants; ignored = keeps.ignored }))

@@ -2,6 +2,7 @@
 use Rattle.std.proofs.Common.{refl}
 use Rattle.std.proofs.lemmas.Bool.{and_parts}
 use Rattle.simplex_engine.proofs.Alone.{alone_further}
+use Rattle.simplex_engine.proofs.Tells.{tells_further}
 use Rattle.simplex_engine.proofs.engine.Engine.has_no_work.Goals as goal
 
 pub returns-in_err-has_none-2-clause-alone : goal.returns-in_err-has_none-2-clause-alone
@@ -18,3 +19,6 @@ returns-clause-nothing g c = λ is.
     let i3 = and_parts _ _ is in
     let i2 = and_parts _ _ i3.0 in
     (c.asks_nothing.new.self.core.member.facts, c.in_ok-has_none.ensures.nothing i2.0, (c.asks_nothing-2.new.self.core.member.facts, c.in_ok-has_none-2.ensures.nothing i2.1, (c.asks_nothing-3.new.self.core.member.facts, c.in_ok-has_none-3.ensures.nothing i3.1, refl)))
+
+pub returns-clause-duties : goal.returns-clause-duties
+returns-clause-duties g c = tells_further c.in_ok-has_none.ensures.duties (tells_further c.in_ok-has_none-2.ensures.duties c.in_ok-has_none-3.ensures.duties)

@@ -1,6 +1,6 @@
 -- That a fetch that is closed loses nothing that is planned.
 use Rattle.std.proofs.Common.{ap}
-use Rattle.simplex_plan.proofs.PlannedWork.{plans_let_go}
+use Rattle.simplex_plan.proofs.PlannedWork.{plans_let_go, keeps_still}
 use Rattle.simplex_engine.proofs.engine.Engine.let_fetches_go.Goals as goal
 
 pub returns-in-Some-clause-planned : goal.returns-in-Some-clause-planned
@@ -8,3 +8,6 @@ returns-in-Some-clause-planned g c = plans_let_go _ _ c.args.self.now.plan c.let
 
 pub returns-in-Some-clause-builds : goal.returns-in-Some-clause-builds
 returns-in-Some-clause-builds g c = ap (λ plan. plan.builds.buildings.items) c.let_go.ensures.same
+
+pub returns-in-None-clause-planned : goal.returns-in-None-clause-planned
+returns-in-None-clause-planned g c = keeps_still

@@ -61,5 +61,5 @@ returns g c =
       duties = on_ok c.let_fetches_go.result c.let_fetches_go.ensures.lacking (λ _. tells_further c.in_ok-tell_forgotten.ensures.duties
           (let keeps = tells_planned (record (c.tell_forgotten.new.self) { batcher = c.forget.new.self }) c.let_fetches_go.new.self
           c.let_fetches_go.ensures.core c.let_fetches_go.ensures.planned in
-          record { stays = keeps.stays; works = keeps.works; near = keeps.near; seen = keeps.seen; constants = keeps.constants; ignored = keeps.ignored }));
+          record { stays = keeps.stays; works = keeps.works; near = keeps.near; seen = keeps.seen; early = keeps.early; risen = keeps.risen; constants = keeps.constants; ignored = keeps.ignored }));
     }

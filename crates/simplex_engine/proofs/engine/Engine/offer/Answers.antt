@@ -1,13 +1,15 @@
 -- That a proposal is handed in, or else kept at most.
 use Rattle.std.proofs.Common.{refl, ap, sym, ◌∙◌, None, subst}
-use Rattle.std.proofs.lemmas.Bool.{false≢true}
+use Rattle.std.proofs.lemmas.Bool.{cond_both, false≢true}
 use Rattle.std.specs.Prelude.{IfOk}
 use Rattle.simplex_plan.specs.declared.task.Task.TheVariants.{SetProposal}
 use Rattle.simplex_engine.specs.Acting.{HasDoneTask}
 use Rattle.simplex_outbox.specs.Going.{GoesOn}
 use Rattle.simplex_outbox.proofs.Going.{stays}
-use Rattle.simplex_engine.specs.Duties.{work_ahead, KeepsDuties}
-use Rattle.simplex_plan.proofs.PlannedWork.{among_still}
+use Rattle.simplex_plan.specs.PlannedWork.{AreAmong}
+use Rattle.simplex_plan.proofs.PlannedWork.{among_more, among_still, plans_kept}
+use Rattle.simplex_engine.specs.Admitting.{keeps_early}
+use Rattle.simplex_engine.proofs.Tells.{tells_planned}
 use Rattle.simplex_engine.proofs.engine.Engine.offer.Goals as goal
 
 pub returns-then-admits_proposal : goal.returns-then-admits_proposal
@@ -29,12 +31,16 @@ pub returns-in_err-keep_early-clause-batcher : goal.returns-in_err-keep_early-cl
 returns-in_err-keep_early-clause-batcher g c = ap (λ engine. engine.batcher) c.keep_early.ensures.same
 
 pub returns : goal.returns
-returns g c = record {
-  goes_on = subst (GoesOn g.D.PartialEq.eq g.L.Elector.elect g.S.CertificateScheme.certificate_bytes None c.args.self.now.core)
-      (sym (ap (λ engine. engine.core) c.keep_early.ensures.same)) (stays c.args.self.now.core);
-  batcher = ap (λ engine. engine.batcher) c.keep_early.ensures.same;
-  unadmitted = λ _. (refl, c.in_ok-keep_early.ensures.kept);
-  acted = λ is. absurd (false≢true (sym c.if-admits_proposal.false ∙ c.admits_proposal.ensures ∙ is));
-  duties = subst (KeepsDuties c.args.self.now) (sym c.keep_early.ensures.same)
-      (record { stays = λ work told. told; works = among_still (work_ahead c.args.self.now); near = λ near. near; seen = λ come. come; constants = refl; ignored = refl });
-}
+returns g c =
+    let old = c.args.self.now.plan.early.proposals.items in
+    let kept = subst (AreAmong old) (sym c.in_ok-keep_early.ensures.kept.kept)
+    (cond_both (keeps_early c.args.self.now c.args.proposal) _ _ (AreAmong old) (λ _. among_more old _) (λ _. among_still old)) in
+    record {
+      goes_on = subst (GoesOn g.D.PartialEq.eq g.L.Elector.elect g.S.CertificateScheme.certificate_bytes None c.args.self.now.core)
+          (sym (ap (λ engine. engine.core) c.keep_early.ensures.same)) (stays c.args.self.now.core);
+      batcher = ap (λ engine. engine.batcher) c.keep_early.ensures.same;
+      unadmitted = λ _. (refl, c.in_ok-keep_early.ensures.kept);
+      acted = λ is. absurd (false≢true (sym c.if-admits_proposal.false ∙ c.admits_proposal.ensures ∙ is));
+      duties = tells_planned c.args.self.now c.keep_early.new.self (ap (λ engine. engine.core) c.keep_early.ensures.same)
+          (plans_kept c.args.self.now.plan c.keep_early.new.self.plan (ap (λ engine. engine.plan) c.keep_early.ensures.same) kept);
+    }

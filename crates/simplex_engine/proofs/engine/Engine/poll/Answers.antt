@@ -5,11 +5,11 @@ use Rattle.simplex_outbox.specs.Finals.{TellsNoMore}
 use Rattle.simplex_engine.specs.Inputs.{given_out}
 use Rattle.simplex_outbox.proofs.Finals.{tells_still}
 use Rattle.simplex_engine.proofs.Alone.{forgets_nothing}
-use Rattle.simplex_engine.proofs.Building.{come_beside, near_same}
+use Rattle.simplex_engine.proofs.Building.{come_beside, early_anyway, near_same}
 use Rattle.simplex_engine.proofs.Bounds.{bounded_same, bounded_admitted}
 use Rattle.simplex_outbox.proofs.Going.{does_nothing_more, where_ok}
 use Rattle.simplex_engine.proofs.Tells.{tells_given, still_told, works_given}
-use Rattle.simplex_plan.proofs.PlannedWork.{among_further}
+use Rattle.simplex_plan.proofs.PlannedWork.{among_further, among_still}
 use Rattle.simplex_plan.proofs.Planning.{on_ok}
 use Rattle.simplex_engine.proofs.engine.Engine.poll.Goals as goal
 
@@ -92,4 +92,13 @@ returns-in-Some-clause-seen g c = come_beside c.args.self.now (record c.args.sel
 pub returns-in-None-clause-seen : goal.returns-in-None-clause-seen
 returns-in-None-clause-seen g c =
     on_ok c.poll_after_work.result c.poll_after_work.ensures.seen
+    (λ more come. more (come_beside c.args.self.now (record c.args.self.now { core = c.next.new.self }) c.next.ensures.same.0 refl come))
+
+pub returns-in-Some-clause-early : goal.returns-in-Some-clause-early
+returns-in-Some-clause-early g c come =
+    early_anyway c.args.self.now (record c.args.self.now { core = c.next.new.self }) (among_still c.args.self.now.plan.early.proposals.items)
+
+pub returns-in-None-clause-early : goal.returns-in-None-clause-early
+returns-in-None-clause-early g c =
+    on_ok c.poll_after_work.result c.poll_after_work.ensures.early
     (λ more come. more (come_beside c.args.self.now (record c.args.self.now { core = c.next.new.self }) c.next.ensures.same.0 refl come))

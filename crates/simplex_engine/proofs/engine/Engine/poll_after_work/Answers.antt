@@ -16,6 +16,7 @@ use Rattle.simplex_engine.specs.Duties.{work_in}
 use Rattle.simplex_plan.specs.Blocks.{builds_from}
 use Rattle.simplex_plan.proofs.PlannedWork.{among_further}
 use Rattle.simplex_engine.proofs.Building.{come_beside, near_same}
+use Rattle.simplex_engine.specs.Views.{StaysEarly}
 use Rattle.simplex_engine.proofs.engine.Engine.poll_after_work.Goals as goal
 
 pub returns-in-Ok-clause-given : goal.returns-in-Ok-clause-given
@@ -114,3 +115,7 @@ returns-in-Ok-clause-near g c near =
 pub returns-in-Ok-clause-seen : goal.returns-in-Ok-clause-seen
 returns-in-Ok-clause-seen g c come =
     come_beside c.work.new.self (record (c.work.new.self) { core = c.next.new.self }) c.next.ensures.same.0 refl (c.in-Ok.ensures.duties.seen come)
+
+pub returns-in-Ok-clause-early : goal.returns-in-Ok-clause-early
+returns-in-Ok-clause-early g c come =
+    subst (λ m. StaysEarly c.args.self.now.plan m.facts c.work.new.self.plan) (sym c.next.ensures.same.0) (c.in-Ok.ensures.duties.early come)

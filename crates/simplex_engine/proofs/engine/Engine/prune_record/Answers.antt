@@ -16,5 +16,5 @@ returns g c = record {
   duties =
       let keeps = tells_further c.in_ok-ask.ensures.duties
       (tells_beside c.ask.new.self (record (c.ask.new.self) { core = c.prune_record.new.self }) c.prune_record.ensures.waiting (ap (λ m. m.life) c.in_ok-prune_record.ensures.pruned) c.prune_record.ensures.goes_on refl) in
-      record { stays = keeps.stays; works = keeps.works; near = keeps.near; seen = keeps.seen; constants = keeps.constants; ignored = keeps.ignored };
+      record { stays = keeps.stays; works = keeps.works; near = keeps.near; seen = keeps.seen; early = keeps.early; risen = keeps.risen; constants = keeps.constants; ignored = keeps.ignored };
 }

@@ -20,6 +20,7 @@ returns c =
             works = asked.works;
             near = asked.near;
             seen = asked.seen;
+            early = asked.early;
             ignored = asked.ignored;
             constants = asked.constants;
             outcome = asked.outcome;

@@ -34,6 +34,7 @@ returns-in-Ok-Some c =
               (rw rest.0 (rw c.in-Ok-Some.field-0-is at c.in-Ok-Some.ensures.works)) c.give_out.ensures.given;
           near = λ _. rw rest.0 c.in-Ok-Some.ensures.near;
           seen = λ _. rw rest.0 c.in-Ok-Some.ensures.seen;
+          early = λ _. rw rest.0 c.in-Ok-Some.ensures.early;
           ignored = λ _. rw rest.0 c.in-Ok-Some.ensures.ignored;
           constants = λ _. rw rest.0 c.in-Ok-Some.ensures.constants;
           outcome = inl (c.in-Ok-Some.output, c.give_out.ensures.given);
@@ -67,6 +68,7 @@ returns-in-Ok-None c =
               (sym c.requires.last) (rw none at c.in-Ok-None.ensures.works);
           near = λ _. c.in-Ok-None.ensures.near;
           seen = λ _. c.in-Ok-None.ensures.seen;
+          early = λ _. c.in-Ok-None.ensures.early;
           ignored = λ _. c.in-Ok-None.ensures.ignored;
           constants = λ _. c.in-Ok-None.ensures.constants;
           outcome = inr (inl (
@@ -109,6 +111,7 @@ returns-in-Err c =
           works = λ alive. absurd (false≢true (sym alive ∙ failed));
           near = λ alive. absurd (false≢true (sym alive ∙ failed));
           seen = λ alive. absurd (false≢true (sym alive ∙ failed));
+          early = λ alive. absurd (false≢true (sym alive ∙ failed));
           ignored = λ alive. absurd (false≢true (sym alive ∙ failed));
           constants = λ alive. absurd (false≢true (sym alive ∙ failed));
           outcome = inr (inr (
