@@ -62,13 +62,13 @@ a_nullification Decision is = absurd (false≢true is)
 
 -- one more
 
-open_more : (kind : FetchKind) (view : ℕ) (xs : List Fetch) (more : Fetch) → is_fetch_open kind view (xs ++ more ∷ []) ≡ (is_fetch_open kind view xs || is_of kind view more)
+pub open_more : (kind : FetchKind) (view : ℕ) (xs : List Fetch) (more : Fetch) → is_fetch_open kind view (xs ++ more ∷ []) ≡ (is_fetch_open kind view xs || is_of kind view more)
 open_more kind view [] more = or_none (is_of kind view more)
 open_more kind view (x ∷ xs) more =
     ap (λ b. is_of kind view x || b) (open_more kind view xs more) ∙ or_joined (is_of kind view x) (is_fetch_open kind view xs) (is_of kind view more)
 
 -- one that is opened is open
-open_now : (v view moment : ℕ) (xs : List Fetch) → is_fetch_open Nullification v (opened Nullification view 0 moment xs) ≡ (is_fetch_open Nullification v xs || eqb v view)
+pub open_now : (v view moment : ℕ) (xs : List Fetch) → is_fetch_open Nullification v (opened Nullification view 0 moment xs) ≡ (is_fetch_open Nullification v xs || eqb v view)
 open_now v view moment xs = by_test (is_fetch_open Nullification view xs) refl
   where
     more : List Fetch
@@ -167,7 +167,7 @@ joined true false false true out = refl
 joined true false f false out = refl
 
 -- what they leave open: what was and is settled by none, and what was fetched and not settled behind that
-effects_are : (v moment : ℕ) (es : List Effect) (xs : List Fetch)
+pub effects_are : (v moment : ℕ) (es : List Effect) (xs : List Fetch)
     → is_fetch_open Nullification v (after_effects moment es xs) ≡ ((is_fetch_open Nullification v xs && not (list_any (settles v) es)) || is_outstanding es v)
 effects_are v moment [] xs = sym (or_none (is_fetch_open Nullification v xs && true) ∙ and_all (is_fetch_open Nullification v xs))
 effects_are v moment (e ∷ es) xs =

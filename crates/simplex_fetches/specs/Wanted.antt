@@ -9,7 +9,7 @@ use Rattle.simplex_voter.specs.Serving.{notarization_of, nullification_of}
 use Rattle.simplex_fetches.specs.declared.fetches.Fetch.{Fetch}
 use Rattle.simplex_fetches.specs.declared.fetches.FetchKind.{FetchKind}
 use Rattle.simplex_fetches.specs.declared.fetches.FetchKind.TheVariants.{Notarization, Nullification, Decision}
-use Rattle.simplex_fetches.specs.Fetches.{fetch_kind, is_fetch_open, opened, passed, settled}
+use Rattle.simplex_fetches.specs.Fetches.{fetch_kind, is_fetch_open, opened, passed, same_kind, settled}
 
 -- what an effect makes of the open fetches; what is lacking is asked for from this moment on
 abbrev pub after_effect : ℕ → Effect → List Fetch → List Fetch
@@ -32,6 +32,15 @@ fetching now (first ∷ rest) fetches = fetching now rest (opened Notarization f
 abbrev pub wanting : List ℕ → List Fetch → List Fetch
 wanting [] fetches = fetches
 wanting (first ∷ rest) fetches = wanting rest (opened Nullification first 0 0 fetches)
+
+-- the resolver wants the certificate: a nullification of a view that it has open
+abbrev pub wants : List ℕ → FetchKind → ℕ → Bool
+wants wanted kind view = same_kind kind Nullification && has wanted view
+
+-- each fetch that is open, and that the resolver does not want, was so before
+abbrev pub OpensNoOther : List ℕ → List Fetch → List ℕ → List Fetch → Type 0
+OpensNoOther wanted_before before wanted now = (kind : FetchKind) (view : ℕ) → is_fetch_open kind view now ≡ true → wants wanted kind view ≡ false
+    → (is_fetch_open kind view before ≡ true) × (wants wanted_before kind view ≡ false)
 
 -- of each view above the last finalized one that the resolver has open, a nullification is asked for
 abbrev pub AsksForWanted : ℕ → List ℕ → List Fetch → Type 0

@@ -9,7 +9,7 @@ ghost use Rattle.simplex_types.specs.Viewed.{certificate_view};
 ghost use Rattle.simplex_resolver.specs.Steps.{highest_named, highest_view, update, verdict};
 ghost use Rattle.simplex_fetches.specs.Asking.{IsAsking};
 ghost use Rattle.simplex_fetches.specs.Fetches.{due_at, opened, closed, passed, place_of};
-ghost use Rattle.simplex_fetches.specs.Wanted.{fetching, wanting, is_lacking, AsksForWanted, AsksForTheLacking};
+ghost use Rattle.simplex_fetches.specs.Wanted.{fetching, wanting, is_lacking, AsksForWanted, AsksForTheLacking, OpensNoOther};
 
 use crate::fetches::{Ask, FetchKind, Fetches};
 use simplex_resolver::replay::LawfulResolver;
@@ -71,6 +71,8 @@ impl Repair {
     /// The resolver is told of a certificate, and fetches are opened and ended as it says. What is lacking is asked for from this
     /// moment on.
     ///
+    /// - `no_other`: so a fetch that the resolver does not want was open before, and was not wanted then either.
+    ///
     /// # Errors
     ///
     /// Those of `LawfulResolver::updated`. After `OutOfMemory` fetches may be left out; another one leaves the resolver and the fetches.
@@ -81,6 +83,8 @@ impl Repair {
     ) -> Result<(), Fault>
         requires { 1 ≤ certificate_view certificate.now }
         ensures repaired { OnOk result (IsRepaired moment (update D.bytes (certificate_facts S.certificate_bytes certificate.now)) self.old self.new) }
+        ensures no_other { OnOk result (OpensNoOther self.old.resolver.open_fetches self.old.fetches.wanted.items
+            self.new.resolver.open_fetches self.new.fetches.wanted.items) }
         ensures refused { IfErr result (λ fault. IsUnrepaired (highest_view certificate.now) fault self.old self.new) }
     {
         let is_behind = self.is_behind;
@@ -105,6 +109,8 @@ impl Repair {
         requires { 1 ≤ notarization.proposal.round.view }
         ensures repaired { OnOk result (IsRepaired moment
             (verdict D.bytes (notarization_facts S.certificate_bytes notarization) is_success) self.old self.new) }
+        ensures no_other { OnOk result (OpensNoOther self.old.resolver.open_fetches self.old.fetches.wanted.items
+            self.new.resolver.open_fetches self.new.fetches.wanted.items) }
         ensures refused { IfErr result (λ fault. IsUnrepaired (highest_named notarization.proposal) fault self.old self.new) }
     {
         let is_behind = self.is_behind;

@@ -4,6 +4,7 @@ pub mod Finals
 pub mod Lawfully
 pub mod Finalizing
 pub mod Queued
+pub mod Working
 pub mod Leaving
 pub mod Reaching
 pub mod Overgrown

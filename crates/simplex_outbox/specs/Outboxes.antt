@@ -11,7 +11,7 @@ use Rattle.simplex_outbox.specs.declared.output.Output.TheVariants as output
 use Rattle.simplex_batcher.specs.declared.votes.Vote.{Vote}
 use Rattle.simplex_outbox.specs.Entries.{votes_of_entries, newest_from, AreCopies}
 use Rattle.simplex_outbox.specs.Finals.{finals_in, RiseByView, EndsAt}
-use Rattle.simplex_outbox.specs.Outputs.{stored_in, storing, AreBehind}
+use Rattle.simplex_outbox.specs.Outputs.{stored_in, storing, work_in, AreBehind}
 
 module _ {S D J K G C : Type 0} where
   -- over all that was given out and what is queued each vote stands behind an output that stores it, and so would the vote that
@@ -36,6 +36,10 @@ module _ {S D J K G C : Type 0} where
   pub record QueuesMore (old new : Outbox S D J K G C) : Type 0 where
     pub more : List (Output S D J K G C)
     pub queue_is : new.queue.items ≡ old.queue.items ++ more
+
+  -- the same work is queued
+  abbrev pub QueuesNoWork : Outbox S D J K G C → Outbox S D J K G C → Type 0
+  QueuesNoWork old new = work_in new.queue.items ≡ work_in old.queue.items
 
   -- copies of the entries are to be stored, and each vote among them leaves behind them
   abbrev pub IsStored : (C → List ℕ) → List (Artifact S D K G C) → Outbox S D J K G C → Outbox S D J K G C → Type 0

@@ -1,9 +1,11 @@
--- What is given out: each vote behind what stores it.
+-- What is given out: each vote behind what stores it; and the work among it.
 use Rattle.std.specs.Prelude.{List, [], ◌∷◌, ◌++◌, map, Contains, Vec}
 use Rattle.std.specs.declared.alloc.Global.{Global}
 use Rattle.simplex_types.specs.declared.types.messages.Artifact.{Artifact}
 use Rattle.simplex_outbox.specs.declared.output.Output.{Output}
 use Rattle.simplex_outbox.specs.declared.output.Output.TheVariants.{Store, Replace, Vote}
+use Rattle.simplex_outbox.specs.declared.output.Output.TheVariants as output
+use Rattle.simplex_outbox.specs.declared.output.Work.{Work}
 use Rattle.simplex_outbox.specs.Entries.{votes_of_entries}
 
 module _ {S D J K G C : Type 0} where
@@ -31,3 +33,9 @@ module _ {S D J K G C : Type 0} where
   -- entries to be stored, and behind them each vote among them
   abbrev pub storing : Vec (Artifact S D K G C) Global → List (Output S D J K G C)
   storing entries = Store entries ∷ map Vote (votes_of_entries entries.items)
+
+  -- the work among outputs, in order
+  abbrev pub work_in : List (Output S D J K G C) → List (Work S D K G C)
+  work_in [] = []
+  work_in (output.Work work ∷ rest) = work ∷ work_in rest
+  work_in (_ ∷ rest) = work_in rest

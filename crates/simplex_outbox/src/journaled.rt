@@ -57,7 +57,7 @@ impl<S: Scheme<D>, L: Elector<S>, D: Digest> Journaled<S, L, D> {
     ghost use Rattle.simplex_member.specs.Journal.{stored_of};
     ghost use Rattle.simplex_member.specs.Pruning.{pruned_member};
     ghost use Rattle.simplex_outbox.specs.Outputs.{AreBehind};
-    ghost use Rattle.simplex_outbox.specs.Outboxes.{HasRoom, IsRepeated};
+    ghost use Rattle.simplex_outbox.specs.Outboxes.{HasRoom, IsRepeated, QueuesNoWork};
     ghost use Rattle.simplex_outbox.specs.Finals.{finals_in, RiseByView, EndsAt, TellsNoMore};
     ghost use Rattle.simplex_outbox.specs.Journals.{journal_of, IsRecordOf, BeginsWith};
     ghost use Rattle.simplex_outbox.specs.Going.{IsKept, IsWhole, StoresRecord, GoesOn, TellsNothing, has_failed};
@@ -120,6 +120,7 @@ impl<S: Scheme<D>, L: Elector<S>, D: Digest> Journaled<S, L, D> {
     /// - `goes_on`: the member accepts no certificate but this one; a finalization that it accepts is told as final, where its view is
     ///   above all that were told.
     /// - `answered`, `refused`: as of `call`.
+    /// - `no_work`: no work is queued.
     pub fn hand_in(
         &mut self,
         certificate: Certificate<S, D>,
@@ -132,6 +133,7 @@ impl<S: Scheme<D>, L: Elector<S>, D: Digest> Journaled<S, L, D> {
         ensures refused { IfOk result (λ reply. IsTrue (is_refused (told S.certificate_bytes reply))
             → self.new.member.facts ≡ self.old.member.facts) }
         ensures member { OnErr result (self.new.member ≡ self.old.member) }
+        ensures no_work { QueuesNoWork self.old.outbox self.new.outbox }
     {
         match self.outbox.make_room() {
             Ok(()) => Ok(self.take(certificate, now)),
@@ -147,6 +149,7 @@ impl<S: Scheme<D>, L: Elector<S>, D: Digest> Journaled<S, L, D> {
         ensures answered { IsCall D.eq L.elect self.old.member.facts
             (hands_in (certificate_facts S.certificate_bytes certificate) now) (told S.certificate_bytes result) self.new.member.facts }
         ensures refused { IsTrue (is_refused (told S.certificate_bytes result)) → self.new.member.facts ≡ self.old.member.facts }
+        ensures no_work { QueuesNoWork self.old.outbox self.new.outbox }
     {
         let finalized = finalized_by(&certificate);
         let reply = self.member.call(handing_in(certificate, now));
@@ -157,11 +160,13 @@ impl<S: Scheme<D>, L: Elector<S>, D: Digest> Journaled<S, L, D> {
     /// Queues what the record has grown by, and behind it each vote in it. Without memory nothing has changed.
     ///
     /// - `whole`, `holds`: all of the record is queued, or was; so a journal that carries it out holds the record.
+    /// - `no_work`: as of `hand_in`.
     pub fn store(&mut self) -> Result<(), AllocError>
         ensures goes_on { GoesOn D.eq L.elect S.certificate_bytes None self.old self.new }
         ensures whole { OnOk result (IsWhole S.certificate_bytes self.new) }
         ensures holds { OnOk result (StoresRecord S.certificate_bytes self.new) }
         ensures member { self.new.member ≡ self.old.member }
+        ensures no_work { QueuesNoWork self.old.outbox self.new.outbox }
     {
         let count = self.member.record().len();
         if count <= self.stored {
@@ -181,11 +186,13 @@ impl<S: Scheme<D>, L: Elector<S>, D: Digest> Journaled<S, L, D> {
     /// - `whole`: all of the record is queued.
     /// - `waiting`: what the member waits for is the same.
     /// - `pruned`: the record is pruned, as by `Member::prune_record`, and nothing else has changed of the member.
+    /// - `no_work`: as of `hand_in`.
     pub fn prune_record(&mut self) -> Result<(), AllocError>
         ensures goes_on { GoesOn D.eq L.elect S.certificate_bytes None self.old self.new }
         ensures waiting { self.new.member.facts.outstanding_work ≡ self.old.member.facts.outstanding_work }
         ensures whole { OnOk result (IsWhole S.certificate_bytes self.new) }
         ensures pruned { OnOk result (self.new.member.facts ≡ pruned_member self.old.member.facts) }
+        ensures no_work { QueuesNoWork self.old.outbox self.new.outbox }
     {
         self.store()?;
         self.replace()
@@ -197,6 +204,7 @@ impl<S: Scheme<D>, L: Elector<S>, D: Digest> Journaled<S, L, D> {
         ensures goes_on { GoesOn D.eq L.elect S.certificate_bytes None self.old self.new }
         ensures whole { OnOk result (IsWhole S.certificate_bytes self.new) }
         ensures pruned { self.new.member.facts ≡ pruned_member self.old.member.facts }
+        ensures no_work { QueuesNoWork self.old.outbox self.new.outbox }
     {
         self.member.prune_record();
         self.stored = self.member.record().len();

@@ -1,8 +1,9 @@
 -- That room is made before the member is called.
-use Rattle.std.proofs.Common.{refl}
+use Rattle.std.proofs.Common.{◌∙◌, refl}
 use Rattle.simplex_outbox.proofs.Finals.{stayed_tells}
 use Rattle.simplex_outbox.proofs.Going.{goes_further}
 use Rattle.simplex_outbox.proofs.Kept.{does_no_more, kept_as_it_was}
+use Rattle.simplex_outbox.proofs.Working.{stayed_no_work}
 use Rattle.simplex_outbox.proofs.journaled.Journaled.hand_in.Goals as goal
 
 pub returns-in-Ok-clause-goes_on : goal.returns-in-Ok-clause-goes_on
@@ -21,3 +22,9 @@ returns-in-Err-clause-goes_on g c =
     let ready = record old { outbox = c.make_room.new.self } in
     does_no_more old ready refl (kept_as_it_was bytes_of old ready refl refl refl refl c.make_room.ensures.goes_on c.make_room.ensures.kept)
     (stayed_tells old.outbox ready.outbox c.make_room.ensures.kept) c.make_room.ensures.grown
+
+pub returns-in-Ok-clause-no_work : goal.returns-in-Ok-clause-no_work
+returns-in-Ok-clause-no_work g c = c.take.ensures.no_work ∙ stayed_no_work c.args.self.now.outbox c.make_room.new.self c.make_room.ensures.kept
+
+pub returns-in-Err-clause-no_work : goal.returns-in-Err-clause-no_work
+returns-in-Err-clause-no_work g c = stayed_no_work c.args.self.now.outbox c.make_room.new.self c.make_room.ensures.kept

@@ -22,3 +22,6 @@ returns-clause-pruned g c = anyway c.replace.result (c.replace.ensures.pruned �
 pub returns-clause-waiting : goal.returns-clause-waiting
 returns-clause-waiting g c =
     still_waiting c.store.new.self.member.facts c.replace.new.self.member.facts c.replace.ensures.pruned ∙ ap (λ m. m.facts.outstanding_work) c.store.ensures.member
+
+pub returns-clause-no_work : goal.returns-clause-no_work
+returns-clause-no_work g c = c.replace.ensures.no_work ∙ c.store.ensures.no_work

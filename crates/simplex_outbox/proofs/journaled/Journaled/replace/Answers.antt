@@ -13,6 +13,7 @@ use Rattle.simplex_record.specs.Entries.{entries_of}
 use Rattle.simplex_outbox.specs.Reaching.{lowest_of}
 use Rattle.simplex_outbox.proofs.Kept.{replaced, replaced_tells, still_leaving, ended, counted}
 use Rattle.simplex_outbox.proofs.Reaching.{reaches_whole}
+use Rattle.simplex_outbox.proofs.Working.{replaced_no_work, stayed_no_work}
 use Rattle.simplex_outbox.proofs.journaled.Journaled.replace.Goals as goal
 
 -- a record that is pruned is of the same life
@@ -68,3 +69,10 @@ pub returns-in-Ok-clause-whole : goal.returns-in-Ok-clause-whole
 returns-in-Ok-clause-whole g c =
     let same_length = counted g.S.CertificateScheme.certificate_bytes c.record.result.now c.prune_record.new.self.facts.entries c.record.ensures.entries in
     omega (arith, same_length)
+
+pub returns-in-Ok-clause-no_work : goal.returns-in-Ok-clause-no_work
+returns-in-Ok-clause-no_work g c =
+    replaced_no_work g.S.CertificateScheme.certificate_bytes c.record-3.result.now c.stored.result c.args.self.now.outbox c.replace.new.self c.in-Ok.ensures.queued
+
+pub returns-in-Err-clause-no_work : goal.returns-in-Err-clause-no_work
+returns-in-Err-clause-no_work g c = stayed_no_work c.args.self.now.outbox c.replace.new.self c.in-Err.ensures.kept

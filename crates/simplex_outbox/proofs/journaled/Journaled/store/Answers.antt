@@ -6,6 +6,7 @@ use Rattle.simplex_outbox.specs.Journals.{journal_of}
 use Rattle.simplex_outbox.specs.Reaching.{lowest_of}
 use Rattle.simplex_outbox.proofs.Journals.{is_record}
 use Rattle.simplex_outbox.proofs.Reaching.{reaches_all}
+use Rattle.simplex_outbox.proofs.Working.{stayed_no_work, stored_no_work}
 use Rattle.simplex_outbox.proofs.journaled.Journaled.store.Goals as goal
 
 pub returns-clause-goes_on : goal.returns-clause-goes_on
@@ -55,3 +56,10 @@ returns-then-count-self-clause-holds g c given kept lives =
     let bytes_of = g.S.CertificateScheme.certificate_bytes in
     let same_length = counted bytes_of c.record-count.result.now it.member.facts.entries c.record-count.ensures.entries in
     is_record bytes_of it.member it.stored (journal_of (given ++ it.outbox.queue.items)) (kept.stored lives) c.record-count.result.now c.record-count.ensures.entries c.record-count.ensures.votes (omega (arith, same_length))
+
+pub returns-clause-no_work : goal.returns-clause-no_work
+returns-clause-no_work g c =
+    stored_no_work g.S.CertificateScheme.certificate_bytes c.record_since-2.result.now c.args.self.now.outbox c.store.new.self c.in_ok-store.ensures.queued
+
+pub returns-in_err-store-clause-no_work : goal.returns-in_err-store-clause-no_work
+returns-in_err-store-clause-no_work g c = stayed_no_work c.args.self.now.outbox c.store.new.self c.in_err-store.ensures.kept

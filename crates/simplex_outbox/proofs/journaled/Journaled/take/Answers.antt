@@ -18,6 +18,7 @@ use Rattle.simplex_outbox.proofs.Finalizing.{told_by_call, final_events}
 use Rattle.simplex_outbox.proofs.Finals.{told_tells}
 use Rattle.simplex_outbox.proofs.Going.{call_risen}
 use Rattle.simplex_outbox.proofs.Kept.{called}
+use Rattle.simplex_outbox.proofs.Working.{told_no_work}
 use Rattle.simplex_outbox.proofs.journaled.Journaled.take.Goals as goal
 
 pub returns-clause-goes_on : goal.returns-clause-goes_on
@@ -61,3 +62,6 @@ returns-clause-refused g c refused =
     let bytes_of = g.S.CertificateScheme.certificate_bytes in
     refused_left g.D.PartialEq.eq g.L.Elector.elect c.args.self.now.member.facts c.call-reply.new.self.facts (asked bytes_of c.handing_in.result) (told bytes_of c.call-reply.result)
     c.call-reply.ensures.answered refused
+
+pub returns-clause-no_work : goal.returns-clause-no_work
+returns-clause-no_work g c = told_no_work c.final_by.result c.args.self.now.outbox c.tell.new.self c.tell.ensures.told
