@@ -6,3 +6,5 @@ pub mod Entering
 pub mod Filling
 pub mod Following
 pub mod PlannedWork
+pub mod Matters
+pub mod Asking
