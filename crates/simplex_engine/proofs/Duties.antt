@@ -1,5 +1,5 @@
 -- What the application is to be told of stays told.
-use Rattle.std.proofs.Common.{◌≡◌, ◌∙◌, refl, ap, sym, subst, ℕ, ◌⊎◌, inl, inr, Bool, true, false, ◌==◌, cond, List, [], ◌∷◌, ◌++◌, map, Option, Some, None}
+use Rattle.std.proofs.Common.{◌≡◌, ◌∙◌, ap, sym, subst, ℕ, ◌⊎◌, inl, inr, Bool, true, false, ◌==◌, cond, List, [], ◌∷◌, ◌++◌, map, Option, Some, None}
 use Rattle.std.specs.BTreeSet.{insert_key}
 use Rattle.std.specs.List.{fold, list_any}
 use Rattle.std.specs.Ordering.{nat_cmp}
@@ -22,13 +22,11 @@ use Rattle.simplex_member.specs.CallSemantics.{answer, outstanding_work_after}
 use Rattle.simplex_member.specs.Lives.{MemberFacts, SignedMember, AnswersAlive, IsCall, unless_refused, unless_kept, with_call}
 use Rattle.simplex_member.specs.OutstandingWork.{OutstandingWork, no_outstanding_work, context_at, is_among, is_offered, is_verifying, with_offers, with_open_request, with_verification, without_context, without_offer, without_verification}
 use Rattle.simplex_laws.proofs.votes.OutstandingWork.{among_others, now_among}
-use Rattle.simplex_outbox.specs.declared.output.Output.{Output}
-use Rattle.simplex_outbox.specs.declared.output.Output.TheVariants as output
 use Rattle.simplex_outbox.specs.declared.output.Work.{Work}
 use Rattle.simplex_outbox.specs.declared.output.Work.TheVariants as work
 use Rattle.simplex_engine.specs.declared.engine.Engine.{Engine}
 use Rattle.simplex_engine.specs.Building.{BuildsAhead}
-use Rattle.simplex_engine.specs.Duties.{is_verify_of, is_certify_of, work_in, IsToldIn}
+use Rattle.simplex_engine.specs.Duties.{is_verify_of, is_certify_of, IsToldIn}
 use Rattle.simplex_plan.specs.Blocks.{builds_from}
 use Rattle.simplex_plan.specs.declared.plan.building.Building.{Building}
 use Rattle.simplex_plan.specs.declared.plan.Options.{Options}
@@ -49,15 +47,6 @@ module _ {S D K G C : Type 0} where
   -- behind others
   pub among_behind : (these those : List (Work S D K G C)) → AreAmong those (these ++ those)
   among_behind these those = record { found = λ test. any_right test these those }
-
-  -- work among outputs, and work that steps queue, one behind the other
-  pub work_in-append : {J : Type 0} (outs more : List (Output S D J K G C)) → work_in (outs ++ more) ≡ work_in outs ++ work_in more
-  work_in-append [] more = refl
-  work_in-append (output.Store _ ∷ outs) more = work_in-append outs more
-  work_in-append (output.Replace _ _ ∷ outs) more = work_in-append outs more
-  work_in-append (output.Vote _ ∷ outs) more = work_in-append outs more
-  work_in-append (output.Finalized _ ∷ outs) more = work_in-append outs more
-  work_in-append (output.Work it ∷ outs) more = ap (λ works. it ∷ works) (work_in-append outs more)
 
   -- each proposal that waits for the application is among this work
   abbrev pub IsWorkIn : List (Work S D K G C) → OutstandingWork K D → Type 0

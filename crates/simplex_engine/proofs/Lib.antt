@@ -4,6 +4,7 @@ mod Bounds
 mod Building
 mod Duties
 mod Requests
+mod Causes
 mod Tells
 mod Taking
 mod Beginning

@@ -38,6 +38,8 @@ use Rattle.simplex_engine.specs.Inputs.{subject_in, subject_made}
 use Rattle.simplex_batcher.specs.Polls.{ballot_of}
 use Rattle.simplex_batcher.specs.Subjects.{subject_round}
 use Rattle.simplex_engine.specs.Taking.{IsInputTaken}
+use Rattle.simplex_engine.specs.Causes.{came_in, ComesWith}
+use Rattle.simplex_engine.proofs.Causes.{both_ok}
 use Rattle.simplex_plan.specs.Tasks.{call_of}
 use Rattle.simplex_plan.proofs.Planning.{on_ok}
 use Rattle.simplex_engine.proofs.Backing.{takes_same, takes_anyway, takes_then, backed_by_none, certified_given}
@@ -49,10 +51,6 @@ use Rattle.simplex_outbox.proofs.Going.{goes_on_anyway, made_on}
 always_ok : {X E : Type 0} (r : Result X E) {P : X → Type 0} → ((x : X) → P x) → IfOk r P
 always_ok (Ok x) holds = holds x
 always_ok (Err e) holds = tt
-
-both_ok : {X E : Type 0} (r : Result X E) {P Q R : X → Type 0} → IfOk r P → IfOk r Q → ((x : X) → P x → Q x → R x) → IfOk r R
-both_ok (Ok x) one other holds = holds x one other
-both_ok (Err e) one other holds = tt
 
 module _ {S D K G C : Type 0} (a b : Batcher S D K G C) where
   held_same : b ≡ a → HoldsAllTheSame a b
@@ -177,11 +175,12 @@ module _ {S L D K G C : Type 0} (same : D → D → Bool) (elect : Elect L) (byt
       → IsBackedInput same elect bytes_of (length (keys_of old.batcher.scheme)) what old.batcher old.core new.core
       → StaysBounded keys_of old.core old.batcher new.core new.batcher
       → IfOk answer (λ is_of_use. IsFalse is_of_use → HoldsAllTheSame old.batcher new.batcher) → OnOk answer (KeepsDuties old new)
+      → OnOk answer (ComesWith same elect bytes_of now (came_in bytes_of old.batcher what) old new)
       → (IsFalse (is_input_admitted bytes_of (facts_of old) what) → IfOk answer (λ is_of_use. IsFalse is_of_use × IsTurnedAway what old new))
       → (IsTrue (is_input_admitted bytes_of (facts_of old) what)
       → IfOk answer (IsActedOn same elect bytes_of IsMadeOf keys_of now what old (facts_of new) new.batcher new.plan.steps.items))
       → IsInputTaken same elect bytes_of IsMadeOf keys_of now what old old new answer
-  taken what old new answer went votes held backed bounded kept duties unadmitted acted = record {
+  taken what old new answer went votes held backed bounded kept duties comes unadmitted acted = record {
     goes_on = went;
     votes = votes;
     held = held;
@@ -192,6 +191,7 @@ module _ {S L D K G C : Type 0} (same : D → D → Bool) (elect : Elect L) (byt
     acted = acted;
     duties = on_ok answer duties (λ keeps. record { stays = keeps.stays; works = keeps.works; near = keeps.near; seen = keeps.seen; early = keeps.early; constants = keeps.constants });
     ignored = not_counted answer duties;
+    comes = comes;
   }
     where
       not_counted : {E : Type 0} (r : Result Bool E) → OnOk r (KeepsDuties old new) → IfOk r (λ is_of_use. new.plan.ignored ≡ cond is_of_use old.plan.ignored old.plan.ignored)
@@ -207,14 +207,15 @@ module _ {S L D K G C : Type 0} (same : D → D → Bool) (elect : Elect L) (byt
   pub taken_alone : {E : Type 0} (told what : Input S D K G C) (old new : Engine S L D K G C) (answer : Result Bool E) → told ≡ what
       → GoesOn same elect bytes_of (subject_in bytes_of what) old.core new.core → new.batcher ≡ old.batcher
       → IsBackedInput same elect bytes_of (length (keys_of old.batcher.scheme)) what old.batcher old.core new.core → OnOk answer (KeepsDuties old new)
+      → OnOk answer (ComesWith same elect bytes_of now (came_in bytes_of old.batcher what) old new)
       → (IsFalse (is_input_admitted bytes_of (facts_of old) what) → IfOk answer (λ is_of_use. IsFalse is_of_use × IsTurnedAway what old new))
       → (IsTrue (is_input_admitted bytes_of (facts_of old) what)
       → IfOk answer (IsActedOn same elect bytes_of IsMadeOf keys_of now what old (facts_of new) new.batcher new.plan.steps.items))
       → IsInputTaken same elect bytes_of IsMadeOf keys_of now told old old new answer
-  taken_alone told what old new answer is went kept backed duties unadmitted acted =
+  taken_alone told what old new answer is went kept backed duties comes unadmitted acted =
       subst (λ input. IsInputTaken same elect bytes_of IsMadeOf keys_of now input old old new answer) (sym is)
       (taken what old new answer went (takes_anyway (takes_same kept)) (keeps_votes what old.batcher new.batcher kept) backed (bounded_still keys_of went (takes_same kept))
-      (always_ok answer (λ is_of_use vain. held_same old.batcher new.batcher kept)) duties unadmitted acted)
+      (always_ok answer (λ is_of_use vain. held_same old.batcher new.batcher kept)) duties comes unadmitted acted)
 
   -- a vote that is counted
   pub taken_counted : {E : Type 0} (law : (d e : D) → same d e ≡ true → d ≡ e) (vote : Vote D G) (old new : Engine S L D K G C) (answer : Result Bool E)
@@ -228,8 +229,9 @@ module _ {S L D K G C : Type 0} (same : D → D → Bool) (elect : Elect L) (byt
       → GoesOn same elect bytes_of (subject_made bytes_of counted) old.core new.core → new.batcher ≡ batcher
       → IfOk answer (IsCountFollowed same elect bytes_of now counted old.plan.steps.items (facts_of old) new.plan.steps.items (facts_of new))
       → OnOk answer (KeepsDuties old new)
+      → OnOk answer (ComesWith same elect bytes_of now (came_in bytes_of old.batcher (input.Vote vote)) old new)
       → IsInputTaken same elect bytes_of IsMadeOf keys_of now (input.Vote vote) old old new answer
-  taken_counted law vote old new answer batcher counted admits given_by within scheme counts went kept followed duties =
+  taken_counted law vote old new answer batcher counted admits given_by within scheme counts went kept followed duties comes =
       let made = IsMadeOf old.batcher.scheme in
       let members = length (keys_of old.batcher.scheme) in
       taken (input.Vote vote) old new answer (goes_counted made members old.batcher batcher vote old.core new.core counted counts went)
@@ -237,7 +239,7 @@ module _ {S L D K G C : Type 0} (same : D → D → Bool) (elect : Elect L) (byt
       (backed_counted made members old.batcher batcher vote old.core new.core law given_by counted counts went)
       (bounded_further keys_of (bounded_counted keys_of old.core old.batcher batcher vote.subject within scheme admits) (bounded_still keys_of went (takes_same kept)))
       (IfOk-weaker answer _ _ (λ is_of_use follows vain. subst (HoldsAllTheSame old.batcher) (sym kept)
-      (counted_same same elect bytes_of now made members old.batcher batcher vote counted old.plan.steps.items (facts_of old) new.plan.steps.items (facts_of new) is_of_use counts follows vain)) followed) duties
+      (counted_same same elect bytes_of now made members old.batcher batcher vote counted old.plan.steps.items (facts_of old) new.plan.steps.items (facts_of new) is_of_use counts follows vain)) followed) duties comes
       (λ vain. absurd (false≢true (sym vain ∙ admits)))
       (λ _. IfOk-weaker answer _ _ (λ is_of_use follows. record {
         counted = counted;
@@ -259,6 +261,7 @@ module _ {S L D K G C : Type 0} (same : D → D → Bool) (elect : Elect L) (byt
     acted = turns.acted;
     duties = turns.duties;
     ignored = as_counted answer otherwise turns.ignored;
+    comes = turns.comes;
   }
     where
       as_counted : {E : Type 0} (r : Result Bool E) → r ≢ Ok false → IfOk r (λ is_of_use. new.plan.ignored ≡ cond is_of_use old.plan.ignored old.plan.ignored)
@@ -298,4 +301,5 @@ module _ {S L D K G C : Type 0} (same : D → D → Bool) (elect : Elect L) (byt
         acted = taken.acted;
         duties = record { stays = λ work told. (let is = taken.duties.stays work told in record { verified = is.verified; certified = is.certified; built = is.built }); works = taken.duties.works; near = taken.duties.near; seen = taken.duties.seen; early = taken.duties.early; constants = taken.duties.constants };
         ignored = ap one_more taken.ignored;
+        comes = record { calls = taken.comes.calls; resolver = taken.comes.resolver; steps = taken.comes.steps; by_steps = taken.comes.by_steps };
       })

@@ -1,6 +1,6 @@
 -- That the application is told of each proposal that is to be verified, of each that is to be certified, and of each block that is to
 -- be built.
-use Rattle.std.specs.Prelude.{◌≡◌, ℕ, Bool, true, false, ◌==◌, List, [], ◌∷◌, ◌++◌, is_some}
+use Rattle.std.specs.Prelude.{◌≡◌, ℕ, Bool, true, false, ◌==◌, List, [], ◌++◌, is_some}
 use Rattle.std.specs.List.{list_any}
 use Rattle.simplex_member.specs.declared.member.journal.Stored.{Stored}
 use Rattle.simplex_member.specs.OutstandingWork.{OutstandingWork, context_at, is_verifying, is_offered}
@@ -10,8 +10,8 @@ use Rattle.simplex_engine.specs.Building.{BuildsNear}
 use Rattle.simplex_engine.specs.Views.{HasComeTo, StaysEarly}
 use Rattle.simplex_laws.specs.LifeLaws.{WhileAlive}
 use Rattle.simplex_outbox.specs.Going.{HasRisen}
+use Rattle.simplex_outbox.specs.Outputs.{work_in}
 use Rattle.simplex_outbox.specs.declared.output.Output.{Output}
-use Rattle.simplex_outbox.specs.declared.output.Output.TheVariants as output
 use Rattle.simplex_outbox.specs.declared.output.Work.{Work}
 use Rattle.simplex_outbox.specs.declared.output.Work.TheVariants.{Verify, Certify}
 
@@ -25,12 +25,6 @@ module _ {S D K G C : Type 0} where
   abbrev pub is_certify_of : ℕ → Work S D K G C → Bool
   is_certify_of view (Certify proposal) = proposal.round.view == view
   is_certify_of view _ = false
-
-  -- the work among outputs, in order
-  abbrev pub work_in : {J : Type 0} → List (Output S D J K G C) → List (Work S D K G C)
-  work_in [] = []
-  work_in (output.Work work ∷ rest) = work ∷ work_in rest
-  work_in (_ ∷ rest) = work_in rest
 
   -- among this work is each proposal that is being verified; each that was offered for certification and has no verdict; and the block
   -- of each view whose request to build is open, but where a member alone waits until it enters the view

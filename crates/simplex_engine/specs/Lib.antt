@@ -11,6 +11,7 @@ pub mod Dropping
 pub mod Admitting
 pub mod Acting
 pub mod Duties
+pub mod Causes
 pub mod Taking
 pub mod Beginning
 pub mod Failing

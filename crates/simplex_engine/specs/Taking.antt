@@ -8,6 +8,7 @@ use Rattle.simplex_engine.specs.Acting.{IsActedOn}
 use Rattle.simplex_engine.specs.Admitting.{is_input_admitted, IsTurnedAway}
 use Rattle.simplex_engine.specs.Backing.{votes_of_input, KeepsVotes, TakesVotes, IsBackedInput}
 use Rattle.simplex_engine.specs.Bounds.{StaysBounded}
+use Rattle.simplex_engine.specs.Causes.{came_in, ComesWith}
 use Rattle.simplex_engine.specs.Dropping.{IsDropped}
 use Rattle.simplex_engine.specs.Duties.{KeepsTelling}
 use Rattle.simplex_outbox.specs.Going.{GoesOn}
@@ -28,3 +29,4 @@ pub record IsInputTaken {S L D K G C E : Type 0} (same : D → D → Bool) (elec
       → IfOk answer (IsActedOn same elect bytes_of IsMadeOf keys_of now what old new.core.member.facts new.batcher new.plan.steps.items)
   pub duties : OnOk answer (KeepsTelling old new)
   pub ignored : IfOk answer (λ is_of_use. new.plan.ignored ≡ (if is_of_use then old.plan.ignored else passed.plan.ignored))
+  pub comes : OnOk answer (ComesWith same elect bytes_of now (came_in bytes_of old.batcher what) old new)

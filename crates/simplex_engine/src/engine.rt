@@ -69,7 +69,9 @@ impl<S: Assembly<D>, L: Elector<S>, D: Digest> Engine<S, L, D> {
     ghost use Rattle.simplex_engine.specs.Dropping.{IsDropped};
     ghost use Rattle.simplex_engine.specs.Admitting.{is_input_admitted, one_more, IsTurnedAway, ignoring};
     ghost use Rattle.simplex_engine.specs.Acting.{IsActedOn};
-    ghost use Rattle.simplex_engine.specs.Duties.{work_in, work_ahead, KeepsTelling, HasToldAll, AllIsGivenOut};
+    ghost use Rattle.simplex_engine.specs.Causes.{came_in, held_by, Comes, ComesWith};
+    ghost use Rattle.simplex_outbox.specs.Outputs.{work_in};
+    ghost use Rattle.simplex_engine.specs.Duties.{work_ahead, KeepsTelling, HasToldAll, AllIsGivenOut};
 
     /// Tells what came in. Answers whether it was of use: what is not is dropped, and changes nothing.
     ///
@@ -95,6 +97,12 @@ impl<S: Assembly<D>, L: Elector<S>, D: Digest> Engine<S, L, D> {
     ///   lost. Where no block is to be built above the first view of the next term, none comes to be; where the views that it has
     ///   come to are the member's, they stay so, and no proposal is lost that came early, until its view is entered. The options
     ///   stay, whether there are other members, and whom fetches are asked of and after how long again.
+    /// - `comes`: and nothing comes of nothing. The member is asked what came in, or what an engine asks of its own accord: for its
+    ///   votes, certificates, work and timeout, but not that a proposal is valid, for a verdict or with a block. Work that is queued
+    ///   or planned, fetches that the resolver does not want and proposals that are kept come of those before, of what came in, and
+    ///   of the member's answers. What is asked of a peer, of an open fetch, and what may be forgotten are not followed. Each
+    ///   certificate that was asked for, or that an answer says is lacking, is asked for still, or is to be once it may no longer be
+    ///   on its way; but of a view up to the last finalized one, and what the resolver ends by what it is told.
     /// - `ignored`: what is of no use is counted, and nothing else.
     /// - `bounded`: where each vote that is held was a member's, and of no view above those whose votes are taken, each still is.
     /// - `failed`, `error`, `refused`: after an error, which is `OutOfMemory` or `Failed`, it has failed; one that has failed answers
@@ -123,6 +131,7 @@ impl<S: Assembly<D>, L: Elector<S>, D: Digest> Engine<S, L, D> {
         ensures failed { OnErr result (has_failed self.new.core ≡ true) }
         ensures error { IfErr result IsFailure }
         ensures refused { has_failed self.old.core ≡ true → (result ≡ Err Failed) × (self.new ≡ self.old) }
+        ensures comes { OnOk result (ComesWith D.eq L.elect S.certificate_bytes now (came_in S.certificate_bytes self.old.batcher input) self.old self.new) }
     {
         if self.core.has_failed() {
             return Err(Fault::Failed);
@@ -150,6 +159,9 @@ impl<S: Assembly<D>, L: Elector<S>, D: Digest> Engine<S, L, D> {
     /// - `duties`: as of `handle`, with what is answered given out.
     /// - `waiting`: so where nothing is answered, each of these proposals and blocks was given out, but where a member alone waits.
     /// - `works`: no work is lost: what is queued or planned is given out, or is so still.
+    /// - `comes`: as of `handle`, where nothing came in: what is given out to be verified, certified, built or sent was asked for by
+    ///   an answer of the member; the member votes to nullify once its timeout has come; and of the proposals that came early it is
+    ///   handed those of their views' leaders. Of what is asked for that alone is let go besides which the state holds.
     /// - `idle`: where nothing is answered, nothing is to be done at the moment: no step is queued, the timeout was asked for, and
     ///   no fetch is due.
     /// - `ahead`: and each block that is to be built is of a view above the current one, or of that and was asked for: one of a view
@@ -196,6 +208,7 @@ impl<S: Assembly<D>, L: Elector<S>, D: Digest> Engine<S, L, D> {
         ensures failed { OnErr result (has_failed self.new.core ≡ true) }
         ensures error { IfErr result IsFailure }
         ensures refused { has_failed self.old.core ≡ true → (result ≡ Err Failed) × (self.new ≡ self.old) }
+        ensures comes { OnOk result (Comes D.eq L.elect S.certificate_bytes now [] (work_in (given_out result)) (held_by self.new) self.old self.new) }
     {
         if self.core.has_failed() {
             return Err(Fault::Failed);
@@ -232,6 +245,7 @@ impl<S: Assembly<D>, L: Elector<S>, D: Digest> Engine<S, L, D> {
         ensures constants { OnOk result (constants_of self.new.plan ≡ constants_of self.old.plan) }
         ensures failed { OnErr result (has_failed self.new.core ≡ true) }
         ensures error { IfErr result IsFailure }
+        ensures comes { OnOk result (Comes D.eq L.elect S.certificate_bytes now [] (work_in (given_out result)) (held_by self.new) self.old self.new) }
     {
         match self.work(now) {
             Ok(()) => Ok(self.core.next()),

@@ -1,12 +1,15 @@
 -- What is given out stands behind all that was.
-use Rattle.std.proofs.Common.{◌≡◌, List, [], ◌∷◌, ◌++◌, false, inl, inr, sym, subst, ◌∙◌, Result, Err}
+use Rattle.std.proofs.Common.{◌≡◌, ℕ, List, [], ◌∷◌, ◌++◌, false, inl, inr, sym, subst, ◌∙◌, Result, Err}
 use Rattle.std.specs.Prelude.{option_to_list}
 use Rattle.std.proofs.lemmas.Bool.{false≢true}
 use Rattle.simplex_host.specs.Host.{certificate_bytes}
 use Rattle.simplex_plan.specs.PlannedWork.{AreAmong}
-use Rattle.simplex_engine.specs.Duties.{work_ahead, work_in, HasToldAll}
+use Rattle.simplex_outbox.specs.Outputs.{work_in}
+use Rattle.simplex_engine.specs.Causes.{held_by, Comes}
+use Rattle.simplex_engine.specs.Duties.{work_ahead, HasToldAll}
 use Rattle.simplex_outbox.specs.Finals.{TellsNoMore}
 use Rattle.simplex_outbox.specs.Going.{HasGivenOut, IsKept}
+use Rattle.simplex_flat.specs.Serving.{host_leader, same_host_payload}
 use Rattle.simplex_flat.specs.declared.shown.FlatStored.{FlatStored}
 use Rattle.simplex_flat_engine.specs.declared.held.HeldEngine.{HeldEngine}
 use Rattle.simplex_flat_engine.specs.declared.told.FlatOutput.{FlatOutput}
@@ -44,3 +47,11 @@ pub works_given : (out : HostOutput) (before : FlatStored) (r : FlatOutput) (old
     → new.is_lost ≡ false → AreAmong (work_ahead old.engine) (work_in (option_to_list new.last) ++ work_ahead new.engine)
 works_given out before r old new works (inl it) alive = subst (λ last. AreAmong (work_ahead old.engine) (work_in (option_to_list last) ++ work_ahead new.engine)) (sym it.0.last) works
 works_given out before r old new works (inr it) alive = absurd (false≢true (sym alive ∙ it.0))
+
+-- and all comes of what was at hand
+pub comes_given : (now : ℕ) (out : HostOutput) (before : FlatStored) (r : FlatOutput) (old new : HeldEngine)
+    → Comes same_host_payload host_leader certificate_bytes now [] (work_in (out ∷ [])) (held_by new.engine) old.engine new.engine → IsGivenOut out before r new → new.is_lost ≡ false
+    → Comes same_host_payload host_leader certificate_bytes now [] (work_in (option_to_list new.last)) (held_by new.engine) old.engine new.engine
+comes_given now out before r old new comes (inl it) alive =
+    subst (λ last. Comes same_host_payload host_leader certificate_bytes now [] (work_in (option_to_list last)) (held_by new.engine) old.engine new.engine) (sym it.0.last) comes
+comes_given now out before r old new comes (inr it) alive = absurd (false≢true (sym alive ∙ it.0))

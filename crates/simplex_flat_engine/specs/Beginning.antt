@@ -9,6 +9,7 @@ use Rattle.simplex_member.specs.declared.member.journal.Stored.{Stored}
 use Rattle.simplex_member.specs.declared.member.resume.ResumeError.TheVariants as resume
 use Rattle.simplex_laws.specs.Living.{HasBegun, HasGoneOn}
 use Rattle.simplex_engine.specs.Beginning.{with_a_retry, HasBegunWith, IsMemberError, IsNotBegun}
+use Rattle.simplex_engine.specs.Causes.{at_hand}
 use Rattle.simplex_engine.specs.Duties.{HasToldAll}
 use Rattle.simplex_engine.specs.declared.engine.begin.StartError.{StartError}
 use Rattle.simplex_engine.specs.declared.engine.begin.StartError.TheVariants as start_error
@@ -38,7 +39,7 @@ abbrev pub options_of : FlatOptions → Options
 options_of f = record { retry = f.retry; on_its_way = f.on_its_way; long_record = f.long_record }
 
 -- nothing was given out; the whole record is to be stored in place of all that is and nothing else is queued, no proposal to be told as
--- final, the member waits for nothing, and leaders are drawn as set
+-- final, nothing is at hand, the member waits for nothing, and leaders are drawn as set
 pub record HasGivenNothing (f : FlatSettings) (held : HeldEngine) : Type 0 where
   pub kept : IsAllGiven [] held
   pub whole : IsWhole certificate_bytes held.engine.core
@@ -46,6 +47,7 @@ pub record HasGivenNothing (f : FlatSettings) (held : HeldEngine) : Type 0 where
   pub told : TellsNothing held.engine.core
   pub bounded : HoldsNoneAhead host_keys held.engine.core held.engine.batcher
   pub duties : HasToldAll [] held.engine
+  pub none_at_hand : at_hand held.engine ≡ []
   pub draws : held.draws ≡ f.draws
   pub fresh : HasShownNothing held
 

@@ -16,8 +16,10 @@ use Rattle.simplex_engine.specs.Alone.{ForgetsNoOther}
 use Rattle.simplex_engine.specs.Backing.{IsBackedInput, KeepsVotes, TakesNone, TakesVotes, votes_of_input}
 use Rattle.simplex_engine.specs.Bounds.{HoldsAdmitted, HoldsFromKept, HoldsNoneAhead, StaysBounded}
 use Rattle.simplex_engine.specs.Lacking.{AsksForItsLacking}
+use Rattle.simplex_engine.specs.Causes.{came_in, held_by, Comes, ComesWith}
 use Rattle.simplex_engine.specs.Dropping.{IsDropped}
-use Rattle.simplex_engine.specs.Duties.{AllIsGivenOut, HasToldAll, KeepsTelling, work_ahead, work_in}
+use Rattle.simplex_outbox.specs.Outputs.{work_in}
+use Rattle.simplex_engine.specs.Duties.{AllIsGivenOut, HasToldAll, KeepsTelling, work_ahead}
 use Rattle.simplex_outbox.specs.Finals.{TellsNoMore}
 use Rattle.simplex_outbox.specs.Going.{DoesMoreOn, GoesOn, IsKept, IsWhole, has_failed}
 use Rattle.simplex_engine.specs.Inputs.{subject_in}
@@ -84,6 +86,9 @@ pub record IsTaken (now : ℕ) (input : HostInput) (old : HeldEngine) (r : FlatT
   pub bounded : StaysBounded host_keys old.engine.core old.engine.batcher new.engine.core new.engine.batcher
   -- each proposal and block that the application is to be told of stays told
   pub duties : OnOk answer (KeepsTelling old.engine new.engine)
+  -- what the member is asked, and what is at hand, comes of the input and of what was at hand; what was asked of peers is still
+  pub comes : OnOk answer (ComesWith same_host_payload host_leader certificate_bytes now (came_in certificate_bytes old.engine.batcher input)
+      old.engine new.engine)
   -- what is of no use is counted, and nothing else
   pub ignored : IfOk answer (λ is_of_use. new.engine.plan.ignored ≡ (if is_of_use then old.engine.plan.ignored else one_more old.engine.plan.ignored))
   pub rest : new ≡ record old { engine = new.engine }
@@ -209,6 +214,9 @@ pub record IsAsked (now : ℕ) (old : HeldEngine) (r : FlatOutput) (new : HeldEn
   -- no work is lost: what is queued or planned is given out, or is so still
   pub works : has_failed new.engine.core ≡ false → new.is_lost ≡ false
       → AreAmong (work_ahead old.engine) (work_in (option_to_list new.last) ++ work_ahead new.engine)
+  -- what the member is asked, what is given out and what is at hand comes of what was at hand; and what was asked of peers is still
+  pub comes : has_failed new.engine.core ≡ false → new.is_lost ≡ false
+      → Comes same_host_payload host_leader certificate_bytes now [] (work_in (option_to_list new.last)) (held_by new.engine) old.engine new.engine
   -- no block comes to be built above the first view of the next term
   pub near : has_failed new.engine.core ≡ false → BuildsNear old.engine.core old.engine.plan → BuildsNear new.engine.core new.engine.plan
   -- its views stay the member's

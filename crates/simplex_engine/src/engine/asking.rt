@@ -1,7 +1,7 @@
 //! Calls of the member, each with what follows from its answer.
 #![tactic(auto)]
 
-ghost use Rattle.std.specs.Prelude.{◌≡◌, None, IfOk, OnOk, IsNone, IsTrue, not};
+ghost use Rattle.std.specs.Prelude.{◌≡◌, ℕ, [], ◌∷◌, ◌++◌, None, IfOk, OnOk, IsNone, IsTrue, not};
 ghost use Rattle.simplex_member.specs.Calls.{told};
 ghost use Rattle.simplex_plan.specs.Tasks.{call_of};
 ghost use Rattle.simplex_engine.specs.Quiet.{is_nothing, for_work};
@@ -21,8 +21,11 @@ impl<S: Assembly<D>, L: Elector<S>, D: Digest> Engine<S, L, D> {
     ghost use Rattle.simplex_engine.specs.Alone.{GoesOnAlone};
     ghost use Rattle.simplex_engine.specs.Quiet.{AnswersNothing, AnswerNothing, HasNothingDue};
     ghost use Rattle.simplex_engine.specs.Acting.{HasDoneTask};
+    ghost use Rattle.simplex_engine.specs.Causes.{at_hand, is_final, ComesAlone, ComesWith, HasNoLack, IsMeant};
     ghost use Rattle.simplex_engine.specs.Duties.{KeepsDuties};
-    ghost use Rattle.simplex_plan.specs.PlannedWork.{KeepsPlanned, KeepsPlannedThen, PlansAnswerThen};
+    ghost use Rattle.simplex_plan.specs.Asking.{never, KeepsAsking};
+    ghost use Rattle.simplex_plan.specs.Matters.{given_by, planned_matters, Lack};
+    ghost use Rattle.simplex_plan.specs.PlannedWork.{AreAmong, KeepsPlanned, KeepsPlannedThen, PlansAnswerThen};
     ghost use Rattle.simplex_engine.specs.Views.{HasComeTo};
 
     /// Asks for work of the application. Whether there is none.
@@ -31,6 +34,7 @@ impl<S: Assembly<D>, L: Elector<S>, D: Digest> Engine<S, L, D> {
         ensures nothing { IfOk result (λ nothing. IsTrue nothing
             → AnswerNothing D.eq L.elect self.old.core.member.facts for_work self.new.core.member.facts) }
         ensures duties { OnOk result (KeepsDuties self.old self.new) }
+        ensures comes { OnOk result (ComesAlone D.eq L.elect S.certificate_bytes now self.old self.new) }
     {
         let mut has_none = self.asks_nothing(Task::Verify, now)?;
         has_none &= self.asks_nothing(Task::Propose, now)?;
@@ -47,6 +51,8 @@ impl<S: Assembly<D>, L: Elector<S>, D: Digest> Engine<S, L, D> {
         ensures nothing { IfOk result (λ nothing. IsTrue nothing
             → HasNothingDue D.eq L.elect self.new.core.member.facts × (self.new.plan ≡ self.old.plan)) }
         ensures planned { OnOk result (KeepsPlanned self.old.plan self.new.plan) }
+        ensures matters { OnOk result (AreAmong (planned_matters self.new.plan) (planned_matters self.old.plan)) }
+        ensures asks { OnOk result (KeepsAsking [] never self.old.plan self.new.plan) }
     {
         match self.first_due()? {
             Some(view) => {
@@ -74,6 +80,9 @@ impl<S: Assembly<D>, L: Elector<S>, D: Digest> Engine<S, L, D> {
         ensures nothing { IfOk result (λ nothing. IsTrue nothing
             → AnswersNothing D.eq L.elect self.old.core.member.facts (call_of task now) self.new.core.member.facts) }
         ensures duties { OnOk result (KeepsDuties self.old self.new) }
+        ensures comes { OnOk result ((came : _) → HasNoLack came
+            → IsMeant now (came ++ at_hand self.old) self.old.core.member.facts (call_of task now)
+            → ComesWith D.eq L.elect S.certificate_bytes now came self.old self.new) }
     {
         let reply = self.core.call(task.call(now));
         let is_nothing = is_nothing(&reply);
@@ -87,6 +96,9 @@ impl<S: Assembly<D>, L: Elector<S>, D: Digest> Engine<S, L, D> {
         ensures batcher { self.new.batcher ≡ self.old.batcher }
         ensures acted { IfOk result (HasDoneTask D.eq L.elect task now self.old.core.member.facts self.new.core.member.facts) }
         ensures duties { OnOk result (KeepsDuties self.old self.new) }
+        ensures comes { OnOk result ((came : _) → HasNoLack came
+            → IsMeant now (came ++ at_hand self.old) self.old.core.member.facts (call_of task now)
+            → ComesWith D.eq L.elect S.certificate_bytes now came self.old self.new) }
     {
         let reply = self.core.call(task.call(now));
         self.follow(task, reply, now)
@@ -99,6 +111,10 @@ impl<S: Assembly<D>, L: Elector<S>, D: Digest> Engine<S, L, D> {
         ensures of_use { IfOk result (λ is_of_use. is_of_use ≡ not (says_nothing (told S.certificate_bytes reply))) }
         ensures planned { OnOk result (PlansAnswerThen task (told S.certificate_bytes reply) self.old.plan self.new.plan) }
         ensures seen { OnOk result (HasComeTo self.new.core.member.facts self.new.plan) }
+        ensures matters { OnOk result (AreAmong (planned_matters self.new.plan)
+            (planned_matters self.old.plan ++ given_by now reply (call_of task now))) }
+        ensures asks { OnOk result (KeepsAsking (given_by now reply (call_of task now)) (λ kind view. is_final self.new.core.member.facts view)
+            self.old.plan self.new.plan) }
     {
         let is_of_use = !says_nothing(&reply);
         self.see()?;
@@ -112,6 +128,8 @@ impl<S: Assembly<D>, L: Elector<S>, D: Digest> Engine<S, L, D> {
         ensures batcher { self.new.batcher ≡ self.old.batcher }
         ensures planned { OnOk result (KeepsPlannedThen self.old.plan self.new.plan) }
         ensures seen { OnOk result (HasComeTo self.new.core.member.facts self.new.plan) }
+        ensures matters { OnOk result (AreAmong (planned_matters self.new.plan) (planned_matters self.old.plan)) }
+        ensures asks { OnOk result (KeepsAsking [] (λ kind view. is_final self.new.core.member.facts view) self.old.plan self.new.plan) }
     {
         let Some(state) = self.core.state() else {
             return Err(Fault::OutOfMemory);
@@ -135,6 +153,8 @@ impl<S: Assembly<D>, L: Elector<S>, D: Digest> Engine<S, L, D> {
         ensures core { self.new.core ≡ self.old.core }
         ensures batcher { self.new.batcher ≡ self.old.batcher }
         ensures planned { KeepsPlanned self.old.plan self.new.plan }
+        ensures matters { AreAmong (planned_matters self.new.plan) (planned_matters self.old.plan ++ Lack kind view ∷ []) }
+        ensures asks { OnOk result (KeepsAsking (Lack kind view ∷ []) never self.old.plan self.new.plan) }
     {
         let leader = self.leader_of(proposal);
         self.plan.resolve(kind, view, leader, now)?;

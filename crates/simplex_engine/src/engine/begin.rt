@@ -78,6 +78,7 @@ impl<S: Assembly<D>, L: Elector<S>, D: Digest> Engine<S, L, D> {
     ghost use Rattle.simplex_laws.specs.Living.{HasBegun, HasGoneOn};
     ghost use Rattle.simplex_engine.specs.Beginning.{IsMemberError, IsNotBegun};
     ghost use Rattle.simplex_engine.specs.Bounds.{HoldsNoneAhead};
+    ghost use Rattle.simplex_engine.specs.Causes.{at_hand};
     ghost use Rattle.simplex_engine.specs.Duties.{HasToldAll};
 
     /// The engine of a member that begins at a floor, where nothing was stored.
@@ -89,6 +90,7 @@ impl<S: Assembly<D>, L: Elector<S>, D: Digest> Engine<S, L, D> {
     ///   all that is and nothing else is queued, no proposal to be told as final, and the member waits for nothing.
     /// - `begun`: no vote is held, and certificates are made by the number of the scheme's participants; the resolver was told of the
     ///   record, and what it has open is asked for at once, of all participants but this member; no input was of no use.
+    /// - `nothing`: no work is queued or planned, no proposal is kept, and each fetch is one that the resolver wants.
     /// - `refused`: why there is none.
     ///
     /// # Errors
@@ -117,6 +119,7 @@ impl<S: Assembly<D>, L: Elector<S>, D: Digest> Engine<S, L, D> {
             (floor_facts S.certificate_bytes start.floor) start.now []))
             (λ m. m ≡ started_member D.eq L.elect (set_up S.me S.participants L.terms L.elects_early start.settings)
             (floor_facts S.certificate_bytes start.floor) start.now)) }
+        ensures nothing { IfOk result (λ engine. at_hand engine ≡ []) }
     {
         let company = company_of(alloc, &start)?;
         match LawfulMember::start(alloc, start) {
@@ -131,7 +134,7 @@ impl<S: Assembly<D>, L: Elector<S>, D: Digest> Engine<S, L, D> {
     /// - `resumed`: its member is the one that `LawfulMember::resume` makes.
     /// - `goes_on`: in terms of the same length and with the key of the same member or none, what was done before stays done,
     ///   and the floor's finalization is accepted too.
-    /// - `kept`, `whole`, `queued`, `told`, `bounded`, `duties`, `begun`, `refused`: as of `start`.
+    /// - `kept`, `whole`, `queued`, `told`, `bounded`, `duties`, `begun`, `nothing`, `refused`: as of `start`.
     ///
     /// # Errors
     ///
@@ -162,6 +165,7 @@ impl<S: Assembly<D>, L: Elector<S>, D: Digest> Engine<S, L, D> {
             (start_facts S.me S.participants L.terms L.elects_early S.certificate_bytes start))
             (IsResumed D.eq L.elect stored (entries_of S.certificate_bytes entries.items)
             (start_facts S.me S.participants L.terms L.elects_early S.certificate_bytes start))) }
+        ensures nothing { IfOk result (λ engine. at_hand engine ≡ []) }
     {
         let company = company_of(alloc, &start)?;
         match LawfulMember::resume(alloc, start, stored, entries) {

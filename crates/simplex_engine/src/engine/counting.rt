@@ -1,7 +1,7 @@
 //! Votes and certificates that came in.
 #![tactic(auto, using(simplex_outbox::proofs::Going::stays, simplex_outbox::proofs::Going::goes_further, crate::proofs::Backing::takes_nothing, crate::proofs::Backing::takes_no_more, crate::proofs::Backing::takes_anyway))]
 
-ghost use Rattle.std.specs.Prelude.{◌≡◌, None, Some, IfOk, OnOk, IsTrue, not, false, ◌==◌, Ok, IsFalse};
+ghost use Rattle.std.specs.Prelude.{◌≡◌, [], ◌∷◌, ◌++◌, None, Some, IfOk, OnOk, IsTrue, not, false, ◌==◌, Ok, IsFalse};
 ghost use Rattle.simplex_types.specs.Certificates.{certificate_facts};
 ghost use Rattle.simplex_types.specs.Encoding.{certificate_subject};
 ghost use Rattle.simplex_member.specs.Calls.{told};
@@ -25,8 +25,12 @@ impl<S: Assembly<D>, L: Elector<S>, D: Digest> Engine<S, L, D> {
     ghost use Rattle.simplex_batcher.specs.Subjects.{subject_round};
     ghost use Rattle.simplex_engine.specs.Acting.{IsHandedIn, IsCountFollowed};
     ghost use Rattle.simplex_engine.specs.Taking.{IsInputTaken};
+    ghost use Rattle.simplex_engine.specs.Causes.{is_final, of_counted, ComesWith};
     ghost use Rattle.simplex_engine.specs.Duties.{KeepsDuties};
-    ghost use Rattle.simplex_plan.specs.PlannedWork.{KeepsPlannedThen};
+    ghost use Rattle.simplex_outbox.specs.Handing.{hands_in};
+    ghost use Rattle.simplex_plan.specs.Asking.{is_plain, KeepsAsking};
+    ghost use Rattle.simplex_plan.specs.Matters.{given_by, planned_matters, Quorum};
+    ghost use Rattle.simplex_plan.specs.PlannedWork.{AreAmong, KeepsPlannedThen};
     ghost use Rattle.simplex_engine.specs.Views.{HasComeTo};
     ghost use Rattle.simplex_engine.specs.declared.input.Input.TheVariants as input;
     ghost use Rattle.simplex_engine.specs.Admitting.{is_so};
@@ -70,6 +74,7 @@ impl<S: Assembly<D>, L: Elector<S>, D: Digest> Engine<S, L, D> {
         ensures followed { IfOk result (IsCountFollowed D.eq L.elect S.certificate_bytes now counted self.old.plan.steps.items
             self.old.core.member.facts self.new.plan.steps.items self.new.core.member.facts) }
         ensures duties { OnOk result (KeepsDuties self.old self.new) }
+        ensures comes { OnOk result (ComesWith D.eq L.elect S.certificate_bytes now (of_counted S.certificate_bytes counted) self.old self.new) }
     {
         match counted {
             Counted::Certified(certificate) => match self.accept(&certificate, now) {
@@ -101,6 +106,8 @@ impl<S: Assembly<D>, L: Elector<S>, D: Digest> Engine<S, L, D> {
         ensures acted { IsTrue (is_so (λ x. admits x (certificate_facts S.certificate_bytes certificate.now)) self.old.core.member.facts) → IfOk result
             (IsHandedIn D.eq L.elect S.certificate_bytes now certificate.now self.old.core.member.facts self.new.core.member.facts) }
         ensures duties { OnOk result (KeepsDuties self.old self.new) }
+        ensures comes { OnOk result (ComesWith D.eq L.elect S.certificate_bytes now (Quorum (certificate_subject
+            (certificate_facts S.certificate_bytes certificate.now)) ∷ []) self.old self.new) }
     {
         if !self.admits(certificate) {
             return Ok(false);
@@ -133,6 +140,11 @@ impl<S: Assembly<D>, L: Elector<S>, D: Digest> Engine<S, L, D> {
         ensures of_use { IfOk result (λ is_of_use. is_of_use ≡ not (is_refused (told S.certificate_bytes reply.now))) }
         ensures planned { OnOk result (KeepsPlannedThen self.old.plan self.new.plan) }
         ensures seen { OnOk result (HasComeTo self.new.core.member.facts self.new.plan) }
+        ensures matters { OnOk result (AreAmong (planned_matters self.new.plan)
+            (planned_matters self.old.plan ++ given_by now reply.now (hands_in (certificate_facts S.certificate_bytes certificate.now) now))) }
+        ensures asks { IsTrue (is_plain reply.now) → OnOk result (KeepsAsking (given_by now reply.now
+            (hands_in (certificate_facts S.certificate_bytes certificate.now) now)) (λ kind view. is_final self.new.core.member.facts view)
+            self.old.plan self.new.plan) }
     {
         let is_of_use = !is_refused(reply);
         self.see()?;

@@ -1,12 +1,12 @@
 //! Inputs: what the member is asked for each.
 #![tactic(auto)]
 
-ghost use Rattle.std.specs.Prelude.{◌≡◌, ◌≢◌, None, Ok, IfOk, OnOk, IsTrue, false, ◌==◌, IsFalse};
+ghost use Rattle.std.specs.Prelude.{◌≡◌, ◌≢◌, [], ◌∷◌, None, Ok, IfOk, OnOk, IsTrue, false, ◌==◌, IsFalse};
 ghost use Rattle.std.specs.List.{list_any};
 ghost use Rattle.std.specs.Option.{option_map_or};
 ghost use Rattle.simplex_engine.specs.Acting.{verification_of};
 ghost use Rattle.simplex_engine.specs.Admitting.{admits_proposal, is_of_epoch};
-ghost use Rattle.simplex_plan.specs.declared.task.Task.TheVariants.{SetProposal};
+ghost use Rattle.simplex_plan.specs.declared.task.Task.TheVariants.{Proposed, SetProposal};
 
 use super::Engine;
 use super::counting::takes_votes;
@@ -23,7 +23,9 @@ impl<S: Assembly<D>, L: Elector<S>, D: Digest> Engine<S, L, D> {
     ghost use Rattle.simplex_engine.specs.Taking.{IsInputTaken};
     ghost use Rattle.simplex_plan.specs.Blocks.{is_asked_in};
     ghost use Rattle.simplex_engine.specs.Acting.{HasDoneTask, IsBlockTaken};
+    ghost use Rattle.simplex_engine.specs.Causes.{ComesWith};
     ghost use Rattle.simplex_engine.specs.Duties.{KeepsDuties};
+    ghost use Rattle.simplex_plan.specs.Matters.{Arrival, Message};
     ghost use Rattle.simplex_engine.specs.Admitting.{is_so, ignoring, IsKeptEarly};
 
     /// Takes what came in, while the engine has not failed, and counts what is of no use.
@@ -68,6 +70,7 @@ impl<S: Assembly<D>, L: Elector<S>, D: Digest> Engine<S, L, D> {
         ensures acted { IsTrue (is_so (λ x. admits_proposal x from proposal.round) self.old.core.member.facts) → IfOk result
             (HasDoneTask D.eq L.elect (SetProposal proposal.round.view proposal) now self.old.core.member.facts self.new.core.member.facts) }
         ensures duties { OnOk result (KeepsDuties self.old self.new) }
+        ensures comes { OnOk result (ComesWith D.eq L.elect S.certificate_bytes now (Arrival from proposal ∷ []) self.old self.new) }
     {
         if self.admits_proposal(from, proposal.round) {
             return self.ask(Task::SetProposal(proposal.view(), proposal), now);
@@ -120,6 +123,8 @@ impl<S: Assembly<D>, L: Elector<S>, D: Digest> Engine<S, L, D> {
         ensures acted { IfOk result (IsBlockTaken D.eq L.elect (list_any (is_asked_in D.eq context.now) self.old.plan.builds.buildings.items)
             context.now.round.view payload now self.old.core.member.facts self.new.core.member.facts) }
         ensures duties { OnOk result (KeepsDuties self.old self.new) }
+        ensures comes { OnOk result (ComesWith D.eq L.elect S.certificate_bytes now (Message (Proposed context.now.round.view payload) ∷ [])
+            self.old self.new) }
     {
         if !self.plan.is_building(context) {
             return Ok(false);

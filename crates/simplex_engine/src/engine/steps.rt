@@ -1,7 +1,7 @@
 //! The steps that are due, one after the other, until the member has nothing new.
 #![tactic(auto)]
 
-ghost use Rattle.std.specs.Prelude.{◌≡◌, ℕ, [], ◌∷◌, None, Some, OnOk, IfOk, IfSome, IsOk, IsTrue, false, ◌==◌};
+ghost use Rattle.std.specs.Prelude.{◌≡◌, ℕ, [], ◌∷◌, None, Some, OnOk, IfOk, IfSome, IsOk, IsTrue, false, ◌==◌, ◌||◌};
 
 use super::Engine;
 use simplex_assembly::assembly::Assembly;
@@ -19,8 +19,11 @@ impl<S: Assembly<D>, L: Elector<S>, D: Digest> Engine<S, L, D> {
     ghost use Rattle.simplex_engine.specs.Bounds.{HoldsFromKept};
     ghost use Rattle.simplex_engine.specs.Building.{BuildsAhead};
     ghost use Rattle.simplex_engine.specs.Lacking.{AsksForItsLacking};
+    ghost use Rattle.simplex_engine.specs.Causes.{held_by, is_final, Comes, ComesAlone, ComesWith};
     ghost use Rattle.simplex_engine.specs.Duties.{KeepsDuties, KeepsTaken};
-    ghost use Rattle.simplex_plan.specs.PlannedWork.{work_planned, KeepsPlanned};
+    ghost use Rattle.simplex_plan.specs.Asking.{KeepsAsking};
+    ghost use Rattle.simplex_plan.specs.Matters.{of_step, of_work, planned_matters};
+    ghost use Rattle.simplex_plan.specs.PlannedWork.{work_planned, AreAmong, KeepsPlanned};
     ghost use Rattle.simplex_voter.specs.Windows.{min_active};
 
     /// Takes all steps that are due, until the member has nothing new, and queues what the record has grown by.
@@ -29,6 +32,7 @@ impl<S: Assembly<D>, L: Elector<S>, D: Digest> Engine<S, L, D> {
     /// - `idle`, `ahead`: nothing is to be done at the moment, and no block is to be built of a view that is over.
     /// - `short`: by a pruning no more views of the record go than stay, or it has few entries.
     /// - `lowest`, `lacking`: no vote is held of a view below the lowest one that is kept, and just what is lacking is asked for.
+    /// - `comes`: all comes of what was at hand, and of the member's answers; and what is lacking is asked for still.
     pub(super) fn work(&mut self, now: u64) -> Result<(), Fault>
         ensures alone { GoesOnForgetting D.eq L.elect S.certificate_bytes self.old self.new }
         ensures whole { OnOk result (IsWhole S.certificate_bytes self.new.core) }
@@ -40,6 +44,7 @@ impl<S: Assembly<D>, L: Elector<S>, D: Digest> Engine<S, L, D> {
         ensures lowest { OnOk result (HoldsFromKept self.new.core self.new.batcher) }
         ensures lacking { OnOk result (AsksForItsLacking self.new.core self.new.plan.repair) }
         ensures duties { OnOk result (KeepsDuties self.old self.new) }
+        ensures comes { OnOk result (Comes D.eq L.elect S.certificate_bytes now [] [] (held_by self.new) self.old self.new) }
     {
         self.plan.begin();
         self.finish(now)
@@ -57,6 +62,7 @@ impl<S: Assembly<D>, L: Elector<S>, D: Digest> Engine<S, L, D> {
         ensures lowest { OnOk result (HoldsFromKept self.new.core self.new.batcher) }
         ensures lacking { OnOk result (AsksForItsLacking self.new.core self.new.plan.repair) }
         ensures duties { OnOk result (KeepsDuties self.old self.new) }
+        ensures comes { OnOk result (Comes D.eq L.elect S.certificate_bytes now [] [] (held_by self.new) self.old self.new) }
     {
         self.run_to_short(now)?;
         self.settle()?;
@@ -72,6 +78,7 @@ impl<S: Assembly<D>, L: Elector<S>, D: Digest> Engine<S, L, D> {
         ensures short { (given : _) → IsKept S.certificate_bytes given self.old.core
             → OnOk result (IsShort self.new.plan.options.long_record self.new.core.member.facts) }
         ensures duties { OnOk result (KeepsDuties self.old self.new) }
+        ensures comes { OnOk result (ComesAlone D.eq L.elect S.certificate_bytes now self.old self.new) }
     {
         for _ in 0..u64::MAX {
             self.run_all(now)?;
@@ -91,6 +98,7 @@ impl<S: Assembly<D>, L: Elector<S>, D: Digest> Engine<S, L, D> {
         ensures short { (given : _) → IsKept S.certificate_bytes given self.old.core
             → IfOk result (λ short. IsTrue short → IsShort self.new.plan.options.long_record self.new.core.member.facts) }
         ensures duties { OnOk result (KeepsDuties self.old self.new) }
+        ensures comes { OnOk result ((now : ℕ) → ComesAlone D.eq L.elect S.certificate_bytes now self.old self.new) }
     {
         self.core.store()?;
         Ok(!self.core.is_overgrown(self.plan.long_record()))
@@ -106,6 +114,7 @@ impl<S: Assembly<D>, L: Elector<S>, D: Digest> Engine<S, L, D> {
         ensures lowest { OnOk result (HoldsFromKept self.new.core self.new.batcher) }
         ensures lacking { OnOk result (AsksForItsLacking self.new.core self.new.plan.repair) }
         ensures duties { OnOk result (KeepsDuties self.old self.new) }
+        ensures comes { OnOk result ((now : ℕ) → Comes D.eq L.elect S.certificate_bytes now [] [] (held_by self.new) self.old self.new) }
     {
         self.let_go()?;
         self.core.store()?;
@@ -119,6 +128,7 @@ impl<S: Assembly<D>, L: Elector<S>, D: Digest> Engine<S, L, D> {
         ensures idle { OnOk result (IsIdle now self.new.plan) }
         ensures ahead { OnOk result (BuildsAhead self.new.core self.new.plan) }
         ensures duties { OnOk result (KeepsDuties self.old self.new) }
+        ensures comes { OnOk result (ComesAlone D.eq L.elect S.certificate_bytes now self.old self.new) }
     {
         for _ in 0..u64::MAX {
             if self.is_settled(now)? {
@@ -135,6 +145,7 @@ impl<S: Assembly<D>, L: Elector<S>, D: Digest> Engine<S, L, D> {
         ensures idle { IfOk result (λ settled. IsTrue settled → IsIdle now self.new.plan) }
         ensures ahead { IfOk result (λ settled. IsTrue settled → BuildsAhead self.new.core self.new.plan) }
         ensures duties { OnOk result (KeepsDuties self.old self.new) }
+        ensures comes { OnOk result (ComesAlone D.eq L.elect S.certificate_bytes now self.old self.new) }
     {
         self.run(now)?;
         if !self.has_no_work(now)? {
@@ -163,6 +174,7 @@ impl<S: Assembly<D>, L: Elector<S>, D: Digest> Engine<S, L, D> {
     fn run(&mut self, now: u64) -> Result<(), Fault>
         ensures alone { GoesOnAlone D.eq L.elect S.certificate_bytes self.old self.new }
         ensures duties { OnOk result (KeepsDuties self.old self.new) }
+        ensures comes { OnOk result (ComesAlone D.eq L.elect S.certificate_bytes now self.old self.new) }
     {
         for _ in 0..u64::MAX {
             if !self.step(now)? {
@@ -176,6 +188,7 @@ impl<S: Assembly<D>, L: Elector<S>, D: Digest> Engine<S, L, D> {
     fn step(&mut self, now: u64) -> Result<bool, Fault>
         ensures alone { GoesOnAlone D.eq L.elect S.certificate_bytes self.old self.new }
         ensures duties { OnOk result (KeepsDuties self.old self.new) }
+        ensures comes { OnOk result (ComesAlone D.eq L.elect S.certificate_bytes now self.old self.new) }
     {
         match self.plan.next(now)? {
             Some(step) => self.take_step(step, now),
@@ -187,6 +200,7 @@ impl<S: Assembly<D>, L: Elector<S>, D: Digest> Engine<S, L, D> {
     fn take_step(&mut self, step: Step<S, D>, now: u64) -> Result<bool, Fault>
         ensures alone { GoesOnAlone D.eq L.elect S.certificate_bytes self.old self.new }
         ensures duties { OnOk result (KeepsTaken (work_planned (step ∷ [])) self.old self.new) }
+        ensures comes { OnOk result (ComesWith D.eq L.elect S.certificate_bytes now (of_step step) self.old self.new) }
     {
         match step {
             Step::Ask(task) => taken(self.ask(task, now)),
@@ -201,6 +215,7 @@ impl<S: Assembly<D>, L: Elector<S>, D: Digest> Engine<S, L, D> {
     fn repeat(&mut self, view: View) -> Result<bool, Fault>
         ensures alone { GoesOnAlone D.eq L.elect S.certificate_bytes self.old self.new }
         ensures duties { OnOk result (KeepsDuties self.old self.new) }
+        ensures comes { OnOk result ((now : ℕ) → ComesAlone D.eq L.elect S.certificate_bytes now self.old self.new) }
     {
         self.core.repeat(view)?;
         Ok(true)
@@ -210,6 +225,7 @@ impl<S: Assembly<D>, L: Elector<S>, D: Digest> Engine<S, L, D> {
     fn push(&mut self, work: Work<S, D>) -> Result<bool, Fault>
         ensures alone { GoesOnAlone D.eq L.elect S.certificate_bytes self.old self.new }
         ensures duties { OnOk result (KeepsTaken (work ∷ []) self.old self.new) }
+        ensures comes { OnOk result ((now : ℕ) → ComesWith D.eq L.elect S.certificate_bytes now (of_work work) self.old self.new) }
     {
         self.core.push(work)?;
         Ok(true)
@@ -224,6 +240,7 @@ impl<S: Assembly<D>, L: Elector<S>, D: Digest> Engine<S, L, D> {
         ensures lowest { OnOk result (HoldsFromKept self.new.core self.new.batcher) }
         ensures lacking { OnOk result (AsksForItsLacking self.new.core self.new.plan.repair) }
         ensures duties { OnOk result (KeepsDuties self.old self.new) }
+        ensures comes { OnOk result ((now : ℕ) → Comes D.eq L.elect S.certificate_bytes now [] [] (held_by self.new) self.old self.new) }
     {
         let lowest = self.lowest_kept()?;
         self.tell_forgotten(lowest)?;
@@ -249,6 +266,9 @@ impl<S: Assembly<D>, L: Elector<S>, D: Digest> Engine<S, L, D> {
         ensures builds { self.new.plan.builds.buildings.items ≡ self.old.plan.builds.buildings.items }
         ensures lacking { OnOk result (AsksForItsLacking self.new.core self.new.plan.repair) }
         ensures planned { KeepsPlanned self.old.plan self.new.plan }
+        ensures matters { AreAmong (planned_matters self.new.plan) (planned_matters self.old.plan) }
+        ensures asks { OnOk result (KeepsAsking [] (λ kind view. held_by self.new kind view || is_final self.new.core.member.facts view)
+            self.old.plan self.new.plan) }
     {
         match self.core.state() {
             Some(state) => self.plan.let_go(state),
@@ -262,6 +282,7 @@ impl<S: Assembly<D>, L: Elector<S>, D: Digest> Engine<S, L, D> {
         ensures member { self.new.core.member ≡ self.old.core.member }
         ensures plan { self.new.plan ≡ self.old.plan }
         ensures duties { OnOk result (KeepsDuties self.old self.new) }
+        ensures comes { OnOk result ((now : ℕ) → ComesAlone D.eq L.elect S.certificate_bytes now self.old self.new) }
     {
         if lowest <= self.forgotten {
             return Ok(());
@@ -276,6 +297,7 @@ impl<S: Assembly<D>, L: Elector<S>, D: Digest> Engine<S, L, D> {
     fn prune_record(&mut self, now: u64) -> Result<(), Fault>
         ensures alone { GoesOnAlone D.eq L.elect S.certificate_bytes self.old self.new }
         ensures duties { OnOk result (KeepsDuties self.old self.new) }
+        ensures comes { OnOk result (ComesAlone D.eq L.elect S.certificate_bytes now self.old self.new) }
     {
         self.ask(Task::Prune, now)?;
         self.core.prune_record()?;

@@ -1,5 +1,5 @@
 -- That no other certificate is accepted than the one that is handed in, and that one which is refused changes nothing.
-use Rattle.std.proofs.Common.{Some, sym, subst, ap, ◌∙◌}
+use Rattle.std.proofs.Common.{Some, sym, subst, ap, ◌∙◌, refl, inr, [], ◌∷◌}
 use Rattle.std.proofs.lemmas.Bool.{not-false}
 use Rattle.std.proofs.lemmas.Result.{IfOk-weaker}
 use Rattle.simplex_types.specs.Certificates.{certificate_facts}
@@ -8,6 +8,13 @@ use Rattle.simplex_outbox.specs.Going.{GoesOn}
 use Rattle.simplex_engine.proofs.Tells.{handed_as, tells_handed, tells_still}
 use Rattle.simplex_plan.proofs.Planning.{on_ok_both}
 use Rattle.simplex_member.specs.Calls.{told}
+use Rattle.simplex_outbox.specs.Handing.{hands_in}
+use Rattle.simplex_outbox.specs.Outputs.{work_in}
+use Rattle.simplex_plan.specs.Matters.{Quorum, given_by}
+use Rattle.simplex_plan.proofs.Matters.{among_last}
+use Rattle.simplex_plan.proofs.PlannedWork.{among_more}
+use Rattle.simplex_engine.specs.Causes.{at_hand}
+use Rattle.simplex_engine.proofs.Causes.{comes_called, comes_still, hand_asked, handed_plain}
 use Rattle.simplex_engine.proofs.engine.Engine.accept.Goals as goal
 
 pub returns-in_err-reply-clause-goes_on : goal.returns-in_err-reply-clause-goes_on
@@ -56,3 +63,23 @@ returns-clause-duties g c =
 
 pub returns-then-not-admits-clause-duties : goal.returns-then-not-admits-clause-duties
 returns-then-not-admits-clause-duties g c = tells_still c.args.self.now
+
+pub returns-then-not-admits-clause-comes : goal.returns-then-not-admits-clause-comes
+returns-then-not-admits-clause-comes g c =
+    comes_still refl refl (λ kind view. refl) (among_last (Quorum (certificate_subject (certificate_facts g.S.CertificateScheme.certificate_bytes c.args.certificate.now)) ∷ []) (at_hand c.args.self.now))
+
+pub returns-clause-comes : goal.returns-clause-comes
+returns-clause-comes g c =
+    let same = g.D.PartialEq.eq in
+    let elect = g.L.Elector.elect in
+    let bytes_of = g.S.CertificateScheme.certificate_bytes in
+    let handed = certificate_facts bytes_of c.args.certificate.now in
+    let came = Quorum (certificate_subject handed) ∷ [] in
+    let answered =
+    handed_as same elect c.args.self.now.core.member.facts (told bytes_of c.in_ok-reply.reply) c.args.now c.in_ok-copy.ensures.same c.follow_certificate.ensures.core c.in_ok-reply.ensures.answered
+    in
+    on_ok_both c.follow_certificate.result c.follow_certificate.ensures.matters
+    (c.follow_certificate.ensures.asks (handed_plain same elect bytes_of c.args.self.now.core.member.facts c.follow_certificate.new.self.core.member.facts c.args.now handed c.in_ok-reply.reply answered))
+    (λ matters asks. comes_called (hands_in handed c.args.now) c.in_ok-reply.reply (λ kind view. refl) (inr (inr (handed, refl, among_more came (at_hand c.args.self.now)))) answered
+    (hand_asked c.args.self.now c.follow_certificate.new.self came (given_by c.args.now c.in_ok-reply.reply (hands_in handed c.args.now))
+    (ap (λ core. work_in core.outbox.queue.items) c.follow_certificate.ensures.core ∙ c.hand_in.ensures.no_work) matters) asks)

@@ -1,5 +1,5 @@
 -- That a task accepts no certificate, and what its answer says.
-use Rattle.std.proofs.Common.{None, sym, subst}
+use Rattle.std.proofs.Common.{None, sym, subst, ap, ◌∙◌}
 use Rattle.std.proofs.lemmas.Result.{IfOk-weaker}
 use Rattle.simplex_member.specs.Calls.{told}
 use Rattle.simplex_member.specs.Lives.{IsCall}
@@ -7,6 +7,9 @@ use Rattle.simplex_outbox.specs.Going.{GoesOn}
 use Rattle.simplex_plan.specs.Tasks.{call_of}
 use Rattle.simplex_engine.proofs.Tells.{tells_called}
 use Rattle.simplex_plan.proofs.Planning.{on_ok_both}
+use Rattle.simplex_outbox.specs.Outputs.{work_in}
+use Rattle.simplex_plan.specs.Matters.{given_by}
+use Rattle.simplex_engine.proofs.Causes.{comes_called, hand_asked}
 use Rattle.simplex_engine.proofs.engine.Engine.ask.Goals as goal
 
 pub returns : goal.returns
@@ -29,4 +32,7 @@ returns g c =
       }) c.follow.ensures.of_use;
       duties = on_ok_both c.follow.result c.follow.ensures.seen c.follow.ensures.planned
           (tells_called c.args.self.now c.follow.new.self c.args.task c.args.now answer answered goes);
+      comes = on_ok_both c.follow.result c.follow.ensures.matters c.follow.ensures.asks (λ matters asks came none meant. comes_called (call_of c.args.task c.args.now) c.call-reply.result none meant answered
+          (hand_asked c.args.self.now c.follow.new.self came (given_by c.args.now c.call-reply.result (call_of c.args.task c.args.now))
+          (ap (λ core. work_in core.outbox.queue.items) c.follow.ensures.core ∙ ap (λ outbox. work_in outbox.queue.items) c.call-reply.ensures.outbox) matters) asks);
     }

@@ -1,5 +1,5 @@
 -- That the call accepts no certificate, and what its answer says.
-use Rattle.std.proofs.Common.{None, sym, subst, ◌∙◌}
+use Rattle.std.proofs.Common.{None, sym, subst, ◌∙◌, ap}
 use Rattle.simplex_member.specs.Calls.{told}
 use Rattle.simplex_member.specs.Lives.{IsCall}
 use Rattle.simplex_outbox.specs.Going.{GoesOn}
@@ -7,6 +7,9 @@ use Rattle.simplex_plan.specs.Tasks.{call_of}
 use Rattle.simplex_engine.specs.Quiet.{AnswersNothing}
 use Rattle.simplex_engine.proofs.Alone.{alone_with}
 use Rattle.simplex_engine.proofs.Tells.{tells_called}
+use Rattle.simplex_outbox.specs.Outputs.{work_in}
+use Rattle.simplex_plan.specs.Matters.{given_by}
+use Rattle.simplex_engine.proofs.Causes.{comes_called, hand_asked}
 use Rattle.simplex_engine.proofs.engine.Engine.asks_nothing.Goals as goal
 
 pub returns-in_err-follow-clause-alone : goal.returns-in_err-follow-clause-alone
@@ -23,14 +26,16 @@ returns g c =
     let before = c.args.self.now.core.member.facts in
     let answer = told bytes_of c.call-reply.result in
     let goes = subst (GoesOn same elect bytes_of None c.args.self.now.core) (sym c.follow.ensures.core) (c.call-reply.ensures.quiet c.call.ensures.plain) in
+    let answered = subst (λ core. IsCall same elect before (call_of c.args.task c.args.now) answer core.member.facts) (sym c.follow.ensures.core)
+    (subst (λ call. IsCall same elect before call answer c.call-reply.new.self.member.facts) c.call.ensures.asked c.call-reply.ensures.answered) in
     record {
       alone = alone_with c.args.self.now c.follow.new.self goes c.follow.ensures.batcher;
       nothing = λ is.
           subst (λ core. AnswersNothing same elect before (call_of c.args.task c.args.now) core.member.facts) (sym c.follow.ensures.core)
           (subst (λ call. AnswersNothing same elect before call c.call-reply.new.self.member.facts) c.call.ensures.asked
           (record { answer = answer; nothing = sym c.is_nothing-is_nothing.ensures ∙ is; answered = c.call-reply.ensures.answered }));
-      duties = tells_called c.args.self.now c.follow.new.self c.args.task c.args.now answer
-          (subst (λ core. IsCall same elect before (call_of c.args.task c.args.now) answer core.member.facts) (sym c.follow.ensures.core)
-          (subst (λ call. IsCall same elect before call answer c.call-reply.new.self.member.facts) c.call.ensures.asked c.call-reply.ensures.answered))
-          goes c.in_ok-follow.ensures.seen c.in_ok-follow.ensures.planned;
+      duties = tells_called c.args.self.now c.follow.new.self c.args.task c.args.now answer answered goes c.in_ok-follow.ensures.seen c.in_ok-follow.ensures.planned;
+      comes = λ came none meant. comes_called (call_of c.args.task c.args.now) c.call-reply.result none meant answered
+          (hand_asked c.args.self.now c.follow.new.self came (given_by c.args.now c.call-reply.result (call_of c.args.task c.args.now))
+          (ap (λ core. work_in core.outbox.queue.items) c.follow.ensures.core ∙ ap (λ outbox. work_in outbox.queue.items) c.call-reply.ensures.outbox) c.in_ok-follow.ensures.matters) c.in_ok-follow.ensures.asks;
     }

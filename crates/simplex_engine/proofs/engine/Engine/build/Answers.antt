@@ -1,9 +1,16 @@
 -- That a block is handed in where the application was asked for it.
-use Rattle.std.proofs.Common.{false, refl, sym, subst, ◌∙◌}
+use Rattle.std.proofs.Common.{false, refl, sym, subst, ◌∙◌, inl, [], ◌∷◌}
 use Rattle.std.proofs.lemmas.Result.{IfOk-weaker}
 use Rattle.simplex_engine.specs.Acting.{IsBlockTaken}
 use Rattle.simplex_outbox.proofs.Going.{stays}
 use Rattle.simplex_engine.proofs.Tells.{tells_still}
+use Rattle.simplex_plan.specs.declared.task.Task.TheVariants as task
+use Rattle.simplex_plan.specs.Matters.{Message}
+use Rattle.simplex_plan.proofs.Matters.{among_last}
+use Rattle.simplex_plan.proofs.PlannedWork.{among_more}
+use Rattle.simplex_plan.proofs.Planning.{on_ok}
+use Rattle.simplex_engine.specs.Causes.{at_hand}
+use Rattle.simplex_engine.proofs.Causes.{comes_still}
 use Rattle.simplex_engine.proofs.engine.Engine.build.Goals as goal
 
 pub returns-then-not-is_building : goal.returns-then-not-is_building
@@ -15,10 +22,12 @@ returns-then-not-is_building g c =
       acted = subst (λ is_asked. IsBlockTaken g.D.PartialEq.eq g.L.Elector.elect is_asked c.args.context.now.round.view c.args.payload c.args.now facts facts false)
           (sym c.if-not-is_building.true ∙ c.is_building.ensures) (refl, refl);
       duties = tells_still c.args.self.now;
+      comes = comes_still refl refl (λ kind view. refl) (among_last (Message (task.Proposed c.args.context.now.round.view c.args.payload) ∷ []) (at_hand c.args.self.now));
     }
 
 pub returns : goal.returns
 returns g c =
+    let asked = task.Proposed c.args.context.now.round.view c.args.payload in
     let before = c.args.self.now.core.member.facts in
     let after = c.ask.new.self.core.member.facts in
     record {
@@ -28,4 +37,5 @@ returns g c =
           subst (λ is_asked. IsBlockTaken g.D.PartialEq.eq g.L.Elector.elect is_asked c.args.context.now.round.view c.args.payload c.args.now before after is_of_use)
           (sym c.if-not-is_building.false ∙ c.is_building.ensures) done) c.ask.ensures.acted;
       duties = c.ask.ensures.duties;
+      comes = on_ok c.ask.result c.ask.ensures.comes (λ comes. comes (Message asked ∷ []) (λ kind view. refl) (inl (asked, refl, among_more (Message asked ∷ []) (at_hand c.args.self.now))));
     }

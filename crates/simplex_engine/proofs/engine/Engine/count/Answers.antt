@@ -8,6 +8,10 @@ use Rattle.simplex_outbox.proofs.Going.{stays}
 use Rattle.simplex_plan.proofs.PlannedWork.{among_still}
 use Rattle.simplex_engine.specs.Duties.{work_ahead}
 use Rattle.simplex_engine.proofs.Building.{early_anyway}
+use Rattle.simplex_plan.proofs.Matters.{among_last}
+use Rattle.simplex_engine.specs.declared.input.Input.TheVariants as input
+use Rattle.simplex_engine.specs.Causes.{at_hand, came_in}
+use Rattle.simplex_engine.proofs.Causes.{comes_still, vote_lacks_none}
 use Rattle.simplex_engine.proofs.engine.Engine.count.Goals as goal
 
 pub returns-then-not-admits_votes : goal.returns-then-not-admits_votes
@@ -26,6 +30,7 @@ returns-then-not-admits_votes g c =
           (sym c.if-not-admits_votes.true ∙ c.admits_votes.ensures ∙ ap (λ round. is_so (λ x. admits_votes x round) engine.core.member.facts) c.round_of.ensures.round ∙ is));
       duties = record { stays = λ work told. told; works = among_still (work_ahead engine); near = λ near. near; seen = λ come. come; early = λ come. early_anyway engine engine (among_still engine.plan.early.proposals.items); constants = refl };
       ignored = refl;
+      comes = comes_still refl refl (vote_lacks_none g.S.CertificateScheme.certificate_bytes engine.batcher c.args.vote) (among_last (came_in g.S.CertificateScheme.certificate_bytes engine.batcher (input.Vote c.args.vote)) (at_hand engine));
     }
 
 pub returns : goal.returns

@@ -2,9 +2,13 @@
 use Rattle.std.proofs.Common.{ap, refl}
 use Rattle.std.specs.Prelude.{not}
 use Rattle.simplex_member.specs.Calls.{told}
-use Rattle.simplex_plan.proofs.PlannedWork.{plans_seen}
+use Rattle.simplex_plan.proofs.PlannedWork.{among_both, among_further, among_still, plans_seen}
 use Rattle.simplex_plan.proofs.Following.{followed_plans}
 use Rattle.simplex_engine.proofs.Building.{come_same}
+use Rattle.simplex_plan.specs.Tasks.{call_of}
+use Rattle.simplex_plan.proofs.Giving.{followed_by}
+use Rattle.simplex_plan.proofs.StillAsking.{asks_over, asks_then, followed_asks}
+use Rattle.simplex_engine.specs.Causes.{is_final}
 use Rattle.simplex_engine.proofs.engine.Engine.follow.Goals as goal
 
 pub returns-in_err-see-clause-core : goal.returns-in_err-see-clause-core
@@ -29,4 +33,9 @@ returns g c =
       of_use = ap not c.says_nothing-is_of_use.ensures;
       planned = plans_seen c.args.self.now.plan c.see.new.self.plan c.follow.new.self c.args.task (told bytes_of c.args.reply) c.in_ok-see.ensures.planned follows;
       seen = come_same c.see.new.self (record (c.see.new.self) { plan = c.follow.new.self }) refl follows.reached c.in_ok-see.ensures.seen;
+      matters = among_further
+          (followed_by g.D.Digest.bytes bytes_of c.args.now c.args.task (call_of c.args.task c.args.now) c.args.reply c.see.new.self.plan c.follow.new.self c.in_ok-follow.ensures.followed)
+          (among_both c.in_ok-see.ensures.matters (among_still _));
+      asks = asks_then c.in_ok-see.ensures.asks (asks_over (λ kind view. is_final c.see.new.self.core.member.facts view)
+          (followed_asks g.D.Digest.bytes bytes_of c.args.now c.args.task (call_of c.args.task c.args.now) c.args.reply c.see.new.self.plan c.follow.new.self c.in_ok-follow.ensures.followed));
     }

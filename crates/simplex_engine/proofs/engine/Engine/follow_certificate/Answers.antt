@@ -1,8 +1,13 @@
 -- That nothing which is planned is lost.
-use Rattle.simplex_plan.proofs.PlannedWork.{keeps_seen}
+use Rattle.simplex_plan.proofs.PlannedWork.{among_both, among_further, among_still, keeps_seen}
 use Rattle.simplex_plan.proofs.Following.{certificate_followed}
 use Rattle.std.proofs.Common.{refl}
+use Rattle.simplex_engine.proofs.Backing.{takes_same}
 use Rattle.simplex_engine.proofs.Building.{come_same}
+use Rattle.simplex_plan.proofs.Giving.{certificate_on}
+use Rattle.simplex_engine.proofs.Causes.{fails}
+use Rattle.simplex_plan.proofs.StillAsking.{asks_over, asks_then, certificate_asks}
+use Rattle.simplex_engine.specs.Causes.{is_final}
 use Rattle.simplex_engine.proofs.engine.Engine.follow_certificate.Goals as goal
 
 pub returns-clause-seen : goal.returns-clause-seen
@@ -16,3 +21,28 @@ returns-clause-planned g c =
     keeps_seen c.args.self.now.plan c.see.new.self.plan c.follow_certificate.new.self c.in_ok-see.ensures.planned
     (certificate_followed g.D.Digest.bytes g.S.CertificateScheme.certificate_bytes c.args.now c.see.new.self.plan c.follow_certificate.new.self c.args.certificate.now c.args.reply.now
     c.in_ok-follow_certificate.ensures.followed)
+
+pub returns-clause-matters : goal.returns-clause-matters
+returns-clause-matters g c =
+    among_further
+    (certificate_on g.D.Digest.bytes g.S.CertificateScheme.certificate_bytes c.args.now c.args.certificate.now c.args.reply.now c.see.new.self.plan c.follow_certificate.new.self
+    c.in_ok-follow_certificate.ensures.followed)
+    (among_both c.in_ok-see.ensures.matters (among_still _))
+
+pub returns-in_err-follow_certificate-clause-matters : goal.returns-in_err-follow_certificate-clause-matters
+returns-in_err-follow_certificate-clause-matters g c = fails _ _ c.from_residual-in_err-follow_certificate.result c.from_residual-in_err-follow_certificate.ensures.1
+
+pub returns-clause-asks : goal.returns-clause-asks
+returns-clause-asks g c plain =
+    asks_then c.in_ok-see.ensures.asks (asks_over (λ kind view. is_final c.see.new.self.core.member.facts view)
+    (certificate_asks g.D.Digest.bytes g.S.CertificateScheme.certificate_bytes c.args.now c.args.certificate.now c.args.reply.now c.see.new.self.plan c.follow_certificate.new.self plain
+    c.in_ok-follow_certificate.ensures.followed))
+
+pub returns-in_err-follow_certificate-clause-asks : goal.returns-in_err-follow_certificate-clause-asks
+returns-in_err-follow_certificate-clause-asks g c plain = fails _ _ c.from_residual-in_err-follow_certificate.result c.from_residual-in_err-follow_certificate.ensures.1
+
+pub returns-clause-votes : goal.returns-clause-votes
+returns-clause-votes g c = takes_same c.see.ensures.batcher
+
+pub returns-in_err-follow_certificate-clause-votes : goal.returns-in_err-follow_certificate-clause-votes
+returns-in_err-follow_certificate-clause-votes g c = takes_same c.see.ensures.batcher

@@ -1,7 +1,13 @@
 -- That what follows a vote tells all that the member waits for.
-use Rattle.std.proofs.Common.{refl}
+use Rattle.std.proofs.Common.{[], ◌∷◌, refl, sym, subst}
 use Rattle.simplex_plan.proofs.PlannedWork.{has_planned}
 use Rattle.simplex_engine.proofs.Tells.{tells_planned, tells_still}
+use Rattle.simplex_outbox.specs.declared.output.Work.TheVariants as work
+use Rattle.simplex_plan.specs.Matters.{Duty}
+use Rattle.simplex_plan.proofs.Matters.{among_last, planned_more}
+use Rattle.simplex_engine.specs.Causes.{at_hand, is_final, of_counted, ComesWith}
+use Rattle.simplex_engine.proofs.Causes.{comes_same, comes_still, counted_lacks_none, hand_with}
+use Rattle.simplex_plan.proofs.StillAsking.{asks_behind, asks_beside}
 use Rattle.simplex_engine.proofs.engine.Engine.follow_counted.Goals as goal
 
 pub returns-in-Equivocated-clause-duties : goal.returns-in-Equivocated-clause-duties
@@ -14,3 +20,18 @@ returns-in-Taken-clause-duties g c = tells_still c.args.self.now
 
 pub returns-clause-duties : goal.returns-clause-duties
 returns-clause-duties g c = tells_still c.args.self.now
+
+pub returns-in-Equivocated-clause-comes : goal.returns-in-Equivocated-clause-comes
+returns-in-Equivocated-clause-comes g c =
+    let new = record c.args.self.now { plan = c.push.new.self } in
+    subst (λ it. ComesWith g.D.PartialEq.eq g.L.Elector.elect g.S.CertificateScheme.certificate_bytes c.args.now (of_counted g.S.CertificateScheme.certificate_bytes it) c.args.self.now new)
+    (sym c.in-Equivocated.is)
+    (comes_same refl (hand_with c.args.self.now new (Duty (work.Equivocated c.in-Equivocated.first c.in-Equivocated.second) ∷ []) refl (planned_more c.in_ok-push-in-Equivocated.ensures))
+    (asks_beside (Duty (work.Equivocated c.in-Equivocated.first c.in-Equivocated.second) ∷ []) (λ kind view. refl)
+    (asks_behind (λ kind view. is_final c.args.self.now.core.member.facts view) c.in_ok-push-in-Equivocated.ensures)))
+
+pub returns-in-Taken-clause-comes : goal.returns-in-Taken-clause-comes
+returns-in-Taken-clause-comes g c = comes_still refl refl (counted_lacks_none g.S.CertificateScheme.certificate_bytes c.args.counted) (among_last (of_counted g.S.CertificateScheme.certificate_bytes c.args.counted) (at_hand c.args.self.now))
+
+pub returns-clause-comes : goal.returns-clause-comes
+returns-clause-comes g c = comes_still refl refl (counted_lacks_none g.S.CertificateScheme.certificate_bytes c.args.counted) (among_last (of_counted g.S.CertificateScheme.certificate_bytes c.args.counted) (at_hand c.args.self.now))

@@ -28,6 +28,7 @@ returns-then-has_failed g c =
       failed = sym c.has_failed.ensures ∙ c.if-has_failed.true;
       error = inr refl;
       refused = λ _. (refl, refl);
+      comes = tt;
     }
 
 pub returns-in-Ok : goal.returns-in-Ok
@@ -51,6 +52,7 @@ returns-in-Ok g c =
       failed = tt;
       error = tt;
       refused = λ failed. absurd (false≢true (sym c.if-has_failed.false ∙ c.has_failed.ensures ∙ failed));
+      comes = taken.comes;
     }
 
 pub returns-in-Err : goal.returns-in-Err
@@ -72,4 +74,5 @@ returns-in-Err g c =
       failed = ap has_failed c.fail.ensures.failed;
       error = c.failure.ensures;
       refused = λ failed. absurd (false≢true (sym c.if-has_failed.false ∙ c.has_failed.ensures ∙ failed));
+      comes = tt;
     }

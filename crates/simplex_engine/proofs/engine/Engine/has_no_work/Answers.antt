@@ -1,8 +1,11 @@
 -- That a member with no work goes on by the calls that show it.
-use Rattle.std.proofs.Common.{refl}
+use Rattle.std.proofs.Common.{refl, [], inl}
 use Rattle.std.proofs.lemmas.Bool.{and_parts}
 use Rattle.simplex_engine.proofs.Alone.{alone_further}
 use Rattle.simplex_engine.proofs.Tells.{tells_further}
+use Rattle.simplex_plan.specs.declared.task.Task.TheVariants as task
+use Rattle.simplex_plan.proofs.Matters.{among_none}
+use Rattle.simplex_engine.proofs.Causes.{comes_on}
 use Rattle.simplex_engine.proofs.engine.Engine.has_no_work.Goals as goal
 
 pub returns-in_err-has_none-2-clause-alone : goal.returns-in_err-has_none-2-clause-alone
@@ -22,3 +25,10 @@ returns-clause-nothing g c = λ is.
 
 pub returns-clause-duties : goal.returns-clause-duties
 returns-clause-duties g c = tells_further c.in_ok-has_none.ensures.duties (tells_further c.in_ok-has_none-2.ensures.duties c.in_ok-has_none-3.ensures.duties)
+
+pub returns-clause-comes : goal.returns-clause-comes
+returns-clause-comes g c =
+    comes_on
+    (comes_on (c.in_ok-has_none.ensures.comes [] (λ kind view. refl) (inl (task.Verify, refl, among_none _))) c.in_ok-has_none-2.ensures.duties.risen
+    (c.in_ok-has_none-2.ensures.comes [] (λ kind view. refl) (inl (task.Propose, refl, among_none _))))
+    c.in_ok-has_none-3.ensures.duties.risen (c.in_ok-has_none-3.ensures.comes [] (λ kind view. refl) (inl (task.Candidates, refl, among_none _)))

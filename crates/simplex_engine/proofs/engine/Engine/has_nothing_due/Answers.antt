@@ -1,6 +1,12 @@
 -- That a view which is touched loses nothing that is planned, and that nothing changes where nothing is due.
 use Rattle.std.proofs.Common.{is_some, refl, ap}
-use Rattle.simplex_plan.proofs.PlannedWork.{has_planned, keeps_still}
+use Rattle.simplex_plan.proofs.PlannedWork.{among_still, has_planned, keeps_still}
+use Rattle.simplex_plan.specs.Matters.{planned_matters}
+use Rattle.simplex_plan.specs.Planning.{watching}
+use Rattle.simplex_plan.proofs.Matters.{planned_alone}
+use Rattle.simplex_engine.proofs.Causes.{fails}
+use Rattle.simplex_plan.specs.Asking.{never}
+use Rattle.simplex_plan.proofs.StillAsking.{as_watched, asks_behind, asks_where_same}
 use Rattle.simplex_engine.proofs.engine.Engine.has_nothing_due.Goals as goal
 
 pub returns-in_ok-touch-in-Some-clause-planned : goal.returns-in_ok-touch-in-Some-clause-planned
@@ -11,3 +17,21 @@ returns-in-None-clause-nothing g c = λ _. (c.in_ok-view.ensures (ap is_some c.i
 
 pub returns-in-None-clause-planned : goal.returns-in-None-clause-planned
 returns-in-None-clause-planned g c = keeps_still
+
+pub returns-in_ok-touch-in-Some-clause-matters : goal.returns-in_ok-touch-in-Some-clause-matters
+returns-in_ok-touch-in-Some-clause-matters g c = planned_alone {old = watching c.args.self.now.plan} refl c.in_ok-touch-in-Some.ensures
+
+pub returns-in-None-clause-matters : goal.returns-in-None-clause-matters
+returns-in-None-clause-matters g c = among_still (planned_matters c.args.self.now.plan)
+
+pub returns-in_err-touch-in-Some-clause-matters : goal.returns-in_err-touch-in-Some-clause-matters
+returns-in_err-touch-in-Some-clause-matters g c = fails _ _ c.from_residual-in_err-touch-in-Some.result c.from_residual-in_err-touch-in-Some.ensures.1
+
+pub returns-in_ok-touch-in-Some-clause-asks : goal.returns-in_ok-touch-in-Some-clause-asks
+returns-in_ok-touch-in-Some-clause-asks g c = as_watched (asks_behind never c.in_ok-touch-in-Some.ensures)
+
+pub returns-in_err-touch-in-Some-clause-asks : goal.returns-in_err-touch-in-Some-clause-asks
+returns-in_err-touch-in-Some-clause-asks g c = fails _ _ c.from_residual-in_err-touch-in-Some.result c.from_residual-in_err-touch-in-Some.ensures.1
+
+pub returns-in-None-clause-asks : goal.returns-in-None-clause-asks
+returns-in-None-clause-asks g c = asks_where_same never refl

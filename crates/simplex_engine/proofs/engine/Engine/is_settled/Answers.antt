@@ -1,15 +1,18 @@
 -- That the steps and the calls go on one behind the other, and that nothing changes where nothing is due.
-use Rattle.std.proofs.Common.{None, sym, subst}
+use Rattle.std.proofs.Common.{None, sym, subst, ap}
 use Rattle.std.proofs.lemmas.Bool.{false≢true}
 use Rattle.std.proofs.lemmas.Result.{IfOk-weaker}
 use Rattle.simplex_outbox.specs.Going.{GoesOn}
 use Rattle.simplex_outbox.proofs.Going.{stays}
 use Rattle.simplex_plan.specs.Planning.{IsIdle}
-use Rattle.simplex_plan.proofs.Planning.{on_ok}
+use Rattle.simplex_plan.proofs.Planning.{on_ok, on_ok_both}
 use Rattle.simplex_engine.specs.Building.{BuildsAhead}
 use Rattle.simplex_engine.specs.Quiet.{for_work, AnswerNothing}
 use Rattle.simplex_engine.proofs.Alone.{alone_further, alone_with}
 use Rattle.simplex_engine.proofs.Tells.{tells_further, tells_planned}
+use Rattle.simplex_outbox.specs.Outputs.{work_in}
+use Rattle.simplex_engine.proofs.Causes.{comes_on, comes_same, hand_alone, risen_facts}
+use Rattle.simplex_plan.proofs.StillAsking.{asks_over}
 use Rattle.simplex_engine.proofs.engine.Engine.is_settled.Goals as goal
 
 pub returns-in_err-run-clause-alone : goal.returns-in_err-run-clause-alone
@@ -25,6 +28,7 @@ returns-then-not-branch g c = record {
   idle = λ is. absurd (false≢true is);
   ahead = λ is. absurd (false≢true is);
   duties = tells_further c.in_ok-run.ensures.duties c.in_ok-has_no_work.ensures.duties;
+  comes = comes_on c.in_ok-run.ensures.comes c.in_ok-has_no_work.ensures.duties.risen c.in_ok-has_no_work.ensures.comes;
 }
 
 pub returns-then-not-is_idle : goal.returns-then-not-is_idle
@@ -34,6 +38,7 @@ returns-then-not-is_idle g c = record {
   idle = λ is. absurd (false≢true is);
   ahead = λ is. absurd (false≢true is);
   duties = tells_further c.in_ok-run.ensures.duties c.in_ok-has_no_work.ensures.duties;
+  comes = comes_on c.in_ok-run.ensures.comes c.in_ok-has_no_work.ensures.duties.risen c.in_ok-has_no_work.ensures.comes;
 }
 
 pub returns-then-not-builds_ahead : goal.returns-then-not-builds_ahead
@@ -43,6 +48,7 @@ returns-then-not-builds_ahead g c = record {
   idle = λ is. absurd (false≢true is);
   ahead = λ is. absurd (false≢true is);
   duties = tells_further c.in_ok-run.ensures.duties c.in_ok-has_no_work.ensures.duties;
+  comes = comes_on c.in_ok-run.ensures.comes c.in_ok-has_no_work.ensures.duties.risen c.in_ok-has_no_work.ensures.comes;
 }
 
 pub returns : goal.returns
@@ -66,4 +72,8 @@ returns g c =
           (subst (λ core. BuildsAhead core asked.plan) (sym is.core) (c.builds_ahead.ensures c.if-not-builds_ahead.false))) is.nothing;
       duties = on_ok c.has_nothing_due.result is.planned
           (λ planned. tells_further c.in_ok-run.ensures.duties (tells_further c.in_ok-has_no_work.ensures.duties (tells_planned asked left is.core planned)));
+      comes = on_ok_both c.has_nothing_due.result is.matters is.asks
+          (λ matters asks. comes_on (comes_on c.in_ok-run.ensures.comes c.in_ok-has_no_work.ensures.duties.risen c.in_ok-has_no_work.ensures.comes)
+          (risen_facts (ap (λ core. core.member.facts) is.core))
+          (comes_same (ap (λ core. core.member.facts) is.core) (hand_alone asked left (ap (λ core. work_in core.outbox.queue.items) is.core) matters) (asks_over _ asks)));
     }

@@ -3,6 +3,9 @@ use Rattle.std.proofs.Common.{◌≡◌, Bool, true, false, not, refl, ap, subst
 use Rattle.std.proofs.lemmas.Bool.{false≢true}
 use Rattle.simplex_outbox.specs.Reaching.{IsShort}
 use Rattle.simplex_engine.proofs.Tells.{tells_beside}
+use Rattle.simplex_plan.specs.Matters.{planned_matters}
+use Rattle.simplex_plan.proofs.PlannedWork.{among_still}
+use Rattle.simplex_engine.proofs.Causes.{comes_still, hand_alone}
 use Rattle.simplex_engine.proofs.engine.Engine.is_short.Goals as goal
 
 is_not : (b : Bool) → not b ≡ true → b ≡ false
@@ -25,3 +28,8 @@ returns-clause-duties g c =
     tells_beside c.args.self.now (record c.args.self.now { core = c.store.new.self }) (ap (λ m. m.facts.outstanding_work) c.store.ensures.member)
     (ap (λ m. m.facts.life) c.store.ensures.member)
     c.store.ensures.goes_on refl
+
+pub returns-clause-comes : goal.returns-clause-comes
+returns-clause-comes g c now =
+    comes_still (ap (λ m. m.facts) c.store.ensures.member) refl (λ kind view. refl)
+    (hand_alone c.args.self.now (record c.args.self.now { core = c.store.new.self }) c.store.ensures.no_work (among_still (planned_matters c.args.self.now.plan)))

@@ -1,6 +1,13 @@
 -- That a fetch that is closed loses nothing that is planned.
-use Rattle.std.proofs.Common.{ap}
-use Rattle.simplex_plan.proofs.PlannedWork.{plans_let_go, keeps_still}
+use Rattle.std.proofs.Common.{ap, [], ◌||◌, true, subst}
+use Rattle.simplex_plan.proofs.PlannedWork.{among_still, plans_let_go, keeps_still}
+use Rattle.simplex_plan.specs.Matters.{planned_matters}
+use Rattle.simplex_engine.proofs.Causes.{lets_go}
+use Rattle.std.specs.Option.{option_map_or}
+use Rattle.std.specs.Prelude.{nat_le, OnOk}
+use Rattle.simplex_fetches.specs.Wanted.{holds}
+use Rattle.simplex_plan.specs.Asking.{KeepsAsking}
+use Rattle.simplex_plan.proofs.StillAsking.{lets_go_asks}
 use Rattle.simplex_engine.proofs.engine.Engine.let_fetches_go.Goals as goal
 
 pub returns-in-Some-clause-planned : goal.returns-in-Some-clause-planned
@@ -11,3 +18,15 @@ returns-in-Some-clause-builds g c = ap (λ plan. plan.builds.buildings.items) c.
 
 pub returns-in-None-clause-planned : goal.returns-in-None-clause-planned
 returns-in-None-clause-planned g c = keeps_still
+
+pub returns-in-Some-clause-matters : goal.returns-in-Some-clause-matters
+returns-in-Some-clause-matters g c = lets_go c.let_go.result _ _ c.args.self.now.plan c.let_go.new.self c.let_go.ensures.same c.let_go.ensures.kept c.let_go.ensures.refused
+
+pub returns-in-None-clause-matters : goal.returns-in-None-clause-matters
+returns-in-None-clause-matters g c = among_still (planned_matters c.args.self.now.plan)
+
+pub returns-in-Some-clause-asks : goal.returns-in-Some-clause-asks
+returns-in-Some-clause-asks g c =
+    subst (λ life. OnOk c.let_go.result (KeepsAsking [] (λ kind view. option_map_or (λ x. holds c.let_go.new.self.repair.resolver.open_fetches x kind view) life true
+    || option_map_or (λ x. nat_le view x.finalized) life true) c.args.self.now.plan c.let_go.new.self)) c.in-Some.ensures.life
+    (lets_go_asks c.let_go.result c.in-Some.state.now c.args.self.now.plan c.let_go.new.self c.let_go.ensures.same c.let_go.ensures.kept)

@@ -12,6 +12,8 @@ use Rattle.simplex_engine.proofs.Backing.{takes_no_more, takes_same}
 use Rattle.simplex_engine.proofs.Bounds.{kept_from}
 use Rattle.simplex_plan.proofs.Planning.{on_ok}
 use Rattle.simplex_engine.proofs.Tells.{tells_further, tells_planned}
+use Rattle.simplex_outbox.specs.Outputs.{work_in}
+use Rattle.simplex_engine.proofs.Causes.{comes_on, comes_same, hand_alone, risen_facts}
 use Rattle.simplex_engine.proofs.engine.Engine.let_go.Goals as goal
 
 pub returns-in_err-lowest-clause-alone : goal.returns-in_err-lowest-clause-alone
@@ -62,4 +64,8 @@ returns g c =
           (let keeps = tells_planned (record (c.tell_forgotten.new.self) { batcher = c.forget.new.self }) c.let_fetches_go.new.self
           c.let_fetches_go.ensures.core c.let_fetches_go.ensures.planned in
           record { stays = keeps.stays; works = keeps.works; near = keeps.near; seen = keeps.seen; early = keeps.early; risen = keeps.risen; constants = keeps.constants; ignored = keeps.ignored }));
+      comes = on_ok c.let_fetches_go.result c.let_fetches_go.ensures.asks (λ asks now. comes_on (c.in_ok-tell_forgotten.ensures.comes now)
+          (risen_facts (ap (λ core. core.member.facts) c.let_fetches_go.ensures.core)) (comes_same (ap (λ core. core.member.facts) c.let_fetches_go.ensures.core)
+          (hand_alone (record (c.tell_forgotten.new.self) { batcher = c.forget.new.self }) c.let_fetches_go.new.self (ap (λ core. work_in core.outbox.queue.items) c.let_fetches_go.ensures.core)
+          c.let_fetches_go.ensures.matters) asks));
     }

@@ -1,5 +1,5 @@
 -- That a proposal is handed in, or else kept at most.
-use Rattle.std.proofs.Common.{refl, ap, sym, ◌∙◌, None, subst}
+use Rattle.std.proofs.Common.{refl, ap, sym, ◌∙◌, None, subst, inl, inr, [], ◌∷◌}
 use Rattle.std.proofs.lemmas.Bool.{cond_both, false≢true}
 use Rattle.std.specs.Prelude.{IfOk}
 use Rattle.simplex_plan.specs.declared.task.Task.TheVariants.{SetProposal}
@@ -10,6 +10,14 @@ use Rattle.simplex_plan.specs.PlannedWork.{AreAmong}
 use Rattle.simplex_plan.proofs.PlannedWork.{among_more, among_still, plans_kept}
 use Rattle.simplex_engine.specs.Admitting.{keeps_early}
 use Rattle.simplex_engine.proofs.Tells.{tells_planned}
+use Rattle.simplex_member.specs.Calls as call
+use Rattle.simplex_outbox.specs.Outputs.{work_in}
+use Rattle.simplex_plan.specs.Matters.{Arrival}
+use Rattle.simplex_plan.proofs.Planning.{on_ok}
+use Rattle.simplex_engine.specs.Causes.{at_hand, is_final}
+use Rattle.simplex_engine.proofs.Causes.{comes_same, hand_with, kept_early}
+use Rattle.simplex_plan.specs.Asking.{asks}
+use Rattle.simplex_plan.proofs.StillAsking.{asks_beside, keeps_asking}
 use Rattle.simplex_engine.proofs.engine.Engine.offer.Goals as goal
 
 pub returns-then-admits_proposal : goal.returns-then-admits_proposal
@@ -20,6 +28,13 @@ returns-then-admits_proposal g c = record {
   acted = λ _. subst (λ view. IfOk c.ask.result (HasDoneTask g.D.PartialEq.eq g.L.Elector.elect (SetProposal view c.args.proposal) c.args.now
       c.args.self.now.core.member.facts c.ask.new.self.core.member.facts)) c.view.ensures c.ask.ensures.acted;
   duties = c.ask.ensures.duties;
+  comes = on_ok c.ask.result c.ask.ensures.comes (λ comes. comes (Arrival c.args.from c.args.proposal ∷ []) (λ kind view. refl) (inr (inl (
+    c.args.from,
+    c.args.proposal,
+    ap (λ view. call.SetProposal view c.args.proposal) c.view.ensures,
+    among_more (Arrival c.args.from c.args.proposal ∷ []) (at_hand c.args.self.now),
+    sym c.admits_proposal.ensures ∙ c.if-admits_proposal.true,
+  ))));
 }
 
 pub returns-in_err-keep_early-clause-goes_on : goal.returns-in_err-keep_early-clause-goes_on
@@ -43,4 +58,10 @@ returns g c =
       acted = λ is. absurd (false≢true (sym c.if-admits_proposal.false ∙ c.admits_proposal.ensures ∙ is));
       duties = tells_planned c.args.self.now c.keep_early.new.self (ap (λ engine. engine.core) c.keep_early.ensures.same)
           (plans_kept c.args.self.now.plan c.keep_early.new.self.plan (ap (λ engine. engine.plan) c.keep_early.ensures.same) kept);
+      comes = comes_same (ap (λ engine. engine.core.member.facts) c.keep_early.ensures.same)
+          (hand_with c.args.self.now c.keep_early.new.self (Arrival c.args.from c.args.proposal ∷ []) (ap (λ engine. work_in engine.core.outbox.queue.items) c.keep_early.ensures.same)
+          (kept_early c.args.from c.args.proposal c.args.self.now c.keep_early.new.self c.in_ok-keep_early.ensures.kept))
+          (asks_beside (Arrival c.args.from c.args.proposal ∷ []) (λ kind view. refl)
+          (keeps_asking (λ kind view. is_final c.keep_early.new.self.core.member.facts view) (ap (λ engine. engine.plan.repair.resolver) c.keep_early.ensures.same)
+          (λ kind view asked un. ap (λ engine. asks engine.plan kind view) c.keep_early.ensures.same ∙ asked)));
     }

@@ -1,5 +1,5 @@
 -- That nothing is done where nothing but the next output is taken, and that each vote which is held is of a view that takes votes.
-use Rattle.std.proofs.Common.{refl, subst, [], ◌∷◌, ◌++◌, ◌≡◌}
+use Rattle.std.proofs.Common.{refl, subst, [], ◌∷◌, ◌++◌, ◌≡◌, ap}
 use Rattle.std.specs.Prelude.{option_to_list}
 use Rattle.simplex_outbox.specs.Finals.{TellsNoMore}
 use Rattle.simplex_engine.specs.Inputs.{given_out}
@@ -11,6 +11,7 @@ use Rattle.simplex_outbox.proofs.Going.{does_nothing_more, where_ok}
 use Rattle.simplex_engine.proofs.Tells.{tells_given, still_told, works_given}
 use Rattle.simplex_plan.proofs.PlannedWork.{among_further, among_still}
 use Rattle.simplex_plan.proofs.Planning.{on_ok}
+use Rattle.simplex_engine.proofs.Causes.{comes_before, comes_still, hand_given}
 use Rattle.simplex_engine.proofs.engine.Engine.poll.Goals as goal
 
 pub returns-then-has_failed-clause-does : goal.returns-then-has_failed-clause-does
@@ -102,3 +103,15 @@ pub returns-in-None-clause-early : goal.returns-in-None-clause-early
 returns-in-None-clause-early g c =
     on_ok c.poll_after_work.result c.poll_after_work.ensures.early
     (λ more come. more (come_beside c.args.self.now (record c.args.self.now { core = c.next.new.self }) c.next.ensures.same.0 refl come))
+
+pub returns-in-Some-clause-comes : goal.returns-in-Some-clause-comes
+returns-in-Some-clause-comes g c =
+    comes_still (ap (λ m. m.facts) c.next.ensures.same.0) refl (λ kind view. refl)
+    (hand_given c.args.self.now (record c.args.self.now { core = c.next.new.self }) (c.in-Some.output ∷ [])
+    (subst (λ out. c.args.self.now.core.outbox.queue.items ≡ option_to_list out ++ c.next.new.self.outbox.queue.items) c.in-Some.is c.next.ensures.front) refl)
+
+pub returns-in-None-clause-comes : goal.returns-in-None-clause-comes
+returns-in-None-clause-comes g c =
+    on_ok c.poll_after_work.result c.poll_after_work.ensures.comes (comes_before (ap (λ m. m.facts) c.next.ensures.same.0) refl
+    (hand_given c.args.self.now (record c.args.self.now { core = c.next.new.self }) []
+    (subst (λ out. c.args.self.now.core.outbox.queue.items ≡ option_to_list out ++ c.next.new.self.outbox.queue.items) c.in-None.is c.next.ensures.front) refl))

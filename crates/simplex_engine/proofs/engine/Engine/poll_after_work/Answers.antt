@@ -1,9 +1,9 @@
 -- That only the steps have done anything, and that an error fails the engine.
-use Rattle.std.proofs.Common.{◌≡◌, true, refl, ap, sym, subst, length, ◌≤◌}
+use Rattle.std.proofs.Common.{◌≡◌, true, refl, ap, sym, subst, length, ◌≤◌, false}
 use Rattle.std.specs.Prelude.{IfSome, option_to_list}
 use Rattle.simplex_voter.specs.Windows.{min_active}
 use Rattle.simplex_batcher.specs.Batching.{HoldsFrom}
-use Rattle.simplex_fetches.specs.Wanted.{AsksForTheLacking}
+use Rattle.simplex_fetches.specs.Wanted.{holds, AsksForTheLacking}
 use Rattle.simplex_outbox.specs.Going.{has_failed}
 use Rattle.simplex_outbox.specs.Reaching.{IsShort}
 use Rattle.simplex_engine.specs.Quiet.{HasNothingNew}
@@ -12,11 +12,13 @@ use Rattle.simplex_engine.proofs.Alone.{forgets_as}
 use Rattle.simplex_engine.proofs.Bounds.{bounded_still, bounded_further, bounded_same}
 use Rattle.simplex_outbox.proofs.Going.{goes_further, gives_nothing, does_more, tells_no_other, tells_no_other_then}
 use Rattle.simplex_engine.proofs.Tells.{tells_given, all_left, works_given}
-use Rattle.simplex_engine.specs.Duties.{work_in}
+use Rattle.simplex_outbox.specs.Outputs.{work_in}
 use Rattle.simplex_plan.specs.Blocks.{builds_from}
 use Rattle.simplex_plan.proofs.PlannedWork.{among_further}
 use Rattle.simplex_engine.proofs.Building.{come_beside, near_same}
 use Rattle.simplex_engine.specs.Views.{StaysEarly}
+use Rattle.simplex_engine.proofs.Causes.{comes_still, comes_then, hand_given, risen_facts}
+use Rattle.std.specs.Option.{option_map_or}
 use Rattle.simplex_engine.proofs.engine.Engine.poll_after_work.Goals as goal
 
 pub returns-in-Ok-clause-given : goal.returns-in-Ok-clause-given
@@ -119,3 +121,11 @@ returns-in-Ok-clause-seen g c come =
 pub returns-in-Ok-clause-early : goal.returns-in-Ok-clause-early
 returns-in-Ok-clause-early g c come =
     subst (λ m. StaysEarly c.args.self.now.plan m.facts c.work.new.self.plan) (sym c.next.ensures.same.0) (c.in-Ok.ensures.duties.early come)
+
+pub returns-in-Ok-clause-comes : goal.returns-in-Ok-clause-comes
+returns-in-Ok-clause-comes g c =
+    let repair = c.work.new.self.plan.repair in
+    comes_then c.in-Ok.ensures.comes
+    (λ kind view un. subst (λ m. option_map_or (λ x. holds repair.resolver.open_fetches x kind view) m.facts.life true ≡ false) c.next.ensures.same.0 un)
+    (risen_facts (ap (λ m. m.facts) c.next.ensures.same.0)) (comes_still (ap (λ m. m.facts) c.next.ensures.same.0) refl (λ kind view. refl)
+    (hand_given c.work.new.self (record (c.work.new.self) { core = c.next.new.self }) (option_to_list c.next.result) c.next.ensures.front refl))

@@ -1,7 +1,12 @@
 -- That the views which are over are dropped first, and then the record is made short.
-use Rattle.std.proofs.Common.{ap, refl}
+use Rattle.std.proofs.Common.{ap, refl, [], inl}
 use Rattle.simplex_outbox.proofs.Going.{goes_further}
 use Rattle.simplex_engine.proofs.Tells.{tells_further, tells_beside}
+use Rattle.simplex_plan.specs.declared.task.Task.TheVariants as task
+use Rattle.simplex_plan.specs.Matters.{planned_matters}
+use Rattle.simplex_plan.proofs.Matters.{among_none}
+use Rattle.simplex_plan.proofs.PlannedWork.{among_still}
+use Rattle.simplex_engine.proofs.Causes.{comes_on, comes_pruned, hand_alone}
 use Rattle.simplex_engine.proofs.engine.Engine.prune_record.Goals as goal
 
 pub returns-in_err-ask-clause-alone : goal.returns-in_err-ask-clause-alone
@@ -17,4 +22,6 @@ returns g c = record {
       let keeps = tells_further c.in_ok-ask.ensures.duties
       (tells_beside c.ask.new.self (record (c.ask.new.self) { core = c.prune_record.new.self }) c.prune_record.ensures.waiting (ap (λ m. m.life) c.in_ok-prune_record.ensures.pruned) c.prune_record.ensures.goes_on refl) in
       record { stays = keeps.stays; works = keeps.works; near = keeps.near; seen = keeps.seen; early = keeps.early; risen = keeps.risen; constants = keeps.constants; ignored = keeps.ignored };
+  comes = comes_on (c.in_ok-ask.ensures.comes [] (λ kind view. refl) (inl (task.Prune, refl, among_none _))) c.prune_record.ensures.goes_on.risen (comes_pruned c.in_ok-prune_record.ensures.pruned refl
+      (hand_alone c.ask.new.self (record (c.ask.new.self) { core = c.prune_record.new.self }) c.prune_record.ensures.no_work (among_still (planned_matters c.ask.new.self.plan))));
 }

@@ -1,6 +1,7 @@
 -- That nothing is done but to queue the work.
-use Rattle.std.proofs.Common.{refl}
+use Rattle.std.proofs.Common.{refl, ap}
 use Rattle.simplex_engine.proofs.Tells.{tells_pushed}
+use Rattle.simplex_engine.proofs.Causes.{comes_still, hand_pushed, work_lacks_none}
 use Rattle.simplex_engine.proofs.engine.Engine.push.Goals as goal
 
 pub returns-in_err-push-clause-alone : goal.returns-in_err-push-clause-alone
@@ -10,4 +11,6 @@ pub returns : goal.returns
 returns g c = record {
   alone = record { goes_on = c.push.ensures.goes_on; batcher = refl };
   duties = tells_pushed c.args.self.now (record c.args.self.now { core = c.push.new.self }) c.args.work c.push.ensures.member refl c.in_ok-push.ensures.queued;
+  comes = λ now. comes_still (ap (λ m. m.facts) c.push.ensures.member) refl (work_lacks_none c.args.work)
+      (hand_pushed c.args.self.now (record c.args.self.now { core = c.push.new.self }) c.args.work c.in_ok-push.ensures.queued refl);
 }

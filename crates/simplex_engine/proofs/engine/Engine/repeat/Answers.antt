@@ -1,6 +1,10 @@
 -- That nothing is done but to queue a vote once more.
 use Rattle.std.proofs.Common.{refl, ap}
 use Rattle.simplex_engine.proofs.Tells.{tells_beside}
+use Rattle.simplex_outbox.proofs.Working.{repeated_no_work}
+use Rattle.simplex_plan.specs.Matters.{planned_matters}
+use Rattle.simplex_plan.proofs.PlannedWork.{among_still}
+use Rattle.simplex_engine.proofs.Causes.{comes_still, hand_alone}
 use Rattle.simplex_engine.proofs.engine.Engine.repeat.Goals as goal
 
 pub returns-in_err-repeat-clause-alone : goal.returns-in_err-repeat-clause-alone
@@ -12,4 +16,8 @@ returns g c = record {
   duties = tells_beside c.args.self.now (record c.args.self.now { core = c.repeat.new.self }) (ap (λ m. m.facts.outstanding_work) c.repeat.ensures.member)
       (ap (λ m. m.facts.life) c.repeat.ensures.member)
       c.repeat.ensures.goes_on refl;
+  comes = λ now. comes_still (ap (λ m. m.facts) c.repeat.ensures.member) refl (λ kind view. refl)
+      (hand_alone c.args.self.now (record c.args.self.now { core = c.repeat.new.self })
+      (repeated_no_work c.args.view c.args.self.now.core.outbox.repeat c.args.self.now.core.outbox c.repeat.new.self.outbox _ c.in_ok-repeat.ensures.repeated)
+      (among_still (planned_matters c.args.self.now.plan)));
 }

@@ -1,5 +1,8 @@
 -- That a fetch loses nothing that is planned.
+use Rattle.std.proofs.Common.{Ok}
 use Rattle.simplex_plan.proofs.PlannedWork.{plans_opened}
+use Rattle.simplex_engine.proofs.Causes.{fails, resolved}
+use Rattle.simplex_plan.proofs.StillAsking.{resolves_asks}
 use Rattle.simplex_engine.proofs.engine.Engine.resolve.Goals as goal
 
 pub returns-clause-planned : goal.returns-clause-planned
@@ -7,3 +10,15 @@ returns-clause-planned g c = plans_opened _ _ c.args.self.now.plan c.resolve.new
 
 pub returns-in_err-resolve-clause-planned : goal.returns-in_err-resolve-clause-planned
 returns-in_err-resolve-clause-planned g c = plans_opened _ _ c.args.self.now.plan c.resolve.new.self c.resolve.result c.resolve.ensures.same c.resolve.ensures.opened c.resolve.ensures.refused
+
+pub returns-clause-matters : goal.returns-clause-matters
+returns-clause-matters g c = resolved c.resolve.result _ _ _ _ c.args.self.now.plan c.resolve.new.self c.resolve.ensures.same c.resolve.ensures.opened c.resolve.ensures.refused
+
+pub returns-in_err-resolve-clause-matters : goal.returns-in_err-resolve-clause-matters
+returns-in_err-resolve-clause-matters g c = resolved c.resolve.result _ _ _ _ c.args.self.now.plan c.resolve.new.self c.resolve.ensures.same c.resolve.ensures.opened c.resolve.ensures.refused
+
+pub returns-clause-asks : goal.returns-clause-asks
+returns-clause-asks g c = resolves_asks {X = Unit {0}} {E = Unit {0}} (Ok tt) _ _ _ _ c.args.self.now.plan c.resolve.new.self c.resolve.ensures.same c.in_ok-resolve.ensures.opened tt
+
+pub returns-in_err-resolve-clause-asks : goal.returns-in_err-resolve-clause-asks
+returns-in_err-resolve-clause-asks g c = fails _ _ c.from_residual.result c.from_residual.ensures.1

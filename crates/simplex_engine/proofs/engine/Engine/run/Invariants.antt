@@ -1,5 +1,6 @@
--- The engine went on by itself by the steps so far, and told all that the member waits for.
+-- The engine went on by itself by the steps so far, and told all that the member waits for; all comes of what was at hand.
 use Rattle.simplex_engine.specs.Alone.{GoesOnAlone}
+use Rattle.simplex_engine.specs.Causes.{ComesAlone}
 use Rattle.simplex_engine.specs.Duties.{KeepsDuties}
 use Rattle.simplex_engine.proofs.engine.Engine.run.Given as goal
 
@@ -7,4 +8,5 @@ abbrev pub invariant-loop : goal.invariant-loop
 invariant-loop g l = record {
   alone : GoesOnAlone g.D.PartialEq.eq g.L.Elector.elect g.S.CertificateScheme.certificate_bytes l.initial.self l.self;
   duties : KeepsDuties l.initial.self l.self;
+  comes : ComesAlone g.D.PartialEq.eq g.L.Elector.elect g.S.CertificateScheme.certificate_bytes l.now l.initial.self l.self;
 }

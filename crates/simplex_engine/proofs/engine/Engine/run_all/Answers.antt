@@ -1,6 +1,10 @@
 -- That each run goes on from the ones before.
+use Rattle.std.proofs.Common.{refl}
 use Rattle.simplex_engine.proofs.Alone.{alone_still, alone_further}
 use Rattle.simplex_engine.proofs.Tells.{tells_still, tells_further}
+use Rattle.simplex_plan.proofs.PlannedWork.{among_still}
+use Rattle.simplex_engine.specs.Causes.{at_hand}
+use Rattle.simplex_engine.proofs.Causes.{comes_on, comes_still}
 use Rattle.simplex_engine.proofs.engine.Engine.run_all.Goals as goal
 
 pub returns-in_err-is_settled-clause-alone : goal.returns-in_err-is_settled-clause-alone
@@ -13,16 +17,18 @@ returns-then-branch g c = record {
   idle = c.in_ok-is_settled.ensures.idle c.if-branch.true;
   ahead = c.in_ok-is_settled.ensures.ahead c.if-branch.true;
   duties = tells_further c.loop.invariant.duties c.in_ok-is_settled.ensures.duties;
+  comes = comes_on c.loop.invariant.comes c.in_ok-is_settled.ensures.duties.risen c.in_ok-is_settled.ensures.comes;
 }
 
 pub loop-init : goal.loop-init
-loop-init g c = record { alone = alone_still c.args.self.now; duties = tells_still c.args.self.now }
+loop-init g c = record { alone = alone_still c.args.self.now; duties = tells_still c.args.self.now; comes = comes_still refl refl (λ kind view. refl) (among_still (at_hand c.args.self.now)) }
 
 pub loop-preserved : goal.loop-preserved
 loop-preserved g c = record {
   alone = alone_further c.loop.invariant.alone c.is_settled.ensures.alone;
   duties = tells_further c.loop.invariant.duties c.in_ok-is_settled.ensures.duties;
+  comes = comes_on c.loop.invariant.comes c.in_ok-is_settled.ensures.duties.risen c.in_ok-is_settled.ensures.comes;
 }
 
 pub returns : goal.returns
-returns g c = record { alone = c.loop.invariant.alone; quiet = tt; idle = tt; ahead = tt; duties = tt }
+returns g c = record { alone = c.loop.invariant.alone; quiet = tt; idle = tt; ahead = tt; duties = tt; comes = tt }

@@ -6,6 +6,9 @@ use Rattle.simplex_engine.specs.Quiet.{HasNothingNew}
 use Rattle.simplex_engine.proofs.Alone.{alone_still, alone_further}
 use Rattle.simplex_engine.proofs.Duties.{ahead_still}
 use Rattle.simplex_engine.proofs.Tells.{tells_still, tells_further}
+use Rattle.simplex_plan.proofs.PlannedWork.{among_still}
+use Rattle.simplex_engine.specs.Causes.{at_hand}
+use Rattle.simplex_engine.proofs.Causes.{comes_on, comes_still}
 use Rattle.simplex_engine.proofs.engine.Engine.run_to_short.Goals as goal
 
 pub returns-in_err-run_all-clause-alone : goal.returns-in_err-run_all-clause-alone
@@ -28,17 +31,22 @@ returns-then-branch g c =
       ahead = subst (BuildsAhead c.is_short.new.self.core) (sym is.plan) (ahead_still c.run_all.new.self (record (c.run_all.new.self) { core = c.is_short.new.self.core }) is.member refl c.in_ok-run_all.ensures.ahead);
       short = λ given kept. c.in_ok-is_short.ensures.short given (c.run_all.ensures.alone.goes_on.kept given (c.loop.invariant.alone.goes_on.kept given kept)) c.if-branch.true;
       duties = tells_further c.loop.invariant.duties (tells_further c.in_ok-run_all.ensures.duties c.in_ok-is_short.ensures.duties);
+      comes = comes_on (comes_on c.loop.invariant.comes c.in_ok-run_all.ensures.duties.risen c.in_ok-run_all.ensures.comes) c.in_ok-is_short.ensures.duties.risen
+          (c.in_ok-is_short.ensures.comes c.args.now);
     }
 
 pub loop-init : goal.loop-init
-loop-init g c = record { alone = alone_still c.args.self.now; duties = tells_still c.args.self.now }
+loop-init g c = record { alone = alone_still c.args.self.now; duties = tells_still c.args.self.now; comes = comes_still refl refl (λ kind view. refl) (among_still (at_hand c.args.self.now)) }
 
 pub loop-preserved : goal.loop-preserved
 loop-preserved g c = record {
   alone = alone_further c.loop.invariant.alone (alone_further c.run_all.ensures.alone (alone_further c.is_short.ensures.alone c.prune_record.ensures.alone));
   duties = tells_further c.loop.invariant.duties
       (tells_further c.in_ok-run_all.ensures.duties (tells_further c.in_ok-is_short.ensures.duties c.in_ok-prune_record.ensures.duties));
+  comes = comes_on
+      (comes_on (comes_on c.loop.invariant.comes c.in_ok-run_all.ensures.duties.risen c.in_ok-run_all.ensures.comes) c.in_ok-is_short.ensures.duties.risen
+      (c.in_ok-is_short.ensures.comes c.args.now)) c.in_ok-prune_record.ensures.duties.risen c.in_ok-prune_record.ensures.comes;
 }
 
 pub returns : goal.returns
-returns g c = record { alone = c.loop.invariant.alone; quiet = tt; idle = tt; ahead = tt; short = λ given kept. tt; duties = tt }
+returns g c = record { alone = c.loop.invariant.alone; quiet = tt; idle = tt; ahead = tt; short = λ given kept. tt; duties = tt; comes = tt }

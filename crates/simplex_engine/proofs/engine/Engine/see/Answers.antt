@@ -1,11 +1,15 @@
 -- That nothing but what is planned changes.
-use Rattle.std.proofs.Common.{◌≡◌, ◌∙◌, ap, refl, subst}
-use Rattle.std.specs.Prelude.{IfSome}
+use Rattle.std.proofs.Common.{◌≡◌, ◌∙◌, ap, refl, subst, [], true}
+use Rattle.std.specs.Prelude.{IfSome, nat_le}
 use Rattle.simplex_plan.proofs.Entering.{seen_keeps, seen_views}
+use Rattle.simplex_plan.proofs.Giving.{seen_alone}
+use Rattle.std.specs.Option.{option_map_or}
+use Rattle.simplex_plan.specs.Asking.{KeepsAsking}
+use Rattle.simplex_plan.proofs.StillAsking.{seen_asks}
 use Rattle.simplex_engine.proofs.engine.Engine.see.Goals as goal
 
 pub returns-in_default : goal.returns-in_default
-returns-in_default g c = record { core = refl; batcher = refl; planned = tt; seen = tt }
+returns-in_default g c = record { core = refl; batcher = refl; planned = tt; seen = tt; matters = tt; asks = tt }
 
 pub returns : goal.returns
 returns g c =
@@ -16,4 +20,8 @@ returns g c =
       planned = seen_keeps _ c.args.self.now.plan c.see.new.self c.in_ok-see.ensures;
       seen = subst (λ life. IfSome life (λ x. (c.see.new.self.views.current ≡ x.current) × (c.see.new.self.views.last_finalized ≡ x.finalized))) c.in-Some.ensures.life
           (ap (λ v. v.current) views ∙ c.current_view.ensures, ap (λ v. v.last_finalized) views ∙ c.last_finalized.ensures);
+      matters = seen_alone _ c.args.self.now.plan c.see.new.self c.in_ok-see.ensures;
+      asks = subst (λ life. KeepsAsking [] (λ kind view. option_map_or (λ x. nat_le view x.finalized) life true) c.args.self.now.plan c.see.new.self) c.in-Some.ensures.life
+          (subst (λ last. KeepsAsking [] (λ kind view. nat_le view last) c.args.self.now.plan c.see.new.self) c.last_finalized.ensures
+          (seen_asks _ c.args.self.now.plan c.see.new.self c.in_ok-see.ensures));
     }

@@ -8,6 +8,7 @@ use Rattle.simplex_engine.proofs.Bounds.{bounded_empty}
 use Rattle.simplex_outbox.proofs.Going.{where_ok}
 use Rattle.simplex_engine.proofs.Tells.{tells_none}
 use Rattle.simplex_engine.proofs.Beginning.{not_begun}
+use Rattle.simplex_engine.proofs.Causes.{both_ok, nothing_held}
 use Rattle.simplex_engine.proofs.engine.Engine.start.Goals as goal
 
 pub returns-in-Ok-clause-started : goal.returns-in-Ok-clause-started
@@ -37,3 +38,8 @@ pub returns-in-Ok-clause-duties : goal.returns-in-Ok-clause-duties
 returns-in-Ok-clause-duties g c =
     where_ok c.begin.result c.begin.ensures.member
     (λ engine is. tells_none engine (ap (λ m. m.facts.outstanding_work) is ∙ ap (λ m. m.outstanding_work) c.in-Ok.ensures.started))
+
+pub returns-in-Ok-clause-nothing : goal.returns-in-Ok-clause-nothing
+returns-in-Ok-clause-nothing g c =
+    both_ok c.begin.result c.begin.ensures.queued (c.begin.ensures.begun _ _ _ c.in_ok-company.ensures)
+    (λ engine queued begun. nothing_held g.D.Digest.bytes g.S.CertificateScheme.certificate_bytes g.S.CertificateScheme.participants _ _ _ _ engine queued begun)

@@ -1,10 +1,15 @@
 -- That the step which is next is taken.
 use Rattle.std.proofs.Common.{◌++◌, [], false, refl, subst}
 use Rattle.std.specs.Prelude.{option_to_list}
-use Rattle.simplex_plan.specs.PlannedWork.{IsPlanned, beside_of, work_planned}
+use Rattle.simplex_plan.specs.PlannedWork.{AreAmong, IsPlanned, beside_of, work_planned}
 use Rattle.simplex_plan.proofs.Filling.{taken_keeps}
 use Rattle.simplex_outbox.proofs.Going.{stays}
 use Rattle.simplex_engine.proofs.Tells.{tells_planned, tells_taken}
+use Rattle.simplex_plan.specs.Matters.{of_steps, planned_matters}
+use Rattle.simplex_plan.proofs.Giving.{taken_alone}
+use Rattle.simplex_plan.proofs.Planning.{on_ok}
+use Rattle.simplex_engine.proofs.Causes.{asks_none, comes_same, comes_taken, hand_alone, taken_hand}
+use Rattle.simplex_plan.proofs.StillAsking.{taken_asks, AsksOn}
 use Rattle.simplex_engine.proofs.engine.Engine.step.Goals as goal
 
 pub returns-in_err-step-clause-alone : goal.returns-in_err-step-clause-alone
@@ -17,6 +22,12 @@ returns-in-Some g c = record {
       (subst (λ taken. IsPlanned [] (λ view. false) (work_planned c.args.self.now.plan.steps.items) (beside_of c.args.self.now.plan)
       (work_planned (option_to_list taken ++ c.next.new.self.steps.items)) (beside_of c.next.new.self)) c.in-Some.is
       (taken_keeps c.args.now c.in_ok-step.field-0 c.args.self.now.plan c.next.new.self c.in_ok-step.ensures)) c.take_step.ensures.duties;
+  comes = on_ok c.take_step.result c.take_step.ensures.comes (comes_taken c.in-Some.step refl
+      (taken_hand c.in-Some.step c.args.self.now (record c.args.self.now { plan = c.next.new.self }) refl
+      (subst (λ taken. AreAmong (of_steps (option_to_list taken) ++ planned_matters c.next.new.self) (planned_matters c.args.self.now.plan)) c.in-Some.is
+      (taken_alone c.args.now c.in_ok-step.field-0 c.args.self.now.plan c.next.new.self c.in_ok-step.ensures)))
+      (subst (λ taken. AsksOn (option_to_list taken) c.args.self.now.plan c.next.new.self) c.in-Some.is
+      (taken_asks c.args.now c.in_ok-step.field-0 c.args.self.now.plan c.next.new.self c.in_ok-step.ensures)));
 }
 
 pub returns-in-None : goal.returns-in-None
@@ -26,4 +37,9 @@ returns-in-None g c = record {
       (subst (λ taken. IsPlanned [] (λ view. false) (work_planned c.args.self.now.plan.steps.items) (beside_of c.args.self.now.plan)
       (work_planned (option_to_list taken ++ c.next.new.self.steps.items)) (beside_of c.next.new.self)) c.in-None.is
       (taken_keeps c.args.now c.in_ok-step.field-0 c.args.self.now.plan c.next.new.self c.in_ok-step.ensures));
+  comes = comes_same refl (hand_alone c.args.self.now (record c.args.self.now { plan = c.next.new.self }) refl
+      (subst (λ taken. AreAmong (of_steps (option_to_list taken) ++ planned_matters c.next.new.self) (planned_matters c.args.self.now.plan)) c.in-None.is
+      (taken_alone c.args.now c.in_ok-step.field-0 c.args.self.now.plan c.next.new.self c.in_ok-step.ensures)))
+      (asks_none (subst (λ taken. AsksOn (option_to_list taken) c.args.self.now.plan c.next.new.self) c.in-None.is
+      (taken_asks c.args.now c.in_ok-step.field-0 c.args.self.now.plan c.next.new.self c.in_ok-step.ensures)));
 }

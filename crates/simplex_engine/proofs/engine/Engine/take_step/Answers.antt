@@ -1,5 +1,5 @@
 -- That each step is taken by what is for it.
-use Rattle.std.proofs.Common.{None, refl, ◌∷◌, [], sym, subst}
+use Rattle.std.proofs.Common.{None, refl, ◌∷◌, [], sym, subst, ap, inl}
 use Rattle.simplex_engine.specs.Duties.{KeepsTaken}
 use Rattle.simplex_plan.specs.PlannedWork.{work_planned}
 use Rattle.simplex_outbox.specs.Going.{GoesOn}
@@ -8,6 +8,12 @@ use Rattle.simplex_engine.proofs.Alone.{alone_with}
 use Rattle.simplex_outbox.proofs.Going.{stays}
 use Rattle.simplex_plan.proofs.Planning.{on_ok}
 use Rattle.simplex_engine.proofs.Tells.{on_any, passed_on, tells_other, tells_planned}
+use Rattle.simplex_outbox.specs.Outputs.{work_in}
+use Rattle.simplex_plan.specs.Matters.{Lack, of_step, of_task}
+use Rattle.simplex_plan.proofs.PlannedWork.{among_more}
+use Rattle.simplex_engine.specs.Causes.{at_hand, ComesWith}
+use Rattle.simplex_engine.proofs.Causes.{comes_same, hand_with, task_lacks_none}
+use Rattle.simplex_plan.proofs.StillAsking.{asks_over}
 use Rattle.simplex_engine.proofs.engine.Engine.take_step.Goals as goal
 
 pub returns-in-Ask : goal.returns-in-Ask
@@ -15,6 +21,9 @@ returns-in-Ask g c = record {
   alone = alone_with c.args.self.now c.ask.new.self c.ask.ensures.goes_on c.ask.ensures.batcher;
   duties = passed_on _ c.ask.result c.taken.result c.taken.ensures
       (on_ok c.ask.result c.ask.ensures.duties (tells_other c.args.self.now c.ask.new.self c.args.step (step.Ask c.in-Ask.task) c.in-Ask.is refl));
+  comes = passed_on _ c.ask.result c.taken.result c.taken.ensures (on_ok c.ask.result c.ask.ensures.comes
+      (λ comes. subst (λ it. ComesWith g.D.PartialEq.eq g.L.Elector.elect g.S.CertificateScheme.certificate_bytes c.args.now (of_step it) c.args.self.now c.ask.new.self) (sym c.in-Ask.is)
+      (comes (of_task c.in-Ask.task) (task_lacks_none g.row.S.Denot g.row.S-PublicKey.Denot g.row.S-Signature.Denot g.row.S-Certificate.Denot c.in-Ask.task) (inl (c.in-Ask.task, refl, among_more (of_task c.in-Ask.task) (at_hand c.args.self.now))))));
 }
 
 pub returns-in-Offer : goal.returns-in-Offer
@@ -22,6 +31,8 @@ returns-in-Offer g c = record {
   alone = alone_with c.args.self.now c.offer.new.self c.offer.ensures.goes_on c.offer.ensures.batcher;
   duties = passed_on _ c.offer.result c.taken-in-Offer.result c.taken-in-Offer.ensures
       (on_ok c.offer.result c.offer.ensures.duties (tells_other c.args.self.now c.offer.new.self c.args.step (step.Offer c.in-Offer.from c.in-Offer.proposal) c.in-Offer.is refl));
+  comes = passed_on _ c.offer.result c.taken-in-Offer.result c.taken-in-Offer.ensures (on_ok c.offer.result c.offer.ensures.comes
+      (λ comes. subst (λ it. ComesWith g.D.PartialEq.eq g.L.Elector.elect g.S.CertificateScheme.certificate_bytes c.args.now (of_step it) c.args.self.now c.offer.new.self) (sym c.in-Offer.is) comes));
 }
 
 pub returns-in-Resolve : goal.returns-in-Resolve
@@ -32,12 +43,19 @@ returns-in-Resolve g c = record {
   duties = on_any c.taken-in-Resolve.result
       (tells_other c.args.self.now c.resolve.new.self c.args.step (step.Resolve c.in-Resolve.kind c.in-Resolve.view c.in-Resolve.proposal) c.in-Resolve.is refl
       (tells_planned c.args.self.now c.resolve.new.self c.resolve.ensures.core c.resolve.ensures.planned));
+  comes = passed_on _ c.resolve.result c.taken-in-Resolve.result c.taken-in-Resolve.ensures (on_ok c.resolve.result c.resolve.ensures.asks
+      (λ asks. subst (λ it. ComesWith g.D.PartialEq.eq g.L.Elector.elect g.S.CertificateScheme.certificate_bytes c.args.now (of_step it) c.args.self.now c.resolve.new.self) (sym c.in-Resolve.is)
+      (comes_same (ap (λ core. core.member.facts) c.resolve.ensures.core)
+      (hand_with c.args.self.now c.resolve.new.self (Lack c.in-Resolve.kind c.in-Resolve.view ∷ []) (ap (λ core. work_in core.outbox.queue.items) c.resolve.ensures.core) c.resolve.ensures.matters)
+      (asks_over _ asks))));
 }
 
 pub returns-in-Repeat : goal.returns-in-Repeat
 returns-in-Repeat g c = record {
   alone = c.repeat.ensures.alone;
   duties = on_ok c.repeat.result c.repeat.ensures.duties (tells_other c.args.self.now c.repeat.new.self c.args.step (step.Repeat c.in-Repeat.view) c.in-Repeat.is refl);
+  comes = on_ok c.repeat.result c.repeat.ensures.comes
+      (λ comes. subst (λ it. ComesWith g.D.PartialEq.eq g.L.Elector.elect g.S.CertificateScheme.certificate_bytes c.args.now (of_step it) c.args.self.now c.repeat.new.self) (sym c.in-Repeat.is) (comes c.args.now));
 }
 
 pub returns-in-Push : goal.returns-in-Push
@@ -45,4 +63,6 @@ returns-in-Push g c = record {
   alone = c.push.ensures.alone;
   duties = on_ok c.push.result c.push.ensures.duties
       (λ keeps. subst (λ it. KeepsTaken (work_planned (it ∷ [])) c.args.self.now c.push.new.self) (sym c.in-Push.is) keeps);
+  comes = on_ok c.push.result c.push.ensures.comes
+      (λ comes. subst (λ it. ComesWith g.D.PartialEq.eq g.L.Elector.elect g.S.CertificateScheme.certificate_bytes c.args.now (of_step it) c.args.self.now c.push.new.self) (sym c.in-Push.is) (comes c.args.now));
 }

@@ -1,10 +1,15 @@
 -- That the engine goes on from a moment that has come.
-use Rattle.std.proofs.Common.{refl}
+use Rattle.std.proofs.Common.{refl, ap, ◌∙◌}
 use Rattle.simplex_outbox.proofs.Going.{stays}
 use Rattle.simplex_engine.proofs.Alone.{forgets_further}
 use Rattle.simplex_engine.proofs.Tells.{tells_further, tells_planned}
-use Rattle.simplex_plan.proofs.PlannedWork.{plans_begun}
-use Rattle.simplex_plan.proofs.Planning.{on_ok}
+use Rattle.simplex_plan.proofs.PlannedWork.{among_all, plans_begun}
+use Rattle.simplex_plan.proofs.Planning.{on_ok, on_ok_both}
+use Rattle.simplex_plan.specs.Matters.{planned_matters}
+use Rattle.simplex_engine.proofs.Causes.{comes_on, comes_same, hand_alone}
+use Rattle.simplex_plan.specs.Asking.{asks}
+use Rattle.simplex_plan.proofs.StillAsking.{keeps_asking}
+use Rattle.simplex_engine.specs.Causes.{is_final}
 use Rattle.simplex_engine.proofs.engine.Engine.work.Goals as goal
 
 pub returns : goal.returns
@@ -20,4 +25,9 @@ returns g c = record {
   duties = on_ok c.finish.result c.finish.ensures.duties
       (tells_further (tells_planned c.args.self.now (record c.args.self.now { plan = c.begin.new.self }) refl
       (plans_begun c.args.self.now.plan c.begin.new.self c.begin.ensures)));
+  comes = on_ok_both c.finish.result c.finish.ensures.duties c.finish.ensures.comes (λ duties comes. comes_on
+      (comes_same refl (hand_alone c.args.self.now (record c.args.self.now { plan = c.begin.new.self }) refl (among_all (ap planned_matters c.begin.ensures)))
+      (keeps_asking (λ kind view. is_final c.args.self.now.core.member.facts view) (ap (λ plan. plan.repair.resolver) c.begin.ensures)
+      (λ kind view asked un. ap (λ plan. asks plan kind view) c.begin.ensures ∙ asked)))
+      duties.risen comes);
 }

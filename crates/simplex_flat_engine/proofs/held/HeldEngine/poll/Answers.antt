@@ -18,6 +18,7 @@ returns c =
             bounded = asked.bounded;
             duties = asked.duties;
             works = asked.works;
+            comes = asked.comes;
             near = asked.near;
             seen = asked.seen;
             early = asked.early;

@@ -1,15 +1,18 @@
 -- How the contract of `poll_engine` follows where the engine gives something out, where it has nothing more to do, and where it fails.
-use Rattle.std.proofs.Common.{List, ap, inl, inr, refl, sym, subst, ◌∙◌}
+use Rattle.std.proofs.Common.{List, [], ap, inl, inr, refl, sym, subst, ◌∙◌}
 use Rattle.std.specs.Prelude.{◌++◌, IsOk, option_to_list}
 use Rattle.std.proofs.lemmas.Bool.{false≢true}
 use Rattle.simplex_host.specs.Host.{certificate_bytes}
 use Rattle.simplex_plan.specs.PlannedWork.{AreAmong}
-use Rattle.simplex_engine.specs.Duties.{work_ahead, work_in, HasToldAll}
+use Rattle.simplex_outbox.specs.Outputs.{work_in}
+use Rattle.simplex_engine.specs.Causes.{held_by, Comes}
+use Rattle.simplex_engine.specs.Duties.{work_ahead, HasToldAll}
 use Rattle.simplex_outbox.specs.Finals.{TellsNoMore}
 use Rattle.simplex_outbox.specs.Going.{IsKept}
 use Rattle.simplex_flat.specs.Numbers.{fault_status}
+use Rattle.simplex_flat.specs.Serving.{host_leader, same_host_payload}
 use Rattle.simplex_flat_engine.specs.Outputs.{HostOutput}
-use Rattle.simplex_flat_engine.proofs.Given.{all_given, has_told, same_error, tells_no_more, works_given}
+use Rattle.simplex_flat_engine.proofs.Given.{all_given, comes_given, has_told, same_error, tells_no_more, works_given}
 use Rattle.simplex_flat_engine.proofs.held.HeldEngine.poll_engine.Goals as goal
 
 pub returns-in-Ok-Some : goal.returns-in-Ok-Some
@@ -32,6 +35,8 @@ returns-in-Ok-Some c =
               (rw rest.0 (rw c.in-Ok-Some.field-0-is at c.in-Ok-Some.ensures.duties)) c.give_out.ensures.given;
           works = λ _. works_given c.in-Ok-Some.output c.args.self.now.stored c.give_out.result c.args.self.now c.give_out.new.self
               (rw rest.0 (rw c.in-Ok-Some.field-0-is at c.in-Ok-Some.ensures.works)) c.give_out.ensures.given;
+          comes = λ _. comes_given c.args.now c.in-Ok-Some.output c.args.self.now.stored c.give_out.result c.args.self.now c.give_out.new.self
+              (rw rest.0 (rw c.in-Ok-Some.field-0-is at c.in-Ok-Some.ensures.comes)) c.give_out.ensures.given;
           near = λ _. rw rest.0 c.in-Ok-Some.ensures.near;
           seen = λ _. rw rest.0 c.in-Ok-Some.ensures.seen;
           early = λ _. rw rest.0 c.in-Ok-Some.ensures.early;
@@ -66,6 +71,9 @@ returns-in-Ok-None c =
               (sym c.requires.last) (rw none at c.in-Ok-None.ensures.duties);
           works = λ _ alive. subst (λ last. AreAmong (work_ahead c.args.self.now.engine) (work_in (option_to_list last) ++ work_ahead c.poll.new.self))
               (sym c.requires.last) (rw none at c.in-Ok-None.ensures.works);
+          comes = λ _ alive. subst (λ last. Comes same_host_payload host_leader certificate_bytes c.args.now [] (work_in (option_to_list last)) (held_by c.poll.new.self)
+              c.args.self.now.engine c.poll.new.self)
+              (sym c.requires.last) (rw none at c.in-Ok-None.ensures.comes);
           near = λ _. c.in-Ok-None.ensures.near;
           seen = λ _. c.in-Ok-None.ensures.seen;
           early = λ _. c.in-Ok-None.ensures.early;
@@ -109,6 +117,7 @@ returns-in-Err c =
           bounded = c.in-Err.ensures.bounded;
           duties = λ alive. absurd (false≢true (sym alive ∙ failed));
           works = λ alive. absurd (false≢true (sym alive ∙ failed));
+          comes = λ alive. absurd (false≢true (sym alive ∙ failed));
           near = λ alive. absurd (false≢true (sym alive ∙ failed));
           seen = λ alive. absurd (false≢true (sym alive ∙ failed));
           early = λ alive. absurd (false≢true (sym alive ∙ failed));

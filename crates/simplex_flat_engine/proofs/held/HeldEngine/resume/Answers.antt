@@ -33,6 +33,7 @@ returns-in-Ok-resume-clause-resumed c =
         told = rw c.new.ensures.engine c.in-Ok-resume.ensures.told;
         bounded = rw c.new.ensures.engine c.in-Ok-resume.ensures.bounded;
         duties = rw c.new.ensures.engine c.in-Ok-resume.ensures.duties;
+        none_at_hand = rw c.new.ensures.engine c.in-Ok-resume.ensures.nothing;
         draws = c.new.ensures.draws;
         fresh = c.new.ensures.fresh;
       };

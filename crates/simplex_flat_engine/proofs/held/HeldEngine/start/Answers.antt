@@ -24,6 +24,7 @@ returns-in-Ok-start-clause-begun c = record {
     told = rw c.new.ensures.engine c.in-Ok-start.ensures.told;
     bounded = rw c.new.ensures.engine c.in-Ok-start.ensures.bounded;
     duties = rw c.new.ensures.engine c.in-Ok-start.ensures.duties;
+    none_at_hand = rw c.new.ensures.engine c.in-Ok-start.ensures.nothing;
     draws = c.new.ensures.draws;
     fresh = c.new.ensures.fresh;
   };

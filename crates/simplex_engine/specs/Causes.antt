@@ -1,0 +1,138 @@
+-- What all comes of that an engine asks its member, hands out and keeps: of what came in, and of what the member answered.
+use Rattle.std.specs.Prelude.{◌≡◌, ◌⊎◌, ℕ, nat_le, Bool, true, false, ◌||◌, List, [], ◌∷◌, ◌++◌, option_map, option_to_list}
+use Rattle.std.specs.List.{list_any}
+use Rattle.std.specs.Option.{option_map_or}
+use Rattle.simplex_types.specs.Certificates.{CertificateFacts, certificate_facts}
+use Rattle.simplex_types.specs.Encoding.{certificate_subject}
+use Rattle.simplex_types.specs.Viewed.{subject_view}
+use Rattle.simplex_types.specs.declared.types.messages.Proposal.{Proposal}
+use Rattle.simplex_resolver.specs.Steps.{Call}
+use Rattle.simplex_voter.specs.Facts.{Elect}
+use Rattle.simplex_member.specs.Calls.{CallFacts, SetProposal, told}
+use Rattle.simplex_member.specs.Lives.{MemberFacts}
+use Rattle.simplex_member.specs.Runs.{StepFacts, Calls, Prunes, Restarts, IsStep}
+use Rattle.simplex_member.specs.declared.member.calls.Reply.{Reply}
+use Rattle.simplex_batcher.specs.Batching.{held, kind_of}
+use Rattle.simplex_batcher.specs.Polls.{ballot_of}
+use Rattle.simplex_batcher.specs.declared.batcher.Batcher.{Batcher}
+use Rattle.simplex_batcher.specs.declared.batcher.Counted.{Counted}
+use Rattle.simplex_batcher.specs.declared.batcher.Counted.TheVariants as counted
+use Rattle.simplex_batcher.specs.declared.batcher.poll.Ballot.{Ballot}
+use Rattle.simplex_batcher.specs.declared.votes.Vote.{Vote}
+use Rattle.simplex_fetches.specs.declared.fetches.FetchKind.{FetchKind}
+use Rattle.simplex_fetches.specs.Wanted.{holds}
+use Rattle.simplex_engine.specs.declared.engine.Engine.{Engine}
+use Rattle.simplex_engine.specs.declared.input.Input.{Input}
+use Rattle.simplex_engine.specs.declared.input.Input.TheVariants as input
+use Rattle.simplex_outbox.specs.Handing.{hands_in}
+use Rattle.simplex_outbox.specs.Outputs.{work_in}
+use Rattle.simplex_outbox.specs.declared.output.Work.{Work}
+use Rattle.simplex_outbox.specs.declared.output.Work.TheVariants.{Equivocated}
+use Rattle.simplex_plan.specs.declared.task.Task.{Task}
+use Rattle.simplex_plan.specs.declared.task.Task.TheVariants as task
+use Rattle.simplex_plan.specs.Matters.{Matter, Duty, Arrival, Quorum, Message, given_by, of_task, of_works, planned_matters}
+use Rattle.simplex_plan.specs.Asking.{asks, ended_by, is_lack, with_lack, AreMade, IsStill}
+use Rattle.simplex_plan.specs.PlannedWork.{AreAmong}
+use Rattle.simplex_plan.specs.Tasks.{call_of}
+use Rattle.simplex_engine.specs.Acting.{verification_of}
+use Rattle.simplex_engine.specs.Admitting.{admits_proposal, is_so}
+
+module _ {S L D K G C : Type 0} where
+  -- what an engine has at hand: the work that is queued to be given out, and what is planned
+  abbrev pub at_hand : Engine S L D K G C → List (Matter S D K G C)
+  at_hand engine = of_works (work_in engine.core.outbox.queue.items) ++ planned_matters engine.plan
+
+module _ {S D K G C : Type 0} where
+  -- it is one of these
+  abbrev pub IsIn : Matter S D K G C → List (Matter S D K G C) → Type 0
+  IsIn matter matters = AreAmong (matter ∷ []) matters
+
+  -- none is a certificate that is lacking
+  abbrev pub HasNoLack : List (Matter S D K G C) → Type 0
+  HasNoLack matters = (kind : FetchKind) (view : ℕ) → list_any (is_lack kind view) matters ≡ false
+
+  -- a member contradicts itself, where this ballot is held of it, of the same kind and view as this vote
+  abbrev pub shown_against : Vote D G → Ballot D G → Matter S D K G C
+  shown_against vote ballot = Duty (Equivocated (record { subject = ballot.subject; signer = vote.signer; signature = ballot.signature }) vote)
+
+  -- the evidence that a vote may be
+  abbrev pub evidence : Batcher S D K G C → Vote D G → List (Matter S D K G C)
+  evidence batcher vote =
+      option_to_list (option_map (shown_against vote) (ballot_of (held batcher (kind_of vote.subject) (subject_view vote.subject)) vote.signer))
+
+  -- what a vote comes to
+  abbrev pub of_counted : (C → List ℕ) → Counted S D K G C → List (Matter S D K G C)
+  of_counted bytes_of (counted.Certified made) = Quorum (certificate_subject (certificate_facts bytes_of made)) ∷ []
+  of_counted bytes_of (counted.Equivocated first second) = Duty (Equivocated first second) ∷ []
+  of_counted bytes_of _ = []
+
+  -- what comes in by an input, where these votes are held
+  abbrev pub came_in : (C → List ℕ) → Batcher S D K G C → Input S D K G C → List (Matter S D K G C)
+  came_in bytes_of batcher (input.Proposal from proposal) = Arrival from proposal ∷ []
+  came_in bytes_of batcher (input.Vote vote) = Quorum vote.subject ∷ evidence batcher vote
+  came_in bytes_of batcher (input.Certificate certificate) = Quorum (certificate_subject (certificate_facts bytes_of certificate)) ∷ []
+  came_in bytes_of batcher (input.Verified view is_valid) = Message (verification_of is_valid view) ∷ []
+  came_in bytes_of batcher (input.Built context payload) = Message (task.Proposed context.round.view payload) ∷ []
+  came_in bytes_of batcher (input.Certified view is_success) = Message (task.Certified view is_success) ∷ []
+  came_in bytes_of batcher (input.GivenUp view reason) = Message (task.GiveUp view reason) ∷ []
+
+module _ {S L D K G C : Type 0} (now : ℕ) where
+  -- a call comes of what is at hand: of a task, a proposal of its view's leader that the member admits, or a certificate
+  abbrev pub IsMeant : List (Matter S D K G C) → MemberFacts K L D → CallFacts D → Type 0
+  IsMeant matters m call =
+      ((asked : Task D) × (call ≡ call_of asked now) × AreAmong (of_task asked) matters)
+      ⊎ ((from : ℕ) × (proposal : Proposal D) × (call ≡ SetProposal proposal.round.view proposal) × IsIn (Arrival from proposal) matters
+      × (is_so (λ x. admits_proposal x from proposal.round) m ≡ true))
+      ⊎ ((certificate : CertificateFacts D) × (call ≡ hands_in certificate now) × IsIn (Quorum (certificate_subject certificate)) matters)
+
+  -- so does a step of the member; its record may be pruned
+  abbrev pub IsStepMeant : List (Matter S D K G C) → MemberFacts K L D → StepFacts K L D → Type 0
+  IsStepMeant matters m (Calls call) = IsMeant matters m call
+  IsStepMeant matters m Prunes = Unit {0}
+  IsStepMeant matters m (Restarts restart) = ⊥
+
+  -- what a step gives by its reply
+  abbrev pub given_in : StepFacts K L D → Reply S D K G C → List (Matter S D K G C)
+  given_in (Calls call) reply = given_by now reply call
+  given_in _ reply = []
+
+-- the view is final, by what is known of the member
+abbrev pub is_final : {K L D : Type 0} → MemberFacts K L D → ℕ → Bool
+is_final m view = option_map_or (λ x. nat_le view x.finalized) m.life true
+
+module _ {S L D K G C : Type 0} (same : D → D → Bool) (elect : Elect L) (bytes_of : C → List ℕ) (now : ℕ) where
+  -- from a member with this at hand to another with that, by these steps and their replies, one behind the other: each comes of what
+  -- is at hand, with what the replies before it gave, and so does what is at hand in the end; and each certificate that was asked for,
+  -- or that a reply says is lacking, is asked for in the end, where that is not over
+  abbrev pub ComesBy : (asks_now is_over : FetchKind → ℕ → Bool) → List (StepFacts K L D × Reply S D K G C) → List (Matter S D K G C)
+      → (FetchKind → ℕ → Bool) → MemberFacts K L D → List (Matter S D K G C) → MemberFacts K L D → Type 0
+  ComesBy asks_now is_over [] matters asked m left end = AreAmong left matters × (end ≡ m) × IsStill asked is_over asks_now
+  ComesBy asks_now is_over ((step, reply) ∷ rest) matters asked m left end =
+      let given = given_in {L = L} now step reply in
+      IsStepMeant now matters m step
+      × (next : MemberFacts K L D)
+      × IsStep same elect m step (told bytes_of reply) next
+      × ComesBy asks_now is_over rest (matters ++ given) (with_lack asked given) next left end
+
+  -- an engine, where this came in besides, this work was given out, and these certificates need not be asked for: so are those of
+  -- views up to the last finalized one, and those that the resolver ends by what it is told
+  pub record Comes (came : List (Matter S D K G C)) (out : List (Work S D K G C)) (held : FetchKind → ℕ → Bool) (old new : Engine S L D K G C)
+      : Type 0 where
+    pub calls : List Call
+    pub resolver : AreMade old.plan.repair.resolver calls new.plan.repair.resolver
+    pub steps : List (StepFacts K L D × Reply S D K G C)
+    pub by_steps : ComesBy (asks new.plan)
+        (λ kind view. held kind view || (is_final new.core.member.facts view || ended_by old.plan.repair.resolver.state calls kind view))
+        steps (came ++ at_hand old) (with_lack (asks old.plan) came) old.core.member.facts (of_works out ++ at_hand new) new.core.member.facts
+
+  -- where nothing is given out, and each certificate is to be asked for
+  abbrev pub ComesWith : List (Matter S D K G C) → Engine S L D K G C → Engine S L D K G C → Type 0
+  ComesWith came old new = Comes came [] (λ kind view. false) old new
+
+  -- and where nothing came in
+  abbrev pub ComesAlone : Engine S L D K G C → Engine S L D K G C → Type 0
+  ComesAlone old new = ComesWith [] old new
+
+-- the certificates that the member's state holds, but nullifications that the resolver has open
+abbrev pub held_by : {S L D K G C : Type 0} → Engine S L D K G C → FetchKind → ℕ → Bool
+held_by engine kind view = option_map_or (λ x. holds engine.plan.repair.resolver.open_fetches x kind view) engine.core.member.facts.life true
