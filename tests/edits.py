@@ -18,7 +18,7 @@ from lib.program import ROOT
 
 IN_GATE = "crates/{crate}/must-fail"
 BESIDE = "tests/more_edits/{crate}"
-LEAST = {"edits": 105}
+LEAST = {"edits": 106}
 REFUSED = re.compile(r"must-fail (\S+)/(\S+)\.edit: refused, as it must be")
 SAYS_NOTHING = ("BAD EDIT", "only because a proof file names")
 
