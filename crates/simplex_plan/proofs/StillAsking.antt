@@ -5,7 +5,7 @@ use Rattle.std.specs.List.{list_any}
 use Rattle.std.proofs.lemmas.Bool.{false≢true, and_parts, eqb-true, or_cases, or_left, or_right}
 use Rattle.std.proofs.lemmas.Bool.Decides.{nat_tests}
 use Rattle.std.proofs.lemmas.List.Folds.{list_any-append}
-use Rattle.simplex_types.specs.Certificates.{certificate_facts}
+use Rattle.simplex_types.specs.Certificates.{certificate_facts, notarization_facts}
 use Rattle.simplex_types.specs.Viewed.{certificate_view}
 use Rattle.simplex_types.specs.declared.reasons.TimeoutReason.{TimeoutReason}
 use Rattle.simplex_types.specs.declared.types.messages.Certificate.{Certificate}
@@ -13,7 +13,7 @@ use Rattle.simplex_types.specs.declared.types.messages.Certificate.TheVariants a
 use Rattle.simplex_types.specs.declared.types.messages.Notarization.{Notarization}
 use Rattle.simplex_types.specs.declared.types.messages.Nullify.{Nullify}
 use Rattle.simplex_types.specs.declared.types.messages.Proposal.{Proposal}
-use Rattle.simplex_resolver.specs.Steps.{Call, after, effects, update}
+use Rattle.simplex_resolver.specs.Steps.{Call, after, effects, update, verdict}
 use Rattle.simplex_resolver.specs.Told.{LawfulResolverFacts}
 use Rattle.simplex_voter.specs.Facts.{StateFacts}
 use Rattle.simplex_voter.specs.declared.voter.candidates.CertificateFetch.{CertificateFetch}
@@ -41,13 +41,15 @@ use Rattle.simplex_plan.specs.declared.plan.Step.{Step}
 use Rattle.simplex_plan.specs.declared.plan.Step.TheVariants as step
 use Rattle.simplex_plan.specs.declared.plan.Views.{Views}
 use Rattle.simplex_plan.specs.declared.task.Task.{Task}
-use Rattle.simplex_plan.specs.Asking.{asks, ended_by, ends_fetch, is_lack, is_notarized, is_plain, is_resolve, never, AreMade, KeepsAsking}
+use Rattle.simplex_plan.specs.declared.task.Task.TheVariants as task
+use Rattle.simplex_plan.specs.Asking.{asks, ended_by, ends_fetch, heard_by, heard_of, is_lack, is_notarized, is_plain, is_resolve, never, AreMade, KeepsAsking}
 use Rattle.simplex_plan.specs.Building.{HasBuilds}
 use Rattle.simplex_plan.specs.Entering.{asking_by, offering, HasEnteredWhere, IsPassedWhere, HasSeen}
 use Rattle.simplex_plan.specs.Filling.{watching_where, AreWatched, HasTaken, IsFetchAsked, IsPruneAsked, IsReady, IsTimeoutAsked}
 use Rattle.simplex_plan.specs.Following.{AreCertified, Consequence, Nothing, Touched, Built, Stopped, Ended, Asked, after_flag, after_refusal, after_watch, certifying, without, later, IsBroadcastFollowed, IsCertificateFollowed, IsConsequence, IsFollowed, IsNewFollowed, IsNullifyFollowed, IsRequestFollowed, IsTakenInAbove, IsTimeoutFollowed, IsVerdictFollowed, IsVerdictToldAbove, IsVerifyFollowed}
 use Rattle.simplex_plan.specs.Matters.{Matter, Duty, Expiry, Lack, given_by, of_block, shown_by}
 use Rattle.simplex_plan.specs.Planning.{HasPlanned, touching, watching}
+use Rattle.simplex_plan.specs.Tasks.{call_of}
 use Rattle.simplex_plan.proofs.Asking.{asks_on, asks_same, kind_same, turned_over, behind_steps, open_each, open_fetched, open_further, open_kept, open_now, open_through, planned_still, queued_more}
 use Rattle.simplex_plan.proofs.PlannedWork.{any_right}
 
@@ -110,60 +112,83 @@ shows_none S G C (call.TriggerTimeout v reason at) leader kind view = refl
 shows_none S G C (call.NextTimeout at) leader kind view = refl
 shows_none S G C call.Prune leader kind view = refl
 
+-- a task hands in no certificate
+no_task_hands_in : {D : Type 0} (bytes : D → List ℕ) (now : ℕ) (asked : Task D) → heard_of bytes (call_of asked now) ≡ []
+no_task_hands_in bytes now (task.SetProposal v p) = refl
+no_task_hands_in bytes now task.Propose = refl
+no_task_hands_in bytes now (task.Proposed v payload) = refl
+no_task_hands_in bytes now (task.Supersede v) = refl
+no_task_hands_in bytes now (task.Abandon v) = refl
+no_task_hands_in bytes now (task.Release v) = refl
+no_task_hands_in bytes now task.Verify = refl
+no_task_hands_in bytes now (task.Verified v) = refl
+no_task_hands_in bytes now (task.VerificationFailed v) = refl
+no_task_hands_in bytes now task.Candidates = refl
+no_task_hands_in bytes now (task.SetHandle v) = refl
+no_task_hands_in bytes now (task.Certified v is_success) = refl
+no_task_hands_in bytes now (task.Notarize v) = refl
+no_task_hands_in bytes now (task.Finalize v) = refl
+no_task_hands_in bytes now (task.Nullify v reason) = refl
+no_task_hands_in bytes now (task.BroadcastNotarization v) = refl
+no_task_hands_in bytes now (task.BroadcastNullification v) = refl
+no_task_hands_in bytes now (task.BroadcastFinalization v) = refl
+no_task_hands_in bytes now task.BestCertificate = refl
+no_task_hands_in bytes now (task.GiveUp v reason) = refl
+no_task_hands_in bytes now task.Timeout = refl
+no_task_hands_in bytes now task.Prune = refl
+
 module _ {S D K G C : Type 0} where
   -- nothing of the resolver has changed, and what was asked for is
   pub keeps_asking : {old new : Plan S D K G C} (over : FetchKind → ℕ → Bool) → new.repair.resolver ≡ old.repair.resolver
-      → ((kind : FetchKind) (view : ℕ) → asks old kind view ≡ true → over kind view ≡ false → asks new kind view ≡ true) → KeepsAsking [] over old new
+      → ((kind : FetchKind) (view : ℕ) → asks old kind view ≡ true → over kind view ≡ false → asks new kind view ≡ true) → KeepsAsking [] over [] old new
   keeps_asking {old = old} over same still = record {
-    calls = [];
     told = same;
     still = λ kind view is un. still kind view (or_nothing (asks old kind view) is) (not_or (over kind view) false un).0;
   }
 
   -- beside matters of which none is a certificate that is lacking
-  pub asks_beside : {old new : Plan S D K G C} {over : FetchKind → ℕ → Bool} (given : List (Matter S D K G C)) → ((kind : FetchKind) (view : ℕ) → list_any (is_lack kind view) given ≡ false)
-      → KeepsAsking [] over old new → KeepsAsking given over old new
+  pub asks_beside : {old new : Plan S D K G C} {over : FetchKind → ℕ → Bool} {calls : List Call} (given : List (Matter S D K G C)) → ((kind : FetchKind) (view : ℕ) → list_any (is_lack kind view) given ≡ false)
+      → KeepsAsking [] over calls old new → KeepsAsking given over calls old new
   asks_beside {old = old} given none keeps = record {
-    calls = keeps.calls;
     told = keeps.told;
     still = λ kind view is. keeps.still kind view (ap (λ b. asks old kind view || b) (sym (none kind view)) ∙ is);
   }
 
   -- whatever is over
-  pub asks_over : {old new : Plan S D K G C} {given : List (Matter S D K G C)} (over : FetchKind → ℕ → Bool) → KeepsAsking given never old new → KeepsAsking given over old new
-  asks_over over keeps = record { calls = keeps.calls; told = keeps.told; still = λ kind view is un. keeps.still kind view is (not_or (over kind view) _ un).1 }
+  pub asks_over : {old new : Plan S D K G C} {given : List (Matter S D K G C)} {calls : List Call} (over : FetchKind → ℕ → Bool) → KeepsAsking given never calls old new → KeepsAsking given over calls old new
+  asks_over over keeps = record { told = keeps.told; still = λ kind view is un. keeps.still kind view is (not_or (over kind view) _ un).1 }
 
-  pub asks_where_same : {old new : Plan S D K G C} (over : FetchKind → ℕ → Bool) → new ≡ old → KeepsAsking [] over old new
+  pub asks_where_same : {old new : Plan S D K G C} (over : FetchKind → ℕ → Bool) → new ≡ old → KeepsAsking [] over [] old new
   asks_where_same over is = keeps_asking over (ap (λ (p : Plan S D K G C). p.repair.resolver) is) (λ kind view asked un. asks_same kind view is asked)
 
-  pub asks_behind : {more : List (Step S D K G C)} {old new : Plan S D K G C} (over : FetchKind → ℕ → Bool) → HasPlanned more old new → KeepsAsking [] over old new
+  pub asks_behind : {more : List (Step S D K G C)} {old new : Plan S D K G C} (over : FetchKind → ℕ → Bool) → HasPlanned more old new → KeepsAsking [] over [] old new
   asks_behind over is = keeps_asking over (ap (λ (p : Plan S D K G C). p.repair.resolver) is.same) (λ kind view asked un. planned_still kind view is asked)
 
-  pub asks_further : {a b c : Plan S D K G C} {given : List (Matter S D K G C)} {over : FetchKind → ℕ → Bool} → KeepsAsking given over a b → KeepsAsking [] over b c → KeepsAsking given over a c
-  asks_further {a = a} {b = b} {c = c} {over = over} first second = record {
-    calls = first.calls ++ second.calls;
-    told = made_on a.repair.resolver b.repair.resolver c.repair.resolver first.calls second.calls first.told second.told;
+  pub asks_further : {a b c : Plan S D K G C} {given : List (Matter S D K G C)} {over : FetchKind → ℕ → Bool} {calls more : List Call} → KeepsAsking given over calls a b → KeepsAsking [] over more b c
+      → KeepsAsking given over (calls ++ more) a c
+  asks_further {a = a} {b = b} {c = c} {over = over} {calls = calls} {more = more} first second = record {
+    told = made_on a.repair.resolver b.repair.resolver c.repair.resolver calls more first.told second.told;
     still = λ kind view is un.
         let parts = not_or (over kind view) _ un in
-        let ended = ended_on a.repair.resolver b.repair.resolver first.calls second.calls first.told kind view parts.1 in
-        second.still kind view (or_left (asks b kind view) false (first.still kind view is (ap (λ t. t || ended_by a.repair.resolver.state first.calls kind view) parts.0 ∙ ended.0)))
-        (ap (λ t. t || ended_by b.repair.resolver.state second.calls kind view) parts.0 ∙ ended.1);
+        let ended = ended_on a.repair.resolver b.repair.resolver calls more first.told kind view parts.1 in
+        second.still kind view (or_left (asks b kind view) false (first.still kind view is (ap (λ t. t || ended_by a.repair.resolver.state calls kind view) parts.0 ∙ ended.0)))
+        (ap (λ t. t || ended_by b.repair.resolver.state more kind view) parts.0 ∙ ended.1);
   }
 
   -- before it nothing was lost
-  pub asks_then : {a b c : Plan S D K G C} {given : List (Matter S D K G C)} {over : FetchKind → ℕ → Bool} → KeepsAsking [] over a b → KeepsAsking given over b c → KeepsAsking given over a c
-  asks_then {a = a} {b = b} {c = c} {given = given} {over = over} first second = record {
-    calls = first.calls ++ second.calls;
-    told = made_on a.repair.resolver b.repair.resolver c.repair.resolver first.calls second.calls first.told second.told;
+  pub asks_then : {a b c : Plan S D K G C} {given : List (Matter S D K G C)} {over : FetchKind → ℕ → Bool} {calls more : List Call} → KeepsAsking [] over calls a b → KeepsAsking given over more b c
+      → KeepsAsking given over (calls ++ more) a c
+  asks_then {a = a} {b = b} {c = c} {given = given} {over = over} {calls = calls} {more = more} first second = record {
+    told = made_on a.repair.resolver b.repair.resolver c.repair.resolver calls more first.told second.told;
     still = λ kind view is un.
         let parts = not_or (over kind view) _ un in
-        let ended = ended_on a.repair.resolver b.repair.resolver first.calls second.calls first.told kind view parts.1 in
+        let ended = ended_on a.repair.resolver b.repair.resolver calls more first.told kind view parts.1 in
         second.still kind view (elim (or_cases (asks a kind view) (list_any (is_lack kind view) given) is) [
           | inl before ↦ or_left (asks b kind view) (list_any (is_lack kind view) given)
-              (first.still kind view (or_left (asks a kind view) false before) (ap (λ t. t || ended_by a.repair.resolver.state first.calls kind view) parts.0 ∙ ended.0))
+              (first.still kind view (or_left (asks a kind view) false before) (ap (λ t. t || ended_by a.repair.resolver.state calls kind view) parts.0 ∙ ended.0))
           | inr now ↦ or_right (asks b kind view) (list_any (is_lack kind view) given) now
         ])
-        (ap (λ t. t || ended_by b.repair.resolver.state second.calls kind view) parts.0 ∙ ended.1);
+        (ap (λ t. t || ended_by b.repair.resolver.state more kind view) parts.0 ∙ ended.1);
   }
 
   -- ---- other views
@@ -181,7 +206,7 @@ module _ {S D K G C : Type 0} where
   entered_resolver true current old new is = ap (λ (p : Plan S D K G C). p.repair.resolver) is.same
   entered_resolver false current old new is = ap (λ (p : Plan S D K G C). p.repair.resolver) is
 
-  pub seen_asks : (views : Views) (old new : Plan S D K G C) → HasSeen views old new → KeepsAsking [] (λ kind view. nat_le view views.last_finalized) old new
+  pub seen_asks : (views : Views) (old new : Plan S D K G C) → HasSeen views old new → KeepsAsking [] (λ kind view. nat_le view views.last_finalized) [] old new
   seen_asks views old new is =
       keeps_asking (λ kind view. nat_le view views.last_finalized)
       (entered_resolver (not (old.views.current == views.current)) views.current between new is.entered ∙ resolver_is (nat_lt old.views.last_finalized views.last_finalized) is.passed)
@@ -267,19 +292,20 @@ module _ {S D K G C : Type 0} where
 
   -- ---- answers
 
-  blocks_planned : {more : List (Step S D K G C)} {builds : List (Building D K)} {old new : Plan S D K G C} → HasBuilds more builds old new → KeepsAsking [] never old new
+  blocks_planned : {more : List (Step S D K G C)} {builds : List (Building D K)} {old new : Plan S D K G C} → HasBuilds more builds old new → KeepsAsking [] never [] old new
   blocks_planned {more = more} {old = old} {new = new} is =
       keeps_asking never (ap (λ (p : Plan S D K G C). p.repair.resolver) is.same) (λ kind view asked un. queued_more kind view more old new is.steps (ap (λ (p : Plan S D K G C). p.repair) is.same) asked)
 
   -- whatever of the plan is no matter of what it asks for
-  pub as_watched : {given : List (Matter S D K G C)} {over : FetchKind → ℕ → Bool} {old new : Plan S D K G C} → KeepsAsking given over (watching old) new → KeepsAsking given over old new
-  as_watched keeps = record { calls = keeps.calls; told = keeps.told; still = keeps.still }
+  pub as_watched : {given : List (Matter S D K G C)} {over : FetchKind → ℕ → Bool} {calls : List Call} {old new : Plan S D K G C} → KeepsAsking given over calls (watching old) new
+      → KeepsAsking given over calls old new
+  as_watched keeps = record { told = keeps.told; still = keeps.still }
 
-  as_timed : {given : List (Matter S D K G C)} {over : FetchKind → ℕ → Bool} {old new : Plan S D K G C} {moment : ℕ} → KeepsAsking given over (record old { timeout = moment }) new
-      → KeepsAsking given over old new
-  as_timed keeps = record { calls = keeps.calls; told = keeps.told; still = keeps.still }
+  as_timed : {given : List (Matter S D K G C)} {over : FetchKind → ℕ → Bool} {calls : List Call} {old new : Plan S D K G C} {moment : ℕ} → KeepsAsking given over calls (record old { timeout = moment }) new
+      → KeepsAsking given over calls old new
+  as_timed keeps = record { told = keeps.told; still = keeps.still }
 
-  consequence_asks : (what : Consequence D) (old new : Plan S D K G C) → IsConsequence what old new → KeepsAsking [] never old new
+  consequence_asks : (what : Consequence D) (old new : Plan S D K G C) → IsConsequence what old new → KeepsAsking [] never [] old new
   consequence_asks Nothing old new is = asks_where_same never is
   consequence_asks (Touched view) old new is = as_watched (asks_behind never is)
   consequence_asks (Built view) old new is = as_watched (blocks_planned is)
@@ -288,7 +314,7 @@ module _ {S D K G C : Type 0} where
       keeps_asking never (ap (λ (p : Plan S D K G C). p.repair.resolver) is.same) (λ kind v asked un. ap (λ (p : Plan S D K G C). asks p kind v) is.same ∙ asked)
   consequence_asks (Asked call) old new is = asks_behind never is
 
-  verify_asks : (now : ℕ) (answer : Verify D K) (asked : CallFacts D) (old new : Plan S D K G C) → IsVerifyFollowed answer old new → KeepsAsking (given_by now (reply.Work answer) asked) never old new
+  verify_asks : (now : ℕ) (answer : Verify D K) (asked : CallFacts D) (old new : Plan S D K G C) → IsVerifyFollowed answer old new → KeepsAsking (given_by now (reply.Work answer) asked) never [] old new
   verify_asks now (verify.Ready context proposal) asked old new is = asks_beside (Duty (work.Verify context proposal) ∷ []) (λ kind view. refl) (asks_behind never is)
   verify_asks now verify.Wait asked old new is = asks_where_same never is
   verify_asks now (verify.Resolve proposal at lacks target) asked old new is = by_test (is_fetch_open (fetch_kind lacks) at old.repair.fetches.wanted.items) refl is
@@ -296,9 +322,8 @@ module _ {S D K G C : Type 0} where
       more : List (Step S D K G C)
       more = step.Resolve (fetch_kind lacks) at proposal ∷ []
 
-      by_test : (b : Bool) → is_fetch_open (fetch_kind lacks) at old.repair.fetches.wanted.items ≡ b → HasPlanned (cond b [] more) old new → KeepsAsking (Lack (fetch_kind lacks) at ∷ []) never old new
+      by_test : (b : Bool) → is_fetch_open (fetch_kind lacks) at old.repair.fetches.wanted.items ≡ b → HasPlanned (cond b [] more) old new → KeepsAsking (Lack (fetch_kind lacks) at ∷ []) never [] old new
       by_test true is_open planned = record {
-        calls = [];
         told = ap (λ (p : Plan S D K G C). p.repair.resolver) planned.same;
         still = λ kind view is un. planned_still kind view planned (elim (or_cases (asks old kind view) ((same_kind (fetch_kind lacks) kind && at == view) || false) is) [
           | inl before ↦ before
@@ -307,7 +332,6 @@ module _ {S D K G C : Type 0} where
         ]);
       }
       by_test false is_open planned = record {
-        calls = [];
         told = ap (λ (p : Plan S D K G C). p.repair.resolver) planned.same;
         still = λ kind view is un. elim (or_cases (asks old kind view) ((same_kind (fetch_kind lacks) kind && at == view) || false) is) [
           | inl before ↦ planned_still kind view planned before
@@ -317,20 +341,19 @@ module _ {S D K G C : Type 0} where
       }
 
   request_asks : (now : ℕ) (request : Option (ProposalRequest D K)) (asked : CallFacts D) (old new : Plan S D K G C) → IsRequestFollowed request old new
-      → KeepsAsking (given_by now (reply.Request request) asked) never old new
+      → KeepsAsking (given_by now (reply.Request request) asked) never [] old new
   request_asks now None asked old new is = asks_where_same never is
   request_asks now (Some (Prepare context)) asked old new is = asks_beside (of_block context) (λ kind view. refl) (blocks_planned is)
   request_asks now (Some (Propose context)) asked old new is = asks_beside (of_block context) (λ kind view. refl) (blocks_planned is)
 
   broadcast_asks : (now : ℕ) (answer : Option (Certificate S D K G C)) (asked : CallFacts D) (old new : Plan S D K G C) → IsBroadcastFollowed answer old new
-      → KeepsAsking (given_by now (reply.Certificate answer) asked) never old new
+      → KeepsAsking (given_by now (reply.Certificate answer) asked) never [] old new
   broadcast_asks now None asked old new is = asks_where_same never is
   broadcast_asks now (Some certificate) asked old new is = asks_beside (Duty (work.Broadcast certificate) ∷ []) (λ kind view. refl) (asks_behind never is)
 
   candidates_asks : (now : ℕ) (proposals : List (Proposal D)) (wanted : List CertificateFetch) (old new : Plan S D K G C) → AreCertified now proposals wanted old new
-      → KeepsAsking (map (λ p. Duty (work.Certify p)) proposals ++ map (λ (it : CertificateFetch). Lack fetch.Notarization it.view) wanted) never old new
+      → KeepsAsking (map (λ p. Duty (work.Certify p)) proposals ++ map (λ (it : CertificateFetch). Lack fetch.Notarization it.view) wanted) never [] old new
   candidates_asks now proposals wanted old new is = record {
-    calls = [];
     told = is.fetched.resolver;
     still = λ kind view asked un. elim (or_cases (asks old kind view) (list_any (is_lack kind view) (offers ++ lacks)) asked) [
       | inl before ↦ asks_on kind view old new
@@ -349,9 +372,8 @@ module _ {S D K G C : Type 0} where
 
   -- the resolver was told, and then steps are planned
   told_asks : {moment : ℕ} {it : Call} {more : List (Step S D K G C)} {old new : Plan S D K G C} → IsRepaired moment it old.repair new.repair
-      → HasPlanned more (watching (record old { repair = new.repair })) new → KeepsAsking [] never old new
+      → HasPlanned more (watching (record old { repair = new.repair })) new → KeepsAsking [] never (it ∷ []) old new
   told_asks {moment = moment} {it = it} {more = more} {old = old} {new = new} is planned = record {
-    calls = it ∷ [];
     told = (new.repair.resolver, is.made, refl);
     still = λ kind view asked un. planned_still kind view {old = watching (record old { repair = new.repair })} planned
         (asks_on kind view old (record old { repair = new.repair })
@@ -361,22 +383,23 @@ module _ {S D K G C : Type 0} where
 
   module _ (bytes : D → List ℕ) (bytes_of : C → List ℕ) (now : ℕ) where
     verdict_asks : (b is_success : Bool) (notarization : Notarization S D K G C) (old new : Plan S D K G C) → IsVerdictToldAbove bytes bytes_of now b is_success notarization old new
-        → KeepsAsking [] never old new
+        → KeepsAsking [] never (cond b [] (verdict bytes (notarization_facts bytes_of notarization) is_success ∷ [])) old new
     verdict_asks true is_success notarization old new is = asks_where_same never is
     verdict_asks false is_success notarization old new is = told_asks {old = old} is.repaired is.planned
 
-    judged_asks : (is_success : Bool) (notarization : Option (Notarization S D K G C)) (old new : Plan S D K G C) → IsVerdictFollowed bytes bytes_of now is_success notarization old new
-        → KeepsAsking [] never old new
-    judged_asks is_success None old new is = asks_where_same never is
-    judged_asks is_success (Some notarization) old new is = verdict_asks (notarization.proposal.round.view == 0) is_success notarization old new is
+    judged_asks : (asked : CallFacts D) (is_success : Bool) (notarization : Option (Notarization S D K G C)) (old new : Plan S D K G C)
+        → IsVerdictFollowed bytes bytes_of now is_success notarization old new
+        → KeepsAsking [] never (heard_by bytes bytes_of (reply.Certified is_success notarization) asked) old new
+    judged_asks asked is_success None old new is = asks_where_same never is
+    judged_asks asked is_success (Some notarization) old new is = verdict_asks (notarization.proposal.round.view == 0) is_success notarization old new is
 
-    nullify_asks : (answer : Option (Bool × Nullify S K G C)) (old new : Plan S D K G C) → IsNullifyFollowed now answer old new → KeepsAsking [] never old new
+    nullify_asks : (answer : Option (Bool × Nullify S K G C)) (old new : Plan S D K G C) → IsNullifyFollowed now answer old new → KeepsAsking [] never [] old new
     nullify_asks None old new is = keeps_asking never (ap (λ (p : Plan S D K G C). p.repair.resolver) is) (λ kind view asked un. asks_same kind view is asked)
     nullify_asks (Some (true, vote)) old new is = asks_behind never is
     nullify_asks (Some (false, vote)) old new is = asks_behind never is
 
     timeout_asks : (moment : ℕ) (reason : TimeoutReason) (asked : CallFacts D) (old new : Plan S D K G C) → IsTimeoutFollowed now moment reason old new
-        → KeepsAsking (given_by now (reply.Timeout moment reason) asked) never old new
+        → KeepsAsking (given_by now (reply.Timeout moment reason) asked) never [] old new
     timeout_asks moment reason asked old new is =
         asks_beside (given_by now (reply.Timeout moment reason) asked) (λ kind view. none kind view (nat_le moment now)) (as_timed (asks_behind never is))
       where
@@ -384,30 +407,36 @@ module _ {S D K G C : Type 0} where
         none kind view true = refl
         none kind view false = refl
 
+    unheard : (asked : Task D) (is_new : Bool) {given : List (Matter S D K G C)} {old new : Plan S D K G C} → KeepsAsking given never [] old new
+        → KeepsAsking given never (cond is_new (heard_of bytes (call_of asked now)) []) old new
+    unheard asked true {given = given} {old = old} {new = new} keeps = subst (λ calls. KeepsAsking given never calls old new) (sym (no_task_hands_in bytes now asked)) keeps
+    unheard asked false keeps = keeps
+
     -- the answer to a task is followed
-    pub followed_asks : (asked : Task D) (it : CallFacts D) (answer : Reply S D K G C) (old new : Plan S D K G C) → IsFollowed bytes bytes_of now asked answer old new
-        → KeepsAsking (given_by now answer it) never old new
-    followed_asks asked it (reply.Flag is_taken) old new is = consequence_asks (after_flag asked is_taken) old new is
-    followed_asks asked it (reply.Triggered is_latched) old new is = consequence_asks (after_flag asked is_latched) old new is
-    followed_asks asked it (reply.Released was_open) old new is = consequence_asks (after_flag asked was_open) old new is
-    followed_asks asked it (reply.Abandoned reason) old new is = consequence_asks (after_watch asked (is_some reason)) old new is
-    followed_asks asked it (reply.Work answer) old new is = verify_asks now answer it old new is
-    followed_asks asked it (reply.Request request) old new is = request_asks now request it old new is
-    followed_asks asked it (reply.Candidates proposals wanted) old new is = candidates_asks now proposals.items wanted.items old new is
-    followed_asks asked it (reply.Certified is_success notarization) old new is = judged_asks is_success notarization old new is
-    followed_asks asked it (reply.Nullify answer) old new is = nullify_asks answer old new is
-    followed_asks asked it (reply.Certificate answer) old new is = broadcast_asks now answer it old new is
-    followed_asks asked it (reply.Timeout moment reason) old new is = timeout_asks moment reason it old new is
-    followed_asks asked it reply.NotAllowed old new is = consequence_asks (after_refusal asked) old new is
-    followed_asks asked it (reply.Added is_new None) old new is = asks_where_same never is
-    followed_asks asked it (reply.Added is_new (Some leader)) old new is = asks_beside (shown_by it leader) (shows_none S G C it leader) (asks_where_same never is)
-    followed_asks asked it (reply.AddedNullification is_new) old new is = asks_where_same never is
-    followed_asks asked it (reply.Notarize vote) old new is = asks_where_same never is
-    followed_asks asked it (reply.Finalize vote) old new is = asks_where_same never is
-    followed_asks asked it (reply.Views views) old new is = asks_where_same never is
-    followed_asks asked it (reply.Fault fault) old new is = asks_where_same never is
-    followed_asks asked it reply.Restarted old new is = asks_where_same never is
-    followed_asks asked it reply.Unit old new is = asks_where_same never is
+    pub followed_asks : (asked : Task D) (answer : Reply S D K G C) (old new : Plan S D K G C) → IsFollowed bytes bytes_of now asked answer old new
+        → KeepsAsking (given_by now answer (call_of asked now)) never (heard_by bytes bytes_of answer (call_of asked now)) old new
+    followed_asks asked (reply.Flag is_taken) old new is = consequence_asks (after_flag asked is_taken) old new is
+    followed_asks asked (reply.Triggered is_latched) old new is = consequence_asks (after_flag asked is_latched) old new is
+    followed_asks asked (reply.Released was_open) old new is = consequence_asks (after_flag asked was_open) old new is
+    followed_asks asked (reply.Abandoned reason) old new is = consequence_asks (after_watch asked (is_some reason)) old new is
+    followed_asks asked (reply.Work answer) old new is = verify_asks now answer (call_of asked now) old new is
+    followed_asks asked (reply.Request request) old new is = request_asks now request (call_of asked now) old new is
+    followed_asks asked (reply.Candidates proposals wanted) old new is = candidates_asks now proposals.items wanted.items old new is
+    followed_asks asked (reply.Certified is_success notarization) old new is = judged_asks (call_of asked now) is_success notarization old new is
+    followed_asks asked (reply.Nullify answer) old new is = nullify_asks answer old new is
+    followed_asks asked (reply.Certificate answer) old new is = broadcast_asks now answer (call_of asked now) old new is
+    followed_asks asked (reply.Timeout moment reason) old new is = timeout_asks moment reason (call_of asked now) old new is
+    followed_asks asked reply.NotAllowed old new is = consequence_asks (after_refusal asked) old new is
+    followed_asks asked (reply.Added is_new None) old new is = unheard asked is_new (asks_where_same never is)
+    followed_asks asked (reply.Added is_new (Some leader)) old new is =
+        unheard asked is_new (asks_beside (shown_by (call_of asked now) leader) (shows_none S G C (call_of asked now) leader) (asks_where_same never is))
+    followed_asks asked (reply.AddedNullification is_new) old new is = unheard asked is_new (asks_where_same never is)
+    followed_asks asked (reply.Notarize vote) old new is = asks_where_same never is
+    followed_asks asked (reply.Finalize vote) old new is = asks_where_same never is
+    followed_asks asked (reply.Views views) old new is = asks_where_same never is
+    followed_asks asked (reply.Fault fault) old new is = asks_where_same never is
+    followed_asks asked reply.Restarted old new is = asks_where_same never is
+    followed_asks asked reply.Unit old new is = asks_where_same never is
 
     -- a certificate was told
     without_asks : (told : Certificate S D K G C) (kind : FetchKind) (view : ℕ) (xs : List Fetch) → is_notarized kind view (update bytes (certificate_facts bytes_of told)) ≡ false
@@ -423,10 +452,10 @@ module _ {S D K G C : Type 0} where
             ∙ ap (λ v. same_kind kind fetch.Notarization && v == n.proposal.round.view) (eqb-true f.view view both.1)
             ∙ turned_over kind view n.proposal.round.view ∙ un)
 
-    taken_in : (b : Bool) (accepted : Certificate S D K G C) (old new : Plan S D K G C) → IsTakenInAbove bytes bytes_of now b accepted old new → KeepsAsking [] never old new
+    taken_in : (b : Bool) (accepted : Certificate S D K G C) (old new : Plan S D K G C) → IsTakenInAbove bytes bytes_of now b accepted old new
+        → KeepsAsking [] never (cond b [] (update bytes (certificate_facts bytes_of accepted) ∷ [])) old new
     taken_in true accepted old new is = asks_where_same never is
     taken_in false accepted old new is = record {
-      calls = it ∷ [];
       told = (new.repair.resolver, is.heard.made, refl);
       still = λ kind view asked un. planned_still kind view {old = watching (record old { repair = new.repair })} is.planned
           (asks_on kind view old (record old { repair = new.repair })
@@ -442,12 +471,21 @@ module _ {S D K G C : Type 0} where
         moment : ℕ
         moment = later bytes bytes_of now old
 
-    new_asks : (b : Bool) (taken : Certificate S D K G C) (old new : Plan S D K G C) → IsNewFollowed bytes bytes_of now b taken old new → KeepsAsking [] never old new
-    new_asks true taken old new is = taken_in (certificate_view taken == 0) taken old new is
-    new_asks false taken old new is = asks_where_same never is
+    -- what the resolver is told is of the certificate
+    heard_as : (handed : Certificate S D K G C) → heard_of bytes (hands_in (certificate_facts bytes_of handed) now)
+        ≡ cond (certificate_view handed == 0) [] (update bytes (certificate_facts bytes_of handed) ∷ [])
+    heard_as (certificate.Notarization n) = refl
+    heard_as (certificate.Nullification n) = refl
+    heard_as (certificate.Finalization f) = refl
+
+    new_asks : (b : Bool) (handed : Certificate S D K G C) (old new : Plan S D K G C) → IsNewFollowed bytes bytes_of now b handed old new
+        → KeepsAsking [] never (cond b (heard_of bytes (hands_in (certificate_facts bytes_of handed) now)) []) old new
+    new_asks true handed old new is = subst (λ calls. KeepsAsking [] never calls old new) (sym (heard_as handed)) (taken_in (certificate_view handed == 0) handed old new is)
+    new_asks false handed old new is = asks_where_same never is
 
     pub certificate_asks : (handed : Certificate S D K G C) (answer : Reply S D K G C) (old new : Plan S D K G C) → is_plain answer ≡ true → IsCertificateFollowed bytes bytes_of now handed answer old new
-        → KeepsAsking (given_by now answer (hands_in (certificate_facts bytes_of handed) now)) never old new
+        → KeepsAsking (given_by now answer (hands_in (certificate_facts bytes_of handed) now)) never
+        (heard_by bytes bytes_of answer (hands_in (certificate_facts bytes_of handed) now)) old new
     certificate_asks handed (reply.Added is_new None) old new answers is = asks_further (asks_behind never is.is_shown) (new_asks is_new handed is.shown new is.followed)
     certificate_asks handed (reply.Added is_new (Some leader)) old new answers is =
         asks_beside (shown_by (hands_in (certificate_facts bytes_of handed) now) leader) (shows_none S G C (hands_in (certificate_facts bytes_of handed) now) leader)
@@ -465,7 +503,7 @@ module _ {S D K G C : Type 0} where
     certificate_asks handed reply.Restarted old new answers is = asks_where_same never is
     certificate_asks handed reply.Unit old new answers is = asks_where_same never is
     certificate_asks handed reply.NotAllowed old new answers is = asks_where_same never is
-    certificate_asks handed (reply.Certified is_success notarization) old new answers is = asks_where_same never is
+    certificate_asks handed (reply.Certified is_success notarization) old new answers is = absurd (false≢true answers)
     certificate_asks handed (reply.Work answer) old new answers is = absurd (false≢true answers)
     certificate_asks handed (reply.Request request) old new answers is = absurd (false≢true answers)
     certificate_asks handed (reply.Certificate answer) old new answers is = absurd (false≢true answers)
@@ -478,10 +516,9 @@ module _ {S D K G C : Type 0} where
   -- a certificate that is lacking is asked for, or, for want of memory, nothing has changed
   pub resolves_asks : {X E : Type 0} (r : Result X E) (k : FetchKind) (v first moment : ℕ) (old new : Plan S D K G C) → new ≡ record old { repair = new.repair }
       → OnOk r (HasFetches (opened k v first moment old.repair.fetches.wanted.items) old.repair new.repair) → OnErr r (HasFetches old.repair.fetches.wanted.items old.repair new.repair)
-      → OnOk r (KeepsAsking (Lack k v ∷ []) never old new)
+      → OnOk r (KeepsAsking (Lack k v ∷ []) never [] old new)
   resolves_asks (Err e) k v first moment old new is opens refused = tt
   resolves_asks (Ok x) k v first moment old new is opens refused = record {
-    calls = [];
     told = opens.resolver;
     still = λ kind view asked un. elim (or_cases (asks old kind view) ((same_kind k kind && v == view) || false) asked) [
       | inl before ↦ asks_on kind view old new (λ it. ap (is_fetch_open kind view) opens.fetches_now ∙ open_further kind view k v first moment old.repair.fetches.wanted.items it)
@@ -494,10 +531,10 @@ module _ {S D K G C : Type 0} where
   -- what is lacking is asked for still
   pub lets_go_asks : {X E : Type 0} {L : Type 0} (r : Result X E) (x : StateFacts K L D) (old new : Plan S D K G C) → new ≡ record old { repair = new.repair }
       → OnOk r (HasPassed x.finalized (filter (is_lacking old.repair.resolver.open_fetches x) old.repair.fetches.wanted.items) old.repair new.repair)
-      → OnOk r (KeepsAsking [] (λ kind view. holds new.repair.resolver.open_fetches x kind view || nat_le view x.finalized) old new)
+      → OnOk r (KeepsAsking [] (λ kind view. holds new.repair.resolver.open_fetches x kind view || nat_le view x.finalized) [] old new)
   lets_go_asks (Err e) x old new is passes = tt
   lets_go_asks {L = L} (Ok done) x old new is passes =
-      subst (λ (r : LawfulResolverFacts). KeepsAsking [] (λ kind view. holds r.open_fetches x kind view || nat_le view x.finalized) old new) (sym passes.resolver)
+      subst (λ (r : LawfulResolverFacts). KeepsAsking [] (λ kind view. holds r.open_fetches x kind view || nat_le view x.finalized) [] old new) (sym passes.resolver)
       (keeps_asking (λ kind view. holds wanted x kind view || nat_le view x.finalized) passes.resolver
       (λ kind view asked un. asks_on kind view old new
       (λ before. ap (is_fetch_open kind view) passes.fetches_now ∙ open_kept kind view (is_lacking wanted x) (λ f here. lacks kind view f here (not_or (holds wanted x kind view) _ un)) old.repair.fetches.wanted.items before)
