@@ -55,7 +55,7 @@ use Rattle.simplex_plan.specs.declared.task.Task.TheVariants as task
 use Rattle.std.specs.List.{list_any}
 use Rattle.std.specs.Option.{option_map_or}
 use Rattle.std.proofs.lemmas.Bool.Decides.{nat_tests}
-use Rattle.simplex_plan.specs.Asking.{asks, ended_by, is_lack, is_plain, is_resolve, with_lack, AreMade, IsStill, KeepsAsking}
+use Rattle.simplex_plan.specs.Asking.{asks, ended_by, heard_by, is_lack, is_plain, is_resolve, with_lack, AreMade, IsStill, KeepsAsking}
 use Rattle.simplex_plan.proofs.StillAsking.{asks_beside, asks_where_same, ended_on, keeps_asking, made_on, AsksOn}
 use Rattle.simplex_laws.specs.LifeLaws.{WhileAlive}
 use Rattle.simplex_outbox.specs.Going.{HasRisen}
@@ -76,7 +76,7 @@ use Rattle.simplex_engine.specs.declared.input.Input.TheVariants as input
 use Rattle.simplex_engine.specs.Acting.{verification_of}
 use Rattle.simplex_engine.specs.Admitting.{keeps_early, IsKeptEarly}
 use Rattle.simplex_engine.specs.Beginning.{HasBegunWith}
-use Rattle.simplex_engine.specs.Causes.{at_hand, came_in, evidence, given_in, of_counted, shown_against, IsMeant, IsStepMeant, Comes, ComesBy, ComesWith, is_final, ComesAlone, HasNoLack}
+use Rattle.simplex_engine.specs.Causes.{at_hand, came_in, evidence, given_in, heard_in, of_counted, shown_against, IsMeant, IsStepMeant, Comes, ComesBy, ComesWith, is_final, ComesAlone, HasNoLack}
 
 module _ {S L D K G C : Type 0} (now : ℕ) {matters more : List (Matter S D K G C)} (among : AreAmong matters more) (m : MemberFacts K L D) where
   -- a step comes of more
@@ -158,85 +158,113 @@ final_further {K = K} {L = L} {D = D} before after risen view un = by_life befor
 pub risen_facts : {K L D : Type 0} {before after : MemberFacts K L D} → after ≡ before → WhileAlive HasRisen before.life after.life
 risen_facts {K = K} {L = L} {D = D} {before = before} is = subst (λ (m : MemberFacts K L D). WhileAlive HasRisen before.life m.life) (sym is) (risen_not before)
 
-module _ {S L D K G C : Type 0} {same : D → D → Bool} {elect : Elect L} {bytes_of : C → List ℕ} {now : ℕ} where
+-- the resolver is told of the replies one behind the other
+heard_further : {S L D K G C : Type 0} (bytes : D → List ℕ) (bytes_of : C → List ℕ) (steps more : List (StepFacts K L D × Reply S D K G C))
+    → heard_in bytes bytes_of (steps ++ more) ≡ heard_in bytes bytes_of steps ++ heard_in bytes bytes_of more
+heard_further bytes bytes_of [] more = refl
+heard_further bytes bytes_of ((Calls call, reply) ∷ rest) more =
+    ap (λ calls. heard_by bytes bytes_of reply call ++ calls) (heard_further bytes bytes_of rest more)
+    ∙ sym (append_assoc (heard_by bytes bytes_of reply call) (heard_in bytes bytes_of rest) (heard_in bytes bytes_of more))
+heard_further bytes bytes_of ((Prunes, reply) ∷ rest) more = heard_further bytes bytes_of rest more
+heard_further bytes bytes_of ((Restarts restart, reply) ∷ rest) more = heard_further bytes bytes_of rest more
+
+module _ {S L D K G C : Type 0} {same : D → D → Bool} {elect : Elect L} {bytes : D → List ℕ} {bytes_of : C → List ℕ} {now : ℕ} where
   pub comes_then : {came : List (Matter S D K G C)} {out : List (Work S D K G C)} {held holds : FetchKind → ℕ → Bool} {a b c : Engine S L D K G C}
-      → Comes same elect bytes_of now came [] held a b → ((kind : FetchKind) (view : ℕ) → holds kind view ≡ false → held kind view ≡ false)
-      → WhileAlive HasRisen b.core.member.facts.life c.core.member.facts.life → Comes same elect bytes_of now [] out holds b c → Comes same elect bytes_of now came out holds a c
+      → Comes same elect bytes bytes_of now came [] held a b → ((kind : FetchKind) (view : ℕ) → holds kind view ≡ false → held kind view ≡ false)
+      → WhileAlive HasRisen b.core.member.facts.life c.core.member.facts.life → Comes same elect bytes bytes_of now [] out holds b c → Comes same elect bytes bytes_of now came out holds a c
   comes_then {came = came} {out = out} {held = held} {holds = holds} {a = a} {b = b} {c = c} first within risen second = record {
-    calls = first.calls ++ second.calls;
-    resolver = made_on a.plan.repair.resolver b.plan.repair.resolver c.plan.repair.resolver first.calls second.calls first.resolver second.resolver;
     steps = first.steps ++ second.steps;
-    by_steps = joined same elect bytes_of now (asks b.plan) (asks c.plan)
-        (λ kind view. held kind view || (is_final b.core.member.facts view || ended_by a.plan.repair.resolver.state first.calls kind view))
-        (λ kind view. holds kind view || (is_final c.core.member.facts view || ended_by b.plan.repair.resolver.state second.calls kind view))
-        (λ kind view. holds kind view || (is_final c.core.member.facts view || ended_by a.plan.repair.resolver.state (first.calls ++ second.calls) kind view))
-        (λ kind view un.
-        let parts = not_or (holds kind view) _ un in
-        let rest = not_or (is_final c.core.member.facts view) _ parts.1 in
-        none_of (held kind view) (is_final b.core.member.facts view) _ (within kind view parts.0) (final_further b.core.member.facts c.core.member.facts risen view rest.0)
-        (ended_on a.plan.repair.resolver b.plan.repair.resolver first.calls second.calls first.resolver kind view rest.1).0)
-        (λ kind view un.
-        let parts = not_or (holds kind view) _ un in
-        let rest = not_or (is_final c.core.member.facts view) _ parts.1 in
-        none_of (holds kind view) (is_final c.core.member.facts view) _ parts.0 rest.0
-        (ended_on a.plan.repair.resolver b.plan.repair.resolver first.calls second.calls first.resolver kind view rest.1).1)
-        first.steps second.steps (came ++ at_hand a) (at_hand b) (of_works out ++ at_hand c) (with_lack (asks a.plan) came) a.core.member.facts b.core.member.facts c.core.member.facts
-        first.by_steps second.by_steps;
+    heard = both.1;
+    by_steps = both.0;
   }
     where
+      heard : List (StepFacts K L D × Reply S D K G C) → List Call
+      heard = heard_in bytes bytes_of
+
+      ends : Plan S D K G C → List Call → FetchKind → ℕ → Bool
+      ends plan calls kind view = ended_by plan.repair.resolver.state calls kind view
+
       none_of : (x y z : Bool) → x ≡ false → y ≡ false → z ≡ false → (x || (y || z)) ≡ false
       none_of true y z p q r = p
       none_of false true z p q r = q
       none_of false false z p q r = r
 
+      both : ComesBy same elect bytes_of now (asks c.plan) (λ kind view. holds kind view || (is_final c.core.member.facts view || ends a.plan (heard (first.steps ++ second.steps)) kind view))
+          (first.steps ++ second.steps) (came ++ at_hand a) (with_lack (asks a.plan) came) a.core.member.facts (of_works out ++ at_hand c) c.core.member.facts
+          × AreMade a.plan.repair.resolver (heard (first.steps ++ second.steps)) c.plan.repair.resolver
+      both =
+          subst (λ calls. ComesBy same elect bytes_of now (asks c.plan) (λ kind view. holds kind view || (is_final c.core.member.facts view || ends a.plan calls kind view))
+          (first.steps ++ second.steps) (came ++ at_hand a) (with_lack (asks a.plan) came) a.core.member.facts (of_works out ++ at_hand c) c.core.member.facts
+          × AreMade a.plan.repair.resolver calls c.plan.repair.resolver) (sym (heard_further bytes bytes_of first.steps second.steps)) (
+            joined same elect bytes_of now (asks b.plan) (asks c.plan) (λ kind view. held kind view || (is_final b.core.member.facts view || ends a.plan (heard first.steps) kind view))
+                (λ kind view. holds kind view || (is_final c.core.member.facts view || ends b.plan (heard second.steps) kind view))
+                (λ kind view. holds kind view || (is_final c.core.member.facts view || ends a.plan (heard first.steps ++ heard second.steps) kind view))
+                (λ kind view un.
+                let parts = not_or (holds kind view) _ un in
+                let rest = not_or (is_final c.core.member.facts view) _ parts.1 in
+                none_of (held kind view) (is_final b.core.member.facts view) _ (within kind view parts.0) (final_further b.core.member.facts c.core.member.facts risen view rest.0)
+                (ended_on a.plan.repair.resolver b.plan.repair.resolver (heard first.steps) (heard second.steps) first.heard kind view rest.1).0)
+                (λ kind view un.
+                let parts = not_or (holds kind view) _ un in
+                let rest = not_or (is_final c.core.member.facts view) _ parts.1 in
+                none_of (holds kind view) (is_final c.core.member.facts view) _ parts.0 rest.0
+                (ended_on a.plan.repair.resolver b.plan.repair.resolver (heard first.steps) (heard second.steps) first.heard kind view rest.1).1)
+                first.steps second.steps (came ++ at_hand a) (at_hand b) (of_works out ++ at_hand c) (with_lack (asks a.plan) came) a.core.member.facts b.core.member.facts c.core.member.facts
+                first.by_steps second.by_steps,
+            made_on a.plan.repair.resolver b.plan.repair.resolver c.plan.repair.resolver (heard first.steps) (heard second.steps) first.heard second.heard,
+          )
+
   pub comes_on : {came : List (Matter S D K G C)} {out : List (Work S D K G C)} {holds : FetchKind → ℕ → Bool} {a b c : Engine S L D K G C}
-      → ComesWith same elect bytes_of now came a b → WhileAlive HasRisen b.core.member.facts.life c.core.member.facts.life → Comes same elect bytes_of now [] out holds b c
-      → Comes same elect bytes_of now came out holds a c
+      → ComesWith same elect bytes bytes_of now came a b → WhileAlive HasRisen b.core.member.facts.life c.core.member.facts.life → Comes same elect bytes bytes_of now [] out holds b c
+      → Comes same elect bytes bytes_of now came out holds a c
   comes_on first risen second = comes_then first (λ kind view un. refl) risen second
 
   -- the member is the same
   pub comes_same : {came : List (Matter S D K G C)} {out : List (Work S D K G C)} {held : FetchKind → ℕ → Bool} {a b : Engine S L D K G C} → b.core.member.facts ≡ a.core.member.facts
-      → AreAmong (of_works out ++ at_hand b) (came ++ at_hand a) → KeepsAsking came (λ kind view. held kind view || is_final b.core.member.facts view) a.plan b.plan
-      → Comes same elect bytes_of now came out held a b
+      → AreAmong (of_works out ++ at_hand b) (came ++ at_hand a) → KeepsAsking came (λ kind view. held kind view || is_final b.core.member.facts view) [] a.plan b.plan
+      → Comes same elect bytes bytes_of now came out held a b
   comes_same {held = held} {a = a} {b = b} is among keeps = record {
-    calls = keeps.calls;
-    resolver = keeps.told;
     steps = [];
+    heard = keeps.told;
     by_steps = (
       among,
       is,
       λ kind view it un. keeps.still kind view it
-          (regrouped (held kind view) (is_final b.core.member.facts view) (ended_by a.plan.repair.resolver.state keeps.calls kind view) un),
+          (regrouped (held kind view) (is_final b.core.member.facts view) (ended_by a.plan.repair.resolver.state [] kind view) un),
     );
   }
 
   -- and the plan
   pub comes_still : {came : List (Matter S D K G C)} {out : List (Work S D K G C)} {held : FetchKind → ℕ → Bool} {a b : Engine S L D K G C} → b.core.member.facts ≡ a.core.member.facts → b.plan ≡ a.plan
-      → HasNoLack came → AreAmong (of_works out ++ at_hand b) (came ++ at_hand a) → Comes same elect bytes_of now came out held a b
+      → HasNoLack came → AreAmong (of_works out ++ at_hand b) (came ++ at_hand a) → Comes same elect bytes bytes_of now came out held a b
   comes_still {came = came} {held = held} {b = b} is plan none among = comes_same is among (asks_beside came none (asks_where_same (λ kind view. held kind view || is_final b.core.member.facts view) plan))
 
   -- a call is made
   pub comes_called : {came : List (Matter S D K G C)} {a b : Engine S L D K G C} (asked : CallFacts D) (answer : Reply S D K G C) → HasNoLack came
       → IsMeant now (came ++ at_hand a) a.core.member.facts asked → IsCall same elect a.core.member.facts asked (told bytes_of answer) b.core.member.facts
-      → AreAmong (at_hand b) ((came ++ at_hand a) ++ given_by now answer asked) → KeepsAsking (given_by now answer asked) (λ kind view. is_final b.core.member.facts view) a.plan b.plan
-      → ComesWith same elect bytes_of now came a b
+      → AreAmong (at_hand b) ((came ++ at_hand a) ++ given_by now answer asked) → KeepsAsking (given_by now answer asked) (λ kind view. is_final b.core.member.facts view) (heard_by bytes bytes_of answer asked) a.plan b.plan
+      → ComesWith same elect bytes bytes_of now came a b
   comes_called {came = came} {a = a} {b = b} asked answer none meant called among keeps = record {
-    calls = keeps.calls;
-    resolver = keeps.told;
     steps = (Calls asked, answer) ∷ [];
-    by_steps = (meant, b.core.member.facts, called, (among, refl, λ kind view it un. keeps.still kind view (without kind view it) un));
+    heard = alone.told;
+    by_steps = (meant, b.core.member.facts, called, (among, refl, λ kind view it un. alone.still kind view (without kind view it) un));
   }
     where
+      -- nothing is told besides
+      alone : KeepsAsking (given_by now answer asked) (λ kind view. is_final b.core.member.facts view) (heard_by bytes bytes_of answer asked ++ []) a.plan b.plan
+      alone =
+          subst (λ calls. KeepsAsking (given_by now answer asked) (λ kind view. is_final b.core.member.facts view) calls a.plan b.plan)
+          (sym (append-nil (heard_by bytes bytes_of answer asked))) keeps
+
       without : (kind : FetchKind) (view : ℕ) → with_lack (with_lack (asks a.plan) came) (given_by now answer asked) kind view ≡ true
           → with_lack (asks a.plan) (given_by now answer asked) kind view ≡ true
       without kind view it = sym (ap (λ t. t || list_any (is_lack kind view) (given_by now answer asked)) (ap (λ t. asks a.plan kind view || t) (none kind view) ∙ or_none (asks a.plan kind view))) ∙ it
 
   -- the record is pruned
-  pub comes_pruned : {a b : Engine S L D K G C} → b.core.member.facts ≡ pruned_member a.core.member.facts → b.plan ≡ a.plan → AreAmong (at_hand b) (at_hand a) → ComesAlone same elect bytes_of now a b
+  pub comes_pruned : {a b : Engine S L D K G C} → b.core.member.facts ≡ pruned_member a.core.member.facts → b.plan ≡ a.plan → AreAmong (at_hand b) (at_hand a) → ComesAlone same elect bytes bytes_of now a b
   comes_pruned {a = a} {b = b} is plan among = record {
-    calls = [];
-    resolver = ap (λ (p : Plan S D K G C). p.repair.resolver) plan;
     steps = (Prunes, reply.Unit) ∷ [];
+    heard = ap (λ (p : Plan S D K G C). p.repair.resolver) plan;
     by_steps = (
       tt,
       b.core.member.facts,
@@ -250,13 +278,12 @@ module _ {S L D K G C : Type 0} {same : D → D → Bool} {elect : Elect L} {byt
   }
 
   -- of more
-  pub comes_wider : {came more : List (Matter S D K G C)} {a b : Engine S L D K G C} → AreAmong came more → HasNoLack more → ComesWith same elect bytes_of now came a b
-      → ComesWith same elect bytes_of now more a b
+  pub comes_wider : {came more : List (Matter S D K G C)} {a b : Engine S L D K G C} → AreAmong came more → HasNoLack more → ComesWith same elect bytes bytes_of now came a b
+      → ComesWith same elect bytes bytes_of now more a b
   comes_wider {came = came} {more = more} {a = a} {b = b} among none is = record {
-    calls = is.calls;
-    resolver = is.resolver;
     steps = is.steps;
-    by_steps = by_more same elect bytes_of now (asks b.plan) is.steps (over_by is.calls) (over_by is.calls) (came ++ at_hand a) (more ++ at_hand a) (at_hand b) (with_lack (asks a.plan) came)
+    heard = is.heard;
+    by_steps = by_more same elect bytes_of now (asks b.plan) is.steps (over_by (heard_in bytes bytes_of is.steps)) (over_by (heard_in bytes bytes_of is.steps)) (came ++ at_hand a) (more ++ at_hand a) (at_hand b) (with_lack (asks a.plan) came)
         (with_lack (asks a.plan) more) a.core.member.facts b.core.member.facts (among_both among (among_still (at_hand a)))
         (λ kind view it un. or_left (asks a.plan kind view) (list_any (is_lack kind view) came)
         (or_nothing (asks a.plan kind view) (sym (ap (λ t. asks a.plan kind view || t) (none kind view)) ∙ it))) (λ kind view un. un) is.by_steps;
@@ -267,11 +294,10 @@ module _ {S L D K G C : Type 0} {same : D → D → Bool} {elect : Elect L} {byt
 
   -- before it nothing was done
   pub comes_before : {out : List (Work S D K G C)} {held : FetchKind → ℕ → Bool} {a mid b : Engine S L D K G C} → mid.core.member.facts ≡ a.core.member.facts → mid.plan ≡ a.plan
-      → AreAmong (at_hand mid) (at_hand a) → Comes same elect bytes_of now [] out held mid b → Comes same elect bytes_of now [] out held a b
+      → AreAmong (at_hand mid) (at_hand a) → Comes same elect bytes bytes_of now [] out held mid b → Comes same elect bytes bytes_of now [] out held a b
   comes_before {out = out} {held = held} {a = a} {mid = mid} {b = b} facts plan among is = record {
-    calls = is.calls;
-    resolver = subst (λ (p : Plan S D K G C). AreMade p.repair.resolver is.calls b.plan.repair.resolver) plan is.resolver;
     steps = is.steps;
+    heard = subst (λ (p : Plan S D K G C). AreMade p.repair.resolver (heard_in bytes bytes_of is.steps) b.plan.repair.resolver) plan is.heard;
     by_steps = subst (λ (m : MemberFacts K L D). ComesBy same elect bytes_of now (asks b.plan) (over_by a.plan) is.steps (at_hand a) (λ kind view. asks a.plan kind view || false) m (of_works out ++ at_hand b)
         b.core.member.facts) facts
         (by_more same elect bytes_of now (asks b.plan) is.steps (over_by mid.plan) (over_by a.plan) (at_hand mid) (at_hand a) (of_works out ++ at_hand b) (λ kind view. asks mid.plan kind view || false)
@@ -280,25 +306,24 @@ module _ {S L D K G C : Type 0} {same : D → D → Bool} {elect : Elect L} {byt
   }
     where
       over_by : Plan S D K G C → FetchKind → ℕ → Bool
-      over_by p kind view = held kind view || (is_final b.core.member.facts view || ended_by p.repair.resolver.state is.calls kind view)
+      over_by p kind view = held kind view || (is_final b.core.member.facts view || ended_by p.repair.resolver.state (heard_in bytes bytes_of is.steps) kind view)
 
   -- the step in front is taken
   pub comes_taken : (front : Step S D K G C) {a mid b : Engine S L D K G C} → mid.core ≡ a.core → AreAmong (of_step front ++ at_hand mid) (at_hand a) → AsksOn (front ∷ []) a.plan mid.plan
-      → ComesWith same elect bytes_of now (of_step front) mid b → ComesAlone same elect bytes_of now a b
+      → ComesWith same elect bytes bytes_of now (of_step front) mid b → ComesAlone same elect bytes bytes_of now a b
   comes_taken front {a = a} {mid = mid} {b = b} core among asks_as is = record {
-    calls = is.calls;
-    resolver = subst (λ (r : LawfulResolverFacts). AreMade r is.calls b.plan.repair.resolver) asks_as.0 is.resolver;
     steps = is.steps;
+    heard = subst (λ (r : LawfulResolverFacts). AreMade r (heard_in bytes bytes_of is.steps) b.plan.repair.resolver) asks_as.0 is.heard;
     by_steps = subst (λ (it : Journaled S L D K G C). ComesBy same elect bytes_of now (asks b.plan) (over_by a.plan.repair.resolver) is.steps (at_hand a) (λ kind view. asks a.plan kind view || false) it.member.facts (at_hand b)
         b.core.member.facts) core
         (by_more same elect bytes_of now (asks b.plan) is.steps (over_by mid.plan.repair.resolver) (over_by a.plan.repair.resolver) (of_step front ++ at_hand mid) (at_hand a) (at_hand b)
         (with_lack (asks mid.plan) (of_step front)) (λ kind view. asks a.plan kind view || false) mid.core.member.facts b.core.member.facts among
         (λ kind view it un. from_step kind view front (or_cases (list_any (is_resolve kind view) (front ∷ [])) (asks mid.plan kind view) (asks_as.1 kind view (or_nothing (asks a.plan kind view) it))))
-        (λ kind view un. ap (λ (r : LawfulResolverFacts). is_final b.core.member.facts view || ended_by r.state is.calls kind view) asks_as.0 ∙ un) is.by_steps);
+        (λ kind view un. ap (λ (r : LawfulResolverFacts). is_final b.core.member.facts view || ended_by r.state (heard_in bytes bytes_of is.steps) kind view) asks_as.0 ∙ un) is.by_steps);
   }
     where
       over_by : LawfulResolverFacts → FetchKind → ℕ → Bool
-      over_by r kind view = is_final b.core.member.facts view || ended_by r.state is.calls kind view
+      over_by r kind view = is_final b.core.member.facts view || ended_by r.state (heard_in bytes bytes_of is.steps) kind view
 
       from_step : (kind : FetchKind) (view : ℕ) (it : Step S D K G C) → (list_any (is_resolve kind view) (it ∷ []) ≡ true) ⊎ (asks mid.plan kind view ≡ true)
           → with_lack (asks mid.plan) (of_step it) kind view ≡ true
@@ -409,15 +434,15 @@ module _ {S L D K G C : Type 0} where
           (among_both (in_early a.plan) (among_still (Arrival from proposal ∷ [])))
       by_test false = among_further (in_early a.plan) (among_more (planned_matters a.plan) (Arrival from proposal ∷ []))
 
-module _ {S L D K G C : Type 0} (same : D → D → Bool) (elect : Elect L) (bytes_of : C → List ℕ) (now : ℕ) where
+module _ {S L D K G C : Type 0} (same : D → D → Bool) (elect : Elect L) (bytes : D → List ℕ) (bytes_of : C → List ℕ) (now : ℕ) where
   -- whether the application found a proposal valid was told
   pub told_verified : {X E : Type 0} (is_valid : Bool) (view : ℕ) (a b : Engine S L D K G C) {asked : Task D} (r : Result X E) → asked ≡ verification_of is_valid view
-      → OnOk r ((came : List (Matter S D K G C)) → HasNoLack came → IsMeant now (came ++ at_hand a) a.core.member.facts (call_of asked now) → ComesWith same elect bytes_of now came a b)
-      → OnOk r (ComesWith same elect bytes_of now (Message (verification_of is_valid view) ∷ []) a b)
+      → OnOk r ((came : List (Matter S D K G C)) → HasNoLack came → IsMeant now (came ++ at_hand a) a.core.member.facts (call_of asked now) → ComesWith same elect bytes bytes_of now came a b)
+      → OnOk r (ComesWith same elect bytes bytes_of now (Message (verification_of is_valid view) ∷ []) a b)
   told_verified is_valid view a b (Err e) is comes = tt
   told_verified is_valid view a b {asked} (Ok x) is comes = by_test is_valid is
     where
-      by_test : (t : Bool) → asked ≡ verification_of t view → ComesWith same elect bytes_of now (Message (verification_of t view) ∷ []) a b
+      by_test : (t : Bool) → asked ≡ verification_of t view → ComesWith same elect bytes bytes_of now (Message (verification_of t view) ∷ []) a b
       by_test true is_it =
           comes (Message (task.Verified view) ∷ []) (λ kind v. refl) (inl (task.Verified view, ap (λ it. call_of it now) is_it, among_more (Message (task.Verified view) ∷ []) (at_hand a)))
       by_test false is_it =
@@ -427,7 +452,7 @@ module _ {S L D K G C : Type 0} (same : D → D → Bool) (elect : Elect L) (byt
 -- ---- fetches
 
 module _ {S D K G C : Type 0} where
-  pub asks_none : {old new : Plan S D K G C} {over : FetchKind → ℕ → Bool} → AsksOn [] old new → KeepsAsking [] over old new
+  pub asks_none : {old new : Plan S D K G C} {over : FetchKind → ℕ → Bool} → AsksOn [] old new → KeepsAsking [] over [] old new
   asks_none {over = over} is = keeps_asking over is.0 (λ kind view asked un. is.1 kind view asked)
 
   pub resolved : {X E : Type 0} (r : Result X E) (kind : FetchKind) (view first moment : ℕ) (old new : Plan S D K G C) → new ≡ record old { repair = new.repair }
@@ -558,6 +583,7 @@ module _ {K D : Type 0} where
   tells_plain (call.Candidates _ _) = false
   tells_plain (call.Handed _) = false
   tells_plain (call.TimesOut _) = false
+  tells_plain (call.Judged _ _) = false
   tells_plain _ = true
 
 module _ {K L D : Type 0} (same : D → D → Bool) (elect : Elect L) (m left : MemberFacts K L D) (now : ℕ) (tells : Told K D) where

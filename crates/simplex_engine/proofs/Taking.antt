@@ -136,7 +136,7 @@ module _ {S D K G C : Type 0} where
   keeps_votes (input.Certified view success) old new same = same
   keeps_votes (input.GivenUp view reason) old new same = same
 
-module _ {S L D K G C : Type 0} (same : D → D → Bool) (elect : Elect L) (bytes_of : C → List ℕ)
+module _ {S L D K G C : Type 0} (same : D → D → Bool) (elect : Elect L) (bytes : D → List ℕ) (bytes_of : C → List ℕ)
     (IsMadeOf : S → Subject D → List (ℕ × G) → C → Type 0) (keys_of : S → List K) (now : ℕ) where
   abbrev facts_of : Engine S L D K G C → MemberFacts K L D
   facts_of engine = engine.core.member.facts
@@ -175,11 +175,11 @@ module _ {S L D K G C : Type 0} (same : D → D → Bool) (elect : Elect L) (byt
       → IsBackedInput same elect bytes_of (length (keys_of old.batcher.scheme)) what old.batcher old.core new.core
       → StaysBounded keys_of old.core old.batcher new.core new.batcher
       → IfOk answer (λ is_of_use. IsFalse is_of_use → HoldsAllTheSame old.batcher new.batcher) → OnOk answer (KeepsDuties old new)
-      → OnOk answer (ComesWith same elect bytes_of now (came_in bytes_of old.batcher what) old new)
+      → OnOk answer (ComesWith same elect bytes bytes_of now (came_in bytes_of old.batcher what) old new)
       → (IsFalse (is_input_admitted bytes_of (facts_of old) what) → IfOk answer (λ is_of_use. IsFalse is_of_use × IsTurnedAway what old new))
       → (IsTrue (is_input_admitted bytes_of (facts_of old) what)
       → IfOk answer (IsActedOn same elect bytes_of IsMadeOf keys_of now what old (facts_of new) new.batcher new.plan.steps.items))
-      → IsInputTaken same elect bytes_of IsMadeOf keys_of now what old old new answer
+      → IsInputTaken same elect bytes bytes_of IsMadeOf keys_of now what old old new answer
   taken what old new answer went votes held backed bounded kept duties comes unadmitted acted = record {
     goes_on = went;
     votes = votes;
@@ -207,13 +207,13 @@ module _ {S L D K G C : Type 0} (same : D → D → Bool) (elect : Elect L) (byt
   pub taken_alone : {E : Type 0} (told what : Input S D K G C) (old new : Engine S L D K G C) (answer : Result Bool E) → told ≡ what
       → GoesOn same elect bytes_of (subject_in bytes_of what) old.core new.core → new.batcher ≡ old.batcher
       → IsBackedInput same elect bytes_of (length (keys_of old.batcher.scheme)) what old.batcher old.core new.core → OnOk answer (KeepsDuties old new)
-      → OnOk answer (ComesWith same elect bytes_of now (came_in bytes_of old.batcher what) old new)
+      → OnOk answer (ComesWith same elect bytes bytes_of now (came_in bytes_of old.batcher what) old new)
       → (IsFalse (is_input_admitted bytes_of (facts_of old) what) → IfOk answer (λ is_of_use. IsFalse is_of_use × IsTurnedAway what old new))
       → (IsTrue (is_input_admitted bytes_of (facts_of old) what)
       → IfOk answer (IsActedOn same elect bytes_of IsMadeOf keys_of now what old (facts_of new) new.batcher new.plan.steps.items))
-      → IsInputTaken same elect bytes_of IsMadeOf keys_of now told old old new answer
+      → IsInputTaken same elect bytes bytes_of IsMadeOf keys_of now told old old new answer
   taken_alone told what old new answer is went kept backed duties comes unadmitted acted =
-      subst (λ input. IsInputTaken same elect bytes_of IsMadeOf keys_of now input old old new answer) (sym is)
+      subst (λ input. IsInputTaken same elect bytes bytes_of IsMadeOf keys_of now input old old new answer) (sym is)
       (taken what old new answer went (takes_anyway (takes_same kept)) (keeps_votes what old.batcher new.batcher kept) backed (bounded_still keys_of went (takes_same kept))
       (always_ok answer (λ is_of_use vain. held_same old.batcher new.batcher kept)) duties comes unadmitted acted)
 
@@ -229,8 +229,8 @@ module _ {S L D K G C : Type 0} (same : D → D → Bool) (elect : Elect L) (byt
       → GoesOn same elect bytes_of (subject_made bytes_of counted) old.core new.core → new.batcher ≡ batcher
       → IfOk answer (IsCountFollowed same elect bytes_of now counted old.plan.steps.items (facts_of old) new.plan.steps.items (facts_of new))
       → OnOk answer (KeepsDuties old new)
-      → OnOk answer (ComesWith same elect bytes_of now (came_in bytes_of old.batcher (input.Vote vote)) old new)
-      → IsInputTaken same elect bytes_of IsMadeOf keys_of now (input.Vote vote) old old new answer
+      → OnOk answer (ComesWith same elect bytes bytes_of now (came_in bytes_of old.batcher (input.Vote vote)) old new)
+      → IsInputTaken same elect bytes bytes_of IsMadeOf keys_of now (input.Vote vote) old old new answer
   taken_counted law vote old new answer batcher counted admits given_by within scheme counts went kept followed duties comes =
       let made = IsMadeOf old.batcher.scheme in
       let members = length (keys_of old.batcher.scheme) in
@@ -249,7 +249,7 @@ module _ {S L D K G C : Type 0} (same : D → D → Bool) (elect : Elect L) (byt
 
   -- where it is not of no use, it was not turned away
   pub taken_otherwise : {E : Type 0} (what : Input S D K G C) (old passed new : Engine S L D K G C) (answer : Result Bool E) → answer ≢ Ok false
-      → IsInputTaken same elect bytes_of IsMadeOf keys_of now what old old new answer → IsInputTaken same elect bytes_of IsMadeOf keys_of now what old passed new answer
+      → IsInputTaken same elect bytes bytes_of IsMadeOf keys_of now what old old new answer → IsInputTaken same elect bytes bytes_of IsMadeOf keys_of now what old passed new answer
   taken_otherwise what old passed new answer otherwise turns = record {
     goes_on = turns.goes_on;
     votes = turns.votes;
@@ -285,11 +285,11 @@ module _ {S L D K G C : Type 0} (same : D → D → Bool) (elect : Elect L) (byt
   turned_ignored (input.GivenUp view reason) old new turned = ap ignoring turned
 
   -- that it was not, which is counted
-  pub taken_of_no_use : {E : Type 0} (what : Input S D K G C) (old mid new : Engine S L D K G C) (answer : Result Bool E) → answer ≡ Ok false → new ≡ ignoring mid → IsInputTaken same elect bytes_of IsMadeOf keys_of now what old old mid answer
-      → IsInputTaken {E = E} same elect bytes_of IsMadeOf keys_of now what old (ignoring old) new (Ok false)
+  pub taken_of_no_use : {E : Type 0} (what : Input S D K G C) (old mid new : Engine S L D K G C) (answer : Result Bool E) → answer ≡ Ok false → new ≡ ignoring mid → IsInputTaken same elect bytes bytes_of IsMadeOf keys_of now what old old mid answer
+      → IsInputTaken {E = E} same elect bytes bytes_of IsMadeOf keys_of now what old (ignoring old) new (Ok false)
   taken_of_no_use {E = E} what old mid new answer is ignored was =
-      let taken = subst (IsInputTaken same elect bytes_of IsMadeOf keys_of now what old old mid) is was in
-      subst (λ engine. IsInputTaken {E = E} same elect bytes_of IsMadeOf keys_of now what old (ignoring old) engine (Ok false)) (sym ignored)
+      let taken = subst (IsInputTaken same elect bytes bytes_of IsMadeOf keys_of now what old old mid) is was in
+      subst (λ engine. IsInputTaken {E = E} same elect bytes bytes_of IsMadeOf keys_of now what old (ignoring old) engine (Ok false)) (sym ignored)
       (record {
         goes_on = taken.goes_on;
         votes = taken.votes;
@@ -301,5 +301,5 @@ module _ {S L D K G C : Type 0} (same : D → D → Bool) (elect : Elect L) (byt
         acted = taken.acted;
         duties = record { stays = λ work told. (let is = taken.duties.stays work told in record { verified = is.verified; certified = is.certified; built = is.built }); works = taken.duties.works; near = taken.duties.near; seen = taken.duties.seen; early = taken.duties.early; constants = taken.duties.constants };
         ignored = ap one_more taken.ignored;
-        comes = record { calls = taken.comes.calls; resolver = taken.comes.resolver; steps = taken.comes.steps; by_steps = taken.comes.by_steps };
+        comes = record { steps = taken.comes.steps; heard = taken.comes.heard; by_steps = taken.comes.by_steps };
       })

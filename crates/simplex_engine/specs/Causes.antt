@@ -31,7 +31,7 @@ use Rattle.simplex_outbox.specs.declared.output.Work.TheVariants.{Equivocated}
 use Rattle.simplex_plan.specs.declared.task.Task.{Task}
 use Rattle.simplex_plan.specs.declared.task.Task.TheVariants as task
 use Rattle.simplex_plan.specs.Matters.{Matter, Duty, Arrival, Quorum, Message, given_by, of_task, of_works, planned_matters}
-use Rattle.simplex_plan.specs.Asking.{asks, ended_by, is_lack, with_lack, AreMade, IsStill}
+use Rattle.simplex_plan.specs.Asking.{asks, ended_by, heard_by, is_lack, with_lack, AreMade, IsStill}
 use Rattle.simplex_plan.specs.PlannedWork.{AreAmong}
 use Rattle.simplex_plan.specs.Tasks.{call_of}
 use Rattle.simplex_engine.specs.Acting.{verification_of}
@@ -100,6 +100,12 @@ module _ {S L D K G C : Type 0} (now : ℕ) where
 abbrev pub is_final : {K L D : Type 0} → MemberFacts K L D → ℕ → Bool
 is_final m view = option_map_or (λ x. nat_le view x.finalized) m.life true
 
+-- what a resolver is told by steps, one behind the other
+abbrev pub heard_in : {S L D K G C : Type 0} → (D → List ℕ) → (C → List ℕ) → List (StepFacts K L D × Reply S D K G C) → List Call
+heard_in bytes bytes_of [] = []
+heard_in bytes bytes_of ((Calls call, reply) ∷ rest) = heard_by bytes bytes_of reply call ++ heard_in bytes bytes_of rest
+heard_in bytes bytes_of (_ ∷ rest) = heard_in bytes bytes_of rest
+
 module _ {S L D K G C : Type 0} (same : D → D → Bool) (elect : Elect L) (bytes_of : C → List ℕ) (now : ℕ) where
   -- from a member with this at hand to another with that, by these steps and their replies, one behind the other: each comes of what
   -- is at hand, with what the replies before it gave, and so does what is at hand in the end; and each certificate that was asked for,
@@ -114,15 +120,16 @@ module _ {S L D K G C : Type 0} (same : D → D → Bool) (elect : Elect L) (byt
       × IsStep same elect m step (told bytes_of reply) next
       × ComesBy asks_now is_over rest (matters ++ given) (with_lack asked given) next left end
 
+module _ {S L D K G C : Type 0} (same : D → D → Bool) (elect : Elect L) (bytes : D → List ℕ) (bytes_of : C → List ℕ) (now : ℕ) where
   -- an engine, where this came in besides, this work was given out, and these certificates need not be asked for: so are those of
-  -- views up to the last finalized one, and those that the resolver ends by what it is told
+  -- views up to the last finalized one, and those that the resolver ends by what it is told, which is what the replies say
   pub record Comes (came : List (Matter S D K G C)) (out : List (Work S D K G C)) (held : FetchKind → ℕ → Bool) (old new : Engine S L D K G C)
       : Type 0 where
-    pub calls : List Call
-    pub resolver : AreMade old.plan.repair.resolver calls new.plan.repair.resolver
     pub steps : List (StepFacts K L D × Reply S D K G C)
-    pub by_steps : ComesBy (asks new.plan)
-        (λ kind view. held kind view || (is_final new.core.member.facts view || ended_by old.plan.repair.resolver.state calls kind view))
+    pub heard : AreMade old.plan.repair.resolver (heard_in bytes bytes_of steps) new.plan.repair.resolver
+    pub by_steps : ComesBy same elect bytes_of now (asks new.plan)
+        (λ kind view. held kind view
+        || (is_final new.core.member.facts view || ended_by old.plan.repair.resolver.state (heard_in bytes bytes_of steps) kind view))
         steps (came ++ at_hand old) (with_lack (asks old.plan) came) old.core.member.facts (of_works out ++ at_hand new) new.core.member.facts
 
   -- where nothing is given out, and each certificate is to be asked for

@@ -15,7 +15,7 @@ use Rattle.simplex_outbox.specs.Going.{GoesOn}
 use Rattle.simplex_engine.specs.Inputs.{subject_in}
 
 -- what `Engine::handle` says of an engine before and after, by its answer; an input that is turned away leaves it as it passed
-pub record IsInputTaken {S L D K G C E : Type 0} (same : D → D → Bool) (elect : Elect L) (bytes_of : C → List ℕ)
+pub record IsInputTaken {S L D K G C E : Type 0} (same : D → D → Bool) (elect : Elect L) (bytes : D → List ℕ) (bytes_of : C → List ℕ)
     (IsMadeOf : S → Subject D → List (ℕ × G) → C → Type 0) (keys_of : S → List K) (now : ℕ) (what : Input S D K G C)
     (old passed new : Engine S L D K G C) (answer : Result Bool E) : Type 0 where
   pub goes_on : GoesOn same elect bytes_of (subject_in bytes_of what) old.core new.core
@@ -29,4 +29,4 @@ pub record IsInputTaken {S L D K G C E : Type 0} (same : D → D → Bool) (elec
       → IfOk answer (IsActedOn same elect bytes_of IsMadeOf keys_of now what old new.core.member.facts new.batcher new.plan.steps.items)
   pub duties : OnOk answer (KeepsTelling old new)
   pub ignored : IfOk answer (λ is_of_use. new.plan.ignored ≡ (if is_of_use then old.plan.ignored else passed.plan.ignored))
-  pub comes : OnOk answer (ComesWith same elect bytes_of now (came_in bytes_of old.batcher what) old new)
+  pub comes : OnOk answer (ComesWith same elect bytes bytes_of now (came_in bytes_of old.batcher what) old new)

@@ -131,7 +131,8 @@ impl<S: Assembly<D>, L: Elector<S>, D: Digest> Engine<S, L, D> {
         ensures failed { OnErr result (has_failed self.new.core ≡ true) }
         ensures error { IfErr result IsFailure }
         ensures refused { has_failed self.old.core ≡ true → (result ≡ Err Failed) × (self.new ≡ self.old) }
-        ensures comes { OnOk result (ComesWith D.eq L.elect S.certificate_bytes now (came_in S.certificate_bytes self.old.batcher input) self.old self.new) }
+        ensures comes { OnOk result (ComesWith D.eq L.elect D.bytes S.certificate_bytes now (came_in S.certificate_bytes self.old.batcher input)
+            self.old self.new) }
     {
         if self.core.has_failed() {
             return Err(Fault::Failed);
@@ -208,7 +209,7 @@ impl<S: Assembly<D>, L: Elector<S>, D: Digest> Engine<S, L, D> {
         ensures failed { OnErr result (has_failed self.new.core ≡ true) }
         ensures error { IfErr result IsFailure }
         ensures refused { has_failed self.old.core ≡ true → (result ≡ Err Failed) × (self.new ≡ self.old) }
-        ensures comes { OnOk result (Comes D.eq L.elect S.certificate_bytes now [] (work_in (given_out result)) (held_by self.new) self.old self.new) }
+        ensures comes { OnOk result (Comes D.eq L.elect D.bytes S.certificate_bytes now [] (work_in (given_out result)) (held_by self.new) self.old self.new) }
     {
         if self.core.has_failed() {
             return Err(Fault::Failed);
@@ -245,7 +246,7 @@ impl<S: Assembly<D>, L: Elector<S>, D: Digest> Engine<S, L, D> {
         ensures constants { OnOk result (constants_of self.new.plan ≡ constants_of self.old.plan) }
         ensures failed { OnErr result (has_failed self.new.core ≡ true) }
         ensures error { IfErr result IsFailure }
-        ensures comes { OnOk result (Comes D.eq L.elect S.certificate_bytes now [] (work_in (given_out result)) (held_by self.new) self.old self.new) }
+        ensures comes { OnOk result (Comes D.eq L.elect D.bytes S.certificate_bytes now [] (work_in (given_out result)) (held_by self.new) self.old self.new) }
     {
         match self.work(now) {
             Ok(()) => Ok(self.core.next()),

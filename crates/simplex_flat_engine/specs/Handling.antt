@@ -3,6 +3,7 @@ use Rattle.std.specs.Prelude.{◌≡◌, ◌⊎◌, ◌+◌, ◌-◌, ◌^◌, �
 use Rattle.simplex_types.specs.declared.types.fault.Fault.{Fault}
 use Rattle.simplex_types.specs.declared.types.fault.Fault.TheVariants.{Failed}
 use Rattle.simplex_types.specs.declared.types.messages.Subject.{Subject}
+use Rattle.simplex_codec.specs.Digests.{bytes_in_digest}
 use Rattle.simplex_codec.specs.declared.digest.BytesDigest.{BytesDigest}
 use Rattle.simplex_host.specs.declared.scheme.HostCertificate.{HostCertificate}
 use Rattle.simplex_host.specs.declared.scheme.HostScheme.{HostScheme}
@@ -87,7 +88,7 @@ pub record IsTaken (now : ℕ) (input : HostInput) (old : HeldEngine) (r : FlatT
   -- each proposal and block that the application is to be told of stays told
   pub duties : OnOk answer (KeepsTelling old.engine new.engine)
   -- what the member is asked, and what is at hand, comes of the input and of what was at hand; what was asked of peers is still
-  pub comes : OnOk answer (ComesWith same_host_payload host_leader certificate_bytes now (came_in certificate_bytes old.engine.batcher input)
+  pub comes : OnOk answer (ComesWith same_host_payload host_leader bytes_in_digest certificate_bytes now (came_in certificate_bytes old.engine.batcher input)
       old.engine new.engine)
   -- what is of no use is counted, and nothing else
   pub ignored : IfOk answer (λ is_of_use. new.engine.plan.ignored ≡ (if is_of_use then old.engine.plan.ignored else one_more old.engine.plan.ignored))
@@ -216,7 +217,8 @@ pub record IsAsked (now : ℕ) (old : HeldEngine) (r : FlatOutput) (new : HeldEn
       → AreAmong (work_ahead old.engine) (work_in (option_to_list new.last) ++ work_ahead new.engine)
   -- what the member is asked, what is given out and what is at hand comes of what was at hand; and what was asked of peers is still
   pub comes : has_failed new.engine.core ≡ false → new.is_lost ≡ false
-      → Comes same_host_payload host_leader certificate_bytes now [] (work_in (option_to_list new.last)) (held_by new.engine) old.engine new.engine
+      → Comes same_host_payload host_leader bytes_in_digest certificate_bytes now [] (work_in (option_to_list new.last)) (held_by new.engine)
+      old.engine new.engine
   -- no block comes to be built above the first view of the next term
   pub near : has_failed new.engine.core ≡ false → BuildsNear old.engine.core old.engine.plan → BuildsNear new.engine.core new.engine.plan
   -- its views stay the member's

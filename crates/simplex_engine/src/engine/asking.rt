@@ -23,7 +23,7 @@ impl<S: Assembly<D>, L: Elector<S>, D: Digest> Engine<S, L, D> {
     ghost use Rattle.simplex_engine.specs.Acting.{HasDoneTask};
     ghost use Rattle.simplex_engine.specs.Causes.{at_hand, is_final, ComesAlone, ComesWith, HasNoLack, IsMeant};
     ghost use Rattle.simplex_engine.specs.Duties.{KeepsDuties};
-    ghost use Rattle.simplex_plan.specs.Asking.{never, KeepsAsking};
+    ghost use Rattle.simplex_plan.specs.Asking.{heard_by, never, KeepsAsking};
     ghost use Rattle.simplex_plan.specs.Matters.{given_by, planned_matters, Lack};
     ghost use Rattle.simplex_plan.specs.PlannedWork.{AreAmong, KeepsPlanned, KeepsPlannedThen, PlansAnswerThen};
     ghost use Rattle.simplex_engine.specs.Views.{HasComeTo};
@@ -34,7 +34,7 @@ impl<S: Assembly<D>, L: Elector<S>, D: Digest> Engine<S, L, D> {
         ensures nothing { IfOk result (λ nothing. IsTrue nothing
             → AnswerNothing D.eq L.elect self.old.core.member.facts for_work self.new.core.member.facts) }
         ensures duties { OnOk result (KeepsDuties self.old self.new) }
-        ensures comes { OnOk result (ComesAlone D.eq L.elect S.certificate_bytes now self.old self.new) }
+        ensures comes { OnOk result (ComesAlone D.eq L.elect D.bytes S.certificate_bytes now self.old self.new) }
     {
         let mut has_none = self.asks_nothing(Task::Verify, now)?;
         has_none &= self.asks_nothing(Task::Propose, now)?;
@@ -52,7 +52,7 @@ impl<S: Assembly<D>, L: Elector<S>, D: Digest> Engine<S, L, D> {
             → HasNothingDue D.eq L.elect self.new.core.member.facts × (self.new.plan ≡ self.old.plan)) }
         ensures planned { OnOk result (KeepsPlanned self.old.plan self.new.plan) }
         ensures matters { OnOk result (AreAmong (planned_matters self.new.plan) (planned_matters self.old.plan)) }
-        ensures asks { OnOk result (KeepsAsking [] never self.old.plan self.new.plan) }
+        ensures asks { OnOk result (KeepsAsking [] never [] self.old.plan self.new.plan) }
     {
         match self.first_due()? {
             Some(view) => {
@@ -82,7 +82,7 @@ impl<S: Assembly<D>, L: Elector<S>, D: Digest> Engine<S, L, D> {
         ensures duties { OnOk result (KeepsDuties self.old self.new) }
         ensures comes { OnOk result ((came : _) → HasNoLack came
             → IsMeant now (came ++ at_hand self.old) self.old.core.member.facts (call_of task now)
-            → ComesWith D.eq L.elect S.certificate_bytes now came self.old self.new) }
+            → ComesWith D.eq L.elect D.bytes S.certificate_bytes now came self.old self.new) }
     {
         let reply = self.core.call(task.call(now));
         let is_nothing = is_nothing(&reply);
@@ -98,7 +98,7 @@ impl<S: Assembly<D>, L: Elector<S>, D: Digest> Engine<S, L, D> {
         ensures duties { OnOk result (KeepsDuties self.old self.new) }
         ensures comes { OnOk result ((came : _) → HasNoLack came
             → IsMeant now (came ++ at_hand self.old) self.old.core.member.facts (call_of task now)
-            → ComesWith D.eq L.elect S.certificate_bytes now came self.old self.new) }
+            → ComesWith D.eq L.elect D.bytes S.certificate_bytes now came self.old self.new) }
     {
         let reply = self.core.call(task.call(now));
         self.follow(task, reply, now)
@@ -114,7 +114,7 @@ impl<S: Assembly<D>, L: Elector<S>, D: Digest> Engine<S, L, D> {
         ensures matters { OnOk result (AreAmong (planned_matters self.new.plan)
             (planned_matters self.old.plan ++ given_by now reply (call_of task now))) }
         ensures asks { OnOk result (KeepsAsking (given_by now reply (call_of task now)) (λ kind view. is_final self.new.core.member.facts view)
-            self.old.plan self.new.plan) }
+            (heard_by D.bytes S.certificate_bytes reply (call_of task now)) self.old.plan self.new.plan) }
     {
         let is_of_use = !says_nothing(&reply);
         self.see()?;
@@ -129,7 +129,7 @@ impl<S: Assembly<D>, L: Elector<S>, D: Digest> Engine<S, L, D> {
         ensures planned { OnOk result (KeepsPlannedThen self.old.plan self.new.plan) }
         ensures seen { OnOk result (HasComeTo self.new.core.member.facts self.new.plan) }
         ensures matters { OnOk result (AreAmong (planned_matters self.new.plan) (planned_matters self.old.plan)) }
-        ensures asks { OnOk result (KeepsAsking [] (λ kind view. is_final self.new.core.member.facts view) self.old.plan self.new.plan) }
+        ensures asks { OnOk result (KeepsAsking [] (λ kind view. is_final self.new.core.member.facts view) [] self.old.plan self.new.plan) }
     {
         let Some(state) = self.core.state() else {
             return Err(Fault::OutOfMemory);
@@ -154,7 +154,7 @@ impl<S: Assembly<D>, L: Elector<S>, D: Digest> Engine<S, L, D> {
         ensures batcher { self.new.batcher ≡ self.old.batcher }
         ensures planned { KeepsPlanned self.old.plan self.new.plan }
         ensures matters { AreAmong (planned_matters self.new.plan) (planned_matters self.old.plan ++ Lack kind view ∷ []) }
-        ensures asks { OnOk result (KeepsAsking (Lack kind view ∷ []) never self.old.plan self.new.plan) }
+        ensures asks { OnOk result (KeepsAsking (Lack kind view ∷ []) never [] self.old.plan self.new.plan) }
     {
         let leader = self.leader_of(proposal);
         self.plan.resolve(kind, view, leader, now)?;

@@ -28,7 +28,7 @@ impl<S: Assembly<D>, L: Elector<S>, D: Digest> Engine<S, L, D> {
     ghost use Rattle.simplex_engine.specs.Causes.{is_final, of_counted, ComesWith};
     ghost use Rattle.simplex_engine.specs.Duties.{KeepsDuties};
     ghost use Rattle.simplex_outbox.specs.Handing.{hands_in};
-    ghost use Rattle.simplex_plan.specs.Asking.{is_plain, KeepsAsking};
+    ghost use Rattle.simplex_plan.specs.Asking.{heard_by, is_plain, KeepsAsking};
     ghost use Rattle.simplex_plan.specs.Matters.{given_by, planned_matters, Quorum};
     ghost use Rattle.simplex_plan.specs.PlannedWork.{AreAmong, KeepsPlannedThen};
     ghost use Rattle.simplex_engine.specs.Views.{HasComeTo};
@@ -48,7 +48,7 @@ impl<S: Assembly<D>, L: Elector<S>, D: Digest> Engine<S, L, D> {
 
     /// Counts a vote whose round takes votes.
     pub(super) fn count(&mut self, vote: Vote<D, S::Signature>, now: u64) -> Result<bool, Fault>
-        ensures { IsInputTaken D.eq L.elect S.certificate_bytes S.IsMadeOf S.participants now (input.Vote vote) self.old self.old self.new result }
+        ensures { IsInputTaken D.eq L.elect D.bytes S.certificate_bytes S.IsMadeOf S.participants now (input.Vote vote) self.old self.old self.new result }
     {
         if !self.admits_votes(round_of(&vote.subject)) {
             return Ok(false);
@@ -59,7 +59,7 @@ impl<S: Assembly<D>, L: Elector<S>, D: Digest> Engine<S, L, D> {
     /// Counts a vote whose round takes votes, and takes the certificate that it completes.
     fn count_admitted(&mut self, vote: Vote<D, S::Signature>, now: u64) -> Result<bool, Fault>
         requires { IsTrue (is_so (λ x. admits_votes x (subject_round vote.subject)) self.old.core.member.facts) }
-        ensures { IsInputTaken D.eq L.elect S.certificate_bytes S.IsMadeOf S.participants now (input.Vote vote) self.old self.old self.new result }
+        ensures { IsInputTaken D.eq L.elect D.bytes S.certificate_bytes S.IsMadeOf S.participants now (input.Vote vote) self.old self.old self.new result }
     {
         match self.batcher.count(vote, true) {
             Ok(counted) => self.follow_counted(counted, now),
@@ -74,7 +74,7 @@ impl<S: Assembly<D>, L: Elector<S>, D: Digest> Engine<S, L, D> {
         ensures followed { IfOk result (IsCountFollowed D.eq L.elect S.certificate_bytes now counted self.old.plan.steps.items
             self.old.core.member.facts self.new.plan.steps.items self.new.core.member.facts) }
         ensures duties { OnOk result (KeepsDuties self.old self.new) }
-        ensures comes { OnOk result (ComesWith D.eq L.elect S.certificate_bytes now (of_counted S.certificate_bytes counted) self.old self.new) }
+        ensures comes { OnOk result (ComesWith D.eq L.elect D.bytes S.certificate_bytes now (of_counted S.certificate_bytes counted) self.old self.new) }
     {
         match counted {
             Counted::Certified(certificate) => match self.accept(&certificate, now) {
@@ -106,7 +106,7 @@ impl<S: Assembly<D>, L: Elector<S>, D: Digest> Engine<S, L, D> {
         ensures acted { IsTrue (is_so (λ x. admits x (certificate_facts S.certificate_bytes certificate.now)) self.old.core.member.facts) → IfOk result
             (IsHandedIn D.eq L.elect S.certificate_bytes now certificate.now self.old.core.member.facts self.new.core.member.facts) }
         ensures duties { OnOk result (KeepsDuties self.old self.new) }
-        ensures comes { OnOk result (ComesWith D.eq L.elect S.certificate_bytes now (Quorum (certificate_subject
+        ensures comes { OnOk result (ComesWith D.eq L.elect D.bytes S.certificate_bytes now (Quorum (certificate_subject
             (certificate_facts S.certificate_bytes certificate.now)) ∷ []) self.old self.new) }
     {
         if !self.admits(certificate) {
@@ -144,6 +144,7 @@ impl<S: Assembly<D>, L: Elector<S>, D: Digest> Engine<S, L, D> {
             (planned_matters self.old.plan ++ given_by now reply.now (hands_in (certificate_facts S.certificate_bytes certificate.now) now))) }
         ensures asks { IsTrue (is_plain reply.now) → OnOk result (KeepsAsking (given_by now reply.now
             (hands_in (certificate_facts S.certificate_bytes certificate.now) now)) (λ kind view. is_final self.new.core.member.facts view)
+            (heard_by D.bytes S.certificate_bytes reply.now (hands_in (certificate_facts S.certificate_bytes certificate.now) now))
             self.old.plan self.new.plan) }
     {
         let is_of_use = !is_refused(reply);

@@ -30,7 +30,7 @@ impl<S: Assembly<D>, L: Elector<S>, D: Digest> Engine<S, L, D> {
 
     /// Takes what came in, while the engine has not failed, and counts what is of no use.
     pub(super) fn take(&mut self, input: Input<S, D>, now: u64) -> Result<bool, Fault>
-        ensures { IsInputTaken D.eq L.elect S.certificate_bytes S.IsMadeOf S.participants now input self.old (ignoring self.old) self.new result }
+        ensures { IsInputTaken D.eq L.elect D.bytes S.certificate_bytes S.IsMadeOf S.participants now input self.old (ignoring self.old) self.new result }
     {
         let answer = self.take_in(input, now);
         if is_in_vain(&answer) {
@@ -42,7 +42,7 @@ impl<S: Assembly<D>, L: Elector<S>, D: Digest> Engine<S, L, D> {
 
     /// Takes what came in.
     fn take_in(&mut self, input: Input<S, D>, now: u64) -> Result<bool, Fault>
-        ensures { IsInputTaken D.eq L.elect S.certificate_bytes S.IsMadeOf S.participants now input self.old self.old self.new result }
+        ensures { IsInputTaken D.eq L.elect D.bytes S.certificate_bytes S.IsMadeOf S.participants now input self.old self.old self.new result }
     {
         match input {
             Input::Proposal(from, proposal) => self.offer(from, proposal, now),
@@ -70,7 +70,7 @@ impl<S: Assembly<D>, L: Elector<S>, D: Digest> Engine<S, L, D> {
         ensures acted { IsTrue (is_so (λ x. admits_proposal x from proposal.round) self.old.core.member.facts) → IfOk result
             (HasDoneTask D.eq L.elect (SetProposal proposal.round.view proposal) now self.old.core.member.facts self.new.core.member.facts) }
         ensures duties { OnOk result (KeepsDuties self.old self.new) }
-        ensures comes { OnOk result (ComesWith D.eq L.elect S.certificate_bytes now (Arrival from proposal ∷ []) self.old self.new) }
+        ensures comes { OnOk result (ComesWith D.eq L.elect D.bytes S.certificate_bytes now (Arrival from proposal ∷ []) self.old self.new) }
     {
         if self.admits_proposal(from, proposal.round) {
             return self.ask(Task::SetProposal(proposal.view(), proposal), now);
@@ -123,7 +123,7 @@ impl<S: Assembly<D>, L: Elector<S>, D: Digest> Engine<S, L, D> {
         ensures acted { IfOk result (IsBlockTaken D.eq L.elect (list_any (is_asked_in D.eq context.now) self.old.plan.builds.buildings.items)
             context.now.round.view payload now self.old.core.member.facts self.new.core.member.facts) }
         ensures duties { OnOk result (KeepsDuties self.old self.new) }
-        ensures comes { OnOk result (ComesWith D.eq L.elect S.certificate_bytes now (Message (Proposed context.now.round.view payload) ∷ [])
+        ensures comes { OnOk result (ComesWith D.eq L.elect D.bytes S.certificate_bytes now (Message (Proposed context.now.round.view payload) ∷ [])
             self.old self.new) }
     {
         if !self.plan.is_building(context) {

@@ -44,7 +44,7 @@ impl<S: Assembly<D>, L: Elector<S>, D: Digest> Engine<S, L, D> {
         ensures lowest { OnOk result (HoldsFromKept self.new.core self.new.batcher) }
         ensures lacking { OnOk result (AsksForItsLacking self.new.core self.new.plan.repair) }
         ensures duties { OnOk result (KeepsDuties self.old self.new) }
-        ensures comes { OnOk result (Comes D.eq L.elect S.certificate_bytes now [] [] (held_by self.new) self.old self.new) }
+        ensures comes { OnOk result (Comes D.eq L.elect D.bytes S.certificate_bytes now [] [] (held_by self.new) self.old self.new) }
     {
         self.plan.begin();
         self.finish(now)
@@ -62,7 +62,7 @@ impl<S: Assembly<D>, L: Elector<S>, D: Digest> Engine<S, L, D> {
         ensures lowest { OnOk result (HoldsFromKept self.new.core self.new.batcher) }
         ensures lacking { OnOk result (AsksForItsLacking self.new.core self.new.plan.repair) }
         ensures duties { OnOk result (KeepsDuties self.old self.new) }
-        ensures comes { OnOk result (Comes D.eq L.elect S.certificate_bytes now [] [] (held_by self.new) self.old self.new) }
+        ensures comes { OnOk result (Comes D.eq L.elect D.bytes S.certificate_bytes now [] [] (held_by self.new) self.old self.new) }
     {
         self.run_to_short(now)?;
         self.settle()?;
@@ -78,7 +78,7 @@ impl<S: Assembly<D>, L: Elector<S>, D: Digest> Engine<S, L, D> {
         ensures short { (given : _) → IsKept S.certificate_bytes given self.old.core
             → OnOk result (IsShort self.new.plan.options.long_record self.new.core.member.facts) }
         ensures duties { OnOk result (KeepsDuties self.old self.new) }
-        ensures comes { OnOk result (ComesAlone D.eq L.elect S.certificate_bytes now self.old self.new) }
+        ensures comes { OnOk result (ComesAlone D.eq L.elect D.bytes S.certificate_bytes now self.old self.new) }
     {
         for _ in 0..u64::MAX {
             self.run_all(now)?;
@@ -98,7 +98,7 @@ impl<S: Assembly<D>, L: Elector<S>, D: Digest> Engine<S, L, D> {
         ensures short { (given : _) → IsKept S.certificate_bytes given self.old.core
             → IfOk result (λ short. IsTrue short → IsShort self.new.plan.options.long_record self.new.core.member.facts) }
         ensures duties { OnOk result (KeepsDuties self.old self.new) }
-        ensures comes { OnOk result ((now : ℕ) → ComesAlone D.eq L.elect S.certificate_bytes now self.old self.new) }
+        ensures comes { OnOk result ((now : ℕ) → ComesAlone D.eq L.elect D.bytes S.certificate_bytes now self.old self.new) }
     {
         self.core.store()?;
         Ok(!self.core.is_overgrown(self.plan.long_record()))
@@ -114,7 +114,7 @@ impl<S: Assembly<D>, L: Elector<S>, D: Digest> Engine<S, L, D> {
         ensures lowest { OnOk result (HoldsFromKept self.new.core self.new.batcher) }
         ensures lacking { OnOk result (AsksForItsLacking self.new.core self.new.plan.repair) }
         ensures duties { OnOk result (KeepsDuties self.old self.new) }
-        ensures comes { OnOk result ((now : ℕ) → Comes D.eq L.elect S.certificate_bytes now [] [] (held_by self.new) self.old self.new) }
+        ensures comes { OnOk result ((now : ℕ) → Comes D.eq L.elect D.bytes S.certificate_bytes now [] [] (held_by self.new) self.old self.new) }
     {
         self.let_go()?;
         self.core.store()?;
@@ -128,7 +128,7 @@ impl<S: Assembly<D>, L: Elector<S>, D: Digest> Engine<S, L, D> {
         ensures idle { OnOk result (IsIdle now self.new.plan) }
         ensures ahead { OnOk result (BuildsAhead self.new.core self.new.plan) }
         ensures duties { OnOk result (KeepsDuties self.old self.new) }
-        ensures comes { OnOk result (ComesAlone D.eq L.elect S.certificate_bytes now self.old self.new) }
+        ensures comes { OnOk result (ComesAlone D.eq L.elect D.bytes S.certificate_bytes now self.old self.new) }
     {
         for _ in 0..u64::MAX {
             if self.is_settled(now)? {
@@ -145,7 +145,7 @@ impl<S: Assembly<D>, L: Elector<S>, D: Digest> Engine<S, L, D> {
         ensures idle { IfOk result (λ settled. IsTrue settled → IsIdle now self.new.plan) }
         ensures ahead { IfOk result (λ settled. IsTrue settled → BuildsAhead self.new.core self.new.plan) }
         ensures duties { OnOk result (KeepsDuties self.old self.new) }
-        ensures comes { OnOk result (ComesAlone D.eq L.elect S.certificate_bytes now self.old self.new) }
+        ensures comes { OnOk result (ComesAlone D.eq L.elect D.bytes S.certificate_bytes now self.old self.new) }
     {
         self.run(now)?;
         if !self.has_no_work(now)? {
@@ -174,7 +174,7 @@ impl<S: Assembly<D>, L: Elector<S>, D: Digest> Engine<S, L, D> {
     fn run(&mut self, now: u64) -> Result<(), Fault>
         ensures alone { GoesOnAlone D.eq L.elect S.certificate_bytes self.old self.new }
         ensures duties { OnOk result (KeepsDuties self.old self.new) }
-        ensures comes { OnOk result (ComesAlone D.eq L.elect S.certificate_bytes now self.old self.new) }
+        ensures comes { OnOk result (ComesAlone D.eq L.elect D.bytes S.certificate_bytes now self.old self.new) }
     {
         for _ in 0..u64::MAX {
             if !self.step(now)? {
@@ -188,7 +188,7 @@ impl<S: Assembly<D>, L: Elector<S>, D: Digest> Engine<S, L, D> {
     fn step(&mut self, now: u64) -> Result<bool, Fault>
         ensures alone { GoesOnAlone D.eq L.elect S.certificate_bytes self.old self.new }
         ensures duties { OnOk result (KeepsDuties self.old self.new) }
-        ensures comes { OnOk result (ComesAlone D.eq L.elect S.certificate_bytes now self.old self.new) }
+        ensures comes { OnOk result (ComesAlone D.eq L.elect D.bytes S.certificate_bytes now self.old self.new) }
     {
         match self.plan.next(now)? {
             Some(step) => self.take_step(step, now),
@@ -200,7 +200,7 @@ impl<S: Assembly<D>, L: Elector<S>, D: Digest> Engine<S, L, D> {
     fn take_step(&mut self, step: Step<S, D>, now: u64) -> Result<bool, Fault>
         ensures alone { GoesOnAlone D.eq L.elect S.certificate_bytes self.old self.new }
         ensures duties { OnOk result (KeepsTaken (work_planned (step ∷ [])) self.old self.new) }
-        ensures comes { OnOk result (ComesWith D.eq L.elect S.certificate_bytes now (of_step step) self.old self.new) }
+        ensures comes { OnOk result (ComesWith D.eq L.elect D.bytes S.certificate_bytes now (of_step step) self.old self.new) }
     {
         match step {
             Step::Ask(task) => taken(self.ask(task, now)),
@@ -215,7 +215,7 @@ impl<S: Assembly<D>, L: Elector<S>, D: Digest> Engine<S, L, D> {
     fn repeat(&mut self, view: View) -> Result<bool, Fault>
         ensures alone { GoesOnAlone D.eq L.elect S.certificate_bytes self.old self.new }
         ensures duties { OnOk result (KeepsDuties self.old self.new) }
-        ensures comes { OnOk result ((now : ℕ) → ComesAlone D.eq L.elect S.certificate_bytes now self.old self.new) }
+        ensures comes { OnOk result ((now : ℕ) → ComesAlone D.eq L.elect D.bytes S.certificate_bytes now self.old self.new) }
     {
         self.core.repeat(view)?;
         Ok(true)
@@ -225,7 +225,7 @@ impl<S: Assembly<D>, L: Elector<S>, D: Digest> Engine<S, L, D> {
     fn push(&mut self, work: Work<S, D>) -> Result<bool, Fault>
         ensures alone { GoesOnAlone D.eq L.elect S.certificate_bytes self.old self.new }
         ensures duties { OnOk result (KeepsTaken (work ∷ []) self.old self.new) }
-        ensures comes { OnOk result ((now : ℕ) → ComesWith D.eq L.elect S.certificate_bytes now (of_work work) self.old self.new) }
+        ensures comes { OnOk result ((now : ℕ) → ComesWith D.eq L.elect D.bytes S.certificate_bytes now (of_work work) self.old self.new) }
     {
         self.core.push(work)?;
         Ok(true)
@@ -240,7 +240,7 @@ impl<S: Assembly<D>, L: Elector<S>, D: Digest> Engine<S, L, D> {
         ensures lowest { OnOk result (HoldsFromKept self.new.core self.new.batcher) }
         ensures lacking { OnOk result (AsksForItsLacking self.new.core self.new.plan.repair) }
         ensures duties { OnOk result (KeepsDuties self.old self.new) }
-        ensures comes { OnOk result ((now : ℕ) → Comes D.eq L.elect S.certificate_bytes now [] [] (held_by self.new) self.old self.new) }
+        ensures comes { OnOk result ((now : ℕ) → Comes D.eq L.elect D.bytes S.certificate_bytes now [] [] (held_by self.new) self.old self.new) }
     {
         let lowest = self.lowest_kept()?;
         self.tell_forgotten(lowest)?;
@@ -268,7 +268,7 @@ impl<S: Assembly<D>, L: Elector<S>, D: Digest> Engine<S, L, D> {
         ensures planned { KeepsPlanned self.old.plan self.new.plan }
         ensures matters { AreAmong (planned_matters self.new.plan) (planned_matters self.old.plan) }
         ensures asks { OnOk result (KeepsAsking [] (λ kind view. held_by self.new kind view || is_final self.new.core.member.facts view)
-            self.old.plan self.new.plan) }
+            [] self.old.plan self.new.plan) }
     {
         match self.core.state() {
             Some(state) => self.plan.let_go(state),
@@ -282,7 +282,7 @@ impl<S: Assembly<D>, L: Elector<S>, D: Digest> Engine<S, L, D> {
         ensures member { self.new.core.member ≡ self.old.core.member }
         ensures plan { self.new.plan ≡ self.old.plan }
         ensures duties { OnOk result (KeepsDuties self.old self.new) }
-        ensures comes { OnOk result ((now : ℕ) → ComesAlone D.eq L.elect S.certificate_bytes now self.old self.new) }
+        ensures comes { OnOk result ((now : ℕ) → ComesAlone D.eq L.elect D.bytes S.certificate_bytes now self.old self.new) }
     {
         if lowest <= self.forgotten {
             return Ok(());
@@ -297,7 +297,7 @@ impl<S: Assembly<D>, L: Elector<S>, D: Digest> Engine<S, L, D> {
     fn prune_record(&mut self, now: u64) -> Result<(), Fault>
         ensures alone { GoesOnAlone D.eq L.elect S.certificate_bytes self.old self.new }
         ensures duties { OnOk result (KeepsDuties self.old self.new) }
-        ensures comes { OnOk result (ComesAlone D.eq L.elect S.certificate_bytes now self.old self.new) }
+        ensures comes { OnOk result (ComesAlone D.eq L.elect D.bytes S.certificate_bytes now self.old self.new) }
     {
         self.ask(Task::Prune, now)?;
         self.core.prune_record()?;

@@ -29,7 +29,7 @@ returns-in-Err g c =
 pub returns-in-Ok : goal.returns-in-Ok
 returns-in-Ok g c =
     let engine = c.args.self.now in
-    taken_counted g.D.PartialEq.eq g.L.Elector.elect g.S.CertificateScheme.certificate_bytes g.S.Assembly.IsMadeOf g.S.CertificateScheme.participants c.args.now
+    taken_counted g.D.PartialEq.eq g.L.Elector.elect g.D.Digest.bytes g.S.CertificateScheme.certificate_bytes g.S.Assembly.IsMadeOf g.S.CertificateScheme.participants c.args.now
     g.met.D.Digest.equal_is_same c.args.vote c.args.self.now c.follow_counted.new.self c.follow_counted.result c.count.new.self c.in-Ok.counted c.requires c.count.ensures.given
     c.count.ensures.within c.count.ensures.scheme c.in-Ok.ensures.counted c.follow_counted.ensures.goes_on c.follow_counted.ensures.batcher c.follow_counted.ensures.followed
     (on_ok c.follow_counted.result c.follow_counted.ensures.duties
@@ -38,4 +38,4 @@ returns-in-Ok g c =
     let it = comes_wider (counted_of g.D.PartialEq.eq (g.S.Assembly.IsMadeOf engine.batcher.scheme) g.S.CertificateScheme.certificate_bytes
     (length (g.S.CertificateScheme.participants engine.batcher.scheme)) engine.batcher c.count.new.self c.args.vote c.in-Ok.counted c.in-Ok.ensures.counted)
     (vote_lacks_none g.S.CertificateScheme.certificate_bytes engine.batcher c.args.vote) comes in
-    record { calls = it.calls; resolver = it.resolver; steps = it.steps; by_steps = it.by_steps }))
+    record { steps = it.steps; heard = it.heard; by_steps = it.by_steps }))

@@ -37,5 +37,5 @@ returns g c =
           (followed_by g.D.Digest.bytes bytes_of c.args.now c.args.task (call_of c.args.task c.args.now) c.args.reply c.see.new.self.plan c.follow.new.self c.in_ok-follow.ensures.followed)
           (among_both c.in_ok-see.ensures.matters (among_still _));
       asks = asks_then c.in_ok-see.ensures.asks (asks_over (λ kind view. is_final c.see.new.self.core.member.facts view)
-          (followed_asks g.D.Digest.bytes bytes_of c.args.now c.args.task (call_of c.args.task c.args.now) c.args.reply c.see.new.self.plan c.follow.new.self c.in_ok-follow.ensures.followed));
+          (followed_asks g.D.Digest.bytes bytes_of c.args.now c.args.task c.args.reply c.see.new.self.plan c.follow.new.self c.in_ok-follow.ensures.followed));
     }

@@ -24,7 +24,7 @@ returns-clause-duties g c = tells_still c.args.self.now
 pub returns-in-Equivocated-clause-comes : goal.returns-in-Equivocated-clause-comes
 returns-in-Equivocated-clause-comes g c =
     let new = record c.args.self.now { plan = c.push.new.self } in
-    subst (λ it. ComesWith g.D.PartialEq.eq g.L.Elector.elect g.S.CertificateScheme.certificate_bytes c.args.now (of_counted g.S.CertificateScheme.certificate_bytes it) c.args.self.now new)
+    subst (λ it. ComesWith g.D.PartialEq.eq g.L.Elector.elect g.D.Digest.bytes g.S.CertificateScheme.certificate_bytes c.args.now (of_counted g.S.CertificateScheme.certificate_bytes it) c.args.self.now new)
     (sym c.in-Equivocated.is)
     (comes_same refl (hand_with c.args.self.now new (Duty (work.Equivocated c.in-Equivocated.first c.in-Equivocated.second) ∷ []) refl (planned_more c.in_ok-push-in-Equivocated.ensures))
     (asks_beside (Duty (work.Equivocated c.in-Equivocated.first c.in-Equivocated.second) ∷ []) (λ kind view. refl)

@@ -28,5 +28,5 @@ returns-in-None-clause-matters g c = among_still (planned_matters c.args.self.no
 pub returns-in-Some-clause-asks : goal.returns-in-Some-clause-asks
 returns-in-Some-clause-asks g c =
     subst (λ life. OnOk c.let_go.result (KeepsAsking [] (λ kind view. option_map_or (λ x. holds c.let_go.new.self.repair.resolver.open_fetches x kind view) life true
-    || option_map_or (λ x. nat_le view x.finalized) life true) c.args.self.now.plan c.let_go.new.self)) c.in-Some.ensures.life
+    || option_map_or (λ x. nat_le view x.finalized) life true) [] c.args.self.now.plan c.let_go.new.self)) c.in-Some.ensures.life
     (lets_go_asks c.let_go.result c.in-Some.state.now c.args.self.now.plan c.let_go.new.self c.let_go.ensures.same c.let_go.ensures.kept)

@@ -8,5 +8,5 @@ abbrev pub invariant-loop : goal.invariant-loop
 invariant-loop g l = record {
   alone : GoesOnAlone g.D.PartialEq.eq g.L.Elector.elect g.S.CertificateScheme.certificate_bytes l.initial.self l.self;
   duties : KeepsDuties l.initial.self l.self;
-  comes : ComesAlone g.D.PartialEq.eq g.L.Elector.elect g.S.CertificateScheme.certificate_bytes l.now l.initial.self l.self;
+  comes : ComesAlone g.D.PartialEq.eq g.L.Elector.elect g.D.Digest.bytes g.S.CertificateScheme.certificate_bytes l.now l.initial.self l.self;
 }

@@ -21,7 +21,7 @@ returns g c =
       seen = subst (λ life. IfSome life (λ x. (c.see.new.self.views.current ≡ x.current) × (c.see.new.self.views.last_finalized ≡ x.finalized))) c.in-Some.ensures.life
           (ap (λ v. v.current) views ∙ c.current_view.ensures, ap (λ v. v.last_finalized) views ∙ c.last_finalized.ensures);
       matters = seen_alone _ c.args.self.now.plan c.see.new.self c.in_ok-see.ensures;
-      asks = subst (λ life. KeepsAsking [] (λ kind view. option_map_or (λ x. nat_le view x.finalized) life true) c.args.self.now.plan c.see.new.self) c.in-Some.ensures.life
-          (subst (λ last. KeepsAsking [] (λ kind view. nat_le view last) c.args.self.now.plan c.see.new.self) c.last_finalized.ensures
+      asks = subst (λ life. KeepsAsking [] (λ kind view. option_map_or (λ x. nat_le view x.finalized) life true) [] c.args.self.now.plan c.see.new.self) c.in-Some.ensures.life
+          (subst (λ last. KeepsAsking [] (λ kind view. nat_le view last) [] c.args.self.now.plan c.see.new.self) c.last_finalized.ensures
           (seen_asks _ c.args.self.now.plan c.see.new.self c.in_ok-see.ensures));
     }

@@ -22,7 +22,7 @@ returns-in-Ask g c = record {
   duties = passed_on _ c.ask.result c.taken.result c.taken.ensures
       (on_ok c.ask.result c.ask.ensures.duties (tells_other c.args.self.now c.ask.new.self c.args.step (step.Ask c.in-Ask.task) c.in-Ask.is refl));
   comes = passed_on _ c.ask.result c.taken.result c.taken.ensures (on_ok c.ask.result c.ask.ensures.comes
-      (λ comes. subst (λ it. ComesWith g.D.PartialEq.eq g.L.Elector.elect g.S.CertificateScheme.certificate_bytes c.args.now (of_step it) c.args.self.now c.ask.new.self) (sym c.in-Ask.is)
+      (λ comes. subst (λ it. ComesWith g.D.PartialEq.eq g.L.Elector.elect g.D.Digest.bytes g.S.CertificateScheme.certificate_bytes c.args.now (of_step it) c.args.self.now c.ask.new.self) (sym c.in-Ask.is)
       (comes (of_task c.in-Ask.task) (task_lacks_none g.row.S.Denot g.row.S-PublicKey.Denot g.row.S-Signature.Denot g.row.S-Certificate.Denot c.in-Ask.task) (inl (c.in-Ask.task, refl, among_more (of_task c.in-Ask.task) (at_hand c.args.self.now))))));
 }
 
@@ -32,7 +32,7 @@ returns-in-Offer g c = record {
   duties = passed_on _ c.offer.result c.taken-in-Offer.result c.taken-in-Offer.ensures
       (on_ok c.offer.result c.offer.ensures.duties (tells_other c.args.self.now c.offer.new.self c.args.step (step.Offer c.in-Offer.from c.in-Offer.proposal) c.in-Offer.is refl));
   comes = passed_on _ c.offer.result c.taken-in-Offer.result c.taken-in-Offer.ensures (on_ok c.offer.result c.offer.ensures.comes
-      (λ comes. subst (λ it. ComesWith g.D.PartialEq.eq g.L.Elector.elect g.S.CertificateScheme.certificate_bytes c.args.now (of_step it) c.args.self.now c.offer.new.self) (sym c.in-Offer.is) comes));
+      (λ comes. subst (λ it. ComesWith g.D.PartialEq.eq g.L.Elector.elect g.D.Digest.bytes g.S.CertificateScheme.certificate_bytes c.args.now (of_step it) c.args.self.now c.offer.new.self) (sym c.in-Offer.is) comes));
 }
 
 pub returns-in-Resolve : goal.returns-in-Resolve
@@ -44,7 +44,7 @@ returns-in-Resolve g c = record {
       (tells_other c.args.self.now c.resolve.new.self c.args.step (step.Resolve c.in-Resolve.kind c.in-Resolve.view c.in-Resolve.proposal) c.in-Resolve.is refl
       (tells_planned c.args.self.now c.resolve.new.self c.resolve.ensures.core c.resolve.ensures.planned));
   comes = passed_on _ c.resolve.result c.taken-in-Resolve.result c.taken-in-Resolve.ensures (on_ok c.resolve.result c.resolve.ensures.asks
-      (λ asks. subst (λ it. ComesWith g.D.PartialEq.eq g.L.Elector.elect g.S.CertificateScheme.certificate_bytes c.args.now (of_step it) c.args.self.now c.resolve.new.self) (sym c.in-Resolve.is)
+      (λ asks. subst (λ it. ComesWith g.D.PartialEq.eq g.L.Elector.elect g.D.Digest.bytes g.S.CertificateScheme.certificate_bytes c.args.now (of_step it) c.args.self.now c.resolve.new.self) (sym c.in-Resolve.is)
       (comes_same (ap (λ core. core.member.facts) c.resolve.ensures.core)
       (hand_with c.args.self.now c.resolve.new.self (Lack c.in-Resolve.kind c.in-Resolve.view ∷ []) (ap (λ core. work_in core.outbox.queue.items) c.resolve.ensures.core) c.resolve.ensures.matters)
       (asks_over _ asks))));
@@ -55,7 +55,7 @@ returns-in-Repeat g c = record {
   alone = c.repeat.ensures.alone;
   duties = on_ok c.repeat.result c.repeat.ensures.duties (tells_other c.args.self.now c.repeat.new.self c.args.step (step.Repeat c.in-Repeat.view) c.in-Repeat.is refl);
   comes = on_ok c.repeat.result c.repeat.ensures.comes
-      (λ comes. subst (λ it. ComesWith g.D.PartialEq.eq g.L.Elector.elect g.S.CertificateScheme.certificate_bytes c.args.now (of_step it) c.args.self.now c.repeat.new.self) (sym c.in-Repeat.is) (comes c.args.now));
+      (λ comes. subst (λ it. ComesWith g.D.PartialEq.eq g.L.Elector.elect g.D.Digest.bytes g.S.CertificateScheme.certificate_bytes c.args.now (of_step it) c.args.self.now c.repeat.new.self) (sym c.in-Repeat.is) (comes c.args.now));
 }
 
 pub returns-in-Push : goal.returns-in-Push
@@ -64,5 +64,5 @@ returns-in-Push g c = record {
   duties = on_ok c.push.result c.push.ensures.duties
       (λ keeps. subst (λ it. KeepsTaken (work_planned (it ∷ [])) c.args.self.now c.push.new.self) (sym c.in-Push.is) keeps);
   comes = on_ok c.push.result c.push.ensures.comes
-      (λ comes. subst (λ it. ComesWith g.D.PartialEq.eq g.L.Elector.elect g.S.CertificateScheme.certificate_bytes c.args.now (of_step it) c.args.self.now c.push.new.self) (sym c.in-Push.is) (comes c.args.now));
+      (λ comes. subst (λ it. ComesWith g.D.PartialEq.eq g.L.Elector.elect g.D.Digest.bytes g.S.CertificateScheme.certificate_bytes c.args.now (of_step it) c.args.self.now c.push.new.self) (sym c.in-Push.is) (comes c.args.now));
 }

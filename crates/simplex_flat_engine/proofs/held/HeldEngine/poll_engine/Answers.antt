@@ -2,6 +2,7 @@
 use Rattle.std.proofs.Common.{List, [], ap, inl, inr, refl, sym, subst, ◌∙◌}
 use Rattle.std.specs.Prelude.{◌++◌, IsOk, option_to_list}
 use Rattle.std.proofs.lemmas.Bool.{false≢true}
+use Rattle.simplex_codec.specs.Digests.{bytes_in_digest}
 use Rattle.simplex_host.specs.Host.{certificate_bytes}
 use Rattle.simplex_plan.specs.PlannedWork.{AreAmong}
 use Rattle.simplex_outbox.specs.Outputs.{work_in}
@@ -71,7 +72,7 @@ returns-in-Ok-None c =
               (sym c.requires.last) (rw none at c.in-Ok-None.ensures.duties);
           works = λ _ alive. subst (λ last. AreAmong (work_ahead c.args.self.now.engine) (work_in (option_to_list last) ++ work_ahead c.poll.new.self))
               (sym c.requires.last) (rw none at c.in-Ok-None.ensures.works);
-          comes = λ _ alive. subst (λ last. Comes same_host_payload host_leader certificate_bytes c.args.now [] (work_in (option_to_list last)) (held_by c.poll.new.self)
+          comes = λ _ alive. subst (λ last. Comes same_host_payload host_leader bytes_in_digest certificate_bytes c.args.now [] (work_in (option_to_list last)) (held_by c.poll.new.self)
               c.args.self.now.engine c.poll.new.self)
               (sym c.requires.last) (rw none at c.in-Ok-None.ensures.comes);
           near = λ _. c.in-Ok-None.ensures.near;
