@@ -7,6 +7,7 @@ pub mod AsAsked
 pub mod Examples
 pub mod WithinRuns
 pub mod TimingOut
+pub mod Waiting
 pub mod Polls
 pub mod Gapless
 pub mod Progress

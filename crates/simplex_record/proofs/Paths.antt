@@ -18,7 +18,7 @@ use Rattle.simplex_round.specs.declared.round.Leader.{Leader}
 use Rattle.simplex_round.specs.declared.round.Decision.TheVariants as decision
 use Rattle.simplex_round.specs.declared.round.Decision.{Decision}
 use Rattle.simplex_round.specs.Slot.{after_own, after_vote, after_mark, holds_or_empty}
-use Rattle.simplex_round.specs.Round.{RoundFacts, new_round, with_decision_deadlines, leader_at, is_nullify, is_finalize, is_pending, is_judged, is_verified_slot, with_latch, with_recovered, awaits_retry, after_nullify}
+use Rattle.simplex_round.specs.Round.{RoundFacts, new_round, with_decision_deadlines, leader_at, is_nullify, is_finalize, is_pending, is_judged, is_verified_slot, with_latch, with_recovered, with_notarization, awaits_retry, after_nullify}
 use Rattle.simplex_voter.specs.Facts.{StateFacts, Elect, round_at, round_of, round_number, is_tracked, with_round, with_tracked}
 use Rattle.simplex_voter.specs.Windows.{in_issuance_window}
 use Rattle.simplex_voter.specs.Payloads.{is_elected_early}
@@ -63,6 +63,24 @@ entered_timed : {K L D : Type 0} (y : StateFacts K L D) (v now : ℕ) → is_tim
 entered_timed y v now =
     ap (λ (r : RoundFacts _ _). is_timed r.decision) (round_put y v (entered_round y (round_of y v) now))
     ∙ armed_timed (round_of y v).decision (now + y.settings.leader_timeout) (now + y.settings.certification_timeout)
+
+-- a view that waits for the one below is notarized, and so is one whose notarization was added
+module _ {K L D : Type 0} where
+  waiting_notarized : (elect : Elect L) (y : StateFacts K L D) (p : ℕ) → option_map_or (waits_for elect y p) (round_at y (p + 1)) false ≡ true → is_some (round_of y (p + 1)).notarization ≡ true
+  waiting_notarized elect y p = by_round (round_at y (p + 1))
+    where
+      by_round : (o : Option (RoundFacts K D)) → option_map_or (waits_for elect y p) o false ≡ true → is_some (unwrap_or o (new_round y.me y.members (round_number y (p + 1)))).notarization ≡ true
+      by_round None waits = absurd (false≢true waits)
+      by_round (Some r) waits = (and_parts (is_some r.notarization) _ waits).0
+
+  notarization_stands : (same : D → D → Bool) (elect : Elect L) (y : StateFacts K L D) (c : ProposalFacts D) → is_some (round_of (with_notarization_at same elect y c) c.proposal.round.view).notarization ≡ true
+  notarization_stands same elect y c =
+      let r = round_of y c.proposal.round.view in
+      ap (λ (s : RoundFacts K D). is_some s.notarization) (round_put y c.proposal.round.view (with_notarization (same_proposal same) r c)) ∙ by_standing (is_some r.notarization) refl
+    where
+      by_standing : (b : Bool) → is_some (round_of y c.proposal.round.view).notarization ≡ b → is_some (if b then round_of y c.proposal.round.view else record (with_recovered (same_proposal same) (round_of y c.proposal.round.view) c.proposal) { notarization = Some c }).notarization ≡ true
+      by_standing true stands = stands
+      by_standing false none = refl
 
 module _ {K L D : Type 0} {same : D → D → Bool} {elect : Elect L} {low : ℕ} {x : StateFacts K L D} {e : Event K D} {from : StateFacts K L D} where
   pub either : (b : Bool) (y z : StateFacts K L D) → (b ≡ true → Path same elect x e low from y) → (b ≡ false → Path same elect x e low from z) → Path same elect x e low from (if b then y else z)
@@ -136,11 +154,11 @@ module _ {K L D : Type 0} {same : D → D → Bool} {elect : Elect L} {low : ℕ
       (λ is. put v r (inr (and_parts (nat_le y.current v) (is_tracked y v) (and_parts (nat_le y.current v && is_tracked y v) (not (is_contradicted reason (round_of y v))) is).0).1) (step.Latched now reason) path)
       (λ none. path)
 
-  to_named : {y : StateFacts K L D} (v : ℕ) → Path same elect x e low from y → Path same elect x e low from (named_also y v)
-  to_named {y} v path = either (nat_lt y.finalized v) _ y (λ is. Then path (Names v (grind (arith, nat_tests)))) (λ final. path)
+  to_named : {y : StateFacts K L D} (v : ℕ) → is_some (round_of y v).notarization ≡ true → Path same elect x e low from y → Path same elect x e low from (named_also y v)
+  to_named {y} v notarized path = either (nat_lt y.finalized v) _ y (λ is. Then path (Names v (grind (arith, nat_tests)) notarized)) (λ final. path)
 
   pub to_woken : {y : StateFacts K L D} (p : ℕ) → Path same elect x e low from y → Path same elect x e low from (with_waiting_candidate elect y p)
-  to_woken {y} p path = either (option_map_or (waits_for elect y p) (round_at y (p + 1)) false) (named_also y (p + 1)) y (λ waits. to_named (p + 1) path) (λ none. path)
+  to_woken {y} p path = either (option_map_or (waits_for elect y p) (round_at y (p + 1)) false) (named_also y (p + 1)) y (λ waits. to_named (p + 1) (waiting_notarized elect y p waits) path) (λ none. path)
 
   to_raised : {y : StateFacts K L D} (v : ℕ) → finalized_by_event e ≡ v → Path same elect x e low from y → Path same elect x e low from (with_finalized_view y v)
   to_raised {y} v says path = either (nat_lt y.finalized v) _ y (λ is. Then path (Raises v says (grind (arith, nat_tests)))) (λ final. path)
@@ -178,7 +196,7 @@ module _ {K L D : Type 0} {same : D → D → Bool} {elect : Elect L} {low : ℕ
 
   -- from a notarization that stands on
   pub from_notarized : (c : ProposalFacts D) → low ≤ c.proposal.round.view → Path same elect x e low from (with_notarization_at same elect (with_elected_leader elect x (c.proposal.round.view + 1) (Some c.bytes)) c) → Path same elect x e low from (after_add_notarization same elect x c)
-  from_notarized c over path = either (is_some (round_of x c.proposal.round.view).notarization) _ _ (λ old. path) (λ new. to_slid c.proposal.round.view over (to_named c.proposal.round.view path))
+  from_notarized c over path = either (is_some (round_of x c.proposal.round.view).notarization) _ _ (λ old. path) (λ new. to_slid c.proposal.round.view over (to_named c.proposal.round.view (notarization_stands same elect (with_elected_leader elect x (c.proposal.round.view + 1) (Some c.bytes)) c) path))
 
   -- from the entry of the next view on
   pub from_entry : (c : ProposalFacts D) (now : ℕ) → finalization_by e ≡ Some c → low ≤ c.proposal.round.view → Path same elect x e low from (with_view_entered (with_finalized_view (at_moment x now) c.proposal.round.view) (c.proposal.round.view + 1) now) → Path same elect x e low from (after_add_finalization same elect x c now)

@@ -137,7 +137,8 @@ module _ {K L D : Type 0} (same : D → D → Bool) (elect : Elect L) (begun : S
     Puts : (v : ℕ) (r : RoundFacts K D) → (low ≤ v) ⊎ (is_tracked x v ≡ true) → RoundStep x v (round_of x v) r → Step low x (with_round x v r)
     Moves : (now : ℕ) → Step low x (at_moment x now)
     Founds : (payload : D) → Step low x (record x { genesis = Some payload })
-    Names : (v : ℕ) → x.finalized < v → Step low x (record x { named = insert_key nat_cmp x.named v })
+    -- a notarized view waits for certification
+    Names : (v : ℕ) → x.finalized < v → is_some (round_of x v).notarization ≡ true → Step low x (record x { named = insert_key nat_cmp x.named v })
     Unnames : Step low x (record x { named = [] })
     Covers : (u : ℕ) → covers_from u e ≡ true → Step low x (nullified_also x u)
     Notes : (u : ℕ) → nullify_by e ≡ Some u → Step low x (record x { nullify_votes = insert_key nat_cmp x.nullify_votes u })

@@ -191,7 +191,7 @@ module _ {K L D : Type 0} (same : D → D → Bool) (decides : (d e : D) → sam
       run_lawful same decides elect term_length begins.some steps replies (of_floor start.floor) (new_member same elect start) end fresh start_lives run
 
 -- the lives of a member of a network share a length of terms
-keep_terms : {K L D : Type 0} (term_length i : ℕ) (steps : List (StepFacts K L D)) → ((r : RestartFacts K L D) → Contains steps (Restarts r) → BeginsAs term_length i r.start.setup) → KeepTerms term_length steps
+pub keep_terms : {K L D : Type 0} (term_length i : ℕ) (steps : List (StepFacts K L D)) → ((r : RestartFacts K L D) → Contains steps (Restarts r) → BeginsAs term_length i r.start.setup) → KeepTerms term_length steps
 keep_terms term_length i [] later = tt
 keep_terms term_length i (Calls call ∷ steps) later = keep_terms term_length i steps (λ r h. later r (Contains-cons_rest (Calls call) steps (Restarts r) h))
 keep_terms term_length i (Prunes ∷ steps) later = keep_terms term_length i steps (λ r h. later r (Contains-cons_rest Prunes steps (Restarts r) h))
