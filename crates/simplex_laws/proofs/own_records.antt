@@ -13,3 +13,11 @@ pub mod Runs
 pub mod Verdicts
 pub mod BuiltHigh
 pub mod HighVotes
+pub mod Distinct
+pub mod ShownEntries
+pub mod EntriesStand
+pub mod RecoveredEntries
+pub mod EntriesByCalls
+pub mod EachEntryOnce
+pub mod AtMostSeven
+pub mod OwnEntries

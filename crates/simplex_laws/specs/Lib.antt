@@ -5,6 +5,7 @@ pub mod TermLengths
 pub mod LifeLaws
 pub mod Outside
 pub mod Standings
+pub mod RecordsOnce
 pub mod Executions
 pub mod Exactly
 pub mod Replicas

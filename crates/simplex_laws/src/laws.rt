@@ -20,7 +20,7 @@ pub use instances::{
 };
 pub use lives::{current_views_time_out, lives_keep_order, runs_keep_order};
 pub use network::{agreement, votes_are_lawful};
-pub use own_record::own_record_is_taken;
+pub use own_record::{own_record_holds_each_entry_once, own_record_is_taken};
 pub use plain::plain_members_agree;
 pub use progress::views_are_left;
 pub use resumes::resumes_are_restarts;

@@ -83,6 +83,7 @@ impl<S: Scheme<D>, L: Elector<S>, D: Digest> LawfulMember<S, L, D> {
     ghost use Rattle.simplex_member.specs.Start.{started_member};
     ghost use Rattle.simplex_laws.specs.Exactly.{ExactAt};
     ghost use Rattle.simplex_laws.specs.Living.{DoesMore, MayBeDoneBy, OfAllDone, HasBegun, HasBegunAgain};
+    ghost use Rattle.simplex_laws.specs.RecordsOnce.{HoldsEachEntryOnce};
     ghost use Rattle.simplex_laws.specs.Shown.{votes_in, taken_by};
 
     /// A member at a floor, as `Member::start` makes it or refuses.
@@ -164,8 +165,10 @@ impl<S: Scheme<D>, L: Elector<S>, D: Digest> LawfulMember<S, L, D> {
     ///
     /// - `lawful`: its trace keeps the voting rules, over all its lives.
     /// - `ran`: a network of `agreement` may have it as member `i`.
+    /// - `once`: its record holds each entry once, and of each view at most seven.
     pub fn keeps_the_laws(&self)
         ensures lawful { OfAllDone D.eq L.elect self.now.facts (λ term_length i all. IsLawful term_length all) }
         ensures ran { OfAllDone D.eq L.elect self.now.facts (MayBeDoneBy S.PublicKey D.eq L.elect) }
+        ensures once { OfAllDone D.eq L.elect self.now.facts (λ term_length i all. HoldsEachEntryOnce self.now.facts) }
     {}
 }

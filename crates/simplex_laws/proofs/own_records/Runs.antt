@@ -51,7 +51,7 @@ MemberTells trace m = TellsOn trace m.entries m.life
 
 module _ {D : Type 0} where
   -- a drop leaves the first entries
-  left_first : (closed n : ℕ) (entries : List (ArtifactFacts D)) → (tail : List (ArtifactFacts D)) × (entries ≡ without_last closed n entries ++ tail)
+  pub left_first : (closed n : ℕ) (entries : List (ArtifactFacts D)) → (tail : List (ArtifactFacts D)) × (entries ≡ without_last closed n entries ++ tail)
   left_first closed zero entries = ([], sym (append-nil entries))
   left_first closed (suc n) entries = elim (cases_Bool (may_drop closed entries)) [
     | inr stays ↦ rw (none_dropped closed (suc n) entries stays) ([], sym (append-nil entries))

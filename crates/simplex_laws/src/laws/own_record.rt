@@ -1,6 +1,7 @@
-//! What a restart may refuse of a member's own record.
+//! What a member's own record holds, and what a restart may refuse of it.
 
 ghost use Rattle.simplex_laws.specs.Outside.{HighViewsAreVotedFor, OfEachEnd, ParentsAreAccepted, RecordIsTaken, RestartIsExcused, RunsAreExcused, VerdictsFollowNotarizations};
+ghost use Rattle.simplex_laws.specs.RecordsOnce.{HoldsEachEntryOnce};
 
 use simplex_types::types::{Digest, Elector, Scheme};
 
@@ -29,4 +30,13 @@ pub fn own_record_is_taken<S: Scheme<D>, L: Elector<S>, D: Digest>()
     ensures notarized { OfEachEnd S.PublicKey D.eq L.elect VerdictsFollowNotarizations }
     ensures restart { OfEachEnd S.PublicKey D.eq L.elect (RestartIsExcused S.PublicKey D.eq L.elect) }
     ensures run { RunsAreExcused S.PublicKey D.eq L.elect }
+{}
+
+/// A member's own record holds each entry once: no two votes to notarize, to nullify or to finalize, no two verdicts, and no two
+/// certificates of a kind are of one view. It does nothing: its contract is the law.
+///
+/// So it has at most seven entries of a view, whatever calls, restarts and prunings there were. A run is as of
+/// `own_record_is_taken`.
+pub fn own_record_holds_each_entry_once<S: Scheme<D>, L: Elector<S>, D: Digest>()
+    ensures { OfEachEnd S.PublicKey D.eq L.elect HoldsEachEntryOnce }
 {}
