@@ -1,8 +1,9 @@
 -- A member with its outbox, from one moment of a life to a later one.
-use Rattle.std.specs.Prelude.{◌≡◌, ℕ, ◌≤◌, Bool, false, ◌||◌, List, [], ◌++◌, length, All, Option, is_none, IfSome}
+use Rattle.std.specs.Prelude.{◌≡◌, ◌⊎◌, ℕ, ◌≤◌, Bool, true, false, ◌||◌, List, [], ◌++◌, length, All, Option, is_none, IfSome}
 use Rattle.simplex_types.specs.declared.types.messages.Subject.{Subject}
 use Rattle.simplex_voter.specs.Facts.{Elect, StateFacts}
 use Rattle.simplex_member.specs.Lives.{MemberFacts}
+use Rattle.simplex_member.specs.Pruning.{pruned_member}
 use Rattle.simplex_member.specs.declared.member.journal.Stored.{Stored}
 use Rattle.simplex_laws.specs.Traces.{TraceEvent}
 use Rattle.simplex_laws.specs.Living.{DoesMore}
@@ -11,7 +12,7 @@ use Rattle.simplex_outbox.specs.declared.journaled.Journaled.{Journaled}
 use Rattle.simplex_outbox.specs.declared.output.Output.{Output}
 use Rattle.simplex_outbox.specs.Finals.{finals_in, finals_by, TellsRising}
 use Rattle.simplex_outbox.specs.Leaving.{AllLeave}
-use Rattle.simplex_outbox.specs.Outboxes.{IsLawfulOutbox, QueuesMore}
+use Rattle.simplex_outbox.specs.Outboxes.{HasStayed, IsLawfulOutbox, QueuesMore}
 use Rattle.simplex_outbox.specs.Journals.{journal_of, IsRecordOf, IsBeginningOf}
 use Rattle.simplex_outbox.specs.Doing.{IsDoneOn}
 use Rattle.simplex_outbox.specs.Reaching.{ReachesTo}
@@ -24,6 +25,14 @@ module _ {S L D K G C : Type 0} where
   -- no proposal is queued to be told as final
   abbrev pub TellsNothing : Journaled S L D K G C → Type 0
   TellsNothing member = finals_in member.outbox.queue.items ≡ []
+
+  -- nothing has changed
+  abbrev pub IsUnchanged : Journaled S L D K G C → Journaled S L D K G C → Type 0
+  IsUnchanged old new = HasStayed old.outbox new.outbox × (new ≡ record old { outbox = new.outbox })
+
+  -- what a pruning leaves that finds no memory: nothing has changed, or the record is pruned, and it has failed
+  abbrev pub IsUnpruned : Journaled S L D K G C → Journaled S L D K G C → Type 0
+  IsUnpruned old new = IsUnchanged old new ⊎ ((new.failed ≡ true) × (new.member.facts ≡ pruned_member old.member.facts))
 
 module _ {S L D K G C : Type 0} (bytes_of : C → List ℕ) where
   -- over all that was given out and what is queued: each vote stands behind an output that stores it, and the proposals that are told

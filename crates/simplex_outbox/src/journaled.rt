@@ -54,13 +54,14 @@ impl<S: Scheme<D>, L: Elector<S>, D: Digest> Journaled<S, L, D> {
     ghost use Rattle.simplex_record.specs.Votes.{votes_of};
     ghost use Rattle.simplex_laws.specs.Lawful.{IsLawful};
     ghost use Rattle.simplex_laws.specs.Living.{OfAllDone, MayBeDoneBy};
+    ghost use Rattle.simplex_laws.specs.RecordsOnce.{HoldsEachEntryOnce};
     ghost use Rattle.simplex_member.specs.Journal.{stored_of};
     ghost use Rattle.simplex_member.specs.Pruning.{pruned_member};
     ghost use Rattle.simplex_outbox.specs.Outputs.{AreBehind};
     ghost use Rattle.simplex_outbox.specs.Outboxes.{HasRoom, IsRepeated, QueuesNoWork};
     ghost use Rattle.simplex_outbox.specs.Finals.{finals_in, RiseByView, EndsAt, TellsNoMore};
     ghost use Rattle.simplex_outbox.specs.Journals.{journal_of, IsRecordOf, BeginsWith};
-    ghost use Rattle.simplex_outbox.specs.Going.{IsKept, IsWhole, StoresRecord, GoesOn, TellsNothing, has_failed};
+    ghost use Rattle.simplex_outbox.specs.Going.{IsKept, IsWhole, StoresRecord, GoesOn, TellsNothing, IsUnchanged, IsUnpruned, has_failed};
     ghost use Rattle.simplex_outbox.specs.Leaving.{AllLeave};
     ghost use Rattle.simplex_outbox.specs.Refusing.{is_refused, says_nothing, IsLeftByCall};
 
@@ -132,7 +133,7 @@ impl<S: Scheme<D>, L: Elector<S>, D: Digest> Journaled<S, L, D> {
             (hands_in (certificate_facts S.certificate_bytes certificate) now) (told S.certificate_bytes reply) self.new.member.facts) }
         ensures refused { IfOk result (λ reply. IsTrue (is_refused (told S.certificate_bytes reply))
             → self.new.member.facts ≡ self.old.member.facts) }
-        ensures member { OnErr result (self.new.member ≡ self.old.member) }
+        ensures unchanged { OnErr result (IsUnchanged self.old self.new) }
         ensures no_work { QueuesNoWork self.old.outbox self.new.outbox }
     {
         match self.outbox.make_room() {
@@ -166,6 +167,7 @@ impl<S: Scheme<D>, L: Elector<S>, D: Digest> Journaled<S, L, D> {
         ensures whole { OnOk result (IsWhole S.certificate_bytes self.new) }
         ensures holds { OnOk result (StoresRecord S.certificate_bytes self.new) }
         ensures member { self.new.member ≡ self.old.member }
+        ensures unchanged { OnErr result (IsUnchanged self.old self.new) }
         ensures no_work { QueuesNoWork self.old.outbox self.new.outbox }
     {
         let count = self.member.record().len();
@@ -180,18 +182,19 @@ impl<S: Scheme<D>, L: Elector<S>, D: Digest> Journaled<S, L, D> {
     }
 
     /// Prunes the record, behind the state's own prune, and queues what is left in place of all that is stored; before that, what the
-    /// record has grown by is queued, since by a record that is replaced no vote leaves. Without memory it may fail: what is stored is
-    /// no longer the record then.
+    /// record has grown by is queued, since by a record that is replaced no vote leaves.
     ///
     /// - `whole`: all of the record is queued.
     /// - `waiting`: what the member waits for is the same.
     /// - `pruned`: the record is pruned, as by `Member::prune_record`, and nothing else has changed of the member.
+    /// - `unpruned`: without memory nothing has changed, or it is so pruned and has failed: what is stored is no longer the record.
     /// - `no_work`: as of `hand_in`.
     pub fn prune_record(&mut self) -> Result<(), AllocError>
         ensures goes_on { GoesOn D.eq L.elect S.certificate_bytes None self.old self.new }
         ensures waiting { self.new.member.facts.outstanding_work ≡ self.old.member.facts.outstanding_work }
         ensures whole { OnOk result (IsWhole S.certificate_bytes self.new) }
         ensures pruned { OnOk result (self.new.member.facts ≡ pruned_member self.old.member.facts) }
+        ensures unpruned { OnErr result (IsUnpruned self.old self.new) }
         ensures no_work { QueuesNoWork self.old.outbox self.new.outbox }
     {
         self.store()?;
@@ -204,6 +207,7 @@ impl<S: Scheme<D>, L: Elector<S>, D: Digest> Journaled<S, L, D> {
         ensures goes_on { GoesOn D.eq L.elect S.certificate_bytes None self.old self.new }
         ensures whole { OnOk result (IsWhole S.certificate_bytes self.new) }
         ensures pruned { self.new.member.facts ≡ pruned_member self.old.member.facts }
+        ensures failed { OnErr result (self.new.failed ≡ true) }
         ensures no_work { QueuesNoWork self.old.outbox self.new.outbox }
     {
         self.member.prune_record();
@@ -226,6 +230,7 @@ impl<S: Scheme<D>, L: Elector<S>, D: Digest> Journaled<S, L, D> {
         ensures goes_on { GoesOn D.eq L.elect S.certificate_bytes None self.old self.new }
         ensures member { self.new.member ≡ self.old.member }
         ensures queued { OnOk result (self.new.outbox.queue.items ≡ self.old.outbox.queue.items ++ output.Work work ∷ []) }
+        ensures unchanged { OnErr result (IsUnchanged self.old self.new) }
     {
         self.outbox.push(work)
     }
@@ -235,6 +240,7 @@ impl<S: Scheme<D>, L: Elector<S>, D: Digest> Journaled<S, L, D> {
         ensures goes_on { GoesOn D.eq L.elect S.certificate_bytes None self.old self.new }
         ensures member { self.new.member ≡ self.old.member }
         ensures repeated { IfOk result (λ sent. IsRepeated view self.old.outbox.repeat sent self.old.outbox self.new.outbox) }
+        ensures unchanged { OnErr result (IsUnchanged self.old self.new) }
     {
         self.outbox.repeat(view)
     }
@@ -313,6 +319,7 @@ impl<S: Scheme<D>, L: Elector<S>, D: Digest> Journaled<S, L, D> {
     /// - `last`: the last of them, of those that it told and those that are queued, is of the member's last finalized view.
     /// - `lawful`: what its member has done keeps the voting rules, over all its lives.
     /// - `ran`: a network of `agreement` may have it as member `i`.
+    /// - `once`: its record holds each entry once, and of each view at most seven.
     pub fn keeps_the_laws(&self)
         ensures behind { (given : _) → IsKept S.certificate_bytes given self.now → AreBehind [] given }
         ensures stored { (given : _) → IsKept S.certificate_bytes given self.now → self.now.failed ≡ false → IsWhole S.certificate_bytes self.now
@@ -324,6 +331,7 @@ impl<S: Scheme<D>, L: Elector<S>, D: Digest> Journaled<S, L, D> {
             EndsAt x.finalized (finals_in (given ++ self.now.outbox.queue.items))) }
         ensures lawful { OfAllDone D.eq L.elect self.now.member.facts (λ term_length i all. IsLawful term_length all) }
         ensures ran { OfAllDone D.eq L.elect self.now.member.facts (MayBeDoneBy S.PublicKey D.eq L.elect) }
+        ensures once { OfAllDone D.eq L.elect self.now.member.facts (λ term_length i all. HoldsEachEntryOnce self.now.member.facts) }
     {
         self.outbox.keeps_the_law();
         self.member.keeps_the_laws();
