@@ -61,7 +61,7 @@ admitted_on x on is =
     subst (λ v. admits_vote x v ≡ true) (view_of on)
     (and_parts (is_started x) (admits_vote x round.view) (and_parts (round.epoch == x.settings.epoch) (is_started x && admits_vote x round.view) is).1).1
 
-next_monotone : (length v w : ℕ) → v ≤ w → next_term_start length v ≤ next_term_start length w
+pub next_monotone : (length v w : ℕ) → v ≤ w → next_term_start length v ≤ next_term_start length w
 next_monotone length v w up = omega (arith, start_monotone length v w up)
 
 -- the first view of the next term does not fall

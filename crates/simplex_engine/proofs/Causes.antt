@@ -1,6 +1,6 @@
 -- For the code of the engine.
 -- That what is done comes of what is at hand, step by step.
-use Rattle.std.proofs.Common.{◌≡◌, ◌∙◌, refl, ap, sym, subst, ℕ, Bool, true, false, cond, inl, inr, List, [], ◌∷◌, ◌++◌, append_assoc, append-nil, filter, Option, Some, Result, Ok, Err, ◌⊎◌, ◌≤◌, ◌||◌, arith, None, ◌&&◌, ◌==◌}
+use Rattle.std.proofs.Common.{◌≡◌, ◌∙◌, refl, ap, sym, subst, ℕ, Bool, true, false, cond, inl, inr, List, [], ◌∷◌, ◌++◌, append_assoc, append-nil, filter, Option, Some, Result, Ok, Err, ◌⊎◌, ◌≤◌, ◌||◌, arith, None, ◌&&◌, ◌==◌, unwrap_or}
 use Rattle.std.specs.Prelude.{IfErr, IfOk, IsErrAnd, OnErr, OnOk, option_map, option_to_list, nat_le}
 use Rattle.std.proofs.lemmas.Bool.{false≢true, or_cases, or_left, or_right}
 use Rattle.std.proofs.lemmas.List.{map-append}
@@ -15,6 +15,7 @@ use Rattle.simplex_types.specs.declared.types.fault.Fault.{Fault}
 use Rattle.simplex_types.specs.declared.types.fault.Fault.TheVariants.{Failed}
 use Rattle.simplex_resolver.specs.Told.{LawfulResolverFacts}
 use Rattle.simplex_voter.specs.Facts.{Elect, StateFacts}
+use Rattle.simplex_voter.specs.Windows.{min_active}
 use Rattle.simplex_member.specs.Calls as call
 use Rattle.simplex_member.specs.Calls.{CallFacts, told, Told}
 use Rattle.simplex_member.specs.Lives.{MemberFacts, IsCall, AnswersAlive, unless_refused}
@@ -72,11 +73,13 @@ use Rattle.simplex_plan.proofs.Giving.{repaired_alone}
 use Rattle.simplex_plan.proofs.Matters.{among_each, among_last, among_none, closes_some, each_part, fetches_by, in_early, in_steps, opens_one, same_plan, still_blocks, still_fetches}
 use Rattle.simplex_plan.proofs.PlannedWork.{among_all, among_both, among_further, among_more, among_still}
 use Rattle.simplex_engine.specs.declared.engine.Engine.{Engine}
+use Rattle.simplex_engine.specs.declared.input.Input.{Input}
 use Rattle.simplex_engine.specs.declared.input.Input.TheVariants as input
 use Rattle.simplex_engine.specs.Acting.{verification_of}
 use Rattle.simplex_engine.specs.Admitting.{keeps_early, IsKeptEarly}
 use Rattle.simplex_engine.specs.Beginning.{HasBegunWith}
-use Rattle.simplex_engine.specs.Causes.{at_hand, came_in, evidence, given_in, heard_in, of_counted, shown_against, IsMeant, IsStepMeant, Comes, ComesBy, ComesWith, is_final, ComesAlone, HasNoLack}
+use Rattle.simplex_engine.proofs.Tests.{not_or, or_none, or_nothing}
+use Rattle.simplex_engine.specs.Causes.{at_hand, forgettable, came_in, evidence, given_in, heard_in, of_counted, shown_against, IsMeant, IsStepMeant, Comes, ComesBy, ComesWith, is_final, ComesAlone, HasNoLack}
 
 module _ {S L D K G C : Type 0} (now : ℕ) {matters more : List (Matter S D K G C)} (among : AreAmong matters more) (m : MemberFacts K L D) where
   -- a step comes of more
@@ -111,6 +114,15 @@ module _ {S L D K G C : Type 0} (same : D → D → Bool) (elect : Elect L) (byt
       lacks_too kind view given (inl it) un = or_left (asked kind view) (list_any (is_lack kind view) given) (still kind view it un)
       lacks_too kind view given (inr it) un = or_right (asked kind view) (list_any (is_lack kind view) given) it
 
+module _ {S L D K G C : Type 0} (same : D → D → Bool) (elect : Elect L) (bytes_of : C → List ℕ) (now : ℕ) (asks_now : FetchKind → ℕ → Bool) where
+  -- what was at hand stays so beside what is left
+  left_more : (steps : List (StepFacts K L D × Reply S D K G C)) (over : FetchKind → ℕ → Bool) (matters extra left : List (Matter S D K G C)) (asked : FetchKind → ℕ → Bool) (m end : MemberFacts K L D)
+      → AreAmong extra matters → ComesBy same elect bytes_of now asks_now over steps matters asked m left end → ComesBy same elect bytes_of now asks_now over steps matters asked m (extra ++ left) end
+  left_more [] over matters extra left asked m end among is = (among_each among is.0, is.1, is.2)
+  left_more ((step, answer) ∷ rest) over matters extra left asked m end among (meant, next, is_step, comes) =
+      let given : List (Matter S D K G C) = given_in {L = L} now step answer in
+      (meant, next, is_step, left_more rest over (matters ++ given) extra left (with_lack asked given) next end (among_further among (among_more matters given)) comes)
+
 -- steps behind others come of what these leave
 module _ {S L D K G C : Type 0} (same : D → D → Bool) (elect : Elect L) (bytes_of : C → List ℕ) (now : ℕ) (between asks_now over later wider : FetchKind → ℕ → Bool)
     (first_within : (kind : FetchKind) (view : ℕ) → wider kind view ≡ false → over kind view ≡ false)
@@ -124,18 +136,6 @@ module _ {S L D K G C : Type 0} (same : D → D → Bool) (elect : Elect L) (byt
       (subst (λ (it : MemberFacts K L D). ComesBy same elect bytes_of now asks_now later more b (λ kind view. between kind view || false) it c end) first.1 second)
   joined ((step, answer) ∷ rest) more a b c asked m n end (meant, next, is_step, comes) second =
       (meant, next, is_step, joined rest more (a ++ given_in {L = L} now step answer) b c (with_lack asked (given_in {L = L} now step answer)) next n end comes second)
-
-or_none : (t : Bool) → (t || false) ≡ t
-or_none true = refl
-or_none false = refl
-
-or_nothing : (a : Bool) → (a || false) ≡ true → a ≡ true
-or_nothing true is = refl
-or_nothing false is = is
-
-not_or : (a b : Bool) → (a || b) ≡ false → (a ≡ false) × (b ≡ false)
-not_or true b is = absurd (false≢true (sym is))
-not_or false b is = (refl, is)
 
 -- three reasons, the first two apart
 regrouped : (a b c : Bool) → (a || (b || c)) ≡ false → ((a || b) || c) ≡ false
@@ -168,12 +168,21 @@ heard_further bytes bytes_of ((Calls call, reply) ∷ rest) more =
 heard_further bytes bytes_of ((Prunes, reply) ∷ rest) more = heard_further bytes bytes_of rest more
 heard_further bytes bytes_of ((Restarts restart, reply) ∷ rest) more = heard_further bytes bytes_of rest more
 
+-- why a certificate is no longer asked for, behind some steps
+abbrev over_since : {S L D K G C : Type 0} → (D → List ℕ) → (C → List ℕ) → (FetchKind → ℕ → Bool) → Engine S L D K G C → Plan S D K G C → List (StepFacts K L D × Reply S D K G C) → FetchKind → ℕ → Bool
+over_since bytes bytes_of held end plan steps kind view = held kind view || (is_final end.core.member.facts view || ended_by plan.repair.resolver.state (heard_in bytes bytes_of steps) kind view)
+
 module _ {S L D K G C : Type 0} {same : D → D → Bool} {elect : Elect L} {bytes : D → List ℕ} {bytes_of : C → List ℕ} {now : ℕ} where
-  pub comes_then : {came : List (Matter S D K G C)} {out : List (Work S D K G C)} {held holds : FetchKind → ℕ → Bool} {a b c : Engine S L D K G C}
-      → Comes same elect bytes bytes_of now came [] held a b → ((kind : FetchKind) (view : ℕ) → holds kind view ≡ false → held kind view ≡ false)
-      → WhileAlive HasRisen b.core.member.facts.life c.core.member.facts.life → Comes same elect bytes bytes_of now [] out holds b c → Comes same elect bytes bytes_of now came out holds a c
-  comes_then {came = came} {out = out} {held = held} {holds = holds} {a = a} {b = b} {c = c} first within risen second = record {
-    steps = first.steps ++ second.steps;
+  -- steps behind others, which begin with what these leave
+  comes_joined : {came : List (Matter S D K G C)} {out : List (Work S D K G C)} {held holds : FetchKind → ℕ → Bool} {a c : Engine S L D K G C} (b : Engine S L D K G C) (mid : List (Matter S D K G C))
+      (steps more : List (StepFacts K L D × Reply S D K G C)) → AreMade a.plan.repair.resolver (heard_in bytes bytes_of steps) b.plan.repair.resolver
+      → ComesBy same elect bytes_of now (asks b.plan) (over_since bytes bytes_of held b a.plan steps) steps (came ++ at_hand a) (with_lack (asks a.plan) came) a.core.member.facts mid b.core.member.facts
+      → ((kind : FetchKind) (view : ℕ) → holds kind view ≡ false → held kind view ≡ false) → WhileAlive HasRisen b.core.member.facts.life c.core.member.facts.life
+      → AreMade b.plan.repair.resolver (heard_in bytes bytes_of more) c.plan.repair.resolver
+      → ComesBy same elect bytes_of now (asks c.plan) (over_since bytes bytes_of holds c b.plan more) more mid (λ kind view. asks b.plan kind view || false) b.core.member.facts (of_works out ++ at_hand c) c.core.member.facts
+      → Comes same elect bytes bytes_of now came out holds a c
+  comes_joined {came = came} {out = out} {held = held} {holds = holds} {a = a} {c = c} b mid steps more first_heard first within risen second_heard second = record {
+    steps = steps ++ more;
     heard = both.1;
     by_steps = both.0;
   }
@@ -189,30 +198,34 @@ module _ {S L D K G C : Type 0} {same : D → D → Bool} {elect : Elect L} {byt
       none_of false true z p q r = q
       none_of false false z p q r = r
 
-      both : ComesBy same elect bytes_of now (asks c.plan) (λ kind view. holds kind view || (is_final c.core.member.facts view || ends a.plan (heard (first.steps ++ second.steps)) kind view))
-          (first.steps ++ second.steps) (came ++ at_hand a) (with_lack (asks a.plan) came) a.core.member.facts (of_works out ++ at_hand c) c.core.member.facts
-          × AreMade a.plan.repair.resolver (heard (first.steps ++ second.steps)) c.plan.repair.resolver
+      both : ComesBy same elect bytes_of now (asks c.plan) (λ kind view. holds kind view || (is_final c.core.member.facts view || ends a.plan (heard (steps ++ more)) kind view))
+          (steps ++ more) (came ++ at_hand a) (with_lack (asks a.plan) came) a.core.member.facts (of_works out ++ at_hand c) c.core.member.facts
+          × AreMade a.plan.repair.resolver (heard (steps ++ more)) c.plan.repair.resolver
       both =
           subst (λ calls. ComesBy same elect bytes_of now (asks c.plan) (λ kind view. holds kind view || (is_final c.core.member.facts view || ends a.plan calls kind view))
-          (first.steps ++ second.steps) (came ++ at_hand a) (with_lack (asks a.plan) came) a.core.member.facts (of_works out ++ at_hand c) c.core.member.facts
-          × AreMade a.plan.repair.resolver calls c.plan.repair.resolver) (sym (heard_further bytes bytes_of first.steps second.steps)) (
-            joined same elect bytes_of now (asks b.plan) (asks c.plan) (λ kind view. held kind view || (is_final b.core.member.facts view || ends a.plan (heard first.steps) kind view))
-                (λ kind view. holds kind view || (is_final c.core.member.facts view || ends b.plan (heard second.steps) kind view))
-                (λ kind view. holds kind view || (is_final c.core.member.facts view || ends a.plan (heard first.steps ++ heard second.steps) kind view))
+          (steps ++ more) (came ++ at_hand a) (with_lack (asks a.plan) came) a.core.member.facts (of_works out ++ at_hand c) c.core.member.facts
+          × AreMade a.plan.repair.resolver calls c.plan.repair.resolver) (sym (heard_further bytes bytes_of steps more)) (
+            joined same elect bytes_of now (asks b.plan) (asks c.plan) (over_since bytes bytes_of held b a.plan steps) (over_since bytes bytes_of holds c b.plan more)
+                (λ kind view. holds kind view || (is_final c.core.member.facts view || ends a.plan (heard steps ++ heard more) kind view))
                 (λ kind view un.
                 let parts = not_or (holds kind view) _ un in
                 let rest = not_or (is_final c.core.member.facts view) _ parts.1 in
                 none_of (held kind view) (is_final b.core.member.facts view) _ (within kind view parts.0) (final_further b.core.member.facts c.core.member.facts risen view rest.0)
-                (ended_on a.plan.repair.resolver b.plan.repair.resolver (heard first.steps) (heard second.steps) first.heard kind view rest.1).0)
+                (ended_on a.plan.repair.resolver b.plan.repair.resolver (heard steps) (heard more) first_heard kind view rest.1).0)
                 (λ kind view un.
                 let parts = not_or (holds kind view) _ un in
                 let rest = not_or (is_final c.core.member.facts view) _ parts.1 in
                 none_of (holds kind view) (is_final c.core.member.facts view) _ parts.0 rest.0
-                (ended_on a.plan.repair.resolver b.plan.repair.resolver (heard first.steps) (heard second.steps) first.heard kind view rest.1).1)
-                first.steps second.steps (came ++ at_hand a) (at_hand b) (of_works out ++ at_hand c) (with_lack (asks a.plan) came) a.core.member.facts b.core.member.facts c.core.member.facts
-                first.by_steps second.by_steps,
-            made_on a.plan.repair.resolver b.plan.repair.resolver c.plan.repair.resolver (heard first.steps) (heard second.steps) first.heard second.heard,
+                (ended_on a.plan.repair.resolver b.plan.repair.resolver (heard steps) (heard more) first_heard kind view rest.1).1)
+                steps more (came ++ at_hand a) mid (of_works out ++ at_hand c) (with_lack (asks a.plan) came) a.core.member.facts b.core.member.facts c.core.member.facts first second,
+            made_on a.plan.repair.resolver b.plan.repair.resolver c.plan.repair.resolver (heard steps) (heard more) first_heard second_heard,
           )
+
+  pub comes_then : {came : List (Matter S D K G C)} {out : List (Work S D K G C)} {held holds : FetchKind → ℕ → Bool} {a b c : Engine S L D K G C}
+      → Comes same elect bytes bytes_of now came [] held a b → ((kind : FetchKind) (view : ℕ) → holds kind view ≡ false → held kind view ≡ false)
+      → WhileAlive HasRisen b.core.member.facts.life c.core.member.facts.life → Comes same elect bytes bytes_of now [] out holds b c → Comes same elect bytes bytes_of now came out holds a c
+  comes_then {held = held} {holds = holds} {b = b} first within risen second =
+      comes_joined {held = held} {holds = holds} b (at_hand b) first.steps second.steps first.heard first.by_steps within risen second.heard second.by_steps
 
   pub comes_on : {came : List (Matter S D K G C)} {out : List (Work S D K G C)} {holds : FetchKind → ℕ → Bool} {a b c : Engine S L D K G C}
       → ComesWith same elect bytes bytes_of now came a b → WhileAlive HasRisen b.core.member.facts.life c.core.member.facts.life → Comes same elect bytes bytes_of now [] out holds b c
@@ -292,16 +305,29 @@ module _ {S L D K G C : Type 0} {same : D → D → Bool} {elect : Elect L} {byt
       over_by : List Call → FetchKind → ℕ → Bool
       over_by calls kind view = is_final b.core.member.facts view || ended_by a.plan.repair.resolver.state calls kind view
 
+  -- what comes in between is as if it had come in before
+  pub comes_later : {came : List (Matter S D K G C)} {out : List (Work S D K G C)} {holds : FetchKind → ℕ → Bool} {a b c : Engine S L D K G C} → HasNoLack came
+      → ComesAlone same elect bytes bytes_of now a b → WhileAlive HasRisen b.core.member.facts.life c.core.member.facts.life → Comes same elect bytes bytes_of now came out holds b c
+      → Comes same elect bytes bytes_of now came out holds a c
+  comes_later {came = came} {out = out} {holds = holds} {a = a} {b = b} {c = c} none first risen second =
+      let wider = comes_wider (among_none came) none first in
+      comes_joined {held = λ kind view. false} {holds = holds} b (came ++ at_hand b) wider.steps second.steps wider.heard
+      (left_more same elect bytes_of now (asks b.plan) wider.steps (over_since bytes bytes_of (λ kind view. false) b a.plan wider.steps) (came ++ at_hand a) came (at_hand b) (with_lack (asks a.plan) came) a.core.member.facts b.core.member.facts
+      (among_more came (at_hand a)) wider.by_steps) (λ kind view un. refl) risen second.heard
+      (by_more same elect bytes_of now (asks c.plan) second.steps (over_since bytes bytes_of holds c b.plan second.steps) (over_since bytes bytes_of holds c b.plan second.steps) (came ++ at_hand b) (came ++ at_hand b) (of_works out ++ at_hand c)
+      (with_lack (asks b.plan) came) (λ kind view. asks b.plan kind view || false) b.core.member.facts c.core.member.facts (among_still (came ++ at_hand b))
+      (λ kind view it un. or_left (asks b.plan kind view) (list_any (is_lack kind view) came) (or_nothing (asks b.plan kind view) it)) (λ kind view un. un) second.by_steps)
+
   -- before it nothing was done
-  pub comes_before : {out : List (Work S D K G C)} {held : FetchKind → ℕ → Bool} {a mid b : Engine S L D K G C} → mid.core.member.facts ≡ a.core.member.facts → mid.plan ≡ a.plan
-      → AreAmong (at_hand mid) (at_hand a) → Comes same elect bytes bytes_of now [] out held mid b → Comes same elect bytes bytes_of now [] out held a b
-  comes_before {out = out} {held = held} {a = a} {mid = mid} {b = b} facts plan among is = record {
+  pub comes_before : {came : List (Matter S D K G C)} {out : List (Work S D K G C)} {held : FetchKind → ℕ → Bool} {a mid b : Engine S L D K G C} → mid.core.member.facts ≡ a.core.member.facts → mid.plan ≡ a.plan
+      → AreAmong (at_hand mid) (at_hand a) → Comes same elect bytes bytes_of now came out held mid b → Comes same elect bytes bytes_of now came out held a b
+  comes_before {came = came} {out = out} {held = held} {a = a} {mid = mid} {b = b} facts plan among is = record {
     steps = is.steps;
     heard = subst (λ (p : Plan S D K G C). AreMade p.repair.resolver (heard_in bytes bytes_of is.steps) b.plan.repair.resolver) plan is.heard;
-    by_steps = subst (λ (m : MemberFacts K L D). ComesBy same elect bytes_of now (asks b.plan) (over_by a.plan) is.steps (at_hand a) (λ kind view. asks a.plan kind view || false) m (of_works out ++ at_hand b)
+    by_steps = subst (λ (m : MemberFacts K L D). ComesBy same elect bytes_of now (asks b.plan) (over_by a.plan) is.steps (came ++ at_hand a) (with_lack (asks a.plan) came) m (of_works out ++ at_hand b)
         b.core.member.facts) facts
-        (by_more same elect bytes_of now (asks b.plan) is.steps (over_by mid.plan) (over_by a.plan) (at_hand mid) (at_hand a) (of_works out ++ at_hand b) (λ kind view. asks mid.plan kind view || false)
-        (λ kind view. asks a.plan kind view || false) mid.core.member.facts b.core.member.facts among (λ kind view it un. ap (λ (p : Plan S D K G C). asks p kind view || false) plan ∙ it)
+        (by_more same elect bytes_of now (asks b.plan) is.steps (over_by mid.plan) (over_by a.plan) (came ++ at_hand mid) (came ++ at_hand a) (of_works out ++ at_hand b) (with_lack (asks mid.plan) came)
+        (with_lack (asks a.plan) came) mid.core.member.facts b.core.member.facts (among_both (among_still came) among) (λ kind view it un. ap (λ (p : Plan S D K G C). with_lack (asks p) came kind view) plan ∙ it)
         (λ kind view un. ap (λ (p : Plan S D K G C). over_by p kind view) plan ∙ un) is.by_steps);
   }
     where
@@ -552,9 +578,33 @@ module _ (S K C : Type 0) {D G : Type 0} where
   evidence_lacks_none vote None kind view = refl
   evidence_lacks_none vote (Some ballot) kind view = refl
 
+pub forgets_no_lack : (S G C : Type 0) {K L D : Type 0} (m : MemberFacts K L D) → HasNoLack (forgettable {S = S} {G = G} {C = C} m)
+forgets_no_lack S G C {K = K} {L = L} {D = D} m = by_life m.life
+  where
+    by_life : (life : Option (StateFacts K L D)) → HasNoLack {S = S} {D = D} {K = K} {G = G} {C = C} (option_map_or (λ x. Duty (work.Forget (min_active x)) ∷ []) life [])
+    by_life None kind view = refl
+    by_life (Some x) kind view = refl
+
+-- a living member's lowest view
+pub forgets_lowest : {S L D K G C : Type 0} (m : MemberFacts K L D) (lowest : ℕ) → option_map min_active m.life ≡ Some lowest → of_work {S = S} {G = G} {C = C} (work.Forget lowest) ≡ forgettable m
+forgets_lowest {S = S} {L = L} {D = D} {K = K} {G = G} {C = C} m lowest is = by_life m.life is
+  where
+    by_life : (life : Option (StateFacts K L D)) → option_map min_active life ≡ Some lowest → ◌≡◌ {A = List (Matter S D K G C)} (Duty (work.Forget lowest) ∷ []) (option_map_or (λ x. Duty (work.Forget (min_active x)) ∷ []) life [])
+    by_life None is = absurd (cc)
+    by_life (Some x) is = ap (λ o. Duty (work.Forget (unwrap_or o 0)) ∷ []) (sym is)
+
 pub vote_lacks_none : {S D K G C : Type 0} (bytes_of : C → List ℕ) (batcher : Batcher S D K G C) (vote : Vote D G) → HasNoLack (came_in bytes_of batcher (input.Vote vote))
 vote_lacks_none {S = S} {K = K} {C = C} bytes_of batcher vote =
     evidence_lacks_none S K C vote (ballot_of (held batcher (kind_of vote.subject) (subject_view vote.subject)) vote.signer)
+
+pub input_lacks_none : {S D K G C : Type 0} (bytes_of : C → List ℕ) (batcher : Batcher S D K G C) (what : Input S D K G C) → HasNoLack (came_in bytes_of batcher what)
+input_lacks_none bytes_of batcher (input.Proposal from proposal) kind view = refl
+input_lacks_none bytes_of batcher (input.Vote vote) kind view = vote_lacks_none bytes_of batcher vote kind view
+input_lacks_none bytes_of batcher (input.Certificate certificate) kind view = refl
+input_lacks_none bytes_of batcher (input.Verified v is_valid) kind view = refl
+input_lacks_none bytes_of batcher (input.Built context payload) kind view = refl
+input_lacks_none bytes_of batcher (input.Certified v success) kind view = refl
+input_lacks_none bytes_of batcher (input.GivenUp v reason) kind view = refl
 
 pub counted_lacks_none : {S D K G C : Type 0} (bytes_of : C → List ℕ) (what : Counted S D K G C) → HasNoLack (of_counted bytes_of what)
 counted_lacks_none bytes_of (counted.Certified made) kind view = refl

@@ -1,3 +1,4 @@
+mod Tests
 mod Backing
 mod Alone
 mod Bounds
@@ -8,3 +9,4 @@ mod Causes
 mod Tells
 mod Taking
 mod Beginning
+mod heights

@@ -8,6 +8,7 @@ use Rattle.simplex_types.specs.Viewed.{subject_view}
 use Rattle.simplex_types.specs.declared.types.messages.Proposal.{Proposal}
 use Rattle.simplex_resolver.specs.Steps.{Call}
 use Rattle.simplex_voter.specs.Facts.{Elect}
+use Rattle.simplex_voter.specs.Windows.{min_active}
 use Rattle.simplex_member.specs.Calls.{CallFacts, SetProposal, told}
 use Rattle.simplex_member.specs.Lives.{MemberFacts}
 use Rattle.simplex_member.specs.Runs.{StepFacts, Calls, Prunes, Restarts, IsStep}
@@ -27,7 +28,7 @@ use Rattle.simplex_engine.specs.declared.input.Input.TheVariants as input
 use Rattle.simplex_outbox.specs.Handing.{hands_in}
 use Rattle.simplex_outbox.specs.Outputs.{work_in}
 use Rattle.simplex_outbox.specs.declared.output.Work.{Work}
-use Rattle.simplex_outbox.specs.declared.output.Work.TheVariants.{Equivocated}
+use Rattle.simplex_outbox.specs.declared.output.Work.TheVariants.{Equivocated, Forget}
 use Rattle.simplex_plan.specs.declared.task.Task.{Task}
 use Rattle.simplex_plan.specs.declared.task.Task.TheVariants as task
 use Rattle.simplex_plan.specs.Matters.{Matter, Duty, Arrival, Quorum, Message, given_by, of_task, of_works, planned_matters}
@@ -75,6 +76,11 @@ module _ {S D K G C : Type 0} where
   came_in bytes_of batcher (input.Built context payload) = Message (task.Proposed context.round.view payload) ∷ []
   came_in bytes_of batcher (input.Certified view is_success) = Message (task.Certified view is_success) ∷ []
   came_in bytes_of batcher (input.GivenUp view reason) = Message (task.GiveUp view reason) ∷ []
+
+module _ {S L D K G C : Type 0} where
+  -- what an engine may tell of its own accord: that the views below the lowest one which its member keeps may be forgotten
+  abbrev pub forgettable : MemberFacts K L D → List (Matter S D K G C)
+  forgettable m = option_map_or (λ x. Duty (Forget (min_active x)) ∷ []) m.life []
 
 module _ {S L D K G C : Type 0} (now : ℕ) where
   -- a call comes of what is at hand: of a task, a proposal of its view's leader that the member admits, or a certificate

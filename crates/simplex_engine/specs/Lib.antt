@@ -3,6 +3,7 @@ pub mod Views
 pub mod Building
 pub mod Quiet
 pub mod Lacking
+pub mod Heights
 pub mod Settled
 pub mod Backing
 pub mod Alone

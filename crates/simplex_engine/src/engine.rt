@@ -5,7 +5,7 @@
 
 ghost use Rattle.std.specs.Prelude.{◌≡◌, ◌++◌, [], length, None, Err, if◌then◌else◌, IfOk, IfErr, IfSome, OnOk, OnErr, IsNone, IsFalse, IsTrue, true, false};
 ghost use Rattle.std.specs.Option.{option_copied};
-ghost use Rattle.simplex_types.specs.declared.types.fault.Fault.TheVariants.{Failed};
+ghost use Rattle.simplex_types.specs.declared.types.fault.Fault.TheVariants.{OutOfMemory, Failed};
 ghost use Rattle.simplex_engine.specs.Failing.{IsFailure};
 
 mod asking;
@@ -50,6 +50,7 @@ impl<S: Assembly<D>, L: Elector<S>, D: Digest> Engine<S, L, D> {
     ghost use Rattle.simplex_record.specs.Votes.{votes_of};
     ghost use Rattle.simplex_laws.specs.Lawful.{IsLawful};
     ghost use Rattle.simplex_laws.specs.Living.{OfAllDone, MayBeDoneBy};
+    ghost use Rattle.simplex_laws.specs.RecordsOnce.{HoldsEachEntryOnce};
     ghost use Rattle.simplex_outbox.specs.Outputs.{AreBehind};
     ghost use Rattle.simplex_outbox.specs.Finals.{finals_in, RiseByView, EndsAt, TellsNoMore};
     ghost use Rattle.simplex_outbox.specs.Journals.{journal_of, IsRecordOf};
@@ -65,11 +66,12 @@ impl<S: Assembly<D>, L: Elector<S>, D: Digest> Engine<S, L, D> {
     ghost use Rattle.simplex_engine.specs.Bounds.{HoldsFromKept, HoldsNoneAhead, StaysBounded, HoldsAdmitted};
     ghost use Rattle.simplex_engine.specs.Building.{BuildsAhead, BuildsNear};
     ghost use Rattle.simplex_engine.specs.Lacking.{AsksForItsLacking};
+    ghost use Rattle.simplex_engine.specs.Heights.{AsksNoHigher};
     ghost use Rattle.simplex_engine.specs.Views.{HasComeTo, StaysEarly};
     ghost use Rattle.simplex_engine.specs.Dropping.{IsDropped};
     ghost use Rattle.simplex_engine.specs.Admitting.{is_input_admitted, one_more, IsTurnedAway, ignoring};
     ghost use Rattle.simplex_engine.specs.Acting.{IsActedOn};
-    ghost use Rattle.simplex_engine.specs.Causes.{came_in, held_by, Comes, ComesWith};
+    ghost use Rattle.simplex_engine.specs.Causes.{came_in, forgettable, held_by, Comes, ComesWith};
     ghost use Rattle.simplex_outbox.specs.Outputs.{work_in};
     ghost use Rattle.simplex_engine.specs.Duties.{work_ahead, KeepsTelling, HasToldAll, AllIsGivenOut};
 
@@ -100,18 +102,21 @@ impl<S: Assembly<D>, L: Elector<S>, D: Digest> Engine<S, L, D> {
     /// - `comes`: and nothing comes of nothing. The member is asked what came in, or what an engine asks of its own accord: for its
     ///   votes, certificates, work and timeout, but not that a proposal is valid, for a verdict or with a block. Work that is queued
     ///   or planned, fetches that the resolver does not want and proposals that are kept come of those before, of what came in, and
-    ///   of the member's answers. What is asked of a peer, of an open fetch, and what may be forgotten are not followed. Each
-    ///   certificate that was asked for, or that an answer says is lacking, is asked for still, or is to be once it may no longer be
-    ///   on its way; but of a view up to the last finalized one, and what the resolver ends by what it is told.
+    ///   of the member's answers; what is asked of a peer, of an open fetch, is not followed. That views may be forgotten is told by
+    ///   `poll` alone. Each certificate that was asked for, or that an answer says is lacking, is asked for still, or is to be once it
+    ///   may no longer be on its way; but of a view up to the last finalized one, and what the resolver ends by what it is told,
+    ///   which is just what the member's answers say: each certificate that is new, and each verdict.
+    /// - `heights`: where no certificate is asked for, or to be asked for, of a view above the first one of the next term and above
+    ///   those of all entries of the record, none comes to be, whatever the member has done so far.
     /// - `ignored`: what is of no use is counted, and nothing else.
     /// - `bounded`: where each vote that is held was a member's, and of no view above those whose votes are taken, each still is.
-    /// - `failed`, `error`, `refused`: after an error, which is `OutOfMemory` or `Failed`, it has failed; one that has failed answers
-    ///   `Failed`, and nothing changes.
+    /// - `failed`, `error`, `refused`: after an error it has failed; one that had failed answers `Failed`, and nothing changes; any
+    ///   other answers `OutOfMemory`.
     ///
     /// # Errors
     ///
-    /// `OutOfMemory` fails the engine. After it each call answers `Failed`, and so does one that would take 2^64 steps, or whose
-    /// resolver refuses what it is told.
+    /// `OutOfMemory` where memory is lacking, which fails the engine; `Failed` where it had failed before. A call that would take
+    /// 2^64 steps, or whose resolver refuses what the member accepted, fails the engine too: it answers as for want of memory.
     pub fn handle(&mut self, input: Input<S, D>, now: u64) -> Result<bool, Fault>
         ensures goes_on { GoesOn D.eq L.elect S.certificate_bytes (subject_in S.certificate_bytes input) self.old.core self.new.core }
         ensures votes { TakesVotes (votes_of_input input) self.old.batcher self.new.batcher }
@@ -129,19 +134,20 @@ impl<S: Assembly<D>, L: Elector<S>, D: Digest> Engine<S, L, D> {
         ensures ignored { IfOk result (λ is_of_use. self.new.plan.ignored
             ≡ (if is_of_use then self.old.plan.ignored else one_more self.old.plan.ignored)) }
         ensures failed { OnErr result (has_failed self.new.core ≡ true) }
-        ensures error { IfErr result IsFailure }
+        ensures error { IfErr result (IsFailure (has_failed self.old.core)) }
         ensures refused { has_failed self.old.core ≡ true → (result ≡ Err Failed) × (self.new ≡ self.old) }
         ensures comes { OnOk result (ComesWith D.eq L.elect D.bytes S.certificate_bytes now (came_in S.certificate_bytes self.old.batcher input)
             self.old self.new) }
+        ensures heights { OnOk result (AsksNoHigher D.eq L.elect self.old self.new) }
     {
         if self.core.has_failed() {
             return Err(Fault::Failed);
         }
         match self.take(input, now) {
             Ok(is_of_use) => Ok(is_of_use),
-            Err(fault) => {
+            Err(_) => {
                 self.core.fail();
-                Err(failure(fault))
+                Err(Fault::OutOfMemory)
             }
         }
     }
@@ -162,7 +168,9 @@ impl<S: Assembly<D>, L: Elector<S>, D: Digest> Engine<S, L, D> {
     /// - `works`: no work is lost: what is queued or planned is given out, or is so still.
     /// - `comes`: as of `handle`, where nothing came in: what is given out to be verified, certified, built or sent was asked for by
     ///   an answer of the member; the member votes to nullify once its timeout has come; and of the proposals that came early it is
-    ///   handed those of their views' leaders. Of what is asked for that alone is let go besides which the state holds.
+    ///   handed those of their views' leaders. Views may be forgotten below the lowest one that the member keeps then. Of what is
+    ///   asked for that alone is let go besides which the state holds.
+    /// - `heights`: as of `handle`; so, by `lacking`, the open fetches are of views between the last finalized one and these.
     /// - `idle`: where nothing is answered, nothing is to be done at the moment: no step is queued, the timeout was asked for, and
     ///   no fetch is due.
     /// - `ahead`: and each block that is to be built is of a view above the current one, or of that and was asked for: one of a view
@@ -207,9 +215,11 @@ impl<S: Assembly<D>, L: Elector<S>, D: Digest> Engine<S, L, D> {
         ensures ignored { OnOk result (self.new.plan.ignored ≡ self.old.plan.ignored) }
         ensures constants { OnOk result (constants_of self.new.plan ≡ constants_of self.old.plan) }
         ensures failed { OnErr result (has_failed self.new.core ≡ true) }
-        ensures error { IfErr result IsFailure }
+        ensures error { IfErr result (IsFailure (has_failed self.old.core)) }
         ensures refused { has_failed self.old.core ≡ true → (result ≡ Err Failed) × (self.new ≡ self.old) }
-        ensures comes { OnOk result (Comes D.eq L.elect D.bytes S.certificate_bytes now [] (work_in (given_out result)) (held_by self.new) self.old self.new) }
+        ensures comes { OnOk result (Comes D.eq L.elect D.bytes S.certificate_bytes now (forgettable self.new.core.member.facts)
+            (work_in (given_out result)) (held_by self.new) self.old self.new) }
+        ensures heights { OnOk result (AsksNoHigher D.eq L.elect self.old self.new) }
     {
         if self.core.has_failed() {
             return Err(Fault::Failed);
@@ -245,14 +255,15 @@ impl<S: Assembly<D>, L: Elector<S>, D: Digest> Engine<S, L, D> {
         ensures ignored { OnOk result (self.new.plan.ignored ≡ self.old.plan.ignored) }
         ensures constants { OnOk result (constants_of self.new.plan ≡ constants_of self.old.plan) }
         ensures failed { OnErr result (has_failed self.new.core ≡ true) }
-        ensures error { IfErr result IsFailure }
-        ensures comes { OnOk result (Comes D.eq L.elect D.bytes S.certificate_bytes now [] (work_in (given_out result)) (held_by self.new) self.old self.new) }
+        ensures error { IfErr result (λ fault. fault ≡ OutOfMemory) }
+        ensures comes { OnOk result (Comes D.eq L.elect D.bytes S.certificate_bytes now (forgettable self.new.core.member.facts)
+            (work_in (given_out result)) (held_by self.new) self.old self.new) }
     {
         match self.work(now) {
             Ok(()) => Ok(self.core.next()),
-            Err(fault) => {
+            Err(_) => {
                 self.core.fail();
-                Err(failure(fault))
+                Err(Fault::OutOfMemory)
             }
         }
     }
@@ -319,6 +330,7 @@ impl<S: Assembly<D>, L: Elector<S>, D: Digest> Engine<S, L, D> {
     /// - `last`: the last of them, of those that it told and those that are queued, is of the member's last finalized view.
     /// - `lawful`: what its member has done keeps the voting rules, over all its lives.
     /// - `ran`: a network of `agreement` may have it as member `i`.
+    /// - `once`: its record holds each entry once: of each view at most seven.
     pub fn keeps_the_laws(&self)
         ensures behind { (given : _) → IsKept S.certificate_bytes given self.now.core → AreBehind [] given }
         ensures stored { (given : _) → IsKept S.certificate_bytes given self.now.core → self.now.core.failed ≡ false
@@ -331,17 +343,8 @@ impl<S: Assembly<D>, L: Elector<S>, D: Digest> Engine<S, L, D> {
             EndsAt x.finalized (finals_in (given ++ self.now.core.outbox.queue.items))) }
         ensures lawful { OfAllDone D.eq L.elect self.now.core.member.facts (λ term_length i all. IsLawful term_length all) }
         ensures ran { OfAllDone D.eq L.elect self.now.core.member.facts (MayBeDoneBy S.PublicKey D.eq L.elect) }
+        ensures once { OfAllDone D.eq L.elect self.now.core.member.facts (λ term_length i all. HoldsEachEntryOnce self.now.core.member.facts) }
     {
         self.core.keeps_the_laws();
-    }
-}
-
-/// What an engine that fails answers: for want of memory just that, and else what it answers from then on.
-fn failure(fault: Fault) -> Fault
-    ensures { IsFailure result }
-{
-    match fault {
-        Fault::OutOfMemory => Fault::OutOfMemory,
-        _ => Fault::Failed,
     }
 }

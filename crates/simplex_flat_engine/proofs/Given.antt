@@ -6,7 +6,7 @@ use Rattle.simplex_codec.specs.Digests.{bytes_in_digest}
 use Rattle.simplex_host.specs.Host.{certificate_bytes}
 use Rattle.simplex_plan.specs.PlannedWork.{AreAmong}
 use Rattle.simplex_outbox.specs.Outputs.{work_in}
-use Rattle.simplex_engine.specs.Causes.{held_by, Comes}
+use Rattle.simplex_engine.specs.Causes.{forgettable, held_by, Comes}
 use Rattle.simplex_engine.specs.Duties.{work_ahead, HasToldAll}
 use Rattle.simplex_outbox.specs.Finals.{TellsNoMore}
 use Rattle.simplex_outbox.specs.Going.{HasGivenOut, IsKept}
@@ -51,8 +51,8 @@ works_given out before r old new works (inr it) alive = absurd (false≢true (sy
 
 -- and all comes of what was at hand
 pub comes_given : (now : ℕ) (out : HostOutput) (before : FlatStored) (r : FlatOutput) (old new : HeldEngine)
-    → Comes same_host_payload host_leader bytes_in_digest certificate_bytes now [] (work_in (out ∷ [])) (held_by new.engine) old.engine new.engine → IsGivenOut out before r new → new.is_lost ≡ false
-    → Comes same_host_payload host_leader bytes_in_digest certificate_bytes now [] (work_in (option_to_list new.last)) (held_by new.engine) old.engine new.engine
+    → Comes same_host_payload host_leader bytes_in_digest certificate_bytes now (forgettable new.engine.core.member.facts) (work_in (out ∷ [])) (held_by new.engine) old.engine new.engine → IsGivenOut out before r new → new.is_lost ≡ false
+    → Comes same_host_payload host_leader bytes_in_digest certificate_bytes now (forgettable new.engine.core.member.facts) (work_in (option_to_list new.last)) (held_by new.engine) old.engine new.engine
 comes_given now out before r old new comes (inl it) alive =
-    subst (λ last. Comes same_host_payload host_leader bytes_in_digest certificate_bytes now [] (work_in (option_to_list last)) (held_by new.engine) old.engine new.engine) (sym it.0.last) comes
+    subst (λ last. Comes same_host_payload host_leader bytes_in_digest certificate_bytes now (forgettable new.engine.core.member.facts) (work_in (option_to_list last)) (held_by new.engine) old.engine new.engine) (sym it.0.last) comes
 comes_given now out before r old new comes (inr it) alive = absurd (false≢true (sym alive ∙ it.0))

@@ -10,6 +10,7 @@ use Rattle.simplex_member.specs.declared.member.resume.ResumeError.TheVariants a
 use Rattle.simplex_laws.specs.Living.{HasBegun, HasGoneOn}
 use Rattle.simplex_engine.specs.Beginning.{with_a_retry, HasBegunWith, IsMemberError, IsNotBegun}
 use Rattle.simplex_engine.specs.Causes.{at_hand}
+use Rattle.simplex_engine.specs.Heights.{AsksForTheHeard}
 use Rattle.simplex_engine.specs.Duties.{HasToldAll}
 use Rattle.simplex_engine.specs.declared.engine.begin.StartError.{StartError}
 use Rattle.simplex_engine.specs.declared.engine.begin.StartError.TheVariants as start_error
@@ -39,7 +40,8 @@ abbrev pub options_of : FlatOptions → Options
 options_of f = record { retry = f.retry; on_its_way = f.on_its_way; long_record = f.long_record }
 
 -- nothing was given out; the whole record is to be stored in place of all that is and nothing else is queued, no proposal to be told as
--- final, nothing is at hand, the member waits for nothing, and leaders are drawn as set
+-- final, nothing is at hand, the member waits for nothing, and leaders are drawn as set; and no certificate is asked for of a view above
+-- those that the member has heard of
 pub record HasGivenNothing (f : FlatSettings) (held : HeldEngine) : Type 0 where
   pub kept : IsAllGiven [] held
   pub whole : IsWhole certificate_bytes held.engine.core
@@ -48,6 +50,7 @@ pub record HasGivenNothing (f : FlatSettings) (held : HeldEngine) : Type 0 where
   pub bounded : HoldsNoneAhead host_keys held.engine.core held.engine.batcher
   pub duties : HasToldAll [] held.engine
   pub none_at_hand : at_hand held.engine ≡ []
+  pub heights : AsksForTheHeard held.engine
   pub draws : held.draws ≡ f.draws
   pub fresh : HasShownNothing held
 

@@ -17,7 +17,8 @@ use Rattle.simplex_engine.specs.Alone.{ForgetsNoOther}
 use Rattle.simplex_engine.specs.Backing.{IsBackedInput, KeepsVotes, TakesNone, TakesVotes, votes_of_input}
 use Rattle.simplex_engine.specs.Bounds.{HoldsAdmitted, HoldsFromKept, HoldsNoneAhead, StaysBounded}
 use Rattle.simplex_engine.specs.Lacking.{AsksForItsLacking}
-use Rattle.simplex_engine.specs.Causes.{came_in, held_by, Comes, ComesWith}
+use Rattle.simplex_engine.specs.Heights.{AsksNoHigher}
+use Rattle.simplex_engine.specs.Causes.{came_in, forgettable, held_by, Comes, ComesWith}
 use Rattle.simplex_engine.specs.Dropping.{IsDropped}
 use Rattle.simplex_outbox.specs.Outputs.{work_in}
 use Rattle.simplex_engine.specs.Duties.{AllIsGivenOut, HasToldAll, KeepsTelling, work_ahead}
@@ -66,9 +67,9 @@ pub record IsTaken (now : ℕ) (input : HostInput) (old : HeldEngine) (r : FlatT
   pub going : old.is_lost ≡ false
   pub answer : Result Bool Fault
   pub tells : IsAnswer answer r
-  -- after an error the engine has failed; one that had failed answers only that, and stays as it was
+  -- after an error the engine has failed; one that had failed answers only that, and stays as it was; any other, that memory was lacking
   pub failed : OnErr answer (has_failed new.engine.core ≡ true)
-  pub error : IfErr answer IsFailure
+  pub error : IfErr answer (IsFailure (has_failed old.engine.core))
   pub refused : has_failed old.engine.core ≡ true → (answer ≡ Err Failed) × (new.engine ≡ old.engine)
   -- what is of no use is dropped: the member has done nothing, and no vote is taken; what is not admitted is of none
   pub dropped : IfOk answer (λ is_of_use. IsFalse is_of_use → IsDropped now input old.engine new.engine)
@@ -90,6 +91,8 @@ pub record IsTaken (now : ℕ) (input : HostInput) (old : HeldEngine) (r : FlatT
   -- what the member is asked, and what is at hand, comes of the input and of what was at hand; what was asked of peers is still
   pub comes : OnOk answer (ComesWith same_host_payload host_leader bytes_in_digest certificate_bytes now (came_in certificate_bytes old.engine.batcher input)
       old.engine new.engine)
+  -- of no view above those that the member has heard of does a certificate come to be asked for
+  pub heights : OnOk answer (AsksNoHigher same_host_payload host_leader old.engine new.engine)
   -- what is of no use is counted, and nothing else
   pub ignored : IfOk answer (λ is_of_use. new.engine.plan.ignored ≡ (if is_of_use then old.engine.plan.ignored else one_more old.engine.plan.ignored))
   pub rest : new ≡ record old { engine = new.engine }
@@ -195,7 +198,7 @@ abbrev pub IsOutcome : ℕ → HeldEngine → FlatOutput → HeldEngine → Type
 IsOutcome now old r new =
     ((out : HostOutput) × IsGivenOut out old.stored r new)
     ⊎ (IsNothing 0 r new × IsAtRest now old.engine new.engine)
-    ⊎ ((fault : Fault) × IsFailure fault × IsNothing (fault_status fault) r new × (has_failed new.engine.core ≡ true))
+    ⊎ ((fault : Fault) × IsFailure (has_failed old.engine.core) fault × IsNothing (fault_status fault) r new × (has_failed new.engine.core ≡ true))
 
 -- an engine that has lost nothing is asked what is to be carried out next at a moment
 pub record IsAsked (now : ℕ) (old : HeldEngine) (r : FlatOutput) (new : HeldEngine) : Type 0 where
@@ -215,10 +218,13 @@ pub record IsAsked (now : ℕ) (old : HeldEngine) (r : FlatOutput) (new : HeldEn
   -- no work is lost: what is queued or planned is given out, or is so still
   pub works : has_failed new.engine.core ≡ false → new.is_lost ≡ false
       → AreAmong (work_ahead old.engine) (work_in (option_to_list new.last) ++ work_ahead new.engine)
-  -- what the member is asked, what is given out and what is at hand comes of what was at hand; and what was asked of peers is still
+  -- what the member is asked, what is given out and what is at hand comes of what was at hand, but that views may be forgotten below the
+  -- lowest one that it keeps; and what was asked of peers is still
   pub comes : has_failed new.engine.core ≡ false → new.is_lost ≡ false
-      → Comes same_host_payload host_leader bytes_in_digest certificate_bytes now [] (work_in (option_to_list new.last)) (held_by new.engine)
-      old.engine new.engine
+      → Comes same_host_payload host_leader bytes_in_digest certificate_bytes now (forgettable new.engine.core.member.facts)
+      (work_in (option_to_list new.last)) (held_by new.engine) old.engine new.engine
+  -- of no view above those that the member has heard of does a certificate come to be asked for
+  pub heights : has_failed new.engine.core ≡ false → AsksNoHigher same_host_payload host_leader old.engine new.engine
   -- no block comes to be built above the first view of the next term
   pub near : has_failed new.engine.core ≡ false → BuildsNear old.engine.core old.engine.plan → BuildsNear new.engine.core new.engine.plan
   -- its views stay the member's

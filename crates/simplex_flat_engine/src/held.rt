@@ -49,6 +49,7 @@ impl HeldEngine {
     ghost use Rattle.simplex_flat_engine.specs.Handling.{HoldsRecord, IsAllGiven, first_bytes, second_bytes};
     ghost use Rattle.simplex_laws.specs.Lawful.{IsLawful};
     ghost use Rattle.simplex_laws.specs.Living.{OfAllDone, MayBeDoneBy};
+    ghost use Rattle.simplex_laws.specs.RecordsOnce.{HoldsEachEntryOnce};
     ghost use Rattle.simplex_outbox.specs.Leaving.{AllLeave};
     ghost use Rattle.simplex_outbox.specs.Outputs.{AreBehind};
     ghost use Rattle.simplex_outbox.specs.Finals.{finals_in, RiseByView};
@@ -224,6 +225,7 @@ impl HeldEngine {
     /// - `rising`: the views of the proposals rise that it told as final.
     /// - `lawful`: what its member has done keeps the voting rules, over all its lives.
     /// - `ran`: a network of `agreement` may have it as member `i`.
+    /// - `once`: its record holds each entry once: of each view at most seven.
     pub fn keeps_the_laws(&self)
         ensures behind { (given : _) → IsAllGiven given self.now → self.now.is_lost ≡ false → AreBehind [] given }
         ensures stored { (given : _) → IsAllGiven given self.now → self.now.is_lost ≡ false → HoldsRecord given self.now }
@@ -232,6 +234,8 @@ impl HeldEngine {
         ensures rising { (given : _) → IsAllGiven given self.now → self.now.is_lost ≡ false → RiseByView (finals_in given) }
         ensures lawful { OfAllDone same_host_payload host_leader self.now.engine.core.member.facts (λ term_length i all. IsLawful term_length all) }
         ensures ran { OfAllDone same_host_payload host_leader self.now.engine.core.member.facts (MayBeDoneBy HostKey same_host_payload host_leader) }
+        ensures once { OfAllDone same_host_payload host_leader self.now.engine.core.member.facts (λ term_length i all.
+            HoldsEachEntryOnce self.now.engine.core.member.facts) }
     {
         self.engine.keeps_the_laws();
     }

@@ -16,7 +16,7 @@ use Rattle.simplex_fetches.specs.declared.repair.Repair.{Repair}
 use Rattle.simplex_fetches.specs.Fetches.{fetch_kind}
 use Rattle.simplex_fetches.specs.Wanted.{wants}
 use Rattle.simplex_outbox.specs.declared.output.Work.{Work}
-use Rattle.simplex_outbox.specs.declared.output.Work.TheVariants.{Broadcast, Verify, Build, StopBuilding, Certify, Fetch as AskPeer, ProposedTwice, Forget}
+use Rattle.simplex_outbox.specs.declared.output.Work.TheVariants.{Broadcast, Verify, Build, StopBuilding, Certify, Fetch as AskPeer, ProposedTwice}
 use Rattle.simplex_plan.specs.declared.plan.building.Building.{Building}
 use Rattle.simplex_plan.specs.declared.plan.early.Early.{Early}
 use Rattle.simplex_plan.specs.declared.plan.Plan.{Plan}
@@ -41,10 +41,9 @@ pub data Matter (S D K G C : Type 0) : Type 0 where
   Expiry : Matter S D K G C
 
 module _ {S D K G C : Type 0} where
-  -- work comes of itself; but what is asked of a peer of an open fetch, and what may be forgotten of the member's views
+  -- work comes of itself; but what is asked of a peer of an open fetch
   abbrev pub of_work : Work S D K G C → List (Matter S D K G C)
   of_work (AskPeer _) = []
-  of_work (Forget _) = []
   of_work work = Duty work ∷ []
 
   -- each of these

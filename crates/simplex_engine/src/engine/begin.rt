@@ -79,6 +79,7 @@ impl<S: Assembly<D>, L: Elector<S>, D: Digest> Engine<S, L, D> {
     ghost use Rattle.simplex_engine.specs.Beginning.{IsMemberError, IsNotBegun};
     ghost use Rattle.simplex_engine.specs.Bounds.{HoldsNoneAhead};
     ghost use Rattle.simplex_engine.specs.Causes.{at_hand};
+    ghost use Rattle.simplex_engine.specs.Heights.{AsksForTheHeard};
     ghost use Rattle.simplex_engine.specs.Duties.{HasToldAll};
 
     /// The engine of a member that begins at a floor, where nothing was stored.
@@ -91,6 +92,7 @@ impl<S: Assembly<D>, L: Elector<S>, D: Digest> Engine<S, L, D> {
     /// - `begun`: no vote is held, and certificates are made by the number of the scheme's participants; the resolver was told of the
     ///   record, and what it has open is asked for at once, of all participants but this member; no input was of no use.
     /// - `nothing`: no work is queued or planned, no proposal is kept, and each fetch is one that the resolver wants.
+    /// - `heights`: no certificate is asked for of a view above the first one of the next term and above those of all entries.
     /// - `refused`: why there is none.
     ///
     /// # Errors
@@ -120,6 +122,7 @@ impl<S: Assembly<D>, L: Elector<S>, D: Digest> Engine<S, L, D> {
             (λ m. m ≡ started_member D.eq L.elect (set_up S.me S.participants L.terms L.elects_early start.settings)
             (floor_facts S.certificate_bytes start.floor) start.now)) }
         ensures nothing { IfOk result (λ engine. at_hand engine ≡ []) }
+        ensures heights { IfOk result AsksForTheHeard }
     {
         let company = company_of(alloc, &start)?;
         match LawfulMember::start(alloc, start) {
@@ -134,7 +137,7 @@ impl<S: Assembly<D>, L: Elector<S>, D: Digest> Engine<S, L, D> {
     /// - `resumed`: its member is the one that `LawfulMember::resume` makes.
     /// - `goes_on`: in terms of the same length and with the key of the same member or none, what was done before stays done,
     ///   and the floor's finalization is accepted too.
-    /// - `kept`, `whole`, `queued`, `told`, `bounded`, `duties`, `begun`, `nothing`, `refused`: as of `start`.
+    /// - `kept`, `whole`, `queued`, `told`, `bounded`, `duties`, `begun`, `nothing`, `heights`, `refused`: as of `start`.
     ///
     /// # Errors
     ///
@@ -166,6 +169,7 @@ impl<S: Assembly<D>, L: Elector<S>, D: Digest> Engine<S, L, D> {
             (IsResumed D.eq L.elect stored (entries_of S.certificate_bytes entries.items)
             (start_facts S.me S.participants L.terms L.elects_early S.certificate_bytes start))) }
         ensures nothing { IfOk result (λ engine. at_hand engine ≡ []) }
+        ensures heights { IfOk result AsksForTheHeard }
     {
         let company = company_of(alloc, &start)?;
         match LawfulMember::resume(alloc, start, stored, entries) {

@@ -1,7 +1,7 @@
 //! The steps that are due, one after the other, until the member has nothing new.
 #![tactic(auto)]
 
-ghost use Rattle.std.specs.Prelude.{◌≡◌, ℕ, [], ◌∷◌, None, Some, OnOk, IfOk, IfSome, IsOk, IsTrue, false, ◌==◌, ◌||◌};
+ghost use Rattle.std.specs.Prelude.{◌≡◌, ℕ, [], ◌∷◌, None, Some, OnOk, IfOk, IfSome, IsOk, IsTrue, false, ◌==◌, ◌||◌, option_map};
 
 use super::Engine;
 use simplex_assembly::assembly::Assembly;
@@ -19,12 +19,13 @@ impl<S: Assembly<D>, L: Elector<S>, D: Digest> Engine<S, L, D> {
     ghost use Rattle.simplex_engine.specs.Bounds.{HoldsFromKept};
     ghost use Rattle.simplex_engine.specs.Building.{BuildsAhead};
     ghost use Rattle.simplex_engine.specs.Lacking.{AsksForItsLacking};
-    ghost use Rattle.simplex_engine.specs.Causes.{held_by, is_final, Comes, ComesAlone, ComesWith};
+    ghost use Rattle.simplex_engine.specs.Causes.{forgettable, held_by, is_final, Comes, ComesAlone, ComesWith};
     ghost use Rattle.simplex_engine.specs.Duties.{KeepsDuties, KeepsTaken};
     ghost use Rattle.simplex_plan.specs.Asking.{KeepsAsking};
     ghost use Rattle.simplex_plan.specs.Matters.{of_step, of_work, planned_matters};
     ghost use Rattle.simplex_plan.specs.PlannedWork.{work_planned, AreAmong, KeepsPlanned};
     ghost use Rattle.simplex_voter.specs.Windows.{min_active};
+    ghost use Rattle.simplex_outbox.specs.declared.output.Work.TheVariants as work;
 
     /// Takes all steps that are due, until the member has nothing new, and queues what the record has grown by.
     ///
@@ -32,7 +33,8 @@ impl<S: Assembly<D>, L: Elector<S>, D: Digest> Engine<S, L, D> {
     /// - `idle`, `ahead`: nothing is to be done at the moment, and no block is to be built of a view that is over.
     /// - `short`: by a pruning no more views of the record go than stay, or it has few entries.
     /// - `lowest`, `lacking`: no vote is held of a view below the lowest one that is kept, and just what is lacking is asked for.
-    /// - `comes`: all comes of what was at hand, and of the member's answers; and what is lacking is asked for still.
+    /// - `comes`: all comes of what was at hand, and of the member's answers, but that views may be forgotten below the lowest one that
+    ///   the member keeps then; and what is lacking is asked for still.
     pub(super) fn work(&mut self, now: u64) -> Result<(), Fault>
         ensures alone { GoesOnForgetting D.eq L.elect S.certificate_bytes self.old self.new }
         ensures whole { OnOk result (IsWhole S.certificate_bytes self.new.core) }
@@ -44,7 +46,8 @@ impl<S: Assembly<D>, L: Elector<S>, D: Digest> Engine<S, L, D> {
         ensures lowest { OnOk result (HoldsFromKept self.new.core self.new.batcher) }
         ensures lacking { OnOk result (AsksForItsLacking self.new.core self.new.plan.repair) }
         ensures duties { OnOk result (KeepsDuties self.old self.new) }
-        ensures comes { OnOk result (Comes D.eq L.elect D.bytes S.certificate_bytes now [] [] (held_by self.new) self.old self.new) }
+        ensures comes { OnOk result (Comes D.eq L.elect D.bytes S.certificate_bytes now (forgettable self.new.core.member.facts) [] (held_by self.new)
+            self.old self.new) }
     {
         self.plan.begin();
         self.finish(now)
@@ -62,7 +65,8 @@ impl<S: Assembly<D>, L: Elector<S>, D: Digest> Engine<S, L, D> {
         ensures lowest { OnOk result (HoldsFromKept self.new.core self.new.batcher) }
         ensures lacking { OnOk result (AsksForItsLacking self.new.core self.new.plan.repair) }
         ensures duties { OnOk result (KeepsDuties self.old self.new) }
-        ensures comes { OnOk result (Comes D.eq L.elect D.bytes S.certificate_bytes now [] [] (held_by self.new) self.old self.new) }
+        ensures comes { OnOk result (Comes D.eq L.elect D.bytes S.certificate_bytes now (forgettable self.new.core.member.facts) [] (held_by self.new)
+            self.old self.new) }
     {
         self.run_to_short(now)?;
         self.settle()?;
@@ -114,7 +118,8 @@ impl<S: Assembly<D>, L: Elector<S>, D: Digest> Engine<S, L, D> {
         ensures lowest { OnOk result (HoldsFromKept self.new.core self.new.batcher) }
         ensures lacking { OnOk result (AsksForItsLacking self.new.core self.new.plan.repair) }
         ensures duties { OnOk result (KeepsDuties self.old self.new) }
-        ensures comes { OnOk result ((now : ℕ) → Comes D.eq L.elect D.bytes S.certificate_bytes now [] [] (held_by self.new) self.old self.new) }
+        ensures comes { OnOk result ((now : ℕ) → Comes D.eq L.elect D.bytes S.certificate_bytes now (forgettable self.new.core.member.facts) [] (held_by self.new)
+            self.old self.new) }
     {
         self.let_go()?;
         self.core.store()?;
@@ -240,7 +245,8 @@ impl<S: Assembly<D>, L: Elector<S>, D: Digest> Engine<S, L, D> {
         ensures lowest { OnOk result (HoldsFromKept self.new.core self.new.batcher) }
         ensures lacking { OnOk result (AsksForItsLacking self.new.core self.new.plan.repair) }
         ensures duties { OnOk result (KeepsDuties self.old self.new) }
-        ensures comes { OnOk result ((now : ℕ) → Comes D.eq L.elect D.bytes S.certificate_bytes now [] [] (held_by self.new) self.old self.new) }
+        ensures comes { OnOk result ((now : ℕ) → Comes D.eq L.elect D.bytes S.certificate_bytes now (forgettable self.new.core.member.facts) [] (held_by self.new)
+            self.old self.new) }
     {
         let lowest = self.lowest_kept()?;
         self.tell_forgotten(lowest)?;
@@ -250,7 +256,8 @@ impl<S: Assembly<D>, L: Elector<S>, D: Digest> Engine<S, L, D> {
 
     /// From which view on what is held is kept. A member that has failed since found no memory.
     fn lowest_kept(&self) -> Result<View, Fault>
-        ensures { IfOk result (λ lowest. IfSome self.now.core.member.facts.life (λ x. min_active x ≡ lowest)) }
+        ensures lowest { IfOk result (λ lowest. IfSome self.now.core.member.facts.life (λ x. min_active x ≡ lowest)) }
+        ensures alive { IfOk result (λ lowest. option_map min_active self.now.core.member.facts.life ≡ Some lowest) }
     {
         match self.core.state() {
             Some(state) => Ok(state.min_active()),
@@ -282,7 +289,7 @@ impl<S: Assembly<D>, L: Elector<S>, D: Digest> Engine<S, L, D> {
         ensures member { self.new.core.member ≡ self.old.core.member }
         ensures plan { self.new.plan ≡ self.old.plan }
         ensures duties { OnOk result (KeepsDuties self.old self.new) }
-        ensures comes { OnOk result ((now : ℕ) → ComesAlone D.eq L.elect D.bytes S.certificate_bytes now self.old self.new) }
+        ensures comes { OnOk result ((now : ℕ) → ComesWith D.eq L.elect D.bytes S.certificate_bytes now (of_work (work.Forget lowest)) self.old self.new) }
     {
         if lowest <= self.forgotten {
             return Ok(());

@@ -5,7 +5,7 @@ use Rattle.simplex_engine.proofs.Alone.{forgets_further, forgets_none}
 use Rattle.simplex_engine.proofs.Duties.{ahead_still, short_still}
 use Rattle.simplex_plan.specs.PlannedWork.{Constants}
 use Rattle.simplex_engine.proofs.Tells.{tells_further}
-use Rattle.simplex_engine.proofs.Causes.{comes_on}
+use Rattle.simplex_engine.proofs.Causes.{comes_later, forgets_no_lack}
 use Rattle.simplex_engine.proofs.engine.Engine.finish.Goals as goal
 
 pub returns-in_err-run_to_short-clause-alone : goal.returns-in_err-run_to_short-clause-alone
@@ -26,5 +26,5 @@ returns g c = record {
   lowest = c.in_ok-settle.ensures.lowest;
   lacking = c.in_ok-settle.ensures.lacking;
   duties = tells_further c.in_ok-run_to_short.ensures.duties c.in_ok-settle.ensures.duties;
-  comes = comes_on c.in_ok-run_to_short.ensures.comes c.in_ok-settle.ensures.duties.risen (c.in_ok-settle.ensures.comes c.args.now);
+  comes = comes_later (forgets_no_lack _ _ _ c.settle.new.self.core.member.facts) c.in_ok-run_to_short.ensures.comes c.in_ok-settle.ensures.duties.risen (c.in_ok-settle.ensures.comes c.args.now);
 }

@@ -1,13 +1,16 @@
 -- That an engine which fails has done no more than its steps before, and holds no more.
-use Rattle.std.proofs.Common.{length, refl, sym, subst, ap, inr, ◌∙◌}
+use Rattle.std.proofs.Common.{length, refl, sym, subst, ap, ◌∙◌, if◌then◌else◌}
 use Rattle.std.proofs.lemmas.Bool.{false≢true}
+use Rattle.simplex_types.specs.declared.types.fault.Fault.TheVariants.{OutOfMemory, Failed}
 use Rattle.simplex_engine.specs.Admitting.{ignoring}
 use Rattle.simplex_outbox.specs.Going.{has_failed}
 use Rattle.simplex_engine.specs.Taking.{IsInputTaken}
 use Rattle.simplex_outbox.proofs.Going.{stays, goes_further, goes_on_anyway}
 use Rattle.simplex_engine.proofs.Backing.{input_backed_by_none, input_backed_then, takes_nothing, takes_anyway}
 use Rattle.simplex_engine.proofs.Bounds.{bounded_still, bounded_further, bounded_same}
+use Rattle.simplex_engine.proofs.Causes.{input_lacks_none}
 use Rattle.simplex_engine.proofs.Taking.{keeps_votes}
+use Rattle.simplex_engine.proofs.heights.Engines.{no_higher}
 use Rattle.simplex_engine.proofs.engine.Engine.handle.Goals as goal
 
 pub returns-then-has_failed : goal.returns-then-has_failed
@@ -26,9 +29,10 @@ returns-then-has_failed g c =
       duties = tt;
       ignored = tt;
       failed = sym c.has_failed.ensures ∙ c.if-has_failed.true;
-      error = inr refl;
+      error = ap (λ had_failed. if had_failed then Failed else OutOfMemory) (sym (sym c.has_failed.ensures ∙ c.if-has_failed.true));
       refused = λ _. (refl, refl);
       comes = tt;
+      heights = tt;
     }
 
 pub returns-in-Ok : goal.returns-in-Ok
@@ -53,6 +57,8 @@ returns-in-Ok g c =
       error = tt;
       refused = λ failed. absurd (false≢true (sym c.if-has_failed.false ∙ c.has_failed.ensures ∙ failed));
       comes = taken.comes;
+      heights = λ term_length i all done. no_higher g.D.PartialEq.eq g.met.D.Digest.equal_is_same g.met.D.Digest.same_is_equal g.L.Elector.elect g.D.Digest.bytes
+          g.S.CertificateScheme.certificate_bytes c.args.now term_length i all done (input_lacks_none g.S.CertificateScheme.certificate_bytes engine.batcher c.args.input) taken.comes;
     }
 
 pub returns-in-Err : goal.returns-in-Err
@@ -72,7 +78,8 @@ returns-in-Err g c =
       duties = tt;
       ignored = tt;
       failed = ap has_failed c.fail.ensures.failed;
-      error = c.failure.ensures;
+      error = ap (λ had_failed. if had_failed then Failed else OutOfMemory) (sym (sym c.has_failed.ensures ∙ c.if-has_failed.false));
       refused = λ failed. absurd (false≢true (sym c.if-has_failed.false ∙ c.has_failed.ensures ∙ failed));
       comes = tt;
+      heights = tt;
     }

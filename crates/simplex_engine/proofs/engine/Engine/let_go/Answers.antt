@@ -1,5 +1,5 @@
 -- That what is left is of views that are kept, and what is asked for is lacking.
-use Rattle.std.proofs.Common.{◌≡◌, ◌∙◌, None, ap, sym, subst}
+use Rattle.std.proofs.Common.{◌≡◌, ◌∙◌, [], None, ap, sym, subst}
 use Rattle.std.specs.Prelude.{IfSome}
 use Rattle.simplex_voter.specs.Windows.{min_active}
 use Rattle.simplex_engine.specs.Alone.{ForgetsNoOther}
@@ -13,7 +13,8 @@ use Rattle.simplex_engine.proofs.Bounds.{kept_from}
 use Rattle.simplex_plan.proofs.Planning.{on_ok}
 use Rattle.simplex_engine.proofs.Tells.{tells_further, tells_planned}
 use Rattle.simplex_outbox.specs.Outputs.{work_in}
-use Rattle.simplex_engine.proofs.Causes.{comes_on, comes_same, hand_alone, risen_facts}
+use Rattle.simplex_engine.proofs.Causes.{comes_on, comes_same, forgets_lowest, hand_alone, risen_facts}
+use Rattle.simplex_engine.specs.Causes.{forgettable, held_by, Comes}
 use Rattle.simplex_engine.proofs.engine.Engine.let_go.Goals as goal
 
 pub returns-in_err-lowest-clause-alone : goal.returns-in_err-lowest-clause-alone
@@ -48,7 +49,7 @@ returns g c =
             (subst (ForgetsNoOther c.let_fetches_go.new.self.core c.tell_forgotten.new.self.batcher) (sym c.let_fetches_go.ensures.batcher)
             (subst (λ now. ForgetsNoOther now c.tell_forgotten.new.self.batcher c.forget.new.self) (sym c.let_fetches_go.ensures.core)
             (forgets_by core.member.facts.life c.in_ok-lowest.lowest c.tell_forgotten.new.self.batcher c.forget.new.self
-            (subst (λ m. IfSome m.facts.life (λ x. min_active x ≡ c.in_ok-lowest.lowest)) (sym c.tell_forgotten.ensures.member) c.in_ok-lowest.ensures)
+            (subst (λ m. IfSome m.facts.life (λ x. min_active x ≡ c.in_ok-lowest.lowest)) (sym c.tell_forgotten.ensures.member) c.in_ok-lowest.ensures.lowest)
             c.forget.ensures.forgotten)));
       };
       member = ap (λ core. core.member) c.let_fetches_go.ensures.core ∙ c.tell_forgotten.ensures.member;
@@ -58,14 +59,18 @@ returns g c =
           (λ _. subst (λ now. IfSome now.member.facts.life (λ x. HoldsFrom (min_active x) c.let_fetches_go.new.self.batcher)) (sym c.let_fetches_go.ensures.core)
           (subst (λ batcher. IfSome core.member.facts.life (λ x. HoldsFrom (min_active x) batcher)) (sym c.let_fetches_go.ensures.batcher)
           (kept_from core.member.facts.life c.in_ok-lowest.lowest c.forget.new.self
-          (subst (λ m. IfSome m.facts.life (λ x. min_active x ≡ c.in_ok-lowest.lowest)) (sym c.tell_forgotten.ensures.member) c.in_ok-lowest.ensures) c.forget.ensures.lowest)));
+          (subst (λ m. IfSome m.facts.life (λ x. min_active x ≡ c.in_ok-lowest.lowest)) (sym c.tell_forgotten.ensures.member) c.in_ok-lowest.ensures.lowest) c.forget.ensures.lowest)));
       lacking = c.let_fetches_go.ensures.lacking;
       duties = on_ok c.let_fetches_go.result c.let_fetches_go.ensures.lacking (λ _. tells_further c.in_ok-tell_forgotten.ensures.duties
           (let keeps = tells_planned (record (c.tell_forgotten.new.self) { batcher = c.forget.new.self }) c.let_fetches_go.new.self
           c.let_fetches_go.ensures.core c.let_fetches_go.ensures.planned in
           record { stays = keeps.stays; works = keeps.works; near = keeps.near; seen = keeps.seen; early = keeps.early; risen = keeps.risen; constants = keeps.constants; ignored = keeps.ignored }));
-      comes = on_ok c.let_fetches_go.result c.let_fetches_go.ensures.asks (λ asks now. comes_on (c.in_ok-tell_forgotten.ensures.comes now)
+      comes = on_ok c.let_fetches_go.result c.let_fetches_go.ensures.asks (λ asks now.
+          subst (λ came. Comes g.D.PartialEq.eq g.L.Elector.elect g.D.Digest.bytes g.S.CertificateScheme.certificate_bytes now came [] (held_by c.let_fetches_go.new.self) c.args.self.now c.let_fetches_go.new.self)
+          (forgets_lowest c.args.self.now.core.member.facts c.in_ok-lowest.lowest c.in_ok-lowest.ensures.alive
+          ∙ ap (λ m. forgettable m.facts) (sym (ap (λ core. core.member) c.let_fetches_go.ensures.core ∙ c.tell_forgotten.ensures.member)))
+          (comes_on (c.in_ok-tell_forgotten.ensures.comes now)
           (risen_facts (ap (λ core. core.member.facts) c.let_fetches_go.ensures.core)) (comes_same (ap (λ core. core.member.facts) c.let_fetches_go.ensures.core)
           (hand_alone (record (c.tell_forgotten.new.self) { batcher = c.forget.new.self }) c.let_fetches_go.new.self (ap (λ core. work_in core.outbox.queue.items) c.let_fetches_go.ensures.core)
-          c.let_fetches_go.ensures.matters) asks));
+          c.let_fetches_go.ensures.matters) asks)));
     }

@@ -1,7 +1,9 @@
 -- That nothing is done where nothing but the next output is taken, and that each vote which is held is of a view that takes votes.
-use Rattle.std.proofs.Common.{refl, subst, [], ◌∷◌, ◌++◌, ◌≡◌, ap}
-use Rattle.std.specs.Prelude.{option_to_list}
+use Rattle.std.proofs.Common.{refl, sym, subst, [], ◌∷◌, ◌++◌, ◌≡◌, ◌∙◌, ap, if◌then◌else◌}
+use Rattle.std.specs.Prelude.{option_to_list, IfErr}
+use Rattle.simplex_types.specs.declared.types.fault.Fault.TheVariants.{OutOfMemory, Failed}
 use Rattle.simplex_outbox.specs.Finals.{TellsNoMore}
+use Rattle.simplex_engine.specs.Failing.{IsFailure}
 use Rattle.simplex_engine.specs.Inputs.{given_out}
 use Rattle.simplex_outbox.proofs.Finals.{tells_still}
 use Rattle.simplex_engine.proofs.Alone.{forgets_nothing}
@@ -9,9 +11,12 @@ use Rattle.simplex_engine.proofs.Building.{come_beside, early_anyway, near_same}
 use Rattle.simplex_engine.proofs.Bounds.{bounded_same, bounded_admitted}
 use Rattle.simplex_outbox.proofs.Going.{does_nothing_more, where_ok}
 use Rattle.simplex_engine.proofs.Tells.{tells_given, still_told, works_given}
+use Rattle.simplex_plan.proofs.Matters.{among_last}
 use Rattle.simplex_plan.proofs.PlannedWork.{among_further, among_still}
 use Rattle.simplex_plan.proofs.Planning.{on_ok}
-use Rattle.simplex_engine.proofs.Causes.{comes_before, comes_still, hand_given}
+use Rattle.simplex_engine.specs.Causes.{at_hand, forgettable}
+use Rattle.simplex_engine.proofs.Causes.{comes_before, comes_still, forgets_no_lack, hand_given}
+use Rattle.simplex_engine.proofs.heights.Engines.{no_higher}
 use Rattle.simplex_engine.proofs.engine.Engine.poll.Goals as goal
 
 pub returns-then-has_failed-clause-does : goal.returns-then-has_failed-clause-does
@@ -106,12 +111,31 @@ returns-in-None-clause-early g c =
 
 pub returns-in-Some-clause-comes : goal.returns-in-Some-clause-comes
 returns-in-Some-clause-comes g c =
-    comes_still (ap (λ m. m.facts) c.next.ensures.same.0) refl (λ kind view. refl)
-    (hand_given c.args.self.now (record c.args.self.now { core = c.next.new.self }) (c.in-Some.output ∷ [])
-    (subst (λ out. c.args.self.now.core.outbox.queue.items ≡ option_to_list out ++ c.next.new.self.outbox.queue.items) c.in-Some.is c.next.ensures.front) refl)
+    let came = forgettable c.next.new.self.member.facts in
+    comes_still (ap (λ m. m.facts) c.next.ensures.same.0) refl (forgets_no_lack _ _ _ c.next.new.self.member.facts)
+    (among_further (hand_given c.args.self.now (record c.args.self.now { core = c.next.new.self }) (c.in-Some.output ∷ [])
+    (subst (λ out. c.args.self.now.core.outbox.queue.items ≡ option_to_list out ++ c.next.new.self.outbox.queue.items) c.in-Some.is c.next.ensures.front) refl) (among_last came (at_hand c.args.self.now)))
 
 pub returns-in-None-clause-comes : goal.returns-in-None-clause-comes
 returns-in-None-clause-comes g c =
     on_ok c.poll_after_work.result c.poll_after_work.ensures.comes (comes_before (ap (λ m. m.facts) c.next.ensures.same.0) refl
     (hand_given c.args.self.now (record c.args.self.now { core = c.next.new.self }) []
     (subst (λ out. c.args.self.now.core.outbox.queue.items ≡ option_to_list out ++ c.next.new.self.outbox.queue.items) c.in-None.is c.next.ensures.front) refl))
+
+pub returns-then-has_failed-clause-error : goal.returns-then-has_failed-clause-error
+returns-then-has_failed-clause-error g c = ap (λ had_failed. if had_failed then Failed else OutOfMemory) (sym (sym c.has_failed.ensures ∙ c.if-has_failed.true))
+
+pub returns-in-None-clause-error : goal.returns-in-None-clause-error
+returns-in-None-clause-error g c =
+    subst (λ had_failed. IfErr c.poll_after_work.result (IsFailure had_failed)) (sym (sym c.has_failed.ensures ∙ c.if-has_failed.false)) c.poll_after_work.ensures.error
+
+pub returns-in-Some-clause-heights : goal.returns-in-Some-clause-heights
+returns-in-Some-clause-heights g c term_length i all done =
+    no_higher g.D.PartialEq.eq g.met.D.Digest.equal_is_same g.met.D.Digest.same_is_equal g.L.Elector.elect g.D.Digest.bytes g.S.CertificateScheme.certificate_bytes c.args.now term_length i all done
+    (forgets_no_lack _ _ _ c.next.new.self.member.facts) (returns-in-Some-clause-comes g c)
+
+pub returns-in-None-clause-heights : goal.returns-in-None-clause-heights
+returns-in-None-clause-heights g c =
+    on_ok c.poll_after_work.result (returns-in-None-clause-comes g c)
+    (λ comes term_length i all done. no_higher g.D.PartialEq.eq g.met.D.Digest.equal_is_same g.met.D.Digest.same_is_equal g.L.Elector.elect g.D.Digest.bytes g.S.CertificateScheme.certificate_bytes
+    c.args.now term_length i all done (forgets_no_lack _ _ _ c.poll_after_work.new.self.core.member.facts) comes)

@@ -1,5 +1,5 @@
 -- That only the steps have done anything, and that an error fails the engine.
-use Rattle.std.proofs.Common.{◌≡◌, true, refl, ap, sym, subst, length, ◌≤◌, false}
+use Rattle.std.proofs.Common.{◌≡◌, [], true, refl, ap, sym, subst, length, ◌≤◌, false}
 use Rattle.std.specs.Prelude.{IfSome, option_to_list}
 use Rattle.simplex_voter.specs.Windows.{min_active}
 use Rattle.simplex_batcher.specs.Batching.{HoldsFrom}
@@ -17,6 +17,7 @@ use Rattle.simplex_plan.specs.Blocks.{builds_from}
 use Rattle.simplex_plan.proofs.PlannedWork.{among_further}
 use Rattle.simplex_engine.proofs.Building.{come_beside, near_same}
 use Rattle.simplex_engine.specs.Views.{StaysEarly}
+use Rattle.simplex_engine.specs.Causes.{forgettable, held_by, Comes}
 use Rattle.simplex_engine.proofs.Causes.{comes_still, comes_then, hand_given, risen_facts}
 use Rattle.std.specs.Option.{option_map_or}
 use Rattle.simplex_engine.proofs.engine.Engine.poll_after_work.Goals as goal
@@ -125,7 +126,8 @@ returns-in-Ok-clause-early g c come =
 pub returns-in-Ok-clause-comes : goal.returns-in-Ok-clause-comes
 returns-in-Ok-clause-comes g c =
     let repair = c.work.new.self.plan.repair in
-    comes_then c.in-Ok.ensures.comes
+    comes_then (subst (λ came. Comes g.D.PartialEq.eq g.L.Elector.elect g.D.Digest.bytes g.S.CertificateScheme.certificate_bytes c.args.now came [] (held_by c.work.new.self) c.args.self.now c.work.new.self)
+    (ap (λ m. forgettable m.facts) (sym c.next.ensures.same.0)) c.in-Ok.ensures.comes)
     (λ kind view un. subst (λ m. option_map_or (λ x. holds repair.resolver.open_fetches x kind view) m.facts.life true ≡ false) c.next.ensures.same.0 un)
     (risen_facts (ap (λ m. m.facts) c.next.ensures.same.0)) (comes_still (ap (λ m. m.facts) c.next.ensures.same.0) refl (λ kind view. refl)
     (hand_given c.work.new.self (record (c.work.new.self) { core = c.next.new.self }) (option_to_list c.next.result) c.next.ensures.front refl))

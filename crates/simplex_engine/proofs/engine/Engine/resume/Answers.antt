@@ -9,6 +9,7 @@ use Rattle.simplex_outbox.proofs.Going.{where_ok}
 use Rattle.simplex_engine.proofs.Tells.{restart_waits, tells_none}
 use Rattle.simplex_engine.proofs.Beginning.{not_begun}
 use Rattle.simplex_engine.proofs.Causes.{both_ok, nothing_held}
+use Rattle.simplex_engine.proofs.heights.Engines.{heights_begun}
 use Rattle.simplex_engine.proofs.engine.Engine.resume.Goals as goal
 
 pub returns-in-Ok-clause-resumed : goal.returns-in-Ok-clause-resumed
@@ -45,3 +46,8 @@ pub returns-in-Ok-clause-nothing : goal.returns-in-Ok-clause-nothing
 returns-in-Ok-clause-nothing g c =
     both_ok c.begin.result c.begin.ensures.queued (c.begin.ensures.begun _ _ _ c.in_ok-company.ensures)
     (λ engine queued begun. nothing_held g.D.Digest.bytes g.S.CertificateScheme.certificate_bytes g.S.CertificateScheme.participants _ _ _ _ engine queued begun)
+
+pub returns-in-Ok-clause-heights : goal.returns-in-Ok-clause-heights
+returns-in-Ok-clause-heights g c =
+    where_ok c.begin.result (c.begin.ensures.begun _ _ _ c.in_ok-company.ensures)
+    (λ engine begun. heights_begun g.D.Digest.bytes g.S.CertificateScheme.participants _ _ _ _ engine begun)

@@ -1,5 +1,5 @@
 -- That what is left is of views that are kept, and what is asked for is lacking.
-use Rattle.std.proofs.Common.{refl, sym, subst, ◌∙◌, ap, ◌≡◌, true, false}
+use Rattle.std.proofs.Common.{refl, sym, subst, ◌∙◌, ap, ◌≡◌, [], true, false}
 use Rattle.std.specs.Prelude.{IfSome}
 use Rattle.simplex_voter.specs.Windows.{min_active}
 use Rattle.simplex_batcher.specs.Batching.{HoldsFrom}
@@ -10,6 +10,7 @@ use Rattle.simplex_plan.specs.Matters.{planned_matters}
 use Rattle.simplex_plan.proofs.PlannedWork.{among_still}
 use Rattle.simplex_engine.proofs.Causes.{comes_still, comes_then, hand_alone, risen_facts}
 use Rattle.std.specs.Option.{option_map_or}
+use Rattle.simplex_engine.specs.Causes.{forgettable, held_by, Comes}
 use Rattle.simplex_engine.proofs.engine.Engine.settle.Goals as goal
 
 pub returns-in_err-let_go-clause-alone : goal.returns-in_err-let_go-clause-alone
@@ -52,7 +53,8 @@ returns g c =
           (tells_beside c.let_go.new.self (record (c.let_go.new.self) { core = c.store.new.self }) (ap (λ m. m.facts.outstanding_work) c.store.ensures.member)
           (ap (λ m. m.facts.life) c.store.ensures.member)
           c.store.ensures.goes_on refl);
-      comes = λ now. comes_then (c.in_ok-let_go.ensures.comes now)
+      comes = λ now. comes_then (subst (λ came. Comes g.D.PartialEq.eq g.L.Elector.elect g.D.Digest.bytes g.S.CertificateScheme.certificate_bytes now came [] (held_by c.let_go.new.self) c.args.self.now c.let_go.new.self)
+          (ap (λ m. forgettable m.facts) (sym c.store.ensures.member)) (c.in_ok-let_go.ensures.comes now))
           (λ kind view un. subst (λ m. option_map_or (λ x. holds repair.resolver.open_fetches x kind view) m.facts.life true ≡ false) c.store.ensures.member un)
           (risen_facts (ap (λ m. m.facts) c.store.ensures.member)) (comes_still (ap (λ m. m.facts) c.store.ensures.member) refl (λ kind view. refl)
           (hand_alone c.let_go.new.self (record (c.let_go.new.self) { core = c.store.new.self }) c.store.ensures.no_work (among_still (planned_matters c.let_go.new.self.plan))));

@@ -3,13 +3,14 @@ use Rattle.std.proofs.Common.{refl, ap}
 use Rattle.simplex_engine.proofs.Alone.{alone_still}
 use Rattle.simplex_engine.proofs.Tells.{tells_beside, tells_still}
 use Rattle.simplex_outbox.specs.declared.output.Work.TheVariants as work
-use Rattle.simplex_plan.proofs.PlannedWork.{among_still}
+use Rattle.simplex_plan.specs.Matters.{of_work}
+use Rattle.simplex_plan.proofs.Matters.{among_last}
 use Rattle.simplex_engine.specs.Causes.{at_hand}
 use Rattle.simplex_engine.proofs.Causes.{comes_still, hand_pushed}
 use Rattle.simplex_engine.proofs.engine.Engine.tell_forgotten.Goals as goal
 
 pub returns-then-le : goal.returns-then-le
-returns-then-le g c = record { alone = alone_still c.args.self.now; member = refl; plan = refl; duties = tells_still c.args.self.now; comes = λ now. comes_still refl refl (λ kind view. refl) (among_still (at_hand c.args.self.now)) }
+returns-then-le g c = record { alone = alone_still c.args.self.now; member = refl; plan = refl; duties = tells_still c.args.self.now; comes = λ now. comes_still refl refl (λ kind view. refl) (among_last (of_work (work.Forget c.args.lowest)) (at_hand c.args.self.now)) }
 
 pub returns-in_err-push-clause-alone : goal.returns-in_err-push-clause-alone
 returns-in_err-push-clause-alone g c = record { goes_on = c.push.ensures.goes_on; batcher = refl }

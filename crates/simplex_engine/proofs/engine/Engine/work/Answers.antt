@@ -6,7 +6,7 @@ use Rattle.simplex_engine.proofs.Tells.{tells_further, tells_planned}
 use Rattle.simplex_plan.proofs.PlannedWork.{among_all, plans_begun}
 use Rattle.simplex_plan.proofs.Planning.{on_ok, on_ok_both}
 use Rattle.simplex_plan.specs.Matters.{planned_matters}
-use Rattle.simplex_engine.proofs.Causes.{comes_on, comes_same, hand_alone}
+use Rattle.simplex_engine.proofs.Causes.{comes_later, comes_same, forgets_no_lack, hand_alone}
 use Rattle.simplex_plan.specs.Asking.{asks}
 use Rattle.simplex_plan.proofs.StillAsking.{keeps_asking}
 use Rattle.simplex_engine.specs.Causes.{is_final}
@@ -25,7 +25,7 @@ returns g c = record {
   duties = on_ok c.finish.result c.finish.ensures.duties
       (tells_further (tells_planned c.args.self.now (record c.args.self.now { plan = c.begin.new.self }) refl
       (plans_begun c.args.self.now.plan c.begin.new.self c.begin.ensures)));
-  comes = on_ok_both c.finish.result c.finish.ensures.duties c.finish.ensures.comes (λ duties comes. comes_on
+  comes = on_ok_both c.finish.result c.finish.ensures.duties c.finish.ensures.comes (λ duties comes. comes_later (forgets_no_lack _ _ _ c.finish.new.self.core.member.facts)
       (comes_same refl (hand_alone c.args.self.now (record c.args.self.now { plan = c.begin.new.self }) refl (among_all (ap planned_matters c.begin.ensures)))
       (keeps_asking (λ kind view. is_final c.args.self.now.core.member.facts view) (ap (λ plan. plan.repair.resolver) c.begin.ensures)
       (λ kind view asked un. ap (λ plan. asks plan kind view) c.begin.ensures ∙ asked)))

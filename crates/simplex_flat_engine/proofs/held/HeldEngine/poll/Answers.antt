@@ -19,6 +19,7 @@ returns c =
             duties = asked.duties;
             works = asked.works;
             comes = asked.comes;
+            heights = asked.heights;
             near = asked.near;
             seen = asked.seen;
             early = asked.early;

@@ -6,7 +6,7 @@ use Rattle.simplex_codec.specs.Digests.{bytes_in_digest}
 use Rattle.simplex_host.specs.Host.{certificate_bytes}
 use Rattle.simplex_plan.specs.PlannedWork.{AreAmong}
 use Rattle.simplex_outbox.specs.Outputs.{work_in}
-use Rattle.simplex_engine.specs.Causes.{held_by, Comes}
+use Rattle.simplex_engine.specs.Causes.{forgettable, held_by, Comes}
 use Rattle.simplex_engine.specs.Duties.{work_ahead, HasToldAll}
 use Rattle.simplex_outbox.specs.Finals.{TellsNoMore}
 use Rattle.simplex_outbox.specs.Going.{IsKept}
@@ -38,6 +38,7 @@ returns-in-Ok-Some c =
               (rw rest.0 (rw c.in-Ok-Some.field-0-is at c.in-Ok-Some.ensures.works)) c.give_out.ensures.given;
           comes = λ _. comes_given c.args.now c.in-Ok-Some.output c.args.self.now.stored c.give_out.result c.args.self.now c.give_out.new.self
               (rw rest.0 (rw c.in-Ok-Some.field-0-is at c.in-Ok-Some.ensures.comes)) c.give_out.ensures.given;
+          heights = λ _. rw rest.0 c.in-Ok-Some.ensures.heights;
           near = λ _. rw rest.0 c.in-Ok-Some.ensures.near;
           seen = λ _. rw rest.0 c.in-Ok-Some.ensures.seen;
           early = λ _. rw rest.0 c.in-Ok-Some.ensures.early;
@@ -72,9 +73,10 @@ returns-in-Ok-None c =
               (sym c.requires.last) (rw none at c.in-Ok-None.ensures.duties);
           works = λ _ alive. subst (λ last. AreAmong (work_ahead c.args.self.now.engine) (work_in (option_to_list last) ++ work_ahead c.poll.new.self))
               (sym c.requires.last) (rw none at c.in-Ok-None.ensures.works);
-          comes = λ _ alive. subst (λ last. Comes same_host_payload host_leader bytes_in_digest certificate_bytes c.args.now [] (work_in (option_to_list last)) (held_by c.poll.new.self)
+          comes = λ _ alive. subst (λ last. Comes same_host_payload host_leader bytes_in_digest certificate_bytes c.args.now (forgettable c.poll.new.self.core.member.facts) (work_in (option_to_list last)) (held_by c.poll.new.self)
               c.args.self.now.engine c.poll.new.self)
               (sym c.requires.last) (rw none at c.in-Ok-None.ensures.comes);
+          heights = λ _. c.in-Ok-None.ensures.heights;
           near = λ _. c.in-Ok-None.ensures.near;
           seen = λ _. c.in-Ok-None.ensures.seen;
           early = λ _. c.in-Ok-None.ensures.early;
@@ -119,6 +121,7 @@ returns-in-Err c =
           duties = λ alive. absurd (false≢true (sym alive ∙ failed));
           works = λ alive. absurd (false≢true (sym alive ∙ failed));
           comes = λ alive. absurd (false≢true (sym alive ∙ failed));
+          heights = λ alive. absurd (false≢true (sym alive ∙ failed));
           near = λ alive. absurd (false≢true (sym alive ∙ failed));
           seen = λ alive. absurd (false≢true (sym alive ∙ failed));
           early = λ alive. absurd (false≢true (sym alive ∙ failed));

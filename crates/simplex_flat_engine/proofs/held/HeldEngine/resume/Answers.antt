@@ -34,6 +34,7 @@ returns-in-Ok-resume-clause-resumed c =
         bounded = rw c.new.ensures.engine c.in-Ok-resume.ensures.bounded;
         duties = rw c.new.ensures.engine c.in-Ok-resume.ensures.duties;
         none_at_hand = rw c.new.ensures.engine c.in-Ok-resume.ensures.nothing;
+        heights = rw c.new.ensures.engine c.in-Ok-resume.ensures.heights;
         draws = c.new.ensures.draws;
         fresh = c.new.ensures.fresh;
       };

@@ -25,6 +25,7 @@ returns-in-Ok-start-clause-begun c = record {
     bounded = rw c.new.ensures.engine c.in-Ok-start.ensures.bounded;
     duties = rw c.new.ensures.engine c.in-Ok-start.ensures.duties;
     none_at_hand = rw c.new.ensures.engine c.in-Ok-start.ensures.nothing;
+    heights = rw c.new.ensures.engine c.in-Ok-start.ensures.heights;
     draws = c.new.ensures.draws;
     fresh = c.new.ensures.fresh;
   };

@@ -1,0 +1,153 @@
+-- From one living member to another, by the steps that an engine takes: the highest view that is heard of does not fall, and nothing above it is told of or said to be lacking.
+use Rattle.std.proofs.Common.{◌≡◌, refl, ap, sym, ◌∙◌, subst, ℕ, ◌<◌, ◌≤◌, inl, inr, Bool, true, false, List, [], ◌∷◌, ◌++◌, Some, None, option_map, arith}
+use Rattle.std.specs.List.{list_any, AllByRecursion}
+use Rattle.std.proofs.lemmas.Bool.{cases_Bool, false≢true}
+use Rattle.simplex_types.specs.Certificates.{ProposalFacts}
+use Rattle.simplex_voter.specs.Facts.{StateFacts, Elect}
+use Rattle.simplex_member.specs.Calls.{CallFacts, told}
+use Rattle.simplex_member.specs.Lives.{MemberFacts, IsCall, AnswersAlive}
+use Rattle.simplex_member.specs.Pruning.{pruned_member}
+use Rattle.simplex_member.specs.Runs.{StepFacts, Calls, Prunes, Restarts}
+use Rattle.simplex_member.specs.declared.member.calls.Reply.{Reply}
+use Rattle.simplex_laws.specs.Executions.{new_member, Execution}
+use Rattle.simplex_laws.specs.TermLengths.{HasTerms, KeepTerms}
+use Rattle.simplex_laws.specs.LifeLaws.{Notarization}
+use Rattle.simplex_laws.specs.Living.{HasDone}
+use Rattle.simplex_laws.specs.Traces.{TraceEvent, of_floor, trace_at, trace_of_steps}
+use Rattle.simplex_laws.proofs.executions.Living.{call_done, prune_done}
+use Rattle.simplex_laws.proofs.frames.RunsKeep.{HoldsIn, run_induction}
+use Rattle.simplex_laws.proofs.frames.Sound.{IsSound, event_sound, floor_sound}
+use Rattle.simplex_laws.proofs.lives.Waiting.{IsWaiting, event_waits, floor_waits}
+use Rattle.simplex_laws.proofs.own_records.Runs.{TellsOn, run_own, start_own}
+use Rattle.simplex_laws.proofs.own_records.Verdicts.{ShowsVerdicts}
+use Rattle.simplex_laws.proofs.records.RunsLawful.{keep_terms}
+use Rattle.simplex_fetches.specs.declared.fetches.FetchKind.{FetchKind}
+use Rattle.simplex_plan.specs.Asking.{heard_by, with_lack}
+use Rattle.simplex_plan.specs.Matters.{Matter}
+use Rattle.simplex_plan.specs.PlannedWork.{AreAmong}
+use Rattle.simplex_engine.specs.Causes.{given_in, heard_in, ComesBy}
+use Rattle.simplex_engine.specs.Heights.{highest_heard}
+use Rattle.simplex_engine.proofs.heights.AtHand.{lacks_above, none_both}
+use Rattle.simplex_engine.proofs.heights.Calls.{IsKnown, call_heard, pruned_heard}
+use Rattle.simplex_engine.proofs.heights.Replies.{IsLow, given_low, heard_low}
+
+-- what a run leads to is known of a living member
+
+module _ {K L D : Type 0} (same : D → D → Bool) (decides : (d e : D) → same d e ≡ true → d ≡ e) (itself : (d : D) → same d d ≡ true) (elect : Elect L) (term_length i : ℕ) where
+  done_known : (all : List (TraceEvent D)) (m : MemberFacts K L D) → HasDone same elect term_length i all m → (x : StateFacts K L D) → m.life ≡ Some x → IsKnown m x
+  done_known all m done x alive = record {
+    some = subst (λ n. 0 < n) (sym sound.terms) begins.some;
+    recorded = shows.notarized;
+    placed = λ v c stands. sound.placed.views Notarization v c.proposal.round.view (ap (option_map (λ (d : ProposalFacts D). d.proposal.round.view)) stands);
+    waits = λ v named. (waits.views v named).1;
+  }
+    where
+      ran : Execution K L D
+      ran = done.execution
+
+      begins : HasTerms term_length ran.start.setup
+      begins = done.told.lives.first.terms
+
+      keep : KeepTerms term_length ran.steps
+      keep = keep_terms term_length i ran.steps done.told.lives.later
+
+      sound : IsSound term_length x
+      sound =
+          subst (HoldsIn (IsSound term_length)) alive
+          (run_induction same elect term_length (IsSound term_length) (λ y floor now new. floor_sound same elect term_length y floor now new) (λ y e s. event_sound same elect term_length y e s)
+          ran.start ran.steps ran.replies m begins keep done.told.run)
+
+      waits : IsWaiting x
+      waits =
+          subst (HoldsIn IsWaiting) alive
+          (run_induction same elect term_length IsWaiting (floor_waits same elect term_length) (event_waits same elect) ran.start ran.steps ran.replies m begins keep done.told.run)
+
+      trace : List (TraceEvent D)
+      trace = of_floor ran.start.floor ++ trace_of_steps ran.steps ran.replies
+
+      shows : ShowsVerdicts m.entries x
+      shows =
+          (subst (TellsOn trace m.entries) alive
+          (run_own same decides itself elect term_length begins.some ran.steps ran.replies (of_floor ran.start.floor) (new_member same elect ran.start) m keep
+          (start_own same decides itself elect term_length ran.start begins) done.told.run).tells).shows
+
+none_among : {A : Type 0} (test : A → Bool) (these those : List A) → AreAmong these those → list_any test those ≡ false → list_any test these ≡ false
+none_among test these those among none = elim (cases_Bool (list_any test these)) [ inl some ↦ absurd (false≢true (sym none ∙ among.found test some)) | inr is ↦ is ]
+
+all_both : {A : Type 0} (P : A → Type 0) (these those : List A) → AllByRecursion P these → AllByRecursion P those → AllByRecursion P (these ++ those)
+all_both P [] those first second = second
+all_both P (a ∷ these) those (here, first) second = (here, all_both P these those first second)
+
+some_is : {A : Type 0} (a b : A) → Some a ≡ Some b → a ≡ b
+some_is a b is = cc
+
+pub some_none : {A : Type 0} (a : A) → None ≡ Some a → ⊥
+some_none a is = cc
+
+module _ {S L D K G C : Type 0} (same : D → D → Bool) (elect : Elect L) (bytes : D → List ℕ) (bytes_of : C → List ℕ) (now : ℕ) (asks_now over : FetchKind → ℕ → Bool) where
+  -- a member that has failed stays so
+  dead_call : (m : MemberFacts K L D) (call : CallFacts D) (answer : Reply S D K G C) (next : MemberFacts K L D) → m.life ≡ None → IsCall same elect m call (told bytes_of answer) next → next.life ≡ None
+  unfolding IsCall
+  dead_call m call answer next dead is_call = by_answer (subst (λ life. AnswersAlive same elect life m call (told bytes_of answer) next) dead is_call)
+    where
+      by_answer : AnswersAlive same elect None m call (told bytes_of answer) next → next.life ≡ None
+      by_answer (tells, leaves) = ap (λ (n : MemberFacts K L D). n.life) leaves ∙ dead
+
+  abbrev nothing : List (Matter S D K G C)
+  nothing = []
+
+  pub dead_stays : (steps : List (StepFacts K L D × Reply S D K G C)) (matters left : List (Matter S D K G C)) (asked : FetchKind → ℕ → Bool) (m end : MemberFacts K L D) → m.life ≡ None
+      → ComesBy same elect bytes_of now asks_now over steps matters asked m left end → end.life ≡ None
+  dead_stays [] matters left asked m end dead (among, is, still) = ap (λ (n : MemberFacts K L D). n.life) is ∙ dead
+  dead_stays ((Calls call, answer) ∷ rest) matters left asked m end dead (meant, next, is_step, comes) =
+      let given : List (Matter S D K G C) = given_in {L = L} now (Calls call) answer in
+      dead_stays rest (matters ++ given) left (with_lack asked given) next end (dead_call m call answer next dead is_step) comes
+  dead_stays ((Prunes, answer) ∷ rest) matters left asked m end dead (meant, next, is_step, comes) =
+      dead_stays rest (matters ++ nothing) left (with_lack asked nothing) next end (ap (λ (n : MemberFacts K L D). n.life) is_step.1 ∙ dead) comes
+  dead_stays ((Restarts restart, answer) ∷ rest) matters left asked m end dead (meant, next, is_step, comes) = absurd meant
+
+  -- what holds of the highest view that is heard of, from one living member to another
+  pub record Climbs (m : MemberFacts K L D) (x : StateFacts K L D) (end : MemberFacts K L D) (y : StateFacts K L D) (steps : List (StepFacts K L D × Reply S D K G C))
+      (matters left : List (Matter S D K G C)) : Type 0 where
+    pub up : highest_heard m x ≤ highest_heard end y
+    pub heard : AllByRecursion (IsLow (highest_heard end y)) (heard_in bytes bytes_of steps)
+    pub low : list_any (lacks_above (highest_heard end y)) matters ≡ false → list_any (lacks_above (highest_heard end y)) left ≡ false
+
+  module _ (decides : (d e : D) → same d e ≡ true → d ≡ e) (itself : (d : D) → same d d ≡ true) (term_length i : ℕ) where
+    pub climbs : (steps : List (StepFacts K L D × Reply S D K G C)) (matters left : List (Matter S D K G C)) (asked : FetchKind → ℕ → Bool) (m end : MemberFacts K L D) (all : List (TraceEvent D))
+        → HasDone same elect term_length i all m → (x y : StateFacts K L D) → m.life ≡ Some x → end.life ≡ Some y → ComesBy same elect bytes_of now asks_now over steps matters asked m left end
+        → Climbs m x end y steps matters left
+    climbs [] matters left asked m end all done x y alive lives (among, is, still) =
+        let one : x ≡ y = some_is x y (sym alive ∙ (ap (λ (n : MemberFacts K L D). n.life) (sym is) ∙ lives)) in
+        record {
+          up = subst (λ (n : MemberFacts K L D). highest_heard m x ≤ highest_heard n y) (sym is) (subst (λ z. highest_heard m x ≤ highest_heard m z) one (omega arith));
+          heard = tt;
+          low = λ none. none_among (lacks_above (highest_heard end y)) left matters among none;
+        }
+    climbs ((Calls call, answer) ∷ rest) matters left asked m end all done x y alive lives (meant, next, is_step, comes) =
+        elim (call_heard same elect m x (done_known same decides itself elect term_length i all m done x alive) call (told bytes_of answer) next alive is_step) [
+          | inl dead ↦ absurd (some_none y (sym (dead_stays rest (matters ++ given) left (with_lack asked given) next end dead comes) ∙ lives))
+          | inr heard ↦
+              (let later = climbs rest (matters ++ given) left (with_lack asked given) next end (all ++ trace_at {L = L} (Calls call) (told bytes_of answer))
+              (call_done same elect term_length i m next call (told bytes_of answer) all (trace_at {L = L} (Calls call) (told bytes_of answer)) is_step refl done) heard.state y heard.alive lives comes in
+              let up = later.up in
+              let low = heard.low in
+              let first = heard.up in
+              record {
+                up = omega (arith, first, up);
+                heard = all_both (IsLow (highest_heard end y)) (heard_by bytes bytes_of answer call) (heard_in bytes bytes_of rest)
+                    (heard_low (highest_heard end y) bytes bytes_of answer call (omega (arith, low, up))) later.heard;
+                low = λ none. later.low (none_both (lacks_above (highest_heard end y)) matters given none
+                    (given_low (highest_heard end y) S D K G C bytes_of now answer call (omega (arith, low, up))));
+              })
+        ]
+      where
+        given : List (Matter S D K G C)
+        given = given_in {L = L} now (Calls call) answer
+    climbs ((Prunes, answer) ∷ rest) matters left asked m end all done x y alive lives (meant, next, is_step, comes) =
+        let later = climbs rest (matters ++ nothing) left (with_lack asked nothing) (pruned_member m) end (all ++ []) (prune_done same elect term_length i m all done) x y alive lives
+        (subst (λ (n : MemberFacts K L D). ComesBy same elect bytes_of now asks_now over rest (matters ++ nothing) (with_lack asked nothing) n left end) is_step.1 comes) in
+        let first = pruned_heard m x alive in
+        let up = later.up in
+        record { up = omega (arith, first, up); heard = later.heard; low = λ none. later.low (none_both (lacks_above (highest_heard end y)) matters nothing none refl) }
+    climbs ((Restarts restart, answer) ∷ rest) matters left asked m end all done x y alive lives (meant, next, is_step, comes) = absurd meant
