@@ -1,0 +1,3 @@
+pub mod Told
+pub mod Nullifying
+pub mod Examples

@@ -1,0 +1,20 @@
+//! The laws of the definitions that an engine's contracts cite. Each function does nothing: its contract is the law.
+//! `S` are the schemes, `L` the elector, `D` the payloads, `K` the members' keys, `G` signatures and `C` certificates.
+
+ghost use Rattle.simplex_engine_definitions.specs.Laws.{CallsWereToldBefore, NullifiesOnceDue, WorkWasGiven};
+
+/// An engine that goes on as `comes` says tells its member no verdict, block, proposal or certificate, and gives no leader up,
+/// but what came in, or was at hand before.
+pub fn calls_were_told_before<S, L, D, K, G, C>()
+    ensures { CallsWereToldBefore S L D K G C }
+{}
+
+/// All work that it gives out, queues or plans came in, was at hand before, or was given by a reply of its member.
+pub fn work_was_given<S, L, D, K, G, C>()
+    ensures { WorkWasGiven S L D K G C }
+{}
+
+/// It votes to nullify no view, unless the moment of a timeout had come, by a reply, or by what was planned before.
+pub fn nullifies_once_due<S, L, D, K, G, C>()
+    ensures { NullifiesOnceDue S L D K G C }
+{}
