@@ -8,6 +8,7 @@ source. A minute each, on one processor.
 
     tests/wrong_definitions.py                     all of them
     tests/wrong_definitions.py --only verdict      those whose name holds a word
+    tests/wrong_definitions.py --by engine         those that the examples of one crate refuse
     tests/wrong_definitions.py --page              writes `docs/inside/REFUSED.md` besides
     tests/wrong_definitions.py --built             reads the crates that a wrong definition leaves alone as `rt lib` builds them:
                                                    quicker where they are proved already
@@ -54,9 +55,10 @@ EXAMPLES = {
         tuple(f"networks.{name}" for name in ("Scripts", "ChangingLives", "AheadNetwork", "Rivals", "PlainNetwork")),
         ("laws::instances", "laws::plain", "laws::rivals")),
     "simplex_progress": Examples((), ("progress::continuations", "progress::instances")),
+    "simplex_engine_definitions": Examples(("Examples",), ("laws::calls_were_told_before", "laws::nullifies_once_due", "laws::work_was_given")),
 }
-VOTER, RECORD, MEMBER, RESOLVER, LAWS, PROGRESS = (
-    (f"simplex_{name}",) for name in ("definitions", "record", "member", "resolver", "laws", "progress"))
+VOTER, RECORD, MEMBER, RESOLVER, LAWS, PROGRESS, ENGINE = (
+    (f"simplex_{name}",) for name in ("definitions", "record", "member", "resolver", "laws", "progress", "engine_definitions"))
 
 
 class Wrong(NamedTuple):
@@ -378,12 +380,69 @@ WRONG_DEFINITIONS = (
         (("(x.current < start))", "(start ≡ suc x.current))"),
          ("use Rattle.std.specs.Prelude.{◌≡◌, ℕ,", "use Rattle.std.specs.Prelude.{◌≡◌, ℕ, suc,")), PROGRESS,
     ),
+    Wrong(
+        "a verdict is of an engine's own accord", "simplex_plan/specs/Matters.antt",
+        (("of_task (task.Verified view) = Message (task.Verified view) ∷ []", "of_task (task.Verified view) = []"),), ENGINE,
+    ),
+    Wrong(
+        "a view may be nullified before its timeout", "simplex_plan/specs/Matters.antt",
+        (("if nat_le moment now then Expiry ∷ [] else []", "Expiry ∷ []"),), ENGINE,
+    ),
+    Wrong(
+        "a resolver hears once more of a certificate that is known", "simplex_plan/specs/Asking.antt",
+        (("(reply.Added is_new _) asked = if is_new then heard_of bytes asked else []", "(reply.Added is_new _) asked = heard_of bytes asked"),), ENGINE,
+    ),
+    Wrong(
+        "a resolver hears of genesis", "simplex_plan/specs/Asking.antt",
+        (("above_genesis view it = if view == 0 then [] else it ∷ []", "above_genesis view it = it ∷ []"),), ENGINE,
+    ),
+    Wrong(
+        "what is settled of a kind ends fetches of each", "simplex_plan/specs/Asking.antt",
+        (("same_kind (fetch_kind of) kind && nat_le start view", "nat_le start view"),), ENGINE,
+    ),
+    Wrong(
+        "work may come of nothing", "simplex_engine/specs/Causes.antt",
+        (("[] matters asked m left end = AreAmong left matters ×", "[] matters asked m left end = AreAmong left left ×"),), ENGINE,
+    ),
+    Wrong(
+        "views that are kept may be forgotten", "simplex_engine/specs/Causes.antt",
+        (("Duty (Forget (min_active x))", "Duty (Forget x.finalized)"),), ENGINE,
+    ),
+    Wrong(
+        "the last finalized view is not yet final", "simplex_engine/specs/Causes.antt",
+        (("nat_le view x.finalized", "nat_lt view x.finalized"), ("nat_le, Bool", "nat_le, nat_lt, Bool")), ENGINE,
+    ),
+    Wrong(
+        "fetches may lie a view above all that was heard of", "simplex_engine/specs/Heights.antt",
+        (("highest_heard m x = max", "highest_heard m x = 1 + max"), ("{◌≡◌, ◌≤◌, ℕ", "{◌≡◌, ◌≤◌, ◌+◌, ℕ")), ENGINE,
+    ),
+    Wrong(
+        "an engine that had failed tells want of memory", "simplex_engine/specs/Failing.antt",
+        (("(if had_failed then Failed else OutOfMemory)", "OutOfMemory"),), ENGINE,
+    ),
+    Wrong(
+        "all entries of a view are alike", "simplex_laws/specs/RecordsOnce.antt",
+        (("  are_of_one_kind _ _ = false", "  are_of_one_kind _ _ = true"),), ENGINE,
+    ),
+    Wrong(
+        "a pruning asks the state alone what stays", "simplex_outbox/specs/Reaching.antt",
+        (("lowest_left m x = min (min_active x) (finalized_in m.entries - m.retention)", "lowest_left m x = min_active x"),), ENGINE,
+    ),
+    Wrong(
+        "a member asks itself", "simplex_fetches/specs/Fetches.antt",
+        (("member_at peers place = if nat_lt place peers.me then place else place + 1", "member_at peers place = place"),), ENGINE,
+    ),
+    Wrong(
+        "what is asked for is asked for twice", "simplex_fetches/specs/Fetches.antt",
+        (("if is_fetch_open kind view fetches then fetches else fetches ++ fresh kind view first moment ∷ []", "fetches ++ fresh kind view first moment ∷ []"),), ENGINE,
+    ),
 )
 
 
 def options():
     parser = argparse.ArgumentParser(description=__doc__, formatter_class=argparse.RawDescriptionHelpFormatter)
     parser.add_argument("--only", default="", help="those alone whose name holds this")
+    parser.add_argument("--by", default="", help="those alone that the examples of a crate refuse whose name holds this")
     parser.add_argument("--page", action="store_true", help="write the page")
     parser.add_argument("--built", action="store_true", help="prove what a wrong definition leaves alone, and read that as built")
     return parser.parse_args()
@@ -420,7 +479,8 @@ def copy_crates(root, used):
     """Copies the crates with examples and those below them."""
     for name in sorted({it for crate in EXAMPLES for it in [crate, *below(crate, used)]}):
         for part in ("src", "specs", "proofs"):
-            shutil.copytree(ROOT / "crates" / name / part, root / name / part)
+            if (ROOT / "crates" / name / part).is_dir():
+                shutil.copytree(ROOT / "crates" / name / part, root / name / part)
     for crate in EXAMPLES:
         import_examples(root / crate, crate)
 
@@ -502,7 +562,7 @@ def row_of(wrong, crate, told):
 
 def main():
     given = options()
-    chosen = [it for it in WRONG_DEFINITIONS if given.only in it.name]
+    chosen = [it for it in WRONG_DEFINITIONS if given.only in it.name and any(given.by in crate for crate in it.crates)]
     crates = sorted({crate for it in chosen for crate in it.crates})
     used, failed, rows = uses(), 0, []
     built = build(crates, used) if given.built else set()
@@ -520,7 +580,7 @@ def main():
             failed += crate is None
             rows += [row_of(wrong, crate, told)] if crate else []
             print(f"{wrong.name}: {f'refused by {crate}: ' if crate else ''}{', '.join(told[:4])}", flush=True)
-    if given.page and not failed and not given.only:
+    if given.page and not failed and not given.only and not given.by:
         PAGE.write_text(HEAD + "".join(rows))
     print(f"{len(chosen)} wrong definitions, {failed} not refused")
     return 1 if failed or not chosen else 0
