@@ -55,7 +55,7 @@ EXAMPLES = {
         tuple(f"networks.{name}" for name in ("Scripts", "ChangingLives", "AheadNetwork", "Rivals", "PlainNetwork")),
         ("laws::instances", "laws::plain", "laws::rivals")),
     "simplex_progress": Examples((), ("progress::continuations", "progress::instances")),
-    "simplex_engine_definitions": Examples(("Examples",), ("laws::calls_were_told_before", "laws::nullifies_once_due", "laws::work_was_given")),
+    "simplex_engine_definitions": Examples(("Examples", "Votes"), ("laws::calls_were_told_before", "laws::nullifies_once_due", "laws::work_was_given")),
 }
 VOTER, RECORD, MEMBER, RESOLVER, LAWS, PROGRESS, ENGINE = (
     (f"simplex_{name}",) for name in ("definitions", "record", "member", "resolver", "laws", "progress", "engine_definitions"))
@@ -435,6 +435,18 @@ WRONG_DEFINITIONS = (
     Wrong(
         "what is asked for is asked for twice", "simplex_fetches/specs/Fetches.antt",
         (("if is_fetch_open kind view fetches then fetches else fetches ++ fresh kind view first moment ∷ []", "fetches ++ fresh kind view first moment ∷ []"),), ENGINE,
+    ),
+    Wrong(
+        "votes for two payloads are on the same", "simplex_batcher/specs/Subjects.antt",
+        (("(subject.Notarize p) (subject.Notarize q) = same_proposal same p q", "(subject.Notarize p) (subject.Notarize q) = same_round p.round q.round"),), ENGINE,
+    ),
+    Wrong(
+        "a certificate has signatures on anything", "simplex_batcher/specs/Polls.antt",
+        (("if same_subject same ballot.subject subject then (member, ballot.signature) ∷ [] else []", "(member, ballot.signature) ∷ []"),), ENGINE,
+    ),
+    Wrong(
+        "a certificate has a signature less", "simplex_assembly/specs/Quorums.antt",
+        (("quorum_of members = members - (members - 1) / 3", "quorum_of members = members - members / 3"),), ENGINE,
     ),
 )
 

@@ -1,3 +1,4 @@
 pub mod Told
 pub mod Nullifying
 pub mod Examples
+pub mod Votes
