@@ -1,33 +1,29 @@
 -- A vote to nullify comes of a timeout whose moment has come: it was at hand before, or a reply said so.
-use Rattle.std.proofs.Common.{◌≡◌, refl, ap, sym, subst, ◌∙◌, ℕ, ◌⊎◌, inl, inr, arith, Bool, true, false, List, [], ◌∷◌, ◌++◌, Contains, map, nat_le, Some, None, if◌then◌else◌}
+use Rattle.std.proofs.Common.{◌≡◌, refl, ap, sym, subst, ◌∙◌, ℕ, ◌⊎◌, inl, inr, arith, Bool, true, false, List, [], ◌∷◌, ◌++◌, Contains, nat_le, Some, None, if◌then◌else◌}
 use Rattle.std.specs.List.{list_any}
 use Rattle.std.proofs.lemmas.Bool.{false≢true, or_cases}
 use Rattle.std.proofs.lemmas.Bool.Decides.{nat_tests}
 use Rattle.std.proofs.lemmas.List.Elements.{Contains-append_left, Contains-append_right}
 use Rattle.simplex_types.specs.Certificates.{CertificateFacts, Notarized, Nullified, Finalized}
-use Rattle.simplex_types.specs.declared.types.messages.Proposal.{Proposal}
 use Rattle.simplex_types.specs.declared.reasons.TimeoutReason.{TimeoutReason}
 use Rattle.simplex_voter.specs.Facts.{Elect}
-use Rattle.simplex_voter.specs.declared.voter.candidates.CertificateFetch.{CertificateFetch}
 use Rattle.simplex_voter.specs.declared.voter.verify.Verify.TheVariants as verify
-use Rattle.simplex_member.specs.Calls.{CallFacts, AddNotarization, AddNullification, AddFinalization, ConstructNullify}
+use Rattle.simplex_member.specs.Calls.{CallFacts, ConstructNullify}
 use Rattle.simplex_member.specs.Lives.{MemberFacts}
 use Rattle.simplex_member.specs.Runs.{StepFacts, Calls, Prunes, Restarts}
 use Rattle.simplex_member.specs.declared.member.calls.Reply.{Reply}
 use Rattle.simplex_member.specs.declared.member.calls.Reply.TheVariants as reply
 use Rattle.simplex_fetches.specs.declared.fetches.FetchKind.{FetchKind}
-use Rattle.simplex_fetches.specs.declared.fetches.FetchKind.TheVariants.{Notarization}
 use Rattle.simplex_outbox.specs.Handing.{hands_in}
-use Rattle.simplex_outbox.specs.declared.output.Work.TheVariants.{Certify}
 use Rattle.simplex_plan.specs.Asking.{with_lack}
-use Rattle.simplex_plan.specs.Matters.{Matter, Duty, Lack, Arrival, Message, Quorum, Expiry, given_by, of_task, shown_by}
+use Rattle.simplex_plan.specs.Matters.{Matter, Duty, Lack, Arrival, Message, Quorum, Expiry, given_by, of_task}
 use Rattle.simplex_plan.specs.Tasks.{call_of}
 use Rattle.simplex_plan.specs.declared.task.Task.{Task}
 use Rattle.simplex_plan.specs.declared.task.Task.TheVariants as task
 use Rattle.simplex_plan.proofs.PlannedWork.{any_either}
 use Rattle.simplex_engine.specs.Causes.{given_in, ComesBy, IsIn, IsMeant, IsStepMeant}
 use Rattle.simplex_engine_definitions.specs.Laws.{SaysDue}
-use Rattle.simplex_engine_definitions.proofs.Told.{any_weaker, first_or_later}
+use Rattle.simplex_engine_definitions.proofs.Told.{any_weaker, candidates_give_none, first_or_later, shown_gives_none}
 
 module _ {S D K G C : Type 0} where
   -- it is of a timeout
@@ -53,20 +49,6 @@ module _ {S D K G C : Type 0} where
   task_expires now view (task.Nullify v reason) is = refl
   task_expires now view asked is = absurd (cc)
 
-module _ (S D K G C : Type 0) where
-  candidates_later : (proposals : List (Proposal D)) (wanted : List CertificateFetch)
-      → list_any (is_expiry {S = S} {D = D} {K = K} {G = G} {C = C})
-      (map (λ proposal. Duty (Certify proposal)) proposals ++ map (λ (it : CertificateFetch). Lack Notarization it.view) wanted) ≡ false
-  candidates_later [] [] = refl
-  candidates_later [] (it ∷ wanted) = candidates_later [] wanted
-  candidates_later (proposal ∷ proposals) wanted = candidates_later proposals wanted
-
-  shown_later : (call : CallFacts D) (leader : K) → list_any (is_expiry {S = S} {D = D} {K = K} {G = G} {C = C}) (shown_by call leader) ≡ false
-  shown_later (AddNotarization c) leader = refl
-  shown_later (AddNullification c now) leader = refl
-  shown_later (AddFinalization c now) leader = refl
-  shown_later call leader = refl
-
 module _ {S D K G C : Type 0} (now : ℕ) where
   timeout_says : (moment : ℕ) (reason : TimeoutReason) (call : CallFacts D) (due : Bool) → nat_le moment now ≡ due
       → list_any is_expiry (given_by {S = S} {K = K} {G = G} {C = C} now (reply.Timeout moment reason) call) ≡ true → SaysDue {S = S} {D = D} {K = K} {G = G} {C = C} now (reply.Timeout moment reason)
@@ -80,10 +62,10 @@ module _ {S D K G C : Type 0} (now : ℕ) where
   reply_says (reply.Work verify.Wait) call some = absurd (false≢true some)
   reply_says (reply.Request (Some request)) call some = absurd (false≢true some)
   reply_says (reply.Request None) call some = absurd (false≢true some)
-  reply_says (reply.Candidates proposals wanted) call some = absurd (false≢true (sym (candidates_later S D K G C proposals.items wanted.items) ∙ some))
+  reply_says (reply.Candidates proposals wanted) call some = absurd (false≢true (sym (candidates_give_none is_expiry (λ work. refl) (λ kind view. refl) proposals.items wanted.items) ∙ some))
   reply_says (reply.Certificate (Some certificate)) call some = absurd (false≢true some)
   reply_says (reply.Certificate None) call some = absurd (false≢true some)
-  reply_says (reply.Added is_new (Some leader)) call some = absurd (false≢true (sym (shown_later S D K G C call leader) ∙ some))
+  reply_says (reply.Added is_new (Some leader)) call some = absurd (false≢true (sym (shown_gives_none is_expiry (λ work. refl) call leader) ∙ some))
   reply_says (reply.Added is_new None) call some = absurd (false≢true some)
   reply_says answer call some = absurd (false≢true some)
 

@@ -17,7 +17,8 @@ use Rattle.simplex_member.specs.declared.member.calls.Reply.TheVariants as reply
 use Rattle.simplex_fetches.specs.declared.fetches.FetchKind.{FetchKind}
 use Rattle.simplex_fetches.specs.declared.fetches.FetchKind.TheVariants.{Notarization}
 use Rattle.simplex_outbox.specs.Handing.{hands_in}
-use Rattle.simplex_outbox.specs.declared.output.Work.TheVariants.{Certify}
+use Rattle.simplex_outbox.specs.declared.output.Work.{Work}
+use Rattle.simplex_outbox.specs.declared.output.Work.TheVariants.{Certify, ProposedTwice}
 use Rattle.simplex_plan.specs.Asking.{with_lack}
 use Rattle.simplex_plan.specs.Matters.{Matter, Duty, Lack, Arrival, Message, Quorum, Expiry, given_by, of_task, shown_by}
 use Rattle.simplex_plan.specs.PlannedWork.{AreAmong}
@@ -54,37 +55,37 @@ module _ {S D K G C : Type 0} where
   is_outside (Quorum subject) = true
   is_outside _ = false
 
-module _ (S D K G C : Type 0) where
-  candidates_inside : (proposals : List (Proposal D)) (wanted : List CertificateFetch)
-      → list_any (is_outside {S = S} {D = D} {K = K} {G = G} {C = C})
-      (map (λ proposal. Duty (Certify proposal)) proposals ++ map (λ (it : CertificateFetch). Lack Notarization it.view) wanted) ≡ false
-  candidates_inside [] [] = refl
-  candidates_inside [] (it ∷ wanted) = candidates_inside [] wanted
-  candidates_inside (proposal ∷ proposals) wanted = candidates_inside proposals wanted
+-- what is no duty and no lack is not given by candidates, nor shown of a leader
+module _ {S D K G C : Type 0} (test : Matter S D K G C → Bool) (no_duty : (work : Work S D K G C) → test (Duty work) ≡ false) where
+  pub candidates_give_none : ((kind : FetchKind) (view : ℕ) → test (Lack kind view) ≡ false) → (proposals : List (Proposal D)) (wanted : List CertificateFetch)
+      → list_any test (map (λ proposal. Duty (Certify proposal)) proposals ++ map (λ (it : CertificateFetch). Lack Notarization it.view) wanted) ≡ false
+  candidates_give_none no_lack [] [] = refl
+  candidates_give_none no_lack [] (it ∷ wanted) = rw (no_lack Notarization it.view) (candidates_give_none no_lack [] wanted)
+  candidates_give_none no_lack (proposal ∷ proposals) wanted = rw (no_duty (Certify proposal)) (candidates_give_none no_lack proposals wanted)
 
-  timeout_inside : (due : Bool) → list_any (is_outside {S = S} {D = D} {K = K} {G = G} {C = C}) (if due then Expiry ∷ [] else []) ≡ false
-  timeout_inside true = refl
-  timeout_inside false = refl
-
-  shown_inside : (call : CallFacts D) (leader : K) → list_any (is_outside {S = S} {D = D} {K = K} {G = G} {C = C}) (shown_by call leader) ≡ false
-  shown_inside (AddNotarization c) leader = refl
-  shown_inside (AddNullification c now) leader = refl
-  shown_inside (AddFinalization c now) leader = refl
-  shown_inside call leader = refl
+  pub shown_gives_none : (call : CallFacts D) (leader : K) → list_any test (shown_by call leader) ≡ false
+  shown_gives_none (AddNotarization c) leader = rw (no_duty (ProposedTwice c.proposal.round.view leader)) refl
+  shown_gives_none (AddNullification c now) leader = rw (no_duty (ProposedTwice c.round.view leader)) refl
+  shown_gives_none (AddFinalization c now) leader = rw (no_duty (ProposedTwice c.proposal.round.view leader)) refl
+  shown_gives_none call leader = refl
 
 module _ {S D K G C : Type 0} where
+  timeout_gives_none : (test : Matter S D K G C → Bool) → test Expiry ≡ false → (due : Bool) → list_any test (if due then Expiry ∷ [] else []) ≡ false
+  timeout_gives_none test no_expiry true = rw no_expiry refl
+  timeout_gives_none test no_expiry false = refl
+
   replies_inside : (now : ℕ) (answer : Reply S D K G C) (call : CallFacts D) → list_any is_outside (given_by now answer call) ≡ false
   replies_inside now (reply.Work (verify.Ready context proposal)) call = refl
   replies_inside now (reply.Work (verify.Resolve proposal view kind leader)) call = refl
   replies_inside now (reply.Work verify.Wait) call = refl
   replies_inside now (reply.Request (Some request)) call = refl
   replies_inside now (reply.Request None) call = refl
-  replies_inside now (reply.Candidates proposals wanted) call = candidates_inside S D K G C proposals.items wanted.items
+  replies_inside now (reply.Candidates proposals wanted) call = candidates_give_none is_outside (λ work. refl) (λ kind view. refl) proposals.items wanted.items
   replies_inside now (reply.Certificate (Some certificate)) call = refl
   replies_inside now (reply.Certificate None) call = refl
-  replies_inside now (reply.Added is_new (Some leader)) call = shown_inside S D K G C call leader
+  replies_inside now (reply.Added is_new (Some leader)) call = shown_gives_none is_outside (λ work. refl) call leader
   replies_inside now (reply.Added is_new None) call = refl
-  replies_inside now (reply.Timeout moment reason) call = timeout_inside S D K G C (nat_le moment now)
+  replies_inside now (reply.Timeout moment reason) call = timeout_gives_none is_outside refl (nat_le moment now)
   replies_inside now answer call = refl
 
   -- what comes from outside is among the rest
