@@ -149,3 +149,8 @@ module _ {S L D K G C : Type 0} (same : D → D → Bool) (elect : Elect L) (byt
 -- the certificates that the member's state holds, but nullifications that the resolver has open
 abbrev pub held_by : {S L D K G C : Type 0} → Engine S L D K G C → FetchKind → ℕ → Bool
 held_by engine kind view = option_map_or (λ x. holds engine.plan.repair.resolver.open_fetches x kind view) engine.core.member.facts.life true
+
+-- an engine that lets go what is not kept: views may be forgotten besides, and what the state holds need not be asked for
+abbrev pub ComesForgetting : {S L D K G C : Type 0} → (D → D → Bool) → Elect L → (D → List ℕ) → (C → List ℕ) → ℕ
+    → Engine S L D K G C → Engine S L D K G C → Type 0
+ComesForgetting same elect bytes bytes_of now old new = Comes same elect bytes bytes_of now (forgettable new.core.member.facts) [] (held_by new) old new

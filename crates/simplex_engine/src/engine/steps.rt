@@ -19,7 +19,7 @@ impl<S: Assembly<D>, L: Elector<S>, D: Digest> Engine<S, L, D> {
     ghost use Rattle.simplex_engine.specs.Bounds.{HoldsFromKept};
     ghost use Rattle.simplex_engine.specs.Building.{BuildsAhead};
     ghost use Rattle.simplex_engine.specs.Lacking.{AsksForItsLacking};
-    ghost use Rattle.simplex_engine.specs.Causes.{forgettable, held_by, is_final, Comes, ComesAlone, ComesWith};
+    ghost use Rattle.simplex_engine.specs.Causes.{held_by, is_final, ComesAlone, ComesForgetting, ComesWith};
     ghost use Rattle.simplex_engine.specs.Duties.{KeepsDuties, KeepsTaken};
     ghost use Rattle.simplex_plan.specs.Asking.{KeepsAsking};
     ghost use Rattle.simplex_plan.specs.Matters.{of_step, of_work, planned_matters};
@@ -46,8 +46,7 @@ impl<S: Assembly<D>, L: Elector<S>, D: Digest> Engine<S, L, D> {
         ensures lowest { OnOk result (HoldsFromKept self.new.core self.new.batcher) }
         ensures lacking { OnOk result (AsksForItsLacking self.new.core self.new.plan.repair) }
         ensures duties { OnOk result (KeepsDuties self.old self.new) }
-        ensures comes { OnOk result (Comes D.eq L.elect D.bytes S.certificate_bytes now (forgettable self.new.core.member.facts) [] (held_by self.new)
-            self.old self.new) }
+        ensures comes { OnOk result (ComesForgetting D.eq L.elect D.bytes S.certificate_bytes now self.old self.new) }
     {
         self.plan.begin();
         self.finish(now)
@@ -65,8 +64,7 @@ impl<S: Assembly<D>, L: Elector<S>, D: Digest> Engine<S, L, D> {
         ensures lowest { OnOk result (HoldsFromKept self.new.core self.new.batcher) }
         ensures lacking { OnOk result (AsksForItsLacking self.new.core self.new.plan.repair) }
         ensures duties { OnOk result (KeepsDuties self.old self.new) }
-        ensures comes { OnOk result (Comes D.eq L.elect D.bytes S.certificate_bytes now (forgettable self.new.core.member.facts) [] (held_by self.new)
-            self.old self.new) }
+        ensures comes { OnOk result (ComesForgetting D.eq L.elect D.bytes S.certificate_bytes now self.old self.new) }
     {
         self.run_to_short(now)?;
         self.settle()?;
@@ -118,8 +116,7 @@ impl<S: Assembly<D>, L: Elector<S>, D: Digest> Engine<S, L, D> {
         ensures lowest { OnOk result (HoldsFromKept self.new.core self.new.batcher) }
         ensures lacking { OnOk result (AsksForItsLacking self.new.core self.new.plan.repair) }
         ensures duties { OnOk result (KeepsDuties self.old self.new) }
-        ensures comes { OnOk result ((now : ℕ) → Comes D.eq L.elect D.bytes S.certificate_bytes now (forgettable self.new.core.member.facts) [] (held_by self.new)
-            self.old self.new) }
+        ensures comes { OnOk result ((now : ℕ) → ComesForgetting D.eq L.elect D.bytes S.certificate_bytes now self.old self.new) }
     {
         self.let_go()?;
         self.core.store()?;
@@ -245,8 +242,7 @@ impl<S: Assembly<D>, L: Elector<S>, D: Digest> Engine<S, L, D> {
         ensures lowest { OnOk result (HoldsFromKept self.new.core self.new.batcher) }
         ensures lacking { OnOk result (AsksForItsLacking self.new.core self.new.plan.repair) }
         ensures duties { OnOk result (KeepsDuties self.old self.new) }
-        ensures comes { OnOk result ((now : ℕ) → Comes D.eq L.elect D.bytes S.certificate_bytes now (forgettable self.new.core.member.facts) [] (held_by self.new)
-            self.old self.new) }
+        ensures comes { OnOk result ((now : ℕ) → ComesForgetting D.eq L.elect D.bytes S.certificate_bytes now self.old self.new) }
     {
         let lowest = self.lowest_kept()?;
         self.tell_forgotten(lowest)?;
