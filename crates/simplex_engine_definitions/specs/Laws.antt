@@ -51,7 +51,7 @@ abbrev pub CallsWereToldBefore : (S L D K G C : Type 0) → Type 0
 CallsWereToldBefore S L D K G C = OfEachWay S L D K G C (λ now came out old new steps. (call : CallFacts D) (reply : Reply S D K G C)
     → Contains steps (Calls call, reply) → IsToldBy (came ++ at_hand old) call)
 
--- what is given out, queued and planned in the end came in, was at hand, or was given by a reply
+-- what is given out, queued and planned in the end, but what is asked of peers, came in, was at hand, or was given by a reply
 abbrev pub WorkWasGiven : (S L D K G C : Type 0) → Type 0
 WorkWasGiven S L D K G C = OfEachWay S L D K G C (λ now came out old new steps.
     AreAmong (of_works out ++ at_hand new) ((came ++ at_hand old) ++ given_by_all now steps))

@@ -9,7 +9,8 @@ pub fn calls_were_told_before<S, L, D, K, G, C>()
     ensures { CallsWereToldBefore S L D K G C }
 {}
 
-/// All work that it gives out, queues or plans came in, was at hand before, or was given by a reply of its member.
+/// All work that it gives out, queues or plans came in, was at hand before, or was given by a reply of its member; but what it asks
+/// of peers, which is not followed.
 pub fn work_was_given<S, L, D, K, G, C>()
     ensures { WorkWasGiven S L D K G C }
 {}
