@@ -15,10 +15,9 @@ import argparse
 import re
 import sys
 
-import edits
 import wrong_bodies
 import wrong_definitions
-from lib import schedules, scripts, tables
+from lib import edits, schedules, scripts, tables
 from lib.draw import drawn
 from lib.floors import lacking
 from lib.member import Served
@@ -30,7 +29,7 @@ from refusals import USAGE
 SAMPLE = "crates/simplex_member_tests/src/member/sample.rt"
 PACKAGE = "bindings/rust/src/lib.rs"
 DRAWN = "skipped-by-one"
-LEAST = {"lines with replies": 2500, "wrong bodies": 15, "must-fail edits": 120}
+LEAST = {"lines with replies": 2500, "wrong bodies": 15, "must-fail edits": 292}
 
 
 def text_of(path):
@@ -49,7 +48,7 @@ def table_rows(path):
 
 def first_script():
     """The rows of the first script: each line with its reply."""
-    rows = next(block for block in blocks("docs/PROGRAM.md", "text") if block.startswith("propose ")).splitlines()
+    rows = next(block for block in blocks("docs/PROGRAM.md", "text") if block.startswith("nullify ")).splitlines()
     return [tuple(re.split(r" {2,}", row, maxsplit=1)) for row in rows]
 
 
@@ -89,8 +88,8 @@ def doubled_names():
 def source_copies():
     """Texts that stand elsewhere as a file, or as a part of one."""
     lines = [f"{line}\n" for line, *_ in first_script()]
-    if text_of("docs/first-script.txt") != "".join(lines):
-        yield "docs/first-script.txt is not the first script of docs/PROGRAM.md"
+    if text_of("crates/viewstate/stdin") != "".join(lines):
+        yield "crates/viewstate/stdin is not the first script of docs/PROGRAM.md"
     samples = text_of(SAMPLE).replace("\n    ", "\n"), re.sub("^//! ?", "", text_of(PACKAGE), flags=re.MULTILINE)
     for block in blocks("README.md", "rust"):
         if not any(block in sample for sample in samples):
@@ -132,12 +131,12 @@ def listed_names():
 
 def edits_not_made():
     """The must-fail edits that can't be made, and wrong bodies that are no edit."""
-    yield from (f"no edit {name}" for name in wrong_bodies.ALL_WRONG if name not in edits.all_edits())
-    for name in edits.all_edits():
+    for title in sorted({edit.title for edit in edits.all_edits()} | set(wrong_bodies.ALL_WRONG)):
         try:
-            edits.edited(ROOT, name)
+            edit = edits.named(title)
+            edits.turned(edit, {}, ROOT / "crates" / edit.crate)
         except (edits.NotMade, OSError) as error:
-            yield f"{name}: {error}"
+            yield str(error)
 
 
 def picture(path):

@@ -1,100 +1,158 @@
 #!/usr/bin/env python3
-"""The must-fail edits: wrong bodies that the contracts refuse, where they stand, how one is made, and what was told of their tries.
+"""Tries the must-fail edits of the repository: each is a wrong body, and the contract of a function that it turns has to refuse it.
 
-`rt ci` tries those of `crates/NAME/must-fail`: one for seven or eight public functions. The others stand
-in `tests/more_edits/NAME`, and `tests/more_edits.py` tries them.
+`rt ci` tries those of `crates/NAME/must-fail`, which it reads itself. This script tries all, those of `tests/must-fail/NAME` too, many
+in one check (`lib/batches.py`), over the libraries that `rt ci` or `rt lib` left. Where a library is not built, it is proved first.
 
-    tests/edits.py FILE        looks at what `rt ci` told, in a file
+    tests/edits.py                         all edits
+    tests/edits.py simplex_round ..        those of some crates
+    tests/edits.py --only verdict          those whose name holds a word
+    tests/edits.py --gate FILE             looks besides at what `rt ci` printed, in a file, of the edits that it tried
 
-It ends with status 1 where an edit says nothing of a contract, or wasn't refused: `rt ci` passes over one that can't be made,
-compiled or read, and over one that is refused only since a proof names what it takes away."""
+It ends with status 1 where an edit is proved, can't be made or read, is refused only since a proof cites a name that it takes away, or
+where one of those that the gate itself must try is missing."""
 
+import argparse
+import os
 import re
 import sys
+import tempfile
+import time
+from concurrent.futures import ThreadPoolExecutor
 from pathlib import Path
 
+from lib import batches, edits
 from lib.floors import lacking
-from lib.program import ROOT
+from lib.program import ROOT, last_change
 
-IN_GATE = "crates/{crate}/must-fail"
-BESIDE = "tests/more_edits/{crate}"
-LEAST = {"edits": 106}
-REFUSED = re.compile(r"must-fail (\S+)/(\S+)\.edit: refused, as it must be")
-SAYS_NOTHING = ("BAD EDIT", "only because a proof file names")
-
-
-class NotMade(Exception):
-    """An edit that can't be made: its text doesn't stand in its file just once."""
-
-
-def edits_in(place):
-    """The names of the edits in one of the two places, each `CRATE/EDIT`, sorted."""
-    folders = ROOT.glob(place.format(crate="*"))
-    return sorted(f"{folder_crate(folder, place)}/{path.stem}" for folder in folders for path in folder.glob("*.edit"))
-
-
-def folder_crate(folder, place):
-    """The crate that a folder of edits is of."""
-    return folder.relative_to(ROOT).parts[place.split("/").index("{crate}")]
-
-
-def all_edits():
-    """The names of all edits, each `CRATE/EDIT`, sorted."""
-    return sorted(edits_in(IN_GATE) + edits_in(BESIDE))
-
-
-def path_of(name):
-    """The file of an edit, wherever it stands."""
-    crate, edit = name.split("/")
-    places = [ROOT / place.format(crate=crate) / f"{edit}.edit" for place in (IN_GATE, BESIDE)]
-    found = [path for path in places if path.is_file()]
-    if len(found) != 1:
-        raise NotMade(f"{name} stands in {len(found)} places")
-    return found[0]
-
-
-def edited(root, name):
-    """The files that an edit changes in a copy of the repository, each with the text that it gets."""
-    texts = {}
-    file = old = None
-    for row in path_of(name).read_text().splitlines():
-        key, _, text = row.partition(": ")
-        if key == "file":
-            file = Path(root) / "crates" / name.split("/")[0] / text
-            texts.setdefault(file, file.read_text())
-        elif key == "old":
-            old = text
-        elif key == "new":
-            if texts[file].count(old) != 1:
-                raise NotMade(f"{name}: {old!r} stands in {file} {texts[file].count(old)} times")
-            texts[file] = texts[file].replace(old, text)
-    if not texts:
-        raise NotMade(f"{name} changes nothing")
-    return texts
+LEAST = {"edits": 292}
+REFUSED_BY_THE_KIT = re.compile(r"must-fail (\S+/\S+)\.edit: refused, as it must be(?!.*only because a proof file names)")
+TRIED_BY_THE_GATE = (
+    "simplex_voter/never_votes_to_notarize",
+    "simplex_voter/never_votes_to_nullify",
+    "simplex_voter/never_votes_to_finalize",
+    "simplex_voter/finalize_votes_without_the_gate",
+    "simplex_voter/a_replayed_vote_to_notarize_is_forgotten",
+    "simplex_sorted/covered_by_a_later_view_of_its_term",
+    "simplex_round/certificate_keeps_voted_proposal",
+    "simplex_record/a_recovery_that_enters_nothing_after_a_true_verdict",
+    "simplex_voter/pruning_drops_later_nullify_votes",
+    "simplex_resolver/raise_inside_a_term_scans_nothing_again",
+    "simplex_resolver/fetches_every_uncovered_view",
+    "simplex_resolver/forgets_failures_of_the_replay",
+    "simplex_voter/the_stall_deadline_of_the_latest_view_counts",
+    "simplex_voter/a_release_that_wants_memory",
+    "simplex_voter/a_state_that_always_fails",
+    "simplex_voter/a_state_that_has_always_failed",
+    "simplex_member/a_member_that_always_fails",
+    "simplex_member/a_member_that_never_has_memory",
+    "simplex_member/a_second_answer_to_a_verification",
+    "simplex_resolver/serves_a_notarization_without_a_verdict",
+    "simplex_record/a_check_that_refuses_every_record",
+    "simplex_voter/notarize_votes_on_a_replaced_parent",
+    "simplex_round/retry_moves_at_every_poll",
+    "simplex_member/a_member_that_allows_nothing",
+    "simplex_voter/nullify_away_from_the_current_view",
+    "simplex_member/a_pruning_by_the_new_retention",
+    "simplex_member/a_drop_behind_a_pruning",
+    "simplex_record/a_pruning_that_takes_later_votes_to_nullify",
+    "simplex_voter/notarize_votes_in_pruned_views",
+    "simplex_member/a_vote_to_notarize_that_is_answered_and_not_recorded",
+    "simplex_record/a_recovery_that_leaves_out_the_record",
+)
+WORDS = {
+    "name": "is refused only since a proof cites a name that it takes away; change a value and keep the names",
+    "proved": "is proved: the contract is too weak, or the edit changes nothing",
+    "unknown": "has no verdict",
+    "unread": "can't be read, so no contract was tried",
+}
 
 
-def make(root, name):
-    """Makes an edit in a copy of the repository."""
-    for file, text in edited(root, name).items():
-        file.write_text(text)
+def options():
+    parser = argparse.ArgumentParser(description=__doc__, formatter_class=argparse.RawDescriptionHelpFormatter)
+    parser.add_argument("crates", nargs="*", help="the crates whose edits are tried (else all)")
+    parser.add_argument("--only", default="", help="only those whose name holds this")
+    parser.add_argument("--gate", type=Path, help="what `rt ci` printed")
+    parser.add_argument("--jobs", type=int, default=len(os.sched_getaffinity(0)), help="how many checks run side by side")
+    return parser.parse_args()
 
 
-def faults_in(told, names):
-    """What is wrong with the tries of some edits, by the text that was told of them."""
-    refused = {f"{crate}/{edit}" for crate, edit in REFUSED.findall(told)}
-    yield from (f"{name} was not refused" for name in names if name not in refused)
-    yield from (line for line in told.splitlines() if any(words in line for words in SAYS_NOTHING))
+def missing_from_the_gate(told):
+    """The edits that the gate itself must try and does not, and those that it tried and did not refuse at a contract."""
+    there = {edit.title for edit in edits.edits_in(edits.TRIED_BY_THE_KIT)}
+    yield from (f"{title} is not in crates/*/must-fail, where the gate tries it" for title in TRIED_BY_THE_GATE if title not in there)
+    if told is not None:
+        refused = set(REFUSED_BY_THE_KIT.findall(told))
+        yield from (f"{title} was not refused at a contract by `rt ci`" for title in sorted(there - refused))
 
 
-def main(file):
-    names = edits_in(IN_GATE)
-    faults = [*faults_in(Path(file).read_text(), names), *lacking({"edits": len(names)}, LEAST)]
-    print(f"must-fail edits: {len(names)}, {len(faults)} not as asked")
+def are_from_the_gate(crate):
+    """Whether the libraries below a crate are those that `rt ci` just built of these sources: it leaves no stamp beside them."""
+    libraries = [(dep, Path(dep.rlib)) for dep in crate.below()]
+    return all(
+        rlib.is_dir() and not (rlib.parent / "stamp").exists() and rlib.stat().st_mtime >= last_change(ROOT, dep.name)
+        for dep, rlib in libraries
+    )
+
+
+def build_below(crates):
+    """Proves and builds the libraries below some crates that are not built."""
+    wanted = {dep.name: dep for crate in crates for dep in crate.below()}
+    for dep in sorted(wanted.values(), key=lambda it: len(it.below())):
+        if not dep.is_built():
+            print(f"{dep.name} is not built: proving it first", flush=True)
+            if dep.build_rlib(["--jobs", "2"], anew=False):
+                raise SystemExit(f"{dep.name} is not proved, so no edit above it can be tried")
+
+
+def verdicts_of(rt, crate, chosen, kept):
+    """The verdicts on a crate's edits, batch after batch, and the seconds that they took."""
+    begun, found, trials = time.monotonic(), [], []
+    folder = Path(crate.folder)
+    for edit in chosen:
+        try:
+            trials.append(batches.trial_of(edit, folder))
+        except edits.NotMade as fault:
+            found.append(batches.Verdict(edit, "unread", str(fault)))
+    parts = batches.in_batches(trials, folder)
+    for part, texts in parts:
+        found += batches.tried(rt, crate, part, texts, kept)
+    print(f"  {crate.name}: {len(chosen)} edits in {len(parts)} checks, {time.monotonic() - begun:.0f} s", flush=True)
+    return found
+
+
+def tried(rt, crates, chosen, jobs):
+    """The verdicts on edits, those of several crates side by side, the crates with the most to prove first."""
+    of_crate = {name: [it for it in chosen if it.crate == name] for name in {it.crate for it in chosen}}
+    first = sorted(of_crate, key=lambda name: -crates[name].count(b"\n"))
+    with tempfile.TemporaryDirectory(prefix="edits-") as room, ThreadPoolExecutor(jobs) as pool:
+        for name in first:
+            Path(room, name).mkdir()
+        work = [pool.submit(verdicts_of, rt, crates[name], of_crate[name], f"{room}/{name}") for name in first]
+        return [verdict for it in work for verdict in it.result()]
+
+
+def main():
+    given = options()
+    os.chdir(ROOT)
+    rt = batches.kit()
+    crates = {crate.name: crate for crate in rt.rtlib.crates_below(str(ROOT))}
+    chosen = [it for it in edits.all_edits() if given.only in it.title and (not given.crates or it.crate in given.crates)]
+    if not chosen:
+        print("no such edits")
+        return 1
+    needed = [crates[name] for name in sorted({it.crate for it in chosen})]
+    if not all(are_from_the_gate(crate) for crate in needed):
+        build_below(needed)
+    found = tried(rt, crates, chosen, given.jobs)
+    faults = [f"{it.edit.title} {WORDS[it.kind]}: {it.said}" for it in found if it.kind != "contract"]
+    faults += missing_from_the_gate(given.gate.read_text() if given.gate else None)
+    if not given.only and not given.crates:
+        faults += lacking({"edits": len(found)}, LEAST)
+    print(f"must-fail edits: {len(found)}, {len(faults)} not as asked")
     print("".join(f"  {fault}\n" for fault in faults), end="")
     return 1 if faults else 0
 
 
 if __name__ == "__main__":
-    if len(sys.argv) != 2:
-        sys.exit(__doc__)
-    sys.exit(main(sys.argv[1]))
+    sys.exit(main())

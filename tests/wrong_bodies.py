@@ -4,26 +4,29 @@
 A wrong body is a must-fail edit, made in a copy of the repository and built by `rt try`, which proves nothing. The stored schedules
 come first, then random ones. A law of one member's votes is mostly what breaks first; with `--agreement` random networks go on
 besides, with these laws left alone, until the members disagree. Bodies that do too little keep all laws, and leave a network stuck
-that is driven on. Bodies that go wrong where memory is refused are found by `tests/memory.py`.
+that is driven on. Bodies that go wrong where memory is refused are found by `tests/memory.py`. A body that gives up as if out of memory
+wherever its contract allows it is no must-fail edit (`tests/allowed`): the scripts of `tests/scripts` find it.
 
     tests/wrong_bodies.py                              all of those below; half a minute each
+    tests/wrong_bodies.py --least                      the four that the gate tries
     tests/wrong_bodies.py --only without_the_gate --agreement --draw
 
 It ends with status 1 where a wrong body is not found."""
 
 import argparse
 import shutil
+import subprocess
 import sys
 import tempfile
 import time
 from concurrent.futures import ProcessPoolExecutor
 from functools import partial
+from itertools import zip_longest
 from pathlib import Path
 from typing import NamedTuple
 
-import edits
 import memory
-from lib import hostile_runs, program, progress_runs, schedules
+from lib import edits, hostile_runs, program, progress_runs, schedules, scripts
 from lib.checks import Broken
 from lib.draw import drawn
 from lib.going_on import Stuck
@@ -57,7 +60,16 @@ WRONG_WITHOUT_MEMORY = (
     "simplex_resolver/goes_on_without_memory_for_its_effects",
     "simplex_voter/a_state_that_always_fails",
 )
-ALL_WRONG = WRONG_BODIES + WRONG_AND_STUCK + WRONG_WITHOUT_MEMORY
+WRONG_AND_GIVING_UP = ("simplex_voter/no_notarization_has_memory",)
+ALL_WRONG = WRONG_BODIES + WRONG_AND_STUCK + WRONG_WITHOUT_MEMORY + WRONG_AND_GIVING_UP
+# Those that the gate has found: by the networks a vote to finalize after one to nullify that still covers it, and votes that are
+# forgotten; by the scripts a state that gives up wherever it may.
+LEAST_FOUND = (
+    "simplex_voter/finalize_votes_without_the_gate",
+    "simplex_voter/a_replayed_vote_to_notarize_is_forgotten",
+    "simplex_voter/pruning_drops_later_nullify_votes",
+    "simplex_voter/no_notarization_has_memory",
+)
 RUNS_AT_ONCE = 16
 
 
@@ -73,6 +85,7 @@ class Found(NamedTuple):
 def options():
     parser = argparse.ArgumentParser(description=__doc__, formatter_class=argparse.RawDescriptionHelpFormatter)
     parser.add_argument("--only", default="", help="those alone whose name holds this")
+    parser.add_argument("--least", action="store_true", help="only those that the gate tries")
     parser.add_argument("--count", type=int, default=400, help="the most random runs of each")
     parser.add_argument("--steps", type=int, default=300, help="the steps of a random run")
     parser.add_argument("--jobs", type=int, default=2, help="how many runs go side by side")
@@ -145,8 +158,20 @@ def first_random(pool, play, count):
     return None
 
 
+def first_script(path):
+    """The first script whose replies the program doesn't give, or None."""
+    for count, script in enumerate(scripts.all_scripts(), 1):
+        done = subprocess.run([path, *script.arguments], input=script.input, capture_output=True, check=False)
+        told = done.stdout.decode(errors="replace").splitlines()
+        if any(reply not in (scripts.ANY, said) for reply, said in zip_longest(script.replies, told)):
+            return Found(f"script {script.shows!r}", f"status {done.returncode}", count, "")
+    return None
+
+
 def first_found(pool, path, name, given):
     """What finds a wrong body first, or None."""
+    if name in WRONG_AND_GIVING_UP:
+        return first_script(path)
     if name in WRONG_WITHOUT_MEMORY:
         return first_refusal(path, Path(path).parent, given.jobs)
     if name in WRONG_AND_STUCK:
@@ -177,7 +202,7 @@ def try_one(pool, name, given):
 
 def main():
     given = options()
-    names = [it for it in ALL_WRONG if given.only in it]
+    names = [it for it in (LEAST_FOUND if given.least else ALL_WRONG) if given.only in it]
     with ProcessPoolExecutor(given.jobs) as pool:
         missed = [name for name in names if not try_one(pool, name, given)]
     print(f"wrong bodies: {len(names) - len(missed)} found, {len(missed)} not found")

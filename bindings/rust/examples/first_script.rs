@@ -1,6 +1,6 @@
 //! Serves the lines of the repository's program `viewstate` (docs/PROGRAM.md) through this package, and prints the program's replies.
 //!
-//!     cargo run --example first_script                                     docs/first-script.txt, as member 0 of 4
+//!     cargo run --example first_script                                     crates/viewstate/stdin, as member 0 of 4
 //!     cargo run --example first_script -- voter N ME T OPTIMISTIC          the lines of standard input
 //!     cargo run --example first_script -- voter N ME T OPTIMISTIC resume   each `restart 0 NOW` by a resume from the journal's bytes
 //!     cargo run --example first_script -- voter N ME T OPTIMISTIC compact  with a journal, in whose place each `prune` puts what is left of the
@@ -20,7 +20,7 @@ const EPOCH: Epoch = Epoch::new(1);
 /// A certificate of this example: one byte that no one reads.
 const CERTIFICATE: [u8; 1] = [1];
 
-const FIRST_SCRIPT: &str = concat!(env!("CARGO_MANIFEST_DIR"), "/../../docs/first-script.txt");
+const FIRST_SCRIPT: &str = concat!(env!("CARGO_MANIFEST_DIR"), "/../../crates/viewstate/stdin");
 
 fn main() -> Result<(), Box<dyn Error>> {
     let words: Vec<String> = env::args().skip(1).collect();

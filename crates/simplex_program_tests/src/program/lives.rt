@@ -2,7 +2,7 @@
 
 use super::script::Script;
 
-pub static LIVES: [Script; 8] = [
+pub static LIVES: [Script; 9] = [
     Script {
         shows: "a restart that drops entries takes no vote",
         command: "viewstate voter 4 0 1 0",
@@ -94,5 +94,32 @@ pub static LIVES: [Script; 8] = [
         lines: "\
             proposal 9223372036854775808 1 1 => fault 3 ViewTooLarge\n\
             view => view 1 0 0\n",
+    },
+    Script {
+        shows: "a member builds, votes and verifies in two views, and a new life is bound by its votes",
+        command: "viewstate voter 4 0 1 0",
+        lines: "\
+            propose => propose 1 0 0 0\n\
+            proposed 1 7 5 => true\n\
+            notarize 1 => notarize 1 0 7\n\
+            notarization 1 0 7 => added true -\n\
+            candidates => candidates 1 fetch\n\
+            token 1 100 => ok\n\
+            verdict 1 true 10 => certified 1\n\
+            finalize 1 => finalize 1 0 7\n\
+            proposal 2 1 8 => true\n\
+            verify => ready 2 1 1 7 8\n\
+            verified 2 => true\n\
+            notarize 2 => notarize 2 1 8\n\
+            nullify 2 => nullify 2 false\n\
+            notarization 2 1 8 => added true -\n\
+            verdict 2 true 20 => certified 2\n\
+            finalize 2 => none\n\
+            record => record 8\n\
+            restart 0 30 => ok\n\
+            view => view 3 0 0\n\
+            notarize 1 => none\n\
+            nullify 1 => none\n\
+            finalize 2 => none\n",
     },
 ];
