@@ -22,6 +22,7 @@ pub mod network;
 pub mod peers;
 pub mod picture;
 pub mod replica;
+pub mod run_folder;
 pub mod settings;
 pub mod start;
 pub mod trace;
