@@ -28,7 +28,7 @@ use simplex_view_state::{
 use std::collections::BTreeSet;
 use std::fs::File;
 use std::sync::Arc;
-use std::sync::atomic::Ordering::Relaxed;
+use std::sync::atomic::{AtomicU64, Ordering::Relaxed};
 use std::time::{Duration, Instant};
 use tracing::info;
 
@@ -130,7 +130,7 @@ impl<A: Application> Replica<A> {
             };
             let idle = Instant::now();
             let mut next = self.parts.inbox.take(wait);
-            self.parts.counters.idle_us.fetch_add(idle.elapsed().as_micros() as u64, Relaxed);
+            self.spent(&self.parts.counters.idle_us, idle);
             for _ in 0..MOST_EVENTS {
                 match next {
                     Some(Event::Stop) => return self.stop(),
@@ -165,15 +165,25 @@ impl<A: Application> Replica<A> {
         let now = self.parts.clock.now();
         let begun = Instant::now();
         let is_of_use = self.parts.engine.handle(input, now)?;
-        self.parts.counters.core_us.fetch_add(begun.elapsed().as_micros() as u64, Relaxed);
+        self.spent(&self.parts.counters.core_us, begun);
         Ok(is_of_use)
+    }
+
+    /// Counts the time since a moment. The lifetime is counted first: so a reader, who reads it last, finds no share above the whole.
+    fn spent(&self, on: &AtomicU64, since: Instant) {
+        let spent = since.elapsed().as_micros() as u64;
+        self.parts
+            .counters
+            .life_us
+            .store(self.parts.clock.life().as_micros() as u64, Relaxed);
+        on.fetch_add(spent, Relaxed);
     }
 
     fn poll(&mut self) -> Outcome<Option<Output>> {
         let now = self.parts.clock.now();
         let begun = Instant::now();
         let output = self.parts.engine.poll(now)?;
-        self.parts.counters.core_us.fetch_add(begun.elapsed().as_micros() as u64, Relaxed);
+        self.spent(&self.parts.counters.core_us, begun);
         Ok(output)
     }
 
@@ -311,7 +321,7 @@ impl<A: Application> Replica<A> {
         self.parts.blocks.sync()?;
         if self.parts.journal.sync()? {
             self.parts.counters.syncs.fetch_add(1, Relaxed);
-            self.parts.counters.sync_us.fetch_add(begun.elapsed().as_micros() as u64, Relaxed);
+            self.spent(&self.parts.counters.sync_us, begun);
         }
         Ok(())
     }

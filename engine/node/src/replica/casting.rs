@@ -15,7 +15,7 @@ impl<A: Application> Replica<A> {
     pub(super) fn cast(&mut self, order: &Order) -> Outcome {
         let begun = Instant::now();
         let vote = order.signed(self.parts.keys.sign(&order.text)?.to_vec());
-        self.parts.counters.sign_us.fetch_add(begun.elapsed().as_micros() as u64, Relaxed);
+        self.spent(&self.parts.counters.sign_us, begun);
         let (counter, block) = match &order.subject {
             Subject::Notarize(it) => (&self.parts.counters.notarizes, self.own_block(it)),
             Subject::Nullify(_) => (&self.parts.counters.nullifies, None),
