@@ -91,10 +91,15 @@ pub struct Blocks {
     syncs: bool,
 }
 
+/// The file of a folder's blocks.
+pub fn path(folder: &Path) -> PathBuf {
+    folder.join("blocks")
+}
+
 impl Blocks {
     /// Reads the blocks that a folder has. A last one that was cut off is left out.
     pub fn open(folder: &Path, syncs: bool) -> io::Result<Blocks> {
-        let path = folder.join("blocks");
+        let path = path(folder);
         let stored = match fs::read(&path) {
             Ok(bytes) => bytes,
             Err(error) if error.kind() == io::ErrorKind::NotFound => Vec::new(),

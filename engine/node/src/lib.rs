@@ -13,6 +13,7 @@ pub mod clock;
 pub mod crypto;
 pub mod faults;
 pub mod floor;
+pub mod identity;
 pub mod inbox;
 pub mod journal;
 pub mod ledger;

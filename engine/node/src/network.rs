@@ -162,8 +162,9 @@ impl Network {
         let path = journal::path(&self.data(index));
         let stored = fs::read(&path)?;
         let last = stored.len().saturating_sub(bytes.max(1));
-        // What stands at the journal's front is a whole piece: a beginning of it, behind the end, is a piece that was cut off.
-        let begun = stored.get(9..9 + bytes.min(last.saturating_sub(9)).min(40)).unwrap_or_default();
+        // The first piece is whole: a beginning of it after the end is a piece that was cut off.
+        let first = stored.get(journal::HEAD..last).unwrap_or_default();
+        let begun = &first[..bytes.min(first.len()).min(40)];
         let mut file = OpenOptions::new().append(true).open(path)?;
         Ok(file.write_all(begun)?)
     }

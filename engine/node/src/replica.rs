@@ -300,12 +300,13 @@ impl<A: Application> Replica<A> {
         Ok(is_settled)
     }
 
-    /// Polls until nothing follows. What others see, or is final, and stands behind a record waits until the disk has that; all else is
-    /// carried out at once, so that one wait serves what comes of it too.
+    /// Polls until nothing follows. What others see waits until the disk has the record before it; all else is carried out at once, so that
+    /// one wait serves what comes of it too. A final proposal waits for the record of the whole turn, in which its finalization is stored:
+    /// so the chain is never ahead of the journal.
     fn poll_all(&mut self) -> Outcome {
         while let Some(output) = self.poll()? {
             let is_behind = self.parts.journal.is_dirty() || !self.leaving.is_empty();
-            if is_behind && is_seen(&output) {
+            if matches!(output, Output::Finalized(_)) || is_behind && is_seen(&output) {
                 self.leaving.push(output);
             } else {
                 self.carry_out(output)?;
@@ -394,10 +395,7 @@ impl<A: Application> Replica<A> {
     }
 }
 
-/// Whether other members see what comes of it, or the application holds it final.
+/// Whether other members see what comes of it.
 fn is_seen(output: &Output) -> bool {
-    matches!(
-        output,
-        Output::Vote(_) | Output::Broadcast(_) | Output::Fetch(_) | Output::Finalized(_)
-    )
+    matches!(output, Output::Vote(_) | Output::Broadcast(_) | Output::Fetch(_))
 }

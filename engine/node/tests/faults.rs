@@ -5,6 +5,7 @@
 
 use simplex_node::audit::{contradictions, disagreements};
 use simplex_node::faults::Fault;
+use simplex_node::identity::Identity;
 use simplex_node::network::{Network, Plan, folder_of};
 use simplex_node::settings::{Protocol, Settings, genesis};
 use simplex_node::{journal, trace};
@@ -250,7 +251,8 @@ fn fewer_than_a_quorum() {
 fn stored_view(network: &Network, index: u32) -> u64 {
     let settings = Settings::read(&network.config(index)).expect("settings");
     let config = settings.config(Floor::Genesis(genesis(settings.protocol.epoch)));
-    let kept = journal::read(&settings.data).expect("a journal").expect("it began");
+    let identity = Identity::of(&settings).expect("keys");
+    let kept = journal::read(&settings.data, &identity).expect("a journal").expect("it began");
     let member = Member::resume(&config, Moment::from_millis(0), &kept.stored, &kept.frames).expect("a record");
     member.views().expect("it lives").current.get()
 }

@@ -31,6 +31,12 @@ enum Command {
         #[arg(long)]
         out: PathBuf,
     },
+    /// Says in a journal of version 2, which does not say whose it is, that it is this node's. Do so only where this node wrote it.
+    Adopt {
+        /// The settings of the node.
+        #[arg(long)]
+        config: PathBuf,
+    },
     /// Writes the last finalized proposal of a node that does not run, with its certificate: another node can begin there.
     Floor {
         /// The settings of that node.
@@ -51,6 +57,7 @@ fn main() -> ExitCode {
         .init();
     let outcome = match (arguments.command, arguments.config) {
         (Some(Command::Keygen { out }), _) => crypto::make_key(&out).map(|public| println!("{public}")),
+        (Some(Command::Adopt { config }), _) => Settings::read(&config).and_then(|it| start::adopt(&it)),
         (Some(Command::Floor { config, out }), _) => write_floor(&config, &out),
         (None, Some(config)) => run(&config),
         (None, None) => Err("--config is lacking".into()),

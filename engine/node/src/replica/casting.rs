@@ -2,6 +2,7 @@
 
 use super::Replica;
 use crate::application::Application;
+use crate::crypto::hex;
 use crate::faults::Fault;
 use crate::message::Message;
 use crate::settings::Outcome;
@@ -83,8 +84,4 @@ impl<A: Application> Replica<A> {
         self.parts.counters.equivocations.fetch_add(1, Relaxed);
         warn!(view = view.get(), leader = leader.get(), "a leader proposed twice");
     }
-}
-
-fn hex(bytes: &[u8]) -> String {
-    bytes.iter().map(|byte| format!("{byte:02x}")).collect()
 }
