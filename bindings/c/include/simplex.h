@@ -562,6 +562,15 @@ SIMPLEX_SIZE(struct simplex_open, 32);
 /* SIMPLEX_VERSION of the library. It rises when a struct, a number or a function changes its meaning. */
 uint32_t simplex_version(void);
 
+/* What this archive is, as text that ends with a zero byte: whether its code is proved, of which commit, and by which kit.
+ *
+ *     proved; commit 62e73a10e2c0f3b4a5968778695a4b3c2d1e0f00; kit rattle-kit-13b logic dac8208d650f15bf
+ *
+ * The first word is "proved" or "unproved": no other archive than a proved one is for production. The commit has 40 hexadecimal digits,
+ * and " with changes" after them where sources were changed since; it is "unknown" where the archive was built outside a repository.
+ * bindings/build adds this function to the archive, so it is not among those that are proved. */
+const char *simplex_build_info(void);
+
 /*
  * Begins an engine whose member never voted, by settings, a table of leaders (each term's leader in turn), the bytes of the floor's
  * certificate (none for genesis) and options, at a moment. One that did vote goes on by simplex_engine_resume, or could vote twice in a view.

@@ -27,5 +27,6 @@ pub mod run_folder;
 pub mod settings;
 pub mod start;
 pub mod trace;
+pub mod version;
 pub mod vote;
 pub mod waiting;

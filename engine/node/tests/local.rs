@@ -1,6 +1,7 @@
 //! `simplex-local` as its user meets it: what it refuses, what it leaves alone, how it ends, and its last line.
 
 use simplex_node::settings::Settings;
+use simplex_view_state::build_info;
 use std::fs::{self, File, TryLockError};
 use std::io::{Read, Write};
 use std::net::{SocketAddr, TcpStream};
@@ -209,13 +210,13 @@ fn metrics_of(address: SocketAddr) -> Option<String> {
 }
 
 #[test]
-fn each_program_says_its_own_name() {
+fn each_program_says_its_own_name_and_what_its_library_is() {
     for (program, name) in [
         (env!("CARGO_BIN_EXE_simplex-local"), "simplex-local "),
         (env!("CARGO_BIN_EXE_simplex-node"), "simplex-node "),
     ] {
         let done = Command::new(program).arg("--version").output().expect("a process");
         let said = String::from_utf8(done.stdout).expect("letters");
-        assert!(said.starts_with(name), "{said}");
+        assert!(said.starts_with(name) && said.contains(build_info()), "{said}");
     }
 }

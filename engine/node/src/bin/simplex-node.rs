@@ -5,6 +5,7 @@ use signal_hook::consts::{SIGINT, SIGTERM};
 use signal_hook::iterator::Signals;
 use simplex_node::inbox::Event;
 use simplex_node::settings::{Outcome, Settings};
+use simplex_node::version::version;
 use simplex_node::{crypto, floor, start};
 use std::fs;
 use std::path::PathBuf;
@@ -14,7 +15,7 @@ use tracing_subscriber::EnvFilter;
 
 /// A member of a network that runs the Simplex protocol.
 #[derive(Parser)]
-#[command(version, args_conflicts_with_subcommands = true)]
+#[command(version = version(), args_conflicts_with_subcommands = true)]
 struct Arguments {
     /// The settings of the node, a TOML file.
     #[arg(long, required = true)]

@@ -8,6 +8,7 @@ use signal_hook::consts::{SIGINT, SIGTERM};
 use simplex_node::faults::Fault;
 use simplex_node::network::{Network, Plan, folder_of, program_beside};
 use simplex_node::settings::{Outcome, Protocol};
+use simplex_node::version::version;
 use std::fs::{self, File, OpenOptions};
 use std::num::NonZeroU32;
 use std::path::PathBuf;
@@ -20,7 +21,7 @@ use std::time::{Duration, Instant};
 /// Starts nodes as processes on this machine, prints a line a second, and compares their finalized chains in the end. The last line begins
 /// with `OK` or with `FAILED`, and the exit status is 0 or 1.
 #[derive(Parser)]
-#[command(name = "simplex-local", version)]
+#[command(name = "simplex-local", version = version())]
 struct Arguments {
     /// How many nodes.
     #[arg(long, default_value_t = 4, value_parser = clap::value_parser!(u32).range(1..=100))]
