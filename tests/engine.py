@@ -52,6 +52,9 @@ WRONG_BODIES = (
     ("a journal that is older than the chain is taken", "start.rs", "if last <= finalized.get() {", "if true {"),
     ("a block is final before its finalization is stored", "replica.rs", "matches!(output, Output::Finalized(_)) || is_behind", "is_behind"),
     ("a run removes what it did not write", "run_folder.rs", "if !is_empty && !is_marked {", "if false {"),
+    ("blocks are built without a pause", "pace.rs", "let due = self.last.map_or(now, |last| last + self.least);", "let due = now;"),
+    ("a node waits before each block", "pace.rs", "let due = self.last.map_or(now, |last| last + self.least);",
+     "let due = if self.last.is_some_and(|last| now < last + self.least) { now } else { now + self.least };"),
     ("a clock falls back with the machine's", "clock.rs", "self.ahead += by;", "self.ahead = Duration::ZERO; self.begun = Instant::now();"),
 )
 

@@ -4,7 +4,7 @@
 //! up no other: with one queue for all, its messages would stand before everybody's.
 
 use crate::message::Message;
-use simplex_view_state::{Context, Participant};
+use simplex_view_state::Participant;
 use std::collections::VecDeque;
 use std::sync::{Condvar, Mutex, MutexGuard};
 use std::time::{Duration, Instant};
@@ -17,8 +17,6 @@ const MOST_OF_A_PEER: usize = 1024;
 pub enum Event {
     /// A message, verified as far as it can be without the member, and from whom.
     Message(Participant, Message),
-    /// The time of a build has passed.
-    Paced(Context),
     /// The process is to end.
     Stop,
 }

@@ -20,6 +20,7 @@ pub mod ledger;
 pub mod message;
 pub mod metrics;
 pub mod network;
+pub mod pace;
 pub mod peers;
 pub mod picture;
 pub mod replica;

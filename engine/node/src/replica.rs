@@ -18,6 +18,7 @@ use crate::inbox::{Event, Inbox};
 use crate::journal::Journal;
 use crate::message::Message;
 use crate::metrics::{Counters, resident_kb};
+use crate::pace::Pace;
 use crate::peers::{Horizon, Peers};
 use crate::settings::{Outcome, Settings, Turns};
 use crate::trace::Trace;
@@ -78,6 +79,8 @@ pub struct Replica<A> {
     trace: Option<Trace>,
     /// What waits for blocks.
     waiting: Waiting,
+    /// The blocks that wait to be built.
+    pace: Pace,
     /// What others see and stands behind a record that the disk may not have yet, in order.
     leaving: Vec<Output>,
     /// When each member was heard of last.
@@ -106,6 +109,7 @@ impl<A: Application> Replica<A> {
             turns: parts.settings.turns(),
             trace: parts.settings.trace.as_deref().map(Trace::open).transpose()?,
             waiting: Waiting::new(parts.settings.me(), members),
+            pace: Pace::new(Duration::from_millis(parts.settings.protocol.pace_ms)),
             leaving: Vec::new(),
             heard: vec![Instant::now(); members as usize],
             given_up: View::GENESIS,
@@ -123,11 +127,7 @@ impl<A: Application> Replica<A> {
         self.deliver()?;
         let mut is_settled = self.settle()?;
         loop {
-            let wait = if is_settled {
-                self.parts.clock.until(self.parts.engine.wake()).min(LONGEST_WAIT)
-            } else {
-                Duration::ZERO
-            };
+            let wait = if is_settled { self.longest_wait() } else { Duration::ZERO };
             let idle = Instant::now();
             let mut next = self.parts.inbox.take(wait);
             self.spent(&self.parts.counters.idle_us, idle);
@@ -140,10 +140,18 @@ impl<A: Application> Replica<A> {
                 next = self.parts.inbox.take(Duration::ZERO);
             }
             self.watch_leader()?;
+            self.build_due()?;
             is_settled = self.settle()?;
             self.fetch_blocks();
             self.tell()?;
         }
+    }
+
+    /// How long a turn may wait for events: until the engine or a build is due.
+    fn longest_wait(&self) -> Duration {
+        let wake = self.parts.clock.until(self.parts.engine.wake());
+        let build = self.pace.wait(Instant::now()).unwrap_or(LONGEST_WAIT);
+        wake.min(build).min(LONGEST_WAIT)
     }
 
     fn stop(mut self) -> Outcome {
@@ -190,7 +198,6 @@ impl<A: Application> Replica<A> {
     fn take(&mut self, event: Event) -> Outcome {
         let (from, message) = match event {
             Event::Message(from, message) => (from, message),
-            Event::Paced(context) => return self.build_now(&context),
             Event::Stop => return Ok(()),
         };
         if self.parts.peers.is_cut_off(from) {
@@ -354,10 +361,12 @@ impl<A: Application> Replica<A> {
                 self.deliver()?;
             }
             Output::Verify(context, proposal) => self.verify(context, proposal)?,
-            Output::Build(context) => self.build(context)?,
+            Output::Build(context) => {
+                self.pace.ask(context);
+                self.build_due()?;
+            }
             Output::Certify(proposal) => self.certify(proposal)?,
-            // What is built here is built at once.
-            Output::StopBuilding(_) => {}
+            Output::StopBuilding(view) => self.pace.stop(view),
             Output::Equivocated(first, second) => self.show(&first, &second),
             Output::ProposedTwice(view, leader) => self.show_leader(view, leader),
             Output::Forget(lowest) => {

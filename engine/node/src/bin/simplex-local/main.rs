@@ -53,7 +53,7 @@ struct Arguments {
     /// How many views ahead may be voted for.
     #[arg(long, default_value_t = 0)]
     optimistic: u64,
-    /// The least time between two blocks of a leader, in milliseconds.
+    /// The least time between two blocks of a node, in milliseconds.
     #[arg(long, default_value_t = 0)]
     pace: u64,
     /// How long each message is on its way, in milliseconds.
