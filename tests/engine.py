@@ -53,8 +53,10 @@ WRONG_BODIES = (
     ("a block is final before its finalization is stored", "replica.rs", "matches!(output, Output::Finalized(_)) || is_behind", "is_behind"),
     ("a run removes what it did not write", "run_folder.rs", "if !is_empty && !is_marked {", "if false {"),
     ("blocks are built without a pause", "pace.rs", "let due = self.last.map_or(now, |last| last + self.least);", "let due = now;"),
-    ("a node waits before each block", "pace.rs", "let due = self.last.map_or(now, |last| last + self.least);",
-     "let due = if self.last.is_some_and(|last| now < last + self.least) { now } else { now + self.least };"),
+    ("a leader's vote is not sent to those that voted for another proposal", "leader_votes.rs", "found.to_send = seen.others(leader);", ""),
+    ("a leader's vote is dropped where its view is certified", "peers.rs", "(is_proposal || !self.horizon.knows(&vote.subject))",
+     "!self.horizon.knows(&vote.subject)"),
+    ("votes in a notarization are not compared", "replica.rs", "let found = self.leader_votes.see_certificate(&it);", "let found = Default::default();"),
     ("a clock falls back with the machine's", "clock.rs", "self.ahead += by;", "self.ahead = Duration::ZERO; self.begun = Instant::now();"),
 )
 

@@ -16,6 +16,7 @@ pub mod floor;
 pub mod identity;
 pub mod inbox;
 pub mod journal;
+pub mod leader_votes;
 pub mod ledger;
 pub mod message;
 pub mod metrics;

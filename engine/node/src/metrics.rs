@@ -52,7 +52,7 @@ counters! {
     forged: "counter",
     /// Votes that contradict another one of their signer.
     contradictions: "counter",
-    /// Leaders that were found to have proposed twice in a view.
+    /// Views whose leader was found to have proposed twice.
     equivocations: "counter",
     /// Certificates and blocks that were asked for.
     fetches: "counter",

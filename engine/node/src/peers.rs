@@ -308,7 +308,8 @@ pub fn read_message(stream: &mut impl Read) -> io::Result<Message> {
 }
 
 impl Reader {
-    /// Whether a message is well formed and signed, and tells something new. What is certified already is not verified.
+    /// Whether a message is well formed and signed, and tells something new. What is certified already is not verified, but for a leader's
+    /// vote to notarize: it may be for another proposal than the one that is certified.
     fn is_of_use(&self, message: &Message) -> bool {
         match message {
             Message::Hello(..) => false,
@@ -321,9 +322,11 @@ impl Reader {
                     && self.count(self.keys.is_signed_vote(vote))
             }
             Message::Vote(vote) => {
+                let view = vote.subject.round().view;
+                let is_proposal = matches!(vote.subject, Subject::Notarize(_)) && vote.signer == self.turns.leader(view);
                 is_sound(&vote.subject, self.epoch)
-                    && self.horizon.admits(vote.subject.round().view)
-                    && !self.horizon.knows(&vote.subject)
+                    && self.horizon.admits(view)
+                    && (is_proposal || !self.horizon.knows(&vote.subject))
                     && self.count(self.keys.is_signed_vote(vote))
             }
             Message::Certificate(it) => {

@@ -16,6 +16,7 @@ use crate::crypto::Keys;
 use crate::faults::Fault;
 use crate::inbox::{Event, Inbox};
 use crate::journal::Journal;
+use crate::leader_votes::LeaderVotes;
 use crate::message::Message;
 use crate::metrics::{Counters, resident_kb};
 use crate::pace::Pace;
@@ -89,8 +90,12 @@ pub struct Replica<A> {
     given_up: View,
     /// The last view that this member was seen to vote to nullify.
     nullified: View,
+    /// The proposals of leaders, compared with what others vote for.
+    leader_votes: LeaderVotes,
     /// Whose contradictions were told of: once a view, or a faulty member could fill the log.
     shown: BTreeSet<(View, Participant)>,
+    /// The views whose leaders were found to have proposed twice.
+    proposed_twice: BTreeSet<View>,
     finalized: Option<Proposal>,
     old_votes: Vec<Vote>,
     told_at: u64,
@@ -114,7 +119,9 @@ impl<A: Application> Replica<A> {
             heard: vec![Instant::now(); members as usize],
             given_up: View::GENESIS,
             nullified: View::GENESIS,
+            leader_votes: LeaderVotes::new(parts.settings.turns()),
             shown: BTreeSet::new(),
+            proposed_twice: BTreeSet::new(),
             finalized,
             old_votes: Vec::new(),
             told_at: u64::MAX,
@@ -256,6 +263,10 @@ impl<A: Application> Replica<A> {
             let reason = TimeoutReason::LeaderNullify;
             self.handle(Input::GivenUp { view, reason })?;
         }
+        if self.parts.engine.admits_vote(view) {
+            let found = self.leader_votes.see(&vote);
+            self.compare(found);
+        }
         match self.parts.settings.trial.fault {
             Some(Fault::Replays) => self.replay(&vote),
             Some(Fault::Forges) if vote.signer == self.parts.keys.me => self.forge(&vote),
@@ -268,6 +279,10 @@ impl<A: Application> Replica<A> {
     /// A certificate that is good.
     fn take_certificate(&mut self, it: Certificate) -> Outcome {
         let (kind, view) = (it.kind(), it.round().view);
+        if self.parts.engine.admits_vote(view) {
+            let found = self.leader_votes.see_certificate(&it);
+            self.compare(found);
+        }
         if self.handle(Input::Certificate(it))? {
             self.parts.horizon.know(kind, view);
         }
@@ -371,6 +386,8 @@ impl<A: Application> Replica<A> {
             Output::ProposedTwice(view, leader) => self.show_leader(view, leader),
             Output::Forget(lowest) => {
                 self.waiting.forget(lowest);
+                self.leader_votes.forget(lowest);
+                self.proposed_twice = self.proposed_twice.split_off(&lowest);
                 self.shown = self.shown.split_off(&(lowest, Participant::new(0)));
             }
         }

@@ -98,9 +98,28 @@ fn with_fault(name: &str, fault: Fault) {
     ends_well(network, 1);
 }
 
+/// Of seven members too few get one of the two blocks for a certificate: each honest one learns of the other from its peers.
 #[test]
-fn a_leader_that_proposes_twice() {
-    with_fault("twice", Fault::Equivocates);
+fn a_leader_that_proposes_twice_is_seen_by_each_honest_node() {
+    for nodes in [4, 7] {
+        let network = begun(Plan {
+            faults: vec![(nodes - 1, Fault::Equivocates)],
+            ..plan(&format!("twice-{nodes}"), nodes)
+        });
+        goes_on(&network, &network.honest());
+        assert!(
+            network.wait_until(&network.honest(), "equivocations", 2, START),
+            "{}",
+            logs(&network)
+        );
+        for index in network.honest() {
+            let log = fs::read_to_string(network.log(index)).expect("a log");
+            let evidence: Vec<&str> = log.lines().filter(|it| it.contains("two votes of one member")).collect();
+            let is_of_leader = |it: &&str| it.contains("first_signature") && it.contains(&format!("signer={} ", nodes - 1));
+            assert!(!evidence.is_empty() && evidence.iter().all(is_of_leader), "node {index}: {log}");
+        }
+        ends_well(network, 1);
+    }
 }
 
 #[test]

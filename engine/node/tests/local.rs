@@ -115,6 +115,14 @@ fn the_last_line_says_that_chains_agree() {
 }
 
 #[test]
+fn the_report_tells_of_leaders_that_proposed_twice() {
+    let said = succeeds(&["--nodes", "4", "--views", "20", "--faulty", "1"]);
+    let line = said.lines().find(|it| it.starts_with("evidence: ")).expect("a line of evidence");
+    let views: u64 = line.split(' ').nth(1).and_then(|it| it.parse().ok()).expect("a number");
+    assert!(views > 0 && line.contains("proposed twice"), "{said}");
+}
+
+#[test]
 fn a_run_that_a_signal_stops_fails_in_its_last_line() {
     let mut child = local(&["--nodes", "4", "--views", "1000000"]).spawn().expect("a process");
     sleep(Duration::from_secs(2));

@@ -75,6 +75,11 @@ pub fn print(network: &Network, arguments: &Arguments, run: &Run, svg: Option<&m
             println!("node {index}, last lifetime: {shares}");
         }
     }
+    let seen = run.metrics.iter().flatten().filter_map(|it| it.get("equivocations"));
+    println!(
+        "evidence: {} in which a leader proposed twice, with both of its votes in the nodes' logs",
+        counted(seen.max().unwrap_or(0) as u32, "view")
+    );
     let mut problems = problems(network, arguments, run, &chains, &votes);
     if let Some(file) = svg {
         let (nodes, faulty, kills) = (arguments.nodes, arguments.faulty, run.kills.len());
