@@ -477,7 +477,11 @@ enum simplex_output_kind {
     SIMPLEX_STOP_BUILDING = 7,  /* view: what is built there is of no use any more */
     SIMPLEX_CERTIFY = 8,        /* subject.proposal: a verdict is wanted on it */
     SIMPLEX_ASK = 9,            /* fetch, view: ask member for it, or nobody where it is SIMPLEX_NOBODY */
-    SIMPLEX_FINAL = 10,         /* subject.proposal is final, and all below it: rising, each view once */
+    SIMPLEX_FINAL = 10,         /* subject.proposal is final: this life accepted its finalization, of a view above all that it reported.
+                                   Its ancestors are final too and are not reported, and a life that ends may lose its last report.
+                                   So deliver a block after its ancestors, back to the last one that was delivered; after
+                                   simplex_engine_resume begin with the last finalization of the record: read view 0 with
+                                   simplex_engine_view, and of its last_finalized the finalization with simplex_engine_certificate */
     SIMPLEX_EQUIVOCATED = 11,   /* subject and B, other and the other bytes: two votes of one member that contradict each other */
     SIMPLEX_PROPOSED_TWICE = 12, /* view, member: its leader signed two proposals, which certificates show */
     SIMPLEX_FORGET = 13         /* view: what is kept of those below it may go */
