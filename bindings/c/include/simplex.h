@@ -11,8 +11,8 @@
  *   -------------------------------------------------------+--------------------------------------------------------------------
  *   a call asks the core for just what it says, by its     | a certificate is verified before it is handed in
  *   numbers, and the reply tells just what the core said   | proposals handed in come from their view's leader
- *   a vote is ordered exactly where its rule allows, for   | an ordered text is signed with the key of the member in the reply,
- *   just its own bytes, once it stands in the record       | and nothing else is
+ *   a member's call orders a vote exactly where its rule   | an ordered text is signed with the key of the member in the reply,
+ *   allows, for just its own bytes, once it is recorded    | and nothing else is
  *   a resume goes on from just the entries in the bytes    | what the record has grown by is stored before a vote is sent; the
  *   that it is given; damaged or missing ones are refused  | bytes and numbers that were stored last come back
  *   an engine is told just the input of its numbers, and   | a vote is verified before it is handed in, and one's own comes back as
