@@ -25,6 +25,7 @@ pub struct Block {
     pub parent: (View, Digest),
     /// When it was built, in microseconds since 1970.
     pub built_us: u64,
+    payload: Digest,
     bytes: Vec<u8>,
 }
 
@@ -47,14 +48,21 @@ impl Block {
 
     /// The block that bytes are.
     pub fn read(bytes: Vec<u8>) -> Option<Block> {
+        let payload = digest(&bytes);
+        Block::of(bytes, payload)
+    }
+
+    /// The block that bytes are, whose digest is known already: a reader of the peers has hashed them.
+    pub fn of(bytes: Vec<u8>, payload: Digest) -> Option<Block> {
         let (view, rest) = bytes.split_first_chunk::<8>()?;
         let (parent, rest) = rest.split_first_chunk::<8>()?;
-        let (payload, rest) = rest.split_first_chunk::<32>()?;
+        let (parent_payload, rest) = rest.split_first_chunk::<32>()?;
         let (built, _) = rest.split_first_chunk::<8>()?;
         Some(Block {
             view: View::new(u64::from_be_bytes(*view)),
-            parent: (View::new(u64::from_be_bytes(*parent)), Digest::new(*payload)),
+            parent: (View::new(u64::from_be_bytes(*parent)), Digest::new(*parent_payload)),
             built_us: u64::from_be_bytes(*built),
+            payload,
             bytes,
         })
     }
@@ -71,7 +79,7 @@ impl Block {
 
     /// The digest that proposals name it by.
     pub fn payload(&self) -> Digest {
-        digest(&self.bytes)
+        self.payload
     }
 
     /// Whether it is the block of this proposal, in its place.

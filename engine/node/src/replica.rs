@@ -228,10 +228,10 @@ impl<A: Application> Replica<A> {
         }
     }
 
-    /// A proposal that its view's leader signed, with its block. The readers tested the signature.
+    /// A proposal that its view's leader signed, with its block. The readers tested the signature, and that the block has the payload.
     fn take_proposal(&mut self, vote: Vote, block: Vec<u8>) -> Outcome {
         let Subject::Notarize(proposal) = vote.subject else { return Ok(()) };
-        if let Some(block) = Block::read(block).filter(|it| it.payload() == proposal.payload && it.is_of(&proposal)) {
+        if let Some(block) = Block::of(block, proposal.payload).filter(|it| it.is_of(&proposal)) {
             self.take_proposed(vote.signer, proposal, block)?;
         }
         self.take_vote(vote)

@@ -4,7 +4,7 @@ use simplex_node::blocks::Block;
 use simplex_node::crypto::{Keys, hex};
 use simplex_node::message::Message;
 use simplex_node::network::{Network, Plan, folder_of};
-use simplex_node::peers::{greet, read_message};
+use simplex_node::peers::{HEARTBEAT, HEARTBEAT_FRAME, greet, read_message};
 use simplex_node::settings::{Protocol, Settings, genesis};
 use simplex_view_state::{Certificate, Context, Epoch, FetchKind, Participant, Proposal, Round, Subject, View, Vote};
 use std::collections::BTreeSet;
@@ -45,12 +45,23 @@ fn plan(name: &str) -> Plan {
     }
 }
 
+/// Writes these bytes again and again until the connection ends: a link that is silent is given up.
+fn show_life(stream: &TcpStream, bytes: &'static [u8]) {
+    let mut stream = stream.try_clone().expect("a connection");
+    thread::spawn(move || {
+        while stream.write_all(bytes).is_ok() {
+            sleep(HEARTBEAT);
+        }
+    });
+}
+
 /// Takes the node's connections to a member, and tells what it sends there.
 fn hear(listener: &TcpListener, member: u32, told: &Sender<(u32, Message)>) {
     for mut stream in listener.incoming().flatten() {
         if stream.write_all(&[7; 32]).is_err() {
             continue;
         }
+        show_life(&stream, &[0]);
         let mut stream = BufReader::new(stream);
         while let Ok(message) = read_message(&mut stream) {
             if told.send((member, message)).is_err() {
@@ -78,9 +89,11 @@ impl Others {
         let links = keys[1..]
             .iter()
             .map(|it| greet(Participant::new(0), address, it).expect("it listens"));
+        let links: Vec<TcpStream> = links.collect();
+        links.iter().for_each(|it| show_life(it, &HEARTBEAT_FRAME));
         Others {
             network,
-            links: links.collect(),
+            links,
             keys,
             heard,
         }
