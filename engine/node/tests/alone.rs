@@ -302,7 +302,8 @@ fn of_a_leader_that_signs_many_blocks_one_is_kept() {
         let (vote, block) = others.proposal(2, 1, content);
         others.send(1, &Message::Proposal(vote, block.bytes().to_vec()));
     }
-    others.comes_to("contradictions", 19);
+    // The second one is evidence; those after it tell nothing, and are dropped by the reader.
+    others.comes_to("contradictions", 1);
     let blocks = fs::metadata(others.network.data(0).join("blocks")).expect("blocks").len();
     assert_eq!(blocks, 2 * blocks_of_one);
     let log = fs::read_to_string(others.network.log(0)).expect("a log");
