@@ -8,7 +8,8 @@ record, and from which the member goes on at each restart: the replies are those
 questions are served by an engine in Rattle (`tests/engine_lines`) and by one of the package, with lives from what was stored: the answers
 are the same, and each kind of output is among them. `bindings/c/examples/lives.c` begins and lets go many members and engines, and hands in
 what has to be refused; under valgrind it neither errs nor loses a byte. `wanting.c` beside it has each request for memory of an engine
-refused, one in each of many runs. The package's own tests and lints run too. And callers are built with two kinds of calls, of inputs and of
+refused, one in each of many runs. The package's own tests and lints run too. The archive says of itself what it is, a build shows that it goes on, and one
+without the kit says so in a line. And callers are built with two kinds of calls, of inputs and of
 outputs swapped, which the comparisons have to find.
 
     tests/bindings.py [--program PATH] [--engine-lines PATH] [--archive PATH] [--again]
@@ -21,6 +22,7 @@ line, and tries nothing of it."""
 import argparse
 import os
 import random
+import re
 import shutil
 import subprocess
 import sys
@@ -44,6 +46,8 @@ LEAST = {
     "engine's lines": 10_000, **{f"'{kind}'": 10 for kind in GIVEN}, "resumes": 50, "engines": MEMBERS // 2, "requests refused": 500,
     "scripts": 80, "random lines": 10_000, "comparisons": 400, "entries taken away": 1000, "resolver's lines": 6000, "members": MEMBERS,
 }
+# How long a build may write nothing, in seconds.
+LONGEST_SILENCE = 30
 SWAPPED = ("CONSTRUCT_NOTARIZE", "CONSTRUCT_FINALIZE")
 SWAPPED_OF_ENGINES = (("input.rs", "{ .. } => 4,", "{ .. } => 6,"), ("output.rs", " 8 => Output::", " 10 => Output::"))
 TIMED = ("nullification", "finalization", "proposed", "rejected", "verdict", "trigger", "timeout", "restart", "restart-pruned")
@@ -264,14 +268,50 @@ def package_faults(target, archive):
                 yield f"cargo {words[0]}: {error.stderr.decode()[-2000:]}"
 
 
+def built(made):
+    """Builds an archive, unproved; what is wrong with how it was built."""
+    begun = time.monotonic()
+    done = subprocess.run([BINDINGS / "build", "--unproved", "--out", made], check=True, capture_output=True, text=True)
+    sys.stdout.write(done.stdout)
+    lines, least = len(done.stderr.splitlines()), (time.monotonic() - begun) / LONGEST_SILENCE
+    return [] if lines >= least else [f"a build wrote {lines} lines of progress, where {least:.0f} are asked for"]
+
+
+def refusal_faults(room):
+    """What is wrong with how a build is refused where there is no kit."""
+    tools = room / "no-kit"
+    tools.mkdir()
+    for tool in ("python3", "git", "ar"):
+        (tools / tool).symlink_to(shutil.which(tool))
+    made = room / "no-kit.a"
+    done = subprocess.run([BINDINGS / "build", "--unproved", "--out", made], env={**os.environ, "PATH": str(tools)}, capture_output=True, text=True)
+    if not done.returncode or made.exists():
+        yield "a build without the kit is not refused"
+    if len(done.stderr.splitlines()) != 1 or "`rt`" not in done.stderr or "/opt/rattle" not in done.stderr:
+        yield f"a build without the kit says, in place of one line that names it: {done.stderr[-500:]}"
+
+
+def info_faults(room, archive, is_of_now):
+    """What is wrong with what an archive says of itself to C; one that was built just now is of the commit that is checked out."""
+    source, asks = room / "info.c", room / "info"
+    source.write_text('#include "simplex.h"\n#include <stdio.h>\nint main(void) { return puts(simplex_build_info()) < 0; }\n')
+    said = subprocess.run([compiled(source, BINDINGS / "c/include", archive, asks)], capture_output=True, text=True, check=True).stdout.strip()
+    commit = subprocess.run(["git", "rev-parse", "HEAD"], cwd=ROOT, capture_output=True, text=True).stdout.strip() or "unknown"
+    commit = commit if is_of_now else "(?:[0-9a-f]{40}|unknown)"
+    kit = subprocess.run(["rt", "version"], capture_output=True, text=True).stdout.strip()
+    if not re.fullmatch(rf"(?:un)?proved; commit {commit}(?: with changes)?; kit {re.escape(kit)}", said):
+        yield f"the archive says of itself: {said}"
+
+
 def try_all(given, room, pool):
     """What was tried, and what is wrong."""
     path = program.find(given.program, room)
     archive = given.archive and given.archive.resolve() or room / "libsimplex.a"
-    faults = []
+    faults = [*refusal_faults(room)]
     again = room / "again.a"
     for made in [archive] * (not given.archive) + [again] * (given.again or not given.archive):
-        subprocess.run([BINDINGS / "build", "--unproved", "--out", made], check=True)
+        faults += built(made)
+    faults += info_faults(room, archive, is_of_now=again.exists())
     if again.exists() and archive.read_bytes() != again.read_bytes():
         faults.append("two builds of the archive have other bytes")
     target = room / "target"

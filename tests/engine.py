@@ -47,6 +47,16 @@ WRONG_BODIES = (
     ("a leader that proposes early and often takes all room", "replica.rs", "if is_near && (is_first || self.parts.engine.admits_vote(view)) {", "if is_near {"),
     ("all blocks of a leader are kept", "replica.rs", "if is_near && is_first || self.waiting", "if is_near || self.waiting"),
     ("a peer that floods holds up the others", "inbox.rs", "self.turn = (index + 1) % count;", "self.turn = 0;"),
+    ("a node that lost its journal begins anew", "start.rs", "(None, Some(left)) => Err(format!(", "(None, Some(left)) if false => Err(format!("),
+    ("a journal of another key is taken", "journal.rs", "Some(difference) => Err(JournalError::Other(difference)),", "Some(_) => Ok(Some(kept)),"),
+    ("a journal that is older than the chain is taken", "start.rs", "if last <= finalized.get() {", "if true {"),
+    ("a block is final before its finalization is stored", "replica.rs", "matches!(output, Output::Finalized(_)) || is_behind", "is_behind"),
+    ("a run removes what it did not write", "run_folder.rs", "if !is_empty && !is_marked {", "if false {"),
+    ("blocks are built without a pause", "pace.rs", "let due = self.last.map_or(now, |last| last + self.least);", "let due = now;"),
+    ("a leader's vote is not sent to those that voted for another proposal", "leader_votes.rs", "found.to_send = seen.others(leader);", ""),
+    ("a leader's vote is dropped where its view is certified", "peers.rs", "(is_proposal || !self.horizon.knows(&vote.subject))",
+     "!self.horizon.knows(&vote.subject)"),
+    ("votes in a notarization are not compared", "replica.rs", "let found = self.leader_votes.see_certificate(&it);", "let found = Default::default();"),
     ("a clock falls back with the machine's", "clock.rs", "self.ahead += by;", "self.ahead = Duration::ZERO; self.begun = Instant::now();"),
 )
 

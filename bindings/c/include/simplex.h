@@ -11,8 +11,8 @@
  *   -------------------------------------------------------+--------------------------------------------------------------------
  *   a call asks the core for just what it says, by its     | a certificate is verified before it is handed in
  *   numbers, and the reply tells just what the core said   | proposals handed in come from their view's leader
- *   a vote is ordered exactly where its rule allows, for   | an ordered text is signed with the key of the member in the reply,
- *   just its own bytes, once it stands in the record       | and nothing else is
+ *   a member's call orders a vote exactly where its rule   | an ordered text is signed with the key of the member in the reply,
+ *   allows, for just its own bytes, once it is recorded    | and nothing else is
  *   a resume goes on from just the entries in the bytes    | what the record has grown by is stored before a vote is sent; the
  *   that it is given; damaged or missing ones are refused  | bytes and numbers that were stored last come back
  *   an engine is told just the input of its numbers, and   | a vote is verified before it is handed in, and one's own comes back as
@@ -477,7 +477,11 @@ enum simplex_output_kind {
     SIMPLEX_STOP_BUILDING = 7,  /* view: what is built there is of no use any more */
     SIMPLEX_CERTIFY = 8,        /* subject.proposal: a verdict is wanted on it */
     SIMPLEX_ASK = 9,            /* fetch, view: ask member for it, or nobody where it is SIMPLEX_NOBODY */
-    SIMPLEX_FINAL = 10,         /* subject.proposal is final, and all below it: rising, each view once */
+    SIMPLEX_FINAL = 10,         /* subject.proposal is final: this life accepted its finalization, of a view above all that it reported.
+                                   Its ancestors are final too and are not reported, and a life that ends may lose its last report.
+                                   So deliver a block after its ancestors, back to the last one that was delivered; after
+                                   simplex_engine_resume begin with the last finalization of the record: read view 0 with
+                                   simplex_engine_view, and of its last_finalized the finalization with simplex_engine_certificate */
     SIMPLEX_EQUIVOCATED = 11,   /* subject and B, other and the other bytes: two votes of one member that contradict each other */
     SIMPLEX_PROPOSED_TWICE = 12, /* view, member: its leader signed two proposals, which certificates show */
     SIMPLEX_FORGET = 13         /* view: what is kept of those below it may go */
@@ -561,6 +565,15 @@ SIMPLEX_SIZE(struct simplex_open, 32);
 
 /* SIMPLEX_VERSION of the library. It rises when a struct, a number or a function changes its meaning. */
 uint32_t simplex_version(void);
+
+/* What this archive is, as text that ends with a zero byte: whether its code is proved, of which commit, and by which kit.
+ *
+ *     proved; commit 62e73a10e2c0f3b4a5968778695a4b3c2d1e0f00; kit rattle-kit-13b logic dac8208d650f15bf
+ *
+ * The first word is "proved" or "unproved": no other archive than a proved one is for production. The commit has 40 hexadecimal digits,
+ * and " with changes" after them where sources were changed since; it is "unknown" where the archive was built outside a repository.
+ * bindings/build adds this function to the archive, so it is not among those that are proved. */
+const char *simplex_build_info(void);
 
 /*
  * Begins an engine whose member never voted, by settings, a table of leaders (each term's leader in turn), the bytes of the floor's

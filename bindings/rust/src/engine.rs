@@ -57,17 +57,20 @@ impl Options {
 /// A vote is handed out behind the entries that hold it, so whoever carries the outputs out in order stores before he sends. After an
 /// error it has failed, but for the two that [`EngineError`] names. An engine may go from thread to thread, but is called by one at a time.
 ///
-/// A member alone, whose application finds each block good:
+/// A turn of a host carries out a bounded number of outputs, and then reads the clock and other inputs: a member alone, whose application
+/// answers at once, is never out of outputs. Such a one, whose application finds each block good:
 ///
 /// ```
-/// use simplex_view_state::{Config, Digest, Engine, Epoch, Input, Moment, Options, Output, Participant};
+/// use simplex_view_state::{Config, Digest, Engine, Epoch, Input, Moment, Options, Output, Participant, View};
 ///
+/// const MOST_OUTPUTS: usize = 100;                                      // of a turn
 /// let config = Config::new(1.try_into()?, Some(Participant::new(0)), Epoch::new(1), Digest::default());
-/// let now = Moment::from_millis(0);                                     // of a clock that does not fall
+/// let mut now = Moment::from_millis(0);                                 // of a clock that does not fall
 /// let mut engine = Engine::start(&config, &Options::default(), now)?;   // or Engine::resume, with what was stored
-/// let (mut journal, mut chain, mut inputs) = (Vec::new(), Vec::new(), Vec::new());
-/// while chain.len() < 3 {
-///     while let Some(output) = engine.poll(now)? {
+/// let (mut journal, mut finalized, mut inputs) = (Vec::new(), View::GENESIS, Vec::new());
+/// while finalized < View::new(3) {
+///     for _ in 0..MOST_OUTPUTS {
+///         let Some(output) = engine.poll(now)? else { break };
 ///         match output {
 ///             Output::Replace(entries) => journal = entries.bytes,      // with entries.stored, in one step
 ///             Output::Store(entries) => journal.extend(entries.bytes),  // and synced before the next output is carried out
@@ -78,15 +81,16 @@ impl Options {
 ///             Output::Build(context) => inputs.push(Input::Built { context, payload: Digest::new([7; 32]) }),
 ///             Output::Verify(_, proposal) => inputs.push(Input::Verified { view: proposal.view(), is_valid: true }),
 ///             Output::Certify(proposal) => inputs.push(Input::Certified { view: proposal.view(), is_success: true }),
-///             Output::Finalized(proposal) => chain.push(proposal.view().get()),
+///             Output::Finalized(proposal) => finalized = proposal.view(), // deliver it after its ancestors: they are not reported
 ///             _ => {}                                                   // nobody to send to, or to ask
 ///         }
 ///     }
+///     now = Moment::from_millis(now.as_millis() + 1);                   // clock.now()
 ///     for input in inputs.drain(..) {                                   // what came in; nothing where engine.wake() has come
 ///         engine.handle(input, now)?;
 ///     }
 /// }
-/// assert_eq!(chain, [1, 2, 3]);
+/// assert_eq!(engine.views().expect("it has not failed").last_finalized, finalized);
 /// # Ok::<(), Box<dyn std::error::Error>>(())
 /// ```
 pub struct Engine {

@@ -1,5 +1,6 @@
 //! The functions of `bindings/c/include/simplex.h`, as C has them. Nothing of this module is public.
 
+use std::ffi::c_char;
 use std::marker::PhantomData;
 
 /// What `simplex_version` answers for the structs below.
@@ -374,6 +375,7 @@ const _: () = assert!(size_of::<Taken>() == 8 && size_of::<Output>() == 264 && s
 
 unsafe extern "C" {
     pub(crate) safe fn simplex_version() -> u32;
+    pub(crate) safe fn simplex_build_info() -> *const c_char;
     pub(crate) fn simplex_member_start(
         settings: &Settings,
         leaders: *const u32,

@@ -29,6 +29,7 @@
 
 #![deny(missing_docs)]
 
+mod build_info;
 mod engine;
 mod errors;
 mod ffi;
@@ -40,6 +41,7 @@ mod reasons;
 mod resolver;
 mod settings;
 
+pub use build_info::build_info;
 pub use engine::{Engine, Fetch, FetchKind, Input, OpenFetch, Options, Order, Output};
 pub use errors::{EngineError, EntriesError, OpenError, RecoverError, Refusal, SettingsError};
 pub use journal::{Ending, Entries, EntryCount, Scan, Stored, scan};

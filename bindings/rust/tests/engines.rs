@@ -9,7 +9,6 @@ use simplex_view_state::{
     Member, Moment, Notarization, Nullification, OpenError, Options, Output, Participant, Proposal, Round, SettingsError, Subject, Terms,
     TimeoutReason, View, Vote,
 };
-use std::collections::BTreeMap;
 use std::error::Error;
 use std::thread;
 use std::time::Duration;
@@ -78,23 +77,20 @@ fn outputs(engine: &mut Engine, now: Moment) -> Result<Vec<Output>, EngineError>
     std::iter::from_fn(|| engine.poll(now).transpose()).collect()
 }
 
-/// No two members hold two proposals final in one view, and each was told of the views as they rise.
+/// Each member delivered the same blocks in the same order, as far as it has come.
 fn agree(nodes: &[Node]) {
-    let mut chain = BTreeMap::new();
-    for node in nodes {
-        assert!(
-            node.chain.is_sorted_by_key(|it| it.view()),
-            "member {} was told of its views out of order",
-            node.me
-        );
-        for proposal in &node.chain {
-            assert_eq!(chain.entry(proposal.view()).or_insert(*proposal), proposal);
-        }
+    let longest = nodes
+        .iter()
+        .map(|node| &node.chain)
+        .max_by_key(|chain| chain.len())
+        .expect("there is one");
+    for Node { me, chain, .. } in nodes {
+        assert_eq!(chain[..], longest[..chain.len()], "member {me} delivered another chain");
     }
 }
 
 fn lowest_final(nodes: &[Node]) -> u64 {
-    let last = |node: &Node| node.chain.last().map_or(0, |it| it.view().get());
+    let last = |node: &Node| node.chain.last().map_or(0, |it| it.view.get());
     nodes.iter().map(last).min().unwrap_or(0)
 }
 
@@ -121,8 +117,7 @@ fn networks_that_lose_messages_and_members_agree_and_go_on() -> Tested {
                 network.nodes[crashed % 4].engine = None;
             }
             if step % 400 == 150 && crashed < 12 {
-                let now = network.now;
-                network.nodes[crashed % 4].begin(now)?;
+                network.begin(crashed % 4)?;
                 lives += 1;
             }
             if crashed >= 12 && lowest_final(&network.nodes) >= 40 {
@@ -133,6 +128,57 @@ fn networks_that_lose_messages_and_members_agree_and_go_on() -> Tested {
         agree(&network.nodes);
         assert_eq!(lives, 12);
     }
+    Ok(())
+}
+
+#[test]
+fn a_lifetime_that_begins_delivers_what_the_one_before_stored() -> Tested {
+    let mut network = Network::start(MEMBERS.try_into()?, 0, 1)?;
+    go_on(&mut network, 10)?;
+    let node = &mut network.nodes[2];
+    let all = node.chain.clone();
+    node.engine = None;
+    node.chain.truncate(all.len() - 4);
+    network.begin(2)?;
+    assert_eq!(network.nodes[2].chain, all);
+    Ok(())
+}
+
+/// So a host has to end its turns by itself: see the loop of the example.
+#[test]
+fn a_member_alone_that_answers_at_once_is_never_out_of_outputs() -> Tested {
+    let config = Config::new(1.try_into()?, Some(Participant::new(0)), Epoch::new(1), Digest::default());
+    let mut engine = Engine::start(&config, &Options::default(), START)?;
+    for _ in 0..20_000 {
+        let reply = match engine.poll(START)?.ok_or("it is out of outputs")? {
+            Output::Vote(order) => Input::Vote(order.signed(signature(order.signer, &order.text))),
+            Output::Build(context) => {
+                let payload = Digest::default();
+                Input::Built { context, payload }
+            }
+            Output::Verify(context, _) => Input::Verified {
+                view: context.round.view,
+                is_valid: true,
+            },
+            Output::Certify(proposal) => Input::Certified {
+                view: proposal.view(),
+                is_success: true,
+            },
+            _ => continue,
+        };
+        engine.handle(reply, START)?;
+    }
+    Ok(())
+}
+
+#[test]
+fn a_member_alone_lets_time_in() -> Tested {
+    let mut network = Network::start(1.try_into()?, 0, 1)?;
+    for _ in 0..2000 {
+        network.step()?;
+    }
+    assert!(lowest_final(&network.nodes) > 10);
+    assert!(network.now > START, "all of it is at one moment");
     Ok(())
 }
 

@@ -25,6 +25,7 @@ pub struct Block {
     pub parent: (View, Digest),
     /// When it was built, in microseconds since 1970.
     pub built_us: u64,
+    payload: Digest,
     bytes: Vec<u8>,
 }
 
@@ -47,14 +48,21 @@ impl Block {
 
     /// The block that bytes are.
     pub fn read(bytes: Vec<u8>) -> Option<Block> {
+        let payload = digest(&bytes);
+        Block::of(bytes, payload)
+    }
+
+    /// The block that bytes are, whose digest is known already: a reader of the peers has hashed them.
+    pub fn of(bytes: Vec<u8>, payload: Digest) -> Option<Block> {
         let (view, rest) = bytes.split_first_chunk::<8>()?;
         let (parent, rest) = rest.split_first_chunk::<8>()?;
-        let (payload, rest) = rest.split_first_chunk::<32>()?;
+        let (parent_payload, rest) = rest.split_first_chunk::<32>()?;
         let (built, _) = rest.split_first_chunk::<8>()?;
         Some(Block {
             view: View::new(u64::from_be_bytes(*view)),
-            parent: (View::new(u64::from_be_bytes(*parent)), Digest::new(*payload)),
+            parent: (View::new(u64::from_be_bytes(*parent)), Digest::new(*parent_payload)),
             built_us: u64::from_be_bytes(*built),
+            payload,
             bytes,
         })
     }
@@ -71,7 +79,7 @@ impl Block {
 
     /// The digest that proposals name it by.
     pub fn payload(&self) -> Digest {
-        digest(&self.bytes)
+        self.payload
     }
 
     /// Whether it is the block of this proposal, in its place.
@@ -91,10 +99,15 @@ pub struct Blocks {
     syncs: bool,
 }
 
+/// The file of a folder's blocks.
+pub fn path(folder: &Path) -> PathBuf {
+    folder.join("blocks")
+}
+
 impl Blocks {
     /// Reads the blocks that a folder has. A last one that was cut off is left out.
     pub fn open(folder: &Path, syncs: bool) -> io::Result<Blocks> {
-        let path = folder.join("blocks");
+        let path = path(folder);
         let stored = match fs::read(&path) {
             Ok(bytes) => bytes,
             Err(error) if error.kind() == io::ErrorKind::NotFound => Vec::new(),

@@ -79,6 +79,11 @@ impl Keys {
 }
 
 fn public_key(hex: &str) -> Outcome<PKey<Public>> {
+    Ok(PKey::public_key_from_raw_bytes(&raw_key(hex)?, Id::ED25519)?)
+}
+
+/// The bytes of a public key in hexadecimal digits; other text is an error.
+pub fn raw_key(hex: &str) -> Outcome<[u8; 32]> {
     let wrong = || format!("{hex} is no public key: 64 hexadecimal digits");
     let digits = hex.as_bytes().as_chunks::<2>();
     if hex.len() != 64 || !digits.1.is_empty() {
@@ -86,7 +91,12 @@ fn public_key(hex: &str) -> Outcome<PKey<Public>> {
     }
     let byte = |pair: &[u8; 2]| u8::from_str_radix(std::str::from_utf8(pair).ok()?, 16).ok();
     let raw: Vec<u8> = digits.0.iter().map(byte).collect::<Option<_>>().ok_or_else(wrong)?;
-    Ok(PKey::public_key_from_raw_bytes(&raw, Id::ED25519)?)
+    Ok(raw.try_into().map_err(|_| wrong())?)
+}
+
+/// Bytes in hexadecimal digits.
+pub fn hex(bytes: &[u8]) -> String {
+    bytes.iter().map(|byte| format!("{byte:02x}")).collect()
 }
 
 /// Makes a key, writes the secret one to a new file that only its owner reads, and answers the public one.
@@ -100,7 +110,7 @@ pub fn make_key(path: &Path) -> Outcome<String> {
         .map_err(|error| format!("{}: {error}", path.display()))?;
     file.write_all(&secret.private_key_to_pem_pkcs8()?)?;
     file.sync_all()?;
-    Ok(secret.raw_public_key()?.iter().map(|byte| format!("{byte:02x}")).collect())
+    Ok(hex(&secret.raw_public_key()?))
 }
 
 #[cfg(test)]

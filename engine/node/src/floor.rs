@@ -3,6 +3,7 @@
 //! It begins with eight letters and a version. Then come the text of the certificate's votes and its bytes.
 
 use crate::crypto::Keys;
+use crate::identity::Identity;
 use crate::journal;
 use crate::settings::{Outcome, Settings, genesis};
 use simplex_view_state::{Certificate, CertificateKind, Config, Engine, Finalization, Floor, Moment, Options, Subject};
@@ -49,7 +50,7 @@ fn written(it: &Certificate) -> Vec<u8> {
 
 /// The last finalized proposal that a folder's journal has, as the bytes of a floor.
 pub fn of(settings: &Settings) -> Outcome<Vec<u8>> {
-    let kept = journal::read(&settings.data)?.ok_or("there is no journal")?;
+    let kept = journal::read(&settings.data, &Identity::of(settings)?)?.ok_or("there is no journal")?;
     let config: Config = settings.config(read(settings, &Keys::read(settings)?)?);
     let engine = Engine::resume(&config, &Options::default(), Moment::from_millis(0), &kept.stored, &kept.frames)?;
     let last = engine.views().ok_or("the engine has failed")?.last_finalized;

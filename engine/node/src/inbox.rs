@@ -4,21 +4,34 @@
 //! up no other: with one queue for all, its messages would stand before everybody's.
 
 use crate::message::Message;
-use simplex_view_state::{Context, Participant};
+use simplex_view_state::Participant;
 use std::collections::VecDeque;
 use std::sync::{Condvar, Mutex, MutexGuard};
 use std::time::{Duration, Instant};
 
 /// How many messages of one peer wait at most.
 const MOST_OF_A_PEER: usize = 1024;
+/// How many bytes of one peer's messages wait at most, and one message more.
+const MOST_BYTES_OF_A_PEER: usize = 4 << 20;
+/// How long a message waits for room. It is shorter than a link may be silent, so that a peer is answered meanwhile.
+const ROOM_WITHIN: Duration = Duration::from_millis(500);
+
+/// What became of a message.
+#[derive(Clone, Copy, PartialEq, Eq, Debug)]
+pub enum Put {
+    /// It waits.
+    Taken,
+    /// There was no room: it is lost, and can be asked for again.
+    Dropped,
+    /// Nobody takes messages any more.
+    Closed,
+}
 
 /// What comes to the thread that owns the member.
 #[derive(Debug)]
 pub enum Event {
     /// A message, verified as far as it can be without the member, and from whom.
     Message(Participant, Message),
-    /// The time of a build has passed.
-    Paced(Context),
     /// The process is to end.
     Stop,
 }
@@ -36,10 +49,29 @@ pub struct Inbox {
 #[derive(Debug)]
 struct Waiting {
     own: VecDeque<Event>,
-    peers: Vec<VecDeque<Message>>,
+    peers: Vec<Queue>,
     /// The peer whose turn it is.
     turn: usize,
     is_closed: bool,
+}
+
+/// What waits of one peer.
+#[derive(Debug, Default)]
+struct Queue {
+    messages: VecDeque<(Message, usize)>,
+    bytes: usize,
+}
+
+impl Queue {
+    fn is_full(&self) -> bool {
+        self.messages.len() >= MOST_OF_A_PEER || self.bytes >= MOST_BYTES_OF_A_PEER
+    }
+
+    fn pop(&mut self) -> Option<Message> {
+        let (message, bytes) = self.messages.pop_front()?;
+        self.bytes -= bytes;
+        Some(message)
+    }
 }
 
 impl Waiting {
@@ -51,9 +83,9 @@ impl Waiting {
         let count = self.peers.len();
         let index = (self.turn..self.turn + count)
             .map(|it| it % count)
-            .find(|it| !self.peers[*it].is_empty())?;
+            .find(|it| !self.peers[*it].messages.is_empty())?;
         self.turn = (index + 1) % count;
-        let message = self.peers[index].pop_front()?;
+        let message = self.peers[index].pop()?;
         Some(Event::Message(Participant::new(index as u32), message))
     }
 }
@@ -64,7 +96,7 @@ impl Inbox {
         Inbox {
             waiting: Mutex::new(Waiting {
                 own: VecDeque::new(),
-                peers: (0..members).map(|_| VecDeque::new()).collect(),
+                peers: (0..members).map(|_| Queue::default()).collect(),
                 turn: 0,
                 is_closed: false,
             }),
@@ -73,17 +105,23 @@ impl Inbox {
         }
     }
 
-    /// Puts a message behind those of its peer, and waits for room there. Whether anybody takes messages still.
-    pub fn put(&self, from: Participant, message: Message) -> bool {
+    /// Puts a message of so many bytes after those of its peer. Where there is no room it waits for a while, and then drops the message.
+    pub fn put(&self, from: Participant, message: Message, bytes: usize) -> Put {
         let index = from.get() as usize;
-        let full = |it: &mut Waiting| !it.is_closed && it.peers[index].len() >= MOST_OF_A_PEER;
-        let mut waiting = self.room.wait_while(self.lock(), full).unwrap_or_else(|it| it.into_inner());
+        let is_full = |it: &mut Waiting| !it.is_closed && it.peers[index].is_full();
+        let waited = self.room.wait_timeout_while(self.lock(), ROOM_WITHIN, is_full);
+        let (mut waiting, waited) = waited.unwrap_or_else(|it| it.into_inner());
         if waiting.is_closed {
-            return false;
+            return Put::Closed;
         }
-        waiting.peers[index].push_back(message);
+        if waited.timed_out() {
+            return Put::Dropped;
+        }
+        let queue = &mut waiting.peers[index];
+        queue.messages.push_back((message, bytes));
+        queue.bytes += bytes;
         self.arrival.notify_one();
-        true
+        Put::Taken
     }
 
     /// Puts an event of the process itself.
@@ -145,9 +183,9 @@ mod tests {
     fn a_flood_of_one_peer_holds_up_no_other() {
         let inbox = Inbox::new(4);
         for view in 0..MOST_OF_A_PEER as u64 {
-            assert!(inbox.put(Participant::new(1), ask(view)));
+            assert_eq!(inbox.put(Participant::new(1), ask(view), 9), Put::Taken);
         }
-        assert!(inbox.put(Participant::new(3), ask(1)));
+        assert_eq!(inbox.put(Participant::new(3), ask(1), 9), Put::Taken);
         let first_two = [sender(inbox.take(NOW)), sender(inbox.take(NOW))];
         assert_eq!(first_two, [Some(1), Some(3)], "each peer's first message comes within one turn");
     }
@@ -156,25 +194,25 @@ mod tests {
     fn a_full_queue_waits_and_goes_on_once_there_is_room() {
         let inbox = Arc::new(Inbox::new(2));
         for view in 0..MOST_OF_A_PEER as u64 {
-            inbox.put(Participant::new(1), ask(view));
+            inbox.put(Participant::new(1), ask(view), 9);
         }
         let writer = thread::spawn({
             let inbox = inbox.clone();
-            move || inbox.put(Participant::new(1), ask(7))
+            move || inbox.put(Participant::new(1), ask(7), 9)
         });
         thread::sleep(Duration::from_millis(20));
         assert!(!writer.is_finished(), "there was no room");
         for _ in 0..=MOST_OF_A_PEER {
             assert_eq!(sender(inbox.take(SOON)), Some(1));
         }
-        assert!(writer.join().expect("the writer ends"));
+        assert_eq!(writer.join().expect("the writer ends"), Put::Taken);
         assert!(inbox.take(NOW).is_none());
     }
 
     #[test]
     fn the_process_is_heard_before_its_peers() {
         let inbox = Inbox::new(2);
-        inbox.put(Participant::new(1), ask(1));
+        inbox.put(Participant::new(1), ask(1), 9);
         inbox.tell(Event::Stop);
         assert!(matches!(inbox.take(NOW), Some(Event::Stop)));
         assert_eq!(sender(inbox.take(NOW)), Some(1));
@@ -184,6 +222,16 @@ mod tests {
     fn a_closed_one_lets_writers_go() {
         let inbox = Inbox::new(2);
         inbox.close();
-        assert!(!inbox.put(Participant::new(1), ask(1)));
+        assert_eq!(inbox.put(Participant::new(1), ask(1), 9), Put::Closed);
+    }
+
+    #[test]
+    fn a_peer_holds_no_more_bytes_than_it_may() {
+        let inbox = Inbox::new(2);
+        let put = || inbox.put(Participant::new(1), Message::Block(vec![0; 1 << 20]), 1 << 20);
+        let taken = (0..6).filter(|_| put() == Put::Taken).count();
+        assert_eq!(taken, MOST_BYTES_OF_A_PEER >> 20, "and what waits for too long is dropped");
+        assert_eq!(sender(inbox.take(NOW)), Some(1));
+        assert_eq!(put(), Put::Taken, "there is room again");
     }
 }

@@ -1,10 +1,11 @@
 //! The record on a disk: one file that grows by what each turn recorded, and is replaced in one step when it is compacted.
 //!
-//! It begins with eight letters and a version. Then come pieces: the length of a body and its complement, four bytes each, the body, and
-//! its SHA-256 digest. A body is what is stored beside the record, and the record's frames. So a piece counts whole or not at all: one
-//! that was cut off by a crash was never synced, and no vote of it has left.
+//! It begins with eight letters and a version, whose journal it is ([`Identity`]), and the SHA-256 digest of all that. Then come pieces: the
+//! length of a body and its complement, four bytes each, the body, and its SHA-256 digest. A body is what is stored beside the record, and
+//! the record's frames. So a piece counts whole or not at all: one that was cut off by a crash was never synced, and no vote of it has left.
 
 use crate::crypto::digest;
+use crate::identity::{self, Difference, Identity};
 use simplex_view_state::{Entries, Stored};
 use std::fmt;
 use std::fs::{self, File, OpenOptions};
@@ -12,9 +13,15 @@ use std::io::{self, Write};
 use std::path::{Path, PathBuf};
 
 const NAME: &[u8; 8] = b"simplexj";
-/// From 2 on the certificates in the record are as the library makes them of votes: those of version 1 no peer would take.
-const VERSION: u8 = 2;
-const HEAD: usize = 9;
+/// From 2 on the certificates in the record are as the library makes them of votes: those of version 1 no peer would take. From 3 on a
+/// journal says whose it is.
+const VERSION: u8 = 3;
+/// The version before the identity.
+const NAMELESS: u8 = 2;
+/// How many bytes the letters and the version have, which is all that stands before the pieces of version 2.
+const BEGIN: usize = 9;
+/// How many bytes stand before the first piece.
+pub(crate) const HEAD: usize = BEGIN + identity::SIZE + 32;
 /// What a piece has beside its body: two lengths and a digest.
 const BESIDE: usize = 8 + 32;
 
@@ -38,22 +45,36 @@ pub enum JournalError {
     NoJournal,
     /// A later or earlier version of this engine wrote it.
     OtherVersion(u8),
-    /// Bytes are changed behind so many whole ones. Votes may be among them, so this member must not go on: it gets a new key.
+    /// It is of version 2, which does not say whose it is.
+    Nameless,
+    /// It is not this node's, or not of these settings.
+    Other(Difference),
+    /// Bytes are changed after so many whole ones. Votes may be among them, so this key must not vote again.
     Damaged(usize),
 }
+
+/// What is left to do where votes may be lost.
+pub const NEW_KEY: &str = "If there is none, this key must never vote again: the member needs a new one, with the next epoch";
 
 impl fmt::Display for JournalError {
     fn fmt(&self, f: &mut fmt::Formatter<'_>) -> fmt::Result {
         match self {
             JournalError::Disk(error) => write!(f, "the journal: {error}"),
             JournalError::NoJournal => f.write_str("the file is no journal of this engine"),
-            JournalError::OtherVersion(it) => write!(f, "the journal has version {it}, and this engine writes and reads {VERSION}"),
-            JournalError::Damaged(at) => {
-                write!(
-                    f,
-                    "the journal is damaged behind {at} bytes: votes may be lost, so this member must not go on with its key"
-                )
-            }
+            JournalError::OtherVersion(it) => write!(
+                f,
+                "the journal has version {it}, and this release reads {VERSION}: run the release that wrote it"
+            ),
+            JournalError::Nameless => write!(
+                f,
+                "the journal has version {NAMELESS}, which does not say whose it is: if this node wrote it, run `simplex-node adopt --config \
+                 FILE` once"
+            ),
+            JournalError::Other(difference) => difference.fmt(f),
+            JournalError::Damaged(at) => write!(
+                f,
+                "the journal is damaged after {at} bytes, and votes may be lost: put back a whole copy of these very bytes. {NEW_KEY}"
+            ),
         }
     }
 }
@@ -71,24 +92,77 @@ pub fn path(folder: &Path) -> PathBuf {
     folder.join("journal")
 }
 
-/// Reads what a folder's journal held; none where there is none, or it was never written whole.
-pub fn read(folder: &Path) -> Result<Option<Kept>, JournalError> {
-    match fs::read(path(folder)) {
-        Ok(bytes) => parse(&bytes).map(Some),
-        Err(error) if error.kind() == io::ErrorKind::NotFound => Ok(None),
-        Err(error) => Err(error.into()),
+/// Reads what a folder's journal held; `None` where there is none, or it was never written whole. A journal of another identity is refused.
+pub fn read(folder: &Path, identity: &Identity) -> Result<Option<Kept>, JournalError> {
+    let Some(bytes) = read_file(&path(folder))? else { return Ok(None) };
+    let kept = parse(&bytes)?;
+    match identity_of(&bytes)?.differs_from(identity) {
+        Some(difference) => Err(JournalError::Other(difference)),
+        None => Ok(Some(kept)),
     }
 }
 
-/// What the bytes of a journal hold. It was written whole once, so a first piece stands there.
-pub fn parse(bytes: &[u8]) -> Result<Kept, JournalError> {
-    let rest = bytes.strip_prefix(NAME).ok_or(JournalError::NoJournal)?;
-    match rest.first() {
-        Some(&VERSION) => {}
-        Some(&other) => return Err(JournalError::OtherVersion(other)),
-        None => return Err(JournalError::NoJournal),
+/// Reads a folder's journal of version 2; `None` where there is none. One of another version is refused.
+pub fn read_nameless(folder: &Path) -> Result<Option<Kept>, JournalError> {
+    let Some(bytes) = read_file(&path(folder))? else { return Ok(None) };
+    match version_of(&bytes)? {
+        NAMELESS => pieces(&bytes, BEGIN).map(Some),
+        other => Err(JournalError::OtherVersion(other)),
     }
-    let (mut at, mut stored, mut frames) = (HEAD, None, Vec::new());
+}
+
+/// Makes a folder's journal of version 2 one of this identity, in one step. Its pieces stay as they are, but for one that was cut off.
+pub fn adopt(folder: &Path, kept: &Kept, identity: &Identity) -> Result<(), JournalError> {
+    let bytes = fs::read(path(folder))?;
+    let whole = bytes.get(BEGIN..bytes.len() - kept.cut).ok_or(JournalError::NoJournal)?;
+    Ok(replace(folder, &[&head(identity)[..], whole].concat())?)
+}
+
+fn read_file(path: &Path) -> io::Result<Option<Vec<u8>>> {
+    match fs::read(path) {
+        Ok(bytes) => Ok(Some(bytes)),
+        Err(error) if error.kind() == io::ErrorKind::NotFound => Ok(None),
+        Err(error) => Err(error),
+    }
+}
+
+/// What the bytes of a journal hold.
+pub fn parse(bytes: &[u8]) -> Result<Kept, JournalError> {
+    match version_of(bytes)? {
+        VERSION => {}
+        NAMELESS => return Err(JournalError::Nameless),
+        other => return Err(JournalError::OtherVersion(other)),
+    }
+    identity_of(bytes)?;
+    pieces(bytes, HEAD)
+}
+
+fn version_of(bytes: &[u8]) -> Result<u8, JournalError> {
+    let rest = bytes.strip_prefix(NAME).ok_or(JournalError::NoJournal)?;
+    rest.first().copied().ok_or(JournalError::NoJournal)
+}
+
+/// Whose journal the bytes are. They were written whole once, so a digest that is not theirs is damage.
+fn identity_of(bytes: &[u8]) -> Result<Identity, JournalError> {
+    let (head, _) = bytes.split_at_checked(HEAD).ok_or(JournalError::Damaged(BEGIN))?;
+    let (named, sum) = head.split_at(HEAD - 32);
+    let (_, identity) = named.split_last_chunk().ok_or(JournalError::NoJournal)?;
+    if digest(named).bytes() != sum {
+        return Err(JournalError::Damaged(BEGIN));
+    }
+    Ok(Identity::from_bytes(identity))
+}
+
+fn head(identity: &Identity) -> Vec<u8> {
+    let mut head = [&NAME[..], &[VERSION], &identity.to_bytes()].concat();
+    let sum = digest(&head);
+    head.extend_from_slice(sum.bytes());
+    head
+}
+
+/// What the pieces from a place on hold. The journal was written whole once, so a first piece is there.
+fn pieces(bytes: &[u8], begin: usize) -> Result<Kept, JournalError> {
+    let (mut at, mut stored, mut frames) = (begin, None, Vec::new());
     while let Some(body) = piece_at(bytes, at)? {
         let (beside, more) = body.split_first_chunk::<{ Stored::SIZE }>().ok_or(JournalError::Damaged(at))?;
         stored = Some(Stored::from_bytes(beside).ok_or(JournalError::Damaged(at))?);
@@ -96,7 +170,7 @@ pub fn parse(bytes: &[u8]) -> Result<Kept, JournalError> {
         at += BESIDE + body.len();
     }
     Ok(Kept {
-        stored: stored.ok_or(JournalError::Damaged(HEAD))?,
+        stored: stored.ok_or(JournalError::Damaged(begin))?,
         frames,
         cut: bytes.len() - at,
     })
@@ -136,9 +210,20 @@ fn piece(entries: &Entries) -> io::Result<Vec<u8>> {
     Ok(piece)
 }
 
+/// Puts a file of these bytes in the place of a folder's journal, in one step: another file is written, synced and renamed.
+fn replace(folder: &Path, bytes: &[u8]) -> io::Result<()> {
+    let fresh = folder.join("journal.new");
+    let mut file = File::create(&fresh)?;
+    file.write_all(bytes)?;
+    file.sync_all()?;
+    fs::rename(&fresh, path(folder))?;
+    File::open(folder)?.sync_all()
+}
+
 /// A journal that is written to.
 pub struct Journal {
     folder: PathBuf,
+    identity: Identity,
     file: File,
     bytes: u64,
     entries: u64,
@@ -147,20 +232,15 @@ pub struct Journal {
 }
 
 impl Journal {
-    /// Puts a journal of these entries in the place of what the folder had, in one step: another file is written, synced and renamed.
-    pub fn create(folder: &Path, entries: &Entries, syncs: bool) -> io::Result<Journal> {
-        let fresh = folder.join("journal.new");
-        let mut bytes = NAME.to_vec();
-        bytes.push(VERSION);
+    /// Puts a journal of these entries in the place of what the folder had, in one step.
+    pub fn create(folder: &Path, identity: &Identity, entries: &Entries, syncs: bool) -> io::Result<Journal> {
+        let mut bytes = head(identity);
         bytes.extend_from_slice(&piece(entries)?);
-        let mut file = File::create(&fresh)?;
-        file.write_all(&bytes)?;
-        file.sync_all()?;
-        fs::rename(&fresh, path(folder))?;
-        File::open(folder)?.sync_all()?;
+        replace(folder, &bytes)?;
         Ok(Journal {
             file: OpenOptions::new().append(true).open(path(folder))?,
             folder: folder.to_owned(),
+            identity: *identity,
             bytes: bytes.len() as u64,
             entries: entries.stored.entries.get(),
             is_dirty: false,
@@ -197,7 +277,7 @@ impl Journal {
 
     /// Replaces it all by these entries, in one step.
     pub fn compact(&mut self, entries: &Entries) -> io::Result<()> {
-        *self = Journal::create(&self.folder, entries, self.syncs)?;
+        *self = Journal::create(&self.folder, &self.identity, entries, self.syncs)?;
         Ok(())
     }
 
@@ -218,6 +298,15 @@ mod tests {
     use crate::trace::scratch;
     use simplex_view_state::{Config, Epoch, Member, Moment, TimeoutReason, View};
 
+    fn identity() -> Identity {
+        Identity {
+            key: [8; 32],
+            epoch: 1,
+            term_length: 1,
+            members: digest(b"members"),
+        }
+    }
+
     /// A member that has voted, and its journal in two pieces.
     fn voted(folder: &Path) -> Vec<u8> {
         let config = Config::new(
@@ -228,7 +317,7 @@ mod tests {
         );
         let mut member = Member::start(&config, Moment::from_millis(0)).expect("good settings");
         let begun = member.entries_since(Default::default()).expect("memory");
-        let mut journal = Journal::create(folder, &begun, true).expect("a disk");
+        let mut journal = Journal::create(folder, &identity(), &begun, true).expect("a disk");
         let vote = member
             .construct_nullify(View::new(1), TimeoutReason::LeaderTimeout)
             .expect("a view");
@@ -257,7 +346,7 @@ mod tests {
     fn a_bit_that_is_changed_before_the_end_is_damage() {
         let folder = scratch("damage");
         let mut bytes = voted(&folder);
-        for at in HEAD..bytes.len() {
+        for at in BEGIN..bytes.len() {
             for bit in 0..8 {
                 bytes[at] ^= 1 << bit;
                 assert!(matches!(parse(&bytes), Err(JournalError::Damaged(_))), "byte {at}, bit {bit}");
@@ -267,12 +356,36 @@ mod tests {
     }
 
     #[test]
+    fn a_journal_without_a_name_keeps_its_pieces_once_it_is_adopted() {
+        let folder = scratch("nameless");
+        let bytes = voted(&folder);
+        let torn = [&NAME[..], &[NAMELESS], &bytes[HEAD..], &bytes[HEAD..HEAD + 20]].concat();
+        fs::write(path(&folder), torn).expect("a disk");
+        let kept = read_nameless(&folder).expect("a journal").expect("it is there");
+        assert_eq!((kept.cut, kept.stored.entries.get()), (20, 1));
+        adopt(&folder, &kept, &identity()).expect("a disk");
+        assert_eq!(fs::read(path(&folder)).expect("it is there"), bytes);
+        assert!(matches!(read_nameless(&folder), Err(JournalError::OtherVersion(VERSION))));
+    }
+
+    #[test]
+    fn a_journal_of_another_identity_is_refused() {
+        let folder = scratch("identity");
+        voted(&folder);
+        assert!(read(&folder, &identity()).is_ok_and(|it| it.is_some()));
+        let other = Identity { epoch: 2, ..identity() };
+        assert!(matches!(read(&folder, &other), Err(JournalError::Other(Difference::Epoch(1, 2)))));
+    }
+
+    #[test]
     fn other_files_are_refused_by_name() {
         let folder = scratch("other");
         let mut bytes = voted(&folder);
         bytes[8] = 1;
-        let refused = parse(&bytes).expect_err("of the version before");
+        let refused = parse(&bytes).expect_err("of an earlier version");
         assert!(refused.to_string().contains("the journal has version 1"), "{refused}");
+        bytes[8] = NAMELESS;
+        assert!(matches!(parse(&bytes), Err(JournalError::Nameless)));
         bytes[0] = b'S';
         assert!(matches!(parse(&bytes), Err(JournalError::NoJournal)));
         assert!(matches!(parse(b""), Err(JournalError::NoJournal)));

@@ -4,8 +4,8 @@ use crate::crypto::{SIGNATURE, Signature};
 use simplex_view_state::{Certificate, Digest, FetchKind, Participant, Subject, View, Vote};
 
 /// The version of all that stands below. It is a part of what is signed in a greeting, so members of two versions refuse each other.
-/// From 2 on certificates are as the library makes them of votes.
-pub const VERSION: u8 = 2;
+/// From 2 on certificates are as the library makes them of votes; from 3 on both sides of a link send heartbeats.
+pub const VERSION: u8 = 3;
 
 /// The longest message that is read: 1 MiB.
 pub const LONGEST: usize = 1 << 20;

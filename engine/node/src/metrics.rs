@@ -52,7 +52,7 @@ counters! {
     forged: "counter",
     /// Votes that contradict another one of their signer.
     contradictions: "counter",
-    /// Leaders that were found to have proposed twice in a view.
+    /// Views whose leader was found to have proposed twice.
     equivocations: "counter",
     /// Certificates and blocks that were asked for.
     fetches: "counter",
@@ -86,6 +86,14 @@ counters! {
     connections: "counter",
     /// Greetings that were refused.
     refused_greetings: "counter",
+    /// Connections that were refused: too many that did not greet, or a member's that sent forgeries.
+    refused_connections: "counter",
+    /// Times that a member was refused for forgeries.
+    offences: "counter",
+    /// Times that a peer's reader waited, since the peer took more than its budget.
+    slowed_readers: "counter",
+    /// Messages of peers that waited for too long, and were dropped.
+    dropped_messages: "counter",
     /// Frames that did not fit a peer's queue.
     dropped_frames: "counter",
 }

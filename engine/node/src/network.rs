@@ -2,6 +2,7 @@
 
 use crate::faults::{Fault, Trial};
 use crate::ledger::{self, Link};
+use crate::run_folder::RunFolder;
 use crate::settings::{Outcome, Peer, Protocol, Settings};
 use crate::trace::{self, Line};
 use crate::{crypto, journal};
@@ -32,13 +33,15 @@ pub struct Plan {
     pub delay_ms: u64,
     /// The program of a node.
     pub program: PathBuf,
-    /// The folder of all that is written. It is emptied.
+    /// The folder of all that is written: new, empty, or of an earlier run, whose files are removed ([`RunFolder`]).
     pub folder: PathBuf,
 }
 
 /// Nodes that run.
 pub struct Network {
     plan: Plan,
+    /// That no other run uses the folder.
+    _folder: RunFolder,
     settings: Vec<Settings>,
     children: Vec<Option<Child>>,
     /// How often each was begun.
@@ -46,12 +49,9 @@ pub struct Network {
 }
 
 impl Network {
-    /// Makes keys and settings, and begins no node.
+    /// Makes keys and settings in the plan's folder, and begins no node. A folder that is not a run's is refused, and left as it is.
     pub fn new(plan: Plan) -> Outcome<Network> {
-        match fs::remove_dir_all(&plan.folder) {
-            Err(error) if error.kind() != std::io::ErrorKind::NotFound => return Err(error.into()),
-            _ => fs::create_dir_all(&plan.folder)?,
-        }
+        let folder = RunFolder::take(&plan.folder)?;
         let addresses = free_addresses(2 * plan.nodes as usize)?;
         let mut members = Vec::new();
         for index in 0..plan.nodes {
@@ -81,6 +81,7 @@ impl Network {
             settings: (0..plan.nodes).map(settings_of).collect(),
             children: (0..plan.nodes).map(|_| None).collect(),
             lives: vec![0; plan.nodes as usize],
+            _folder: folder,
             plan,
         };
         (0..network.plan.nodes).try_for_each(|index| network.write_settings(index))?;
@@ -161,8 +162,9 @@ impl Network {
         let path = journal::path(&self.data(index));
         let stored = fs::read(&path)?;
         let last = stored.len().saturating_sub(bytes.max(1));
-        // What stands at the journal's front is a whole piece: a beginning of it, behind the end, is a piece that was cut off.
-        let begun = stored.get(9..9 + bytes.min(last.saturating_sub(9)).min(40)).unwrap_or_default();
+        // The first piece is whole: a beginning of it after the end is a piece that was cut off.
+        let first = stored.get(journal::HEAD..last).unwrap_or_default();
+        let begun = &first[..bytes.min(first.len()).min(40)];
         let mut file = OpenOptions::new().append(true).open(path)?;
         Ok(file.write_all(begun)?)
     }
@@ -192,12 +194,14 @@ impl Network {
         Ok(())
     }
 
-    /// What a node counts under a name; none where it does not answer.
+    /// What a node counts, at one moment; `None` where it does not reply.
+    pub fn metrics(&self, index: u32) -> Option<Metrics> {
+        get_metrics(self.settings[index as usize].metrics?).map(Metrics)
+    }
+
+    /// What a node counts under a name; `None` where it does not reply.
     pub fn metric(&self, index: u32, name: &str) -> Option<u64> {
-        let address = self.settings[index as usize].metrics?;
-        let text = get_metrics(address)?;
-        let line = text.lines().find_map(|line| line.strip_prefix(&format!("simplex_{name} ")))?;
-        line.parse().ok()
+        self.metrics(index)?.get(name)
     }
 
     /// Waits until these nodes have all finalized a view, or the time is over. Whether they have.
@@ -263,6 +267,17 @@ impl Network {
     pub fn honest(&self) -> Vec<u32> {
         let is_faulty = |index: &u32| self.plan.faults.iter().any(|it| it.0 == *index && it.1 != Fault::Jumps);
         (0..self.plan.nodes).filter(|index| !is_faulty(index)).collect()
+    }
+}
+
+/// What a node counts, all read at one moment.
+pub struct Metrics(String);
+
+impl Metrics {
+    /// The count under a name; `None` where nothing is counted so.
+    pub fn get(&self, name: &str) -> Option<u64> {
+        let line = self.0.lines().find_map(|line| line.strip_prefix(&format!("simplex_{name} ")))?;
+        line.parse().ok()
     }
 }
 

@@ -4,6 +4,9 @@ use crate::trace::Line;
 use std::collections::{BTreeMap, BTreeSet};
 use std::fmt::Write as _;
 
+/// How a kill is shown in a cell.
+const KILLED: char = 'k';
+
 /// What each member was seen to vote in each view, and what was finalized.
 pub struct Grid {
     members: u32,
@@ -14,13 +17,14 @@ pub struct Grid {
 }
 
 impl Grid {
-    /// The grid of a run's last views.
-    pub fn new(members: u32, faulty: BTreeSet<u32>, votes: &[Line], finalized: BTreeSet<u64>, last: usize) -> Grid {
+    /// The grid of a run's last views. A kill is a member, and the last finalized view when it was killed.
+    pub fn new(members: u32, faulty: BTreeSet<u32>, votes: &[Line], kills: &[(u32, u64)], finalized: BTreeSet<u64>, last: usize) -> Grid {
         let mut cells: BTreeMap<(u32, u64), String> = BTreeMap::new();
-        for vote in votes {
-            let cell = cells.entry((vote.signer, vote.view)).or_default();
-            if !cell.contains(vote.kind) {
-                cell.push(vote.kind);
+        let voted = votes.iter().map(|vote| ((vote.signer, vote.view), vote.kind));
+        for (place, letter) in voted.chain(kills.iter().map(|kill| (*kill, KILLED))) {
+            let cell = cells.entry(place).or_default();
+            if !cell.contains(letter) {
+                cell.push(letter);
             }
         }
         let highest = finalized.last().copied().unwrap_or(0);
@@ -38,16 +42,6 @@ impl Grid {
             finalized,
             views,
         }
-    }
-
-    /// The members that are faulty.
-    pub fn faulty(&self) -> &BTreeSet<u32> {
-        &self.faulty
-    }
-
-    /// The views that were finalized.
-    pub fn finalized(&self) -> &BTreeSet<u64> {
-        &self.finalized
     }
 
     fn cell(&self, member: u32, view: u64) -> &str {
@@ -86,7 +80,8 @@ impl Grid {
         text
     }
 
-    /// The grid as SVG: a cell is green where the member voted to finalize, blue where to notarize alone, red where to nullify.
+    /// The grid as SVG: a cell is green where the member voted to finalize, blue where to notarize alone, red where to nullify, and has a
+    /// cross where it was killed.
     pub fn svg(&self, caption: &str) -> String {
         let (left, top, size) = (110, 40, 14);
         let width = left + size * self.views.len() + 20;
@@ -111,15 +106,19 @@ impl Grid {
                 };
                 let x = left + size * at;
                 let _ = writeln!(svg, "<rect x=\"{x}\" y=\"{y}\" width=\"12\" height=\"12\" fill=\"{colour}\"/>");
+                if self.cell(member, *view).contains(KILLED) {
+                    svg.push_str(&cross(x, y));
+                }
             }
         }
         let y = top + size * (self.members as usize + 1) + 14;
         for (at, view) in self.views.iter().enumerate().filter(|(_, view)| *view % 10 == 0) {
             let _ = writeln!(svg, "<text x=\"{}\" y=\"{y}\">{view}</text>", left + size * at);
         }
+        svg.push_str(&cross(10, y + 10));
         let _ = writeln!(
             svg,
-            "<text x=\"10\" y=\"{}\">green: voted to finalize; blue: to notarize; red: to nullify; grey: no vote seen</text>\n</svg>",
+            "<text x=\"26\" y=\"{}\">killed; green: voted to finalize; blue: to notarize; red: to nullify; grey: no vote seen</text>\n</svg>",
             y + 20
         );
         svg
@@ -128,6 +127,14 @@ impl Grid {
     fn mark(&self, view: u64) -> &'static str {
         if self.finalized.contains(&view) { "#222222" } else { "#eeeeee" }
     }
+}
+
+/// A cross over the cell at this corner.
+fn cross(x: usize, y: usize) -> String {
+    let (left, right, top, bottom) = (x + 1, x + 11, y + 1, y + 11);
+    format!(
+        "<path class=\"kill\" d=\"M{left} {top}L{right} {bottom}M{left} {bottom}L{right} {top}\" stroke=\"black\" stroke-width=\"2\"/>\n"
+    )
 }
 
 fn colour_of(cell: &str) -> &'static str {
@@ -153,11 +160,15 @@ mod tests {
             seen_us: 0,
         };
         let votes = [vote(0, 'n', 1), vote(0, 'f', 1), vote(1, 'x', 1), vote(0, 'n', 2), vote(0, 'n', 3)];
-        let grid = Grid::new(2, [1].into(), &votes, [1, 2].into(), 9);
+        let grid = Grid::new(2, [1].into(), &votes, &[(0, 2)], [1, 2].into(), 9);
         assert_eq!(
             grid.text(),
-            "view            1  2\nnode 0          nf n\nnode 1 (faulty) x  .\nfinalized       F  F\n"
+            "view            1  2\nnode 0          nf nk\nnode 1 (faulty) x  .\nfinalized       F  F\n"
         );
-        assert_eq!(grid.svg("x").matches("<rect").count(), 1 + 6);
+        let svg = grid.svg("x");
+        assert_eq!(
+            (svg.matches("<rect").count(), svg.matches("class=\"kill\"").count()),
+            (1 + 6, 1 + 1)
+        );
     }
 }

@@ -16,8 +16,10 @@ use crate::crypto::Keys;
 use crate::faults::Fault;
 use crate::inbox::{Event, Inbox};
 use crate::journal::Journal;
+use crate::leader_votes::LeaderVotes;
 use crate::message::Message;
 use crate::metrics::{Counters, resident_kb};
+use crate::pace::Pace;
 use crate::peers::{Horizon, Peers};
 use crate::settings::{Outcome, Settings, Turns};
 use crate::trace::Trace;
@@ -28,7 +30,7 @@ use simplex_view_state::{
 use std::collections::BTreeSet;
 use std::fs::File;
 use std::sync::Arc;
-use std::sync::atomic::Ordering::Relaxed;
+use std::sync::atomic::{AtomicU64, Ordering::Relaxed};
 use std::time::{Duration, Instant};
 use tracing::info;
 
@@ -78,6 +80,8 @@ pub struct Replica<A> {
     trace: Option<Trace>,
     /// What waits for blocks.
     waiting: Waiting,
+    /// The blocks that wait to be built.
+    pace: Pace,
     /// What others see and stands behind a record that the disk may not have yet, in order.
     leaving: Vec<Output>,
     /// When each member was heard of last.
@@ -86,8 +90,12 @@ pub struct Replica<A> {
     given_up: View,
     /// The last view that this member was seen to vote to nullify.
     nullified: View,
+    /// The proposals of leaders, compared with what others vote for.
+    leader_votes: LeaderVotes,
     /// Whose contradictions were told of: once a view, or a faulty member could fill the log.
     shown: BTreeSet<(View, Participant)>,
+    /// The views whose leaders were found to have proposed twice.
+    proposed_twice: BTreeSet<View>,
     finalized: Option<Proposal>,
     old_votes: Vec<Vote>,
     told_at: u64,
@@ -106,11 +114,14 @@ impl<A: Application> Replica<A> {
             turns: parts.settings.turns(),
             trace: parts.settings.trace.as_deref().map(Trace::open).transpose()?,
             waiting: Waiting::new(parts.settings.me(), members),
+            pace: Pace::new(Duration::from_millis(parts.settings.protocol.pace_ms)),
             leaving: Vec::new(),
             heard: vec![Instant::now(); members as usize],
             given_up: View::GENESIS,
             nullified: View::GENESIS,
+            leader_votes: LeaderVotes::new(parts.settings.turns()),
             shown: BTreeSet::new(),
+            proposed_twice: BTreeSet::new(),
             finalized,
             old_votes: Vec::new(),
             told_at: u64::MAX,
@@ -123,14 +134,10 @@ impl<A: Application> Replica<A> {
         self.deliver()?;
         let mut is_settled = self.settle()?;
         loop {
-            let wait = if is_settled {
-                self.parts.clock.until(self.parts.engine.wake()).min(LONGEST_WAIT)
-            } else {
-                Duration::ZERO
-            };
+            let wait = if is_settled { self.longest_wait() } else { Duration::ZERO };
             let idle = Instant::now();
             let mut next = self.parts.inbox.take(wait);
-            self.parts.counters.idle_us.fetch_add(idle.elapsed().as_micros() as u64, Relaxed);
+            self.spent(&self.parts.counters.idle_us, idle);
             for _ in 0..MOST_EVENTS {
                 match next {
                     Some(Event::Stop) => return self.stop(),
@@ -140,10 +147,18 @@ impl<A: Application> Replica<A> {
                 next = self.parts.inbox.take(Duration::ZERO);
             }
             self.watch_leader()?;
+            self.build_due()?;
             is_settled = self.settle()?;
             self.fetch_blocks();
             self.tell()?;
         }
+    }
+
+    /// How long a turn may wait for events: until the engine or a build is due.
+    fn longest_wait(&self) -> Duration {
+        let wake = self.parts.clock.until(self.parts.engine.wake());
+        let build = self.pace.wait(Instant::now()).unwrap_or(LONGEST_WAIT);
+        wake.min(build).min(LONGEST_WAIT)
     }
 
     fn stop(mut self) -> Outcome {
@@ -165,22 +180,31 @@ impl<A: Application> Replica<A> {
         let now = self.parts.clock.now();
         let begun = Instant::now();
         let is_of_use = self.parts.engine.handle(input, now)?;
-        self.parts.counters.core_us.fetch_add(begun.elapsed().as_micros() as u64, Relaxed);
+        self.spent(&self.parts.counters.core_us, begun);
         Ok(is_of_use)
+    }
+
+    /// Counts the time since a moment. The lifetime is counted first: so a reader, who reads it last, finds no share above the whole.
+    fn spent(&self, on: &AtomicU64, since: Instant) {
+        let spent = since.elapsed().as_micros() as u64;
+        self.parts
+            .counters
+            .life_us
+            .store(self.parts.clock.life().as_micros() as u64, Relaxed);
+        on.fetch_add(spent, Relaxed);
     }
 
     fn poll(&mut self) -> Outcome<Option<Output>> {
         let now = self.parts.clock.now();
         let begun = Instant::now();
         let output = self.parts.engine.poll(now)?;
-        self.parts.counters.core_us.fetch_add(begun.elapsed().as_micros() as u64, Relaxed);
+        self.spent(&self.parts.counters.core_us, begun);
         Ok(output)
     }
 
     fn take(&mut self, event: Event) -> Outcome {
         let (from, message) = match event {
             Event::Message(from, message) => (from, message),
-            Event::Paced(context) => return self.build_now(&context),
             Event::Stop => return Ok(()),
         };
         if self.parts.peers.is_cut_off(from) {
@@ -204,10 +228,10 @@ impl<A: Application> Replica<A> {
         }
     }
 
-    /// A proposal that its view's leader signed, with its block. The readers tested the signature.
+    /// A proposal that its view's leader signed, with its block. The readers tested the signature, and that the block has the payload.
     fn take_proposal(&mut self, vote: Vote, block: Vec<u8>) -> Outcome {
         let Subject::Notarize(proposal) = vote.subject else { return Ok(()) };
-        if let Some(block) = Block::read(block).filter(|it| it.payload() == proposal.payload && it.is_of(&proposal)) {
+        if let Some(block) = Block::of(block, proposal.payload).filter(|it| it.is_of(&proposal)) {
             self.take_proposed(vote.signer, proposal, block)?;
         }
         self.take_vote(vote)
@@ -239,6 +263,10 @@ impl<A: Application> Replica<A> {
             let reason = TimeoutReason::LeaderNullify;
             self.handle(Input::GivenUp { view, reason })?;
         }
+        if self.parts.engine.admits_vote(view) {
+            let found = self.leader_votes.see(&vote);
+            self.compare(found);
+        }
         match self.parts.settings.trial.fault {
             Some(Fault::Replays) => self.replay(&vote),
             Some(Fault::Forges) if vote.signer == self.parts.keys.me => self.forge(&vote),
@@ -251,6 +279,10 @@ impl<A: Application> Replica<A> {
     /// A certificate that is good.
     fn take_certificate(&mut self, it: Certificate) -> Outcome {
         let (kind, view) = (it.kind(), it.round().view);
+        if self.parts.engine.admits_vote(view) {
+            let found = self.leader_votes.see_certificate(&it);
+            self.compare(found);
+        }
         if self.handle(Input::Certificate(it))? {
             self.parts.horizon.know(kind, view);
         }
@@ -290,12 +322,13 @@ impl<A: Application> Replica<A> {
         Ok(is_settled)
     }
 
-    /// Polls until nothing follows. What others see, or is final, and stands behind a record waits until the disk has that; all else is
-    /// carried out at once, so that one wait serves what comes of it too.
+    /// Polls until nothing follows. What others see waits until the disk has the record before it; all else is carried out at once, so that
+    /// one wait serves what comes of it too. A final proposal waits for the record of the whole turn, in which its finalization is stored:
+    /// so the chain is never ahead of the journal.
     fn poll_all(&mut self) -> Outcome {
         while let Some(output) = self.poll()? {
             let is_behind = self.parts.journal.is_dirty() || !self.leaving.is_empty();
-            if is_behind && is_seen(&output) {
+            if matches!(output, Output::Finalized(_)) || is_behind && is_seen(&output) {
                 self.leaving.push(output);
             } else {
                 self.carry_out(output)?;
@@ -311,7 +344,7 @@ impl<A: Application> Replica<A> {
         self.parts.blocks.sync()?;
         if self.parts.journal.sync()? {
             self.parts.counters.syncs.fetch_add(1, Relaxed);
-            self.parts.counters.sync_us.fetch_add(begun.elapsed().as_micros() as u64, Relaxed);
+            self.spent(&self.parts.counters.sync_us, begun);
         }
         Ok(())
     }
@@ -343,14 +376,18 @@ impl<A: Application> Replica<A> {
                 self.deliver()?;
             }
             Output::Verify(context, proposal) => self.verify(context, proposal)?,
-            Output::Build(context) => self.build(context)?,
+            Output::Build(context) => {
+                self.pace.ask(context);
+                self.build_due()?;
+            }
             Output::Certify(proposal) => self.certify(proposal)?,
-            // What is built here is built at once.
-            Output::StopBuilding(_) => {}
+            Output::StopBuilding(view) => self.pace.stop(view),
             Output::Equivocated(first, second) => self.show(&first, &second),
             Output::ProposedTwice(view, leader) => self.show_leader(view, leader),
             Output::Forget(lowest) => {
                 self.waiting.forget(lowest);
+                self.leader_votes.forget(lowest);
+                self.proposed_twice = self.proposed_twice.split_off(&lowest);
                 self.shown = self.shown.split_off(&(lowest, Participant::new(0)));
             }
         }
@@ -384,10 +421,7 @@ impl<A: Application> Replica<A> {
     }
 }
 
-/// Whether other members see what comes of it, or the application holds it final.
+/// Whether other members see what comes of it.
 fn is_seen(output: &Output) -> bool {
-    matches!(
-        output,
-        Output::Vote(_) | Output::Broadcast(_) | Output::Fetch(_) | Output::Finalized(_)
-    )
+    matches!(output, Output::Vote(_) | Output::Broadcast(_) | Output::Fetch(_))
 }

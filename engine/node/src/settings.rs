@@ -72,7 +72,7 @@ pub struct Protocol {
     pub inactivity_ms: u64,
     /// How many views below the last finalized one are kept: what peers that are so far behind are still served.
     pub view_retention: u64,
-    /// The least time between two blocks that this node builds; 0 builds as fast as views are entered.
+    /// The least time between two blocks that this node builds, in milliseconds; 0 builds as soon as one is asked for.
     pub pace_ms: u64,
 }
 

@@ -1,12 +1,13 @@
 //! How a node begins: from its journal, or at a floor.
 
-use crate::blocks::Blocks;
+use crate::blocks::{self, Blocks};
 use crate::clock::Clock;
 use crate::crypto::Keys;
 use crate::floor;
+use crate::identity::Identity;
 use crate::inbox::Inbox;
-use crate::journal::{self, Journal, Kept};
-use crate::ledger::Ledger;
+use crate::journal::{self, Journal, JournalError, Kept};
+use crate::ledger::{self, Ledger};
 use crate::metrics::{self, Counters};
 use crate::peers::{Horizon, Peers};
 use crate::replica::{Parts, Replica};
@@ -23,16 +24,18 @@ pub fn open(settings: Settings) -> Outcome<(Replica<Ledger>, Arc<Inbox>)> {
     let lock = lock(&settings.data)?;
     let keys = Arc::new(Keys::read(&settings)?);
     let floor = floor::read(&settings, &keys)?;
-    let kept = journal::read(&settings.data)?;
+    let identity = Identity::of(&settings)?;
+    let kept = read_journal(&settings.data, &identity)?;
     let mut engine = engine(&settings.config(floor.clone()), kept.as_ref())?;
+    let views = engine.views().ok_or(EngineError::Failed)?;
+    test_chain(&settings.data, views.last_finalized)?;
     let clock = Clock::start();
-    let journal = begin_journal(&mut engine, &settings, clock.now())?;
+    let journal = begin_journal(&mut engine, &settings, &identity, clock.now())?;
     let counters = Arc::new(Counters::default());
     if let Some(address) = settings.metrics {
         metrics::serve(address, counters.clone()).map_err(|error| format!("metrics at {address}: {error}"))?;
     }
     let horizon = Arc::new(Horizon::default());
-    let views = engine.views().ok_or(EngineError::Failed)?;
     horizon.moved(views.current, views.min_active);
     let inbox = Arc::new(Inbox::new(settings.members.len()));
     let peers = Peers::start(&settings, &keys, &horizon, &counters, &inbox)?;
@@ -55,6 +58,54 @@ pub fn open(settings: Settings) -> Outcome<(Replica<Ledger>, Arc<Inbox>)> {
     Ok((replica, inbox))
 }
 
+/// Says in a node's journal of version 2 that it is this node's. The record has to be one that an engine of these settings takes.
+pub fn adopt(settings: &Settings) -> Outcome {
+    let _lock = lock(&settings.data)?;
+    let floor = floor::read(settings, &Keys::read(settings)?)?;
+    let path = journal::path(&settings.data);
+    let named = |error: JournalError| format!("{}: {error}", path.display());
+    let kept = journal::read_nameless(&settings.data).map_err(named)?;
+    let kept = kept.ok_or_else(|| format!("{} is not there", path.display()))?;
+    let engine = engine(&settings.config(floor), Some(&kept))?;
+    test_chain(&settings.data, engine.views().ok_or(EngineError::Failed)?.last_finalized)?;
+    Ok(journal::adopt(&settings.data, &kept, &Identity::of(settings)?).map_err(named)?)
+}
+
+/// What the journal held; `None` of a node that never began. Where files of the node are here and the journal is not, it is lost: without
+/// it the node would vote a second time.
+fn read_journal(folder: &Path, identity: &Identity) -> Outcome<Option<Kept>> {
+    let path = journal::path(folder);
+    let kept = journal::read(folder, identity).map_err(|error| format!("{}: {error}", path.display()))?;
+    let left = [ledger::path(folder), blocks::path(folder)].into_iter().find(|it| it.exists());
+    match (kept, left) {
+        (None, Some(left)) => Err(format!(
+            "{} is here, and the journal {} is not: this node may have voted, and could contradict its votes. Put the journal back. {}",
+            left.display(),
+            path.display(),
+            journal::NEW_KEY
+        )
+        .into()),
+        (kept, _) => Ok(kept),
+    }
+}
+
+/// Refuses a journal that is older than the finalized chain beside it. A block is appended to the chain only after the journal holds the
+/// finalization, so a chain that is ahead shows that an earlier journal was put back.
+fn test_chain(folder: &Path, finalized: View) -> Outcome {
+    let last = ledger::last_links(folder, 1)?.last().map_or(0, |it| it.view);
+    if last <= finalized.get() {
+        return Ok(());
+    }
+    Err(format!(
+        "the journal {} is older than {}: its last finalized view is {finalized}, and the chain's is {last}. Votes are lost: put the newest \
+         journal back. {}",
+        journal::path(folder).display(),
+        ledger::path(folder).display(),
+        journal::NEW_KEY
+    )
+    .into())
+}
+
 fn tell(kept: Option<&Kept>, views: &Views) {
     let (cut, entries) = kept.map_or((0, 0), |it| (it.cut, it.stored.entries.get()));
     let (current, finalized) = (views.current.get(), views.last_finalized.get());
@@ -71,9 +122,9 @@ fn engine(config: &Config, kept: Option<&Kept>) -> Outcome<Engine> {
 }
 
 /// The journal of a life, from the engine's first output on: the whole record, in place of all that was stored.
-fn begin_journal(engine: &mut Engine, settings: &Settings, now: Moment) -> Outcome<Journal> {
+fn begin_journal(engine: &mut Engine, settings: &Settings, identity: &Identity, now: Moment) -> Outcome<Journal> {
     match engine.poll(now)? {
-        Some(Output::Replace(entries)) => Ok(Journal::create(&settings.data, &entries, settings.sync)?),
+        Some(Output::Replace(entries)) => Ok(Journal::create(&settings.data, identity, &entries, settings.sync)?),
         other => Err(format!("the engine begins with {other:?} in place of its record").into()),
     }
 }

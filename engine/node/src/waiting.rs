@@ -1,7 +1,7 @@
 //! What waits for a block that is not here: blocks are asked of one member after another until they come.
 
 use simplex_view_state::{Context, Digest, Moment, Participant, Proposal, View};
-use std::collections::{BTreeMap, BTreeSet};
+use std::collections::{BTreeMap, BTreeSet, HashSet};
 
 /// After how long a block is asked for again, in milliseconds.
 const RETRY_MS: u64 = 100;
@@ -74,6 +74,11 @@ impl Waiting {
     /// Whether a block is asked for.
     pub fn wants(&self, payload: &Digest) -> bool {
         self.wanted.contains_key(payload)
+    }
+
+    /// The blocks that are asked for.
+    pub fn payloads(&self) -> HashSet<Digest> {
+        self.wanted.keys().copied().collect()
     }
 
     /// How many blocks are asked for.

@@ -1,10 +1,10 @@
 //! One node among members that the test plays: what it asks of them, and what it makes of what they send.
 
 use simplex_node::blocks::Block;
-use simplex_node::crypto::Keys;
+use simplex_node::crypto::{Keys, hex};
 use simplex_node::message::Message;
 use simplex_node::network::{Network, Plan, folder_of};
-use simplex_node::peers::{greet, read_message};
+use simplex_node::peers::{HEARTBEAT, HEARTBEAT_FRAME, greet, read_message};
 use simplex_node::settings::{Protocol, Settings, genesis};
 use simplex_view_state::{Certificate, Context, Epoch, FetchKind, Participant, Proposal, Round, Subject, View, Vote};
 use std::collections::BTreeSet;
@@ -45,12 +45,23 @@ fn plan(name: &str) -> Plan {
     }
 }
 
+/// Writes these bytes again and again until the connection ends: a link that is silent is given up.
+fn show_life(stream: &TcpStream, bytes: &'static [u8]) {
+    let mut stream = stream.try_clone().expect("a connection");
+    thread::spawn(move || {
+        while stream.write_all(bytes).is_ok() {
+            sleep(HEARTBEAT);
+        }
+    });
+}
+
 /// Takes the node's connections to a member, and tells what it sends there.
 fn hear(listener: &TcpListener, member: u32, told: &Sender<(u32, Message)>) {
     for mut stream in listener.incoming().flatten() {
         if stream.write_all(&[7; 32]).is_err() {
             continue;
         }
+        show_life(&stream, &[0]);
         let mut stream = BufReader::new(stream);
         while let Ok(message) = read_message(&mut stream) {
             if told.send((member, message)).is_err() {
@@ -78,9 +89,11 @@ impl Others {
         let links = keys[1..]
             .iter()
             .map(|it| greet(Participant::new(0), address, it).expect("it listens"));
+        let links: Vec<TcpStream> = links.collect();
+        links.iter().for_each(|it| show_life(it, &HEARTBEAT_FRAME));
         Others {
             network,
-            links: links.collect(),
+            links,
             keys,
             heard,
         }
@@ -289,7 +302,8 @@ fn of_a_leader_that_signs_many_blocks_one_is_kept() {
         let (vote, block) = others.proposal(2, 1, content);
         others.send(1, &Message::Proposal(vote, block.bytes().to_vec()));
     }
-    others.comes_to("contradictions", 19);
+    // The second one is evidence; those after it tell nothing, and are dropped by the reader.
+    others.comes_to("contradictions", 1);
     let blocks = fs::metadata(others.network.data(0).join("blocks")).expect("blocks").len();
     assert_eq!(blocks, 2 * blocks_of_one);
     let log = fs::read_to_string(others.network.log(0)).expect("a log");
@@ -298,4 +312,90 @@ fn of_a_leader_that_signs_many_blocks_one_is_kept() {
         "the evidence is told"
     );
     others.end();
+}
+
+/// A node in view 2, whose leader is member 1, and that leader's votes for two proposals, the first with its block.
+fn two_proposals(name: &str) -> (Others, (Vote, Block), Vote) {
+    let mut others = Others::around_a_node(name);
+    others.nullify(1);
+    others.comes_to("current_view", 2);
+    let (first, second) = (others.proposal(2, 1, 7), others.proposal(2, 1, 8).0);
+    (others, first, second)
+}
+
+fn propose(others: &mut Others, (vote, block): &(Vote, Block)) {
+    others.send(1, &Message::Proposal(vote.clone(), block.bytes().to_vec()));
+}
+
+/// To which members the node sends this vote, in order, until it was sent so often or for so long.
+fn sent_to(others: &Others, vote: &Vote, count: usize, within: Duration) -> Vec<u32> {
+    let mut members = Vec::new();
+    others.hears(within, |member, message| {
+        members.extend(matches!(message, Message::Vote(it) if it == vote).then_some(member));
+        members.len() == count
+    });
+    members.sort_unstable();
+    members
+}
+
+fn shows_the_evidence(others: Others, first: &Vote, second: &Vote) {
+    others.comes_to("equivocations", 1);
+    sleep(WHILE);
+    assert_eq!(others.counts("equivocations"), 1, "each view counts once");
+    let log = fs::read_to_string(others.network.log(0)).expect("a log");
+    for vote in [first, second] {
+        assert!(
+            log.contains(&hex(&vote.signature)),
+            "the signature on {:?} is lacking: {log}",
+            vote.subject
+        );
+    }
+    others.end();
+}
+
+#[test]
+fn who_votes_for_another_proposal_is_sent_the_leaders_vote_once() {
+    let (mut others, first, second) = two_proposals("exchange");
+    propose(&mut others, &first);
+    others.send(3, &Message::Vote(others.vote(3, first.0.subject)));
+    for _ in 0..3 {
+        others.send(2, &Message::Vote(others.vote(2, second.subject)));
+    }
+    assert_eq!(sent_to(&others, &first.0, 1, SOON), [2]);
+    assert_eq!(sent_to(&others, &first.0, 1, WHILE), [], "once a view and peer");
+    // Member 2 sends what it has, in return.
+    others.send(2, &Message::Vote(second.clone()));
+    shows_the_evidence(others, &first.0, &second);
+}
+
+#[test]
+fn a_vote_that_comes_before_the_proposal_is_compared_too() {
+    let (mut others, first, second) = two_proposals("before");
+    others.send(2, &Message::Vote(others.vote(2, second.subject)));
+    others.comes_to("verified", 2);
+    propose(&mut others, &first);
+    assert_eq!(sent_to(&others, &first.0, 1, SOON), [2]);
+    others.end();
+}
+
+#[test]
+fn a_notarization_of_another_proposal_is_evidence_with_the_leaders_vote_in_it() {
+    let (mut others, first, second) = two_proposals("certified");
+    propose(&mut others, &first);
+    others.comes_to("verified", 2);
+    let certificate = others.certificate(&[1, 2, 3], second.subject);
+    others.send(3, &Message::Certificate(certificate));
+    assert_eq!(sent_to(&others, &first.0, 3, WHILE * 4), [2, 3], "those that voted for the other");
+    shows_the_evidence(others, &first.0, &second);
+}
+
+#[test]
+fn a_leaders_vote_is_evidence_also_where_its_view_is_notarized() {
+    let (mut others, first, second) = two_proposals("late");
+    propose(&mut others, &first);
+    let certificate = others.certificate(&[1, 2, 3], first.0.subject);
+    others.send(3, &Message::Certificate(certificate));
+    others.comes_to("current_view", 3);
+    others.send(2, &Message::Vote(second.clone()));
+    shows_the_evidence(others, &first.0, &second);
 }

@@ -5,6 +5,8 @@
 
 use simplex_node::audit::{contradictions, disagreements};
 use simplex_node::faults::Fault;
+use simplex_node::identity::Identity;
+use simplex_node::ledger::Link;
 use simplex_node::network::{Network, Plan, folder_of};
 use simplex_node::settings::{Protocol, Settings, genesis};
 use simplex_node::{journal, trace};
@@ -96,9 +98,28 @@ fn with_fault(name: &str, fault: Fault) {
     ends_well(network, 1);
 }
 
+/// Of seven members too few get one of the two blocks for a certificate: each honest one learns of the other from its peers.
 #[test]
-fn a_leader_that_proposes_twice() {
-    with_fault("twice", Fault::Equivocates);
+fn a_leader_that_proposes_twice_is_seen_by_each_honest_node() {
+    for nodes in [4, 7] {
+        let network = begun(Plan {
+            faults: vec![(nodes - 1, Fault::Equivocates)],
+            ..plan(&format!("twice-{nodes}"), nodes)
+        });
+        goes_on(&network, &network.honest());
+        assert!(
+            network.wait_until(&network.honest(), "equivocations", 2, START),
+            "{}",
+            logs(&network)
+        );
+        for index in network.honest() {
+            let log = fs::read_to_string(network.log(index)).expect("a log");
+            let evidence: Vec<&str> = log.lines().filter(|it| it.contains("two votes of one member")).collect();
+            let is_of_leader = |it: &&str| it.contains("first_signature") && it.contains(&format!("signer={} ", nodes - 1));
+            assert!(!evidence.is_empty() && evidence.iter().all(is_of_leader), "node {index}: {log}");
+        }
+        ends_well(network, 1);
+    }
 }
 
 #[test]
@@ -250,7 +271,8 @@ fn fewer_than_a_quorum() {
 fn stored_view(network: &Network, index: u32) -> u64 {
     let settings = Settings::read(&network.config(index)).expect("settings");
     let config = settings.config(Floor::Genesis(genesis(settings.protocol.epoch)));
-    let kept = journal::read(&settings.data).expect("a journal").expect("it began");
+    let identity = Identity::of(&settings).expect("keys");
+    let kept = journal::read(&settings.data, &identity).expect("a journal").expect("it began");
     let member = Member::resume(&config, Moment::from_millis(0), &kept.stored, &kept.frames).expect("a record");
     member.views().expect("it lives").current.get()
 }
@@ -368,4 +390,44 @@ fn run(arguments: &[&str], is_good: bool) -> String {
     let said = String::from_utf8_lossy(&done.stderr).into_owned();
     assert_eq!(done.status.success(), is_good, "{said}");
     said
+}
+
+/// Builds the chain of so many nodes, each with this time between its blocks, and returns how long that took and what links there are.
+fn paced(name: &str, nodes: u32, pace_ms: u64, views: u64) -> (Duration, Vec<Link>) {
+    let mut paced = plan(name, nodes);
+    paced.protocol.pace_ms = pace_ms;
+    let network = begun(paced);
+    let (first, since) = (network.highest(&[0]), Instant::now());
+    assert!(network.wait_for(&[0], first + views, START), "{}", logs(&network));
+    let took = since.elapsed();
+    assert!(network.wait_until(&[0], "height", views, SOON), "{}", logs(&network));
+    let chain = network.chains().expect("chains").remove(0);
+    ends_well(network, 1);
+    (took, chain)
+}
+
+/// When a block was built, in microseconds.
+fn built(link: &Link) -> u64 {
+    link.taken_us - link.latency_us
+}
+
+#[test]
+fn two_blocks_of_a_node_are_a_pace_apart() {
+    let (_, chain) = paced("pace", 1, 50, 12);
+    assert!(chain.len() >= 12);
+    for (one, next) in chain.iter().zip(&chain[1..]) {
+        assert!(built(next) - built(one) >= 49_000, "views {} and {}", one.view, next.view);
+    }
+}
+
+#[test]
+fn a_node_waits_for_its_own_last_block_alone() {
+    let (took, chain) = paced("turns", 4, 400, 16);
+    // Each of four nodes builds a block in 400 ms: a wait before each block would take 16 * 400 ms.
+    assert!(took < Duration::from_millis(16 * 400 / 2), "{took:?}");
+    for (one, next) in chain.iter().flat_map(|one| chain.iter().map(move |next| (one, next))) {
+        if next.view > one.view && next.view % 4 == one.view % 4 {
+            assert!(built(next) - built(one) >= 399_000, "views {} and {}", one.view, next.view);
+        }
+    }
 }

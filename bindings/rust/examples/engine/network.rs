@@ -1,11 +1,14 @@
-//! Engines in one process: what a host does round each of them, with a queue for a network, a vector for a disk and a clock that is
+//! Engines in one process: what a host does around each of them, with a queue for a network, a vector for a disk and a clock that is
 //! turned on. The signatures are toys: anyone can make them.
+//!
+//! A block names its parent by digest, and travels with its proposal. [`Node::deliver`] walks parents back from a finalized block to the
+//! last one that was delivered.
 
 use simplex_view_state::{
     Certificate, CertificateKind, Config, Context, Digest, Engine, Epoch, Fetch, FetchKind, Input, Moment, Options, Order, Output,
     Participant, Proposal, Stored, View, Vote,
 };
-use std::collections::VecDeque;
+use std::collections::{HashMap, VecDeque};
 use std::error::Error;
 use std::hash::{DefaultHasher, Hash, Hasher};
 use std::num::NonZeroU32;
@@ -14,10 +17,28 @@ use std::num::NonZeroU32;
 pub type Outcome<T = ()> = Result<T, Box<dyn Error>>;
 
 const EPOCH: Epoch = Epoch::new(1);
+/// The payload of genesis.
+const GENESIS: Digest = Digest::new([0; 32]);
+/// How many outputs an engine has carried out before messages and time get a turn: a member alone is never out of outputs.
+const MOST_OUTPUTS: usize = 1000;
+/// How many messages arrive in a millisecond.
+const MESSAGES_A_MILLISECOND: u64 = 64;
+
+/// A block: what a proposal's payload is the digest of.
+#[derive(Clone, Copy, PartialEq, Eq, Debug)]
+pub struct Block {
+    pub view: View,
+    /// The digest of the block below it.
+    pub parent: Digest,
+}
 
 /// What members send each other.
 #[derive(Clone, Debug)]
 pub enum Message {
+    /// A block, before the leader's vote for it, or one that was asked for.
+    Block(Block),
+    /// A block is asked for.
+    AskBlock(Digest),
     /// A vote.
     Vote(Vote),
     /// A certificate.
@@ -41,13 +62,16 @@ pub struct Disk {
     pub stored: Option<Stored>,
 }
 
-/// A member: its engine while its process lives, its disk, and what it knows to be final.
+/// A member: its engine while its process lives, its disk, the blocks that it has, and the chain that it delivered.
 #[derive(Debug)]
 pub struct Node {
     pub me: Participant,
     pub engine: Option<Engine>,
     pub disk: Disk,
-    pub chain: Vec<Proposal>,
+    pub chain: Vec<Block>,
+    blocks: HashMap<Digest, Block>,
+    /// The highest proposal that is known to be final.
+    finalized: Option<Proposal>,
     pub equivocations: Vec<(Vote, Vote)>,
     members: NonZeroU32,
 }
@@ -60,6 +84,7 @@ pub struct Network {
     /// How many messages of a hundred are lost.
     pub loss: u64,
     pub sent: VecDeque<Sent>,
+    arrived: u64,
     chance: u64,
 }
 
@@ -73,13 +98,19 @@ impl Network {
             now,
             loss,
             sent: VecDeque::new(),
+            arrived: 0,
             chance,
         })
     }
 
-    /// Delivers a message; where none is on its way, turns the clock on to the next moment at which an engine is to be polled.
+    /// Delivers a message, which takes its time; where none is on its way, turns the clock on to the next moment at which an engine is to
+    /// be polled.
     pub fn step(&mut self) -> Outcome {
         self.settle()?;
+        self.arrived += 1;
+        if self.arrived % MESSAGES_A_MILLISECOND == 0 {
+            self.now = Moment::from_millis(self.now.as_millis() + 1);
+        }
         match self.sent.pop_front() {
             Some(sent) if !self.is_lost(&sent) => {
                 let to = &mut self.nodes[sent.to.get() as usize];
@@ -92,6 +123,11 @@ impl Network {
                 Ok(())
             }
         }
+    }
+
+    /// Begins a lifetime of a member from its disk.
+    pub fn begin(&mut self, member: usize) -> Outcome {
+        self.nodes[member].begin(self.now, &mut self.sent)
     }
 
     /// Has each engine's outputs carried out.
@@ -115,21 +151,31 @@ impl Node {
             engine: None,
             disk: Disk::default(),
             chain: Vec::new(),
+            blocks: HashMap::new(),
+            finalized: None,
             equivocations: Vec::new(),
             members,
         };
-        node.begin(now)?;
+        node.begin(now, &mut VecDeque::new())?;
         Ok(node)
     }
 
-    /// Begins a life from the disk; the first one where nothing is stored.
-    pub fn begin(&mut self, now: Moment) -> Outcome {
-        let config = Config::new(self.members, Some(self.me), EPOCH, Digest::default());
+    /// Begins a lifetime from the disk; the first one where nothing is stored. The last finalization is read from the record: a lifetime
+    /// that ended may have stored it without reporting it.
+    fn begin(&mut self, now: Moment, out: &mut VecDeque<Sent>) -> Outcome {
+        let config = Config::new(self.members, Some(self.me), EPOCH, GENESIS);
         let options = Options::default();
-        self.engine = Some(match &self.disk.stored {
+        let engine = match &self.disk.stored {
             None => Engine::start(&config, &options, now)?,
             Some(stored) => Engine::resume(&config, &options, now, stored, &self.disk.journal)?,
-        });
+        };
+        let last = engine.views().ok_or("it has begun")?.last_finalized;
+        self.finalized = match engine.certificate(CertificateKind::Finalization, last)? {
+            Some(Certificate::Finalization(it)) => Some(it.proposal),
+            _ => None,
+        };
+        self.engine = Some(engine);
+        self.deliver(out);
         Ok(())
     }
 
@@ -140,6 +186,15 @@ impl Node {
             return Ok(());
         };
         match message {
+            Message::Block(block) => {
+                self.blocks.insert(block.digest(), block);
+                self.deliver(out);
+            }
+            Message::AskBlock(digest) => out.extend(self.blocks.get(&digest).map(|block| Sent {
+                from: me,
+                to: from,
+                message: Message::Block(*block),
+            })),
             Message::Vote(vote) => {
                 let is_signed = vote.signature == signature(vote.signer, &vote.subject.encode());
                 if is_signed && vote.subject.round().epoch == EPOCH {
@@ -167,15 +222,32 @@ impl Node {
         Ok(())
     }
 
-    /// Polls the engine until it has nothing to hand out, and carries out each output before it asks for the next.
+    /// Polls the engine until it returns `None`, or for [`MOST_OUTPUTS`], and carries out each output before it asks for the next.
     pub fn settle(&mut self, now: Moment, out: &mut VecDeque<Sent>) -> Outcome {
-        while let Some(engine) = &mut self.engine {
-            let Some(output) = engine.poll(now)? else {
-                break;
-            };
+        for _ in 0..MOST_OUTPUTS {
+            let Some(engine) = &mut self.engine else { break };
+            let Some(output) = engine.poll(now)? else { break };
             self.carry_out(output, now, out)?;
         }
         Ok(())
+    }
+
+    /// Delivers the finalized block after its ancestors, back to the last block that was delivered. `Output::Finalized` does not report
+    /// ancestors. Where a block is not here, all others are asked for it.
+    fn deliver(&mut self, out: &mut VecDeque<Sent>) {
+        let (last_view, last) = self.chain.last().map_or((View::GENESIS, GENESIS), |it| (it.view, it.digest()));
+        let Some(target) = self.finalized.filter(|it| it.view() > last_view) else {
+            return;
+        };
+        let (mut fresh, mut digest) = (Vec::new(), target.payload);
+        while digest != last {
+            let Some(block) = self.blocks.get(&digest) else {
+                return self.send_to_others(&Message::AskBlock(digest), out);
+            };
+            fresh.push(*block);
+            digest = block.parent;
+        }
+        self.chain.extend(fresh.into_iter().rev());
     }
 
     fn carry_out(&mut self, output: Output, now: Moment, out: &mut VecDeque<Sent>) -> Outcome {
@@ -196,6 +268,7 @@ impl Node {
             }
             Output::Build(context) => {
                 let payload = block_on(&context);
+                self.blocks.insert(payload, Block::new(&context));
                 self.tell(Input::Built { context, payload }, now)?;
             }
             Output::Certify(proposal) => {
@@ -207,7 +280,10 @@ impl Node {
                 to,
                 message: Message::Ask(fetch),
             })),
-            Output::Finalized(proposal) => self.chain.push(proposal),
+            Output::Finalized(proposal) => {
+                self.finalized = Some(proposal);
+                self.deliver(out);
+            }
             Output::Equivocated(one, other) => self.equivocations.push((one, other)),
             Output::StopBuilding(_) | Output::ProposedTwice(..) | Output::Forget(_) => {}
         }
@@ -220,6 +296,11 @@ impl Node {
             return Err(format!("member {} votes on {:?} before it is stored", self.me, order.subject).into());
         }
         let vote = order.signed(signature(order.signer, &order.text));
+        let is_leader = self.engine.as_ref().and_then(|it| it.leader(vote.subject.round().view)) == Some(self.me);
+        let block = vote.proposal().and_then(|it| self.blocks.get(&it.payload)).filter(|_| is_leader);
+        if let Some(block) = block {
+            self.send_to_others(&Message::Block(*block), out);
+        }
         self.send_to_others(&Message::Vote(vote.clone()), out);
         out.push_back(Sent {
             from: self.me,
@@ -273,18 +354,28 @@ pub fn signature(signer: Participant, text: &[u8]) -> Vec<u8> {
     hash_of(&(signer, text)).to_be_bytes().to_vec()
 }
 
-/// The block that is built in a context: everyone knows which.
-pub fn block_on(context: &Context) -> Digest {
-    block(context.round.view, context.parent_payload)
+impl Block {
+    /// The block that is built in a context: everyone knows which.
+    fn new(context: &Context) -> Block {
+        Block {
+            view: context.round.view,
+            parent: context.parent_payload,
+        }
+    }
+
+    /// Its digest, which proposals name it by.
+    pub fn digest(&self) -> Digest {
+        let mut bytes = [0; 32];
+        for (place, word) in (0u8..).zip(bytes.chunks_exact_mut(8)) {
+            word.copy_from_slice(&hash_of(&(place, self.view, self.parent)).to_be_bytes());
+        }
+        Digest::new(bytes)
+    }
 }
 
-/// The block of a view on a parent.
-pub fn block(view: View, parent: Digest) -> Digest {
-    let mut bytes = [0; 32];
-    for (place, word) in (0u8..).zip(bytes.chunks_exact_mut(8)) {
-        word.copy_from_slice(&hash_of(&(place, view, parent)).to_be_bytes());
-    }
-    Digest::new(bytes)
+/// The digest of the block that is built in a context.
+pub fn block_on(context: &Context) -> Digest {
+    Block::new(context).digest()
 }
 
 fn hash_of(it: &impl Hash) -> u64 {

@@ -27,7 +27,12 @@ pub enum Output {
     Certify(Proposal),
     /// What is to be asked of a peer.
     Fetch(Fetch),
-    /// A proposal that is final, and all below it: rising, each view once.
+    /// A proposal whose finalization this lifetime accepted, of a view above all that it reported. Its ancestors are final too and are not
+    /// reported, and a lifetime that ends may lose its last report.
+    ///
+    /// So deliver a block after its ancestors, back to the last one that was delivered. After [`Engine::resume`](crate::Engine::resume)
+    /// begin with the last finalization of the record: the [`certificate`](crate::Engine::certificate) of `views().last_finalized`.
+    /// `bindings/rust/examples/engine/network.rs` does both (`deliver`, `begin`).
     Finalized(Proposal),
     /// Two votes of one member that contradict each other.
     Equivocated(Vote, Vote),

@@ -5,6 +5,7 @@ use signal_hook::consts::{SIGINT, SIGTERM};
 use signal_hook::iterator::Signals;
 use simplex_node::inbox::Event;
 use simplex_node::settings::{Outcome, Settings};
+use simplex_node::version::version;
 use simplex_node::{crypto, floor, start};
 use std::fs;
 use std::path::PathBuf;
@@ -14,7 +15,7 @@ use tracing_subscriber::EnvFilter;
 
 /// A member of a network that runs the Simplex protocol.
 #[derive(Parser)]
-#[command(version, args_conflicts_with_subcommands = true)]
+#[command(version = version(), args_conflicts_with_subcommands = true)]
 struct Arguments {
     /// The settings of the node, a TOML file.
     #[arg(long, required = true)]
@@ -30,6 +31,12 @@ enum Command {
         /// Where the secret key goes.
         #[arg(long)]
         out: PathBuf,
+    },
+    /// Says in a journal of version 2, which does not say whose it is, that it is this node's. Do so only where this node wrote it.
+    Adopt {
+        /// The settings of the node.
+        #[arg(long)]
+        config: PathBuf,
     },
     /// Writes the last finalized proposal of a node that does not run, with its certificate: another node can begin there.
     Floor {
@@ -51,6 +58,7 @@ fn main() -> ExitCode {
         .init();
     let outcome = match (arguments.command, arguments.config) {
         (Some(Command::Keygen { out }), _) => crypto::make_key(&out).map(|public| println!("{public}")),
+        (Some(Command::Adopt { config }), _) => Settings::read(&config).and_then(|it| start::adopt(&it)),
         (Some(Command::Floor { config, out }), _) => write_floor(&config, &out),
         (None, Some(config)) => run(&config),
         (None, None) => Err("--config is lacking".into()),

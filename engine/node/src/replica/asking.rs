@@ -22,8 +22,9 @@ impl<A: Application> Replica<A> {
         self.parts.peers.send(peer, message);
     }
 
-    /// Asks for the blocks that are lacking, whose turn it is.
+    /// Asks for the missing blocks, whose turn it is. The readers drop all others.
     pub(super) fn fetch_blocks(&mut self) {
+        self.parts.horizon.want(self.waiting.payloads());
         for (payload, peer) in self.waiting.due(self.parts.clock.now()) {
             self.ask(peer, &Message::AskBlock(payload));
         }
@@ -32,8 +33,7 @@ impl<A: Application> Replica<A> {
     /// Serves a peer that asks for a certificate. It may ask for what is no view: that is no error of this node.
     pub(super) fn serve(&mut self, from: Participant, kind: FetchKind, view: View) {
         if let Ok(Some(it)) = self.certificate_for(kind, view) {
-            self.parts.counters.served.fetch_add(1, Relaxed);
-            self.parts.peers.send(from, &Message::Certificate(it));
+            self.parts.peers.serve(from, &Message::Certificate(it));
         }
     }
 
@@ -52,13 +52,15 @@ impl<A: Application> Replica<A> {
         self.parts.engine.serve(view)
     }
 
-    /// Serves a block, and those that it builds on.
+    /// Serves a block, and those that it builds on, as far as the peer's share of this node goes.
     pub(super) fn serve_blocks(&mut self, from: Participant, mut payload: Digest) {
         for _ in 0..BLOCKS_SERVED {
             let Some(block) = self.parts.blocks.get(&payload) else { break };
-            self.parts.counters.served.fetch_add(1, Relaxed);
-            self.parts.peers.send(from, &Message::Block(block.bytes().to_vec()));
-            payload = block.parent.1;
+            let (message, parent) = (Message::Block(block.bytes().to_vec()), block.parent.1);
+            if !self.parts.peers.serve(from, &message) {
+                break;
+            }
+            payload = parent;
         }
     }
 }

@@ -2,7 +2,9 @@
 
 use super::Replica;
 use crate::application::Application;
+use crate::crypto::hex;
 use crate::faults::Fault;
+use crate::leader_votes::Found;
 use crate::message::Message;
 use crate::settings::Outcome;
 use simplex_view_state::{Order, Participant, Proposal, Subject, View, Vote};
@@ -15,7 +17,7 @@ impl<A: Application> Replica<A> {
     pub(super) fn cast(&mut self, order: &Order) -> Outcome {
         let begun = Instant::now();
         let vote = order.signed(self.parts.keys.sign(&order.text)?.to_vec());
-        self.parts.counters.sign_us.fetch_add(begun.elapsed().as_micros() as u64, Relaxed);
+        self.spent(&self.parts.counters.sign_us, begun);
         let (counter, block) = match &order.subject {
             Subject::Notarize(it) => (&self.parts.counters.notarizes, self.own_block(it)),
             Subject::Nullify(_) => (&self.parts.counters.nullifies, None),
@@ -60,9 +62,26 @@ impl<A: Application> Replica<A> {
         Ok(())
     }
 
-    /// Two votes of one member that contradict each other, each with its signature: whoever reads them can test that.
+    /// Acts on what a comparison of proposals found: logs evidence, and sends a leader's vote to those that voted for another proposal.
+    pub(super) fn compare(&mut self, found: Found) {
+        if let Some((first, second)) = found.evidence {
+            self.log_evidence(&first, &second);
+            self.show_leader(first.subject.round().view, first.signer);
+        }
+        if let Some((vote, to)) = found.to_send {
+            let message = Message::Vote(vote);
+            to.into_iter().for_each(|peer| self.parts.peers.send(peer, &message));
+        }
+    }
+
+    /// Two votes of one member that contradict each other, as the engine found them.
     pub(super) fn show(&mut self, first: &Vote, second: &Vote) {
         self.parts.counters.contradictions.fetch_add(1, Relaxed);
+        self.log_evidence(first, second);
+    }
+
+    /// Logs two votes of one member that contradict each other, each with its signature: whoever reads them can verify that. Once a view.
+    fn log_evidence(&mut self, first: &Vote, second: &Vote) {
         let (signer, view) = (first.signer, first.subject.round().view);
         if self.shown.insert((view, signer)) {
             let (first_signature, second_signature) = (hex(&first.signature), hex(&second.signature));
@@ -79,12 +98,11 @@ impl<A: Application> Replica<A> {
         }
     }
 
+    /// Counts and logs that a leader proposed twice, once a view.
     pub(super) fn show_leader(&mut self, view: View, leader: Participant) {
-        self.parts.counters.equivocations.fetch_add(1, Relaxed);
-        warn!(view = view.get(), leader = leader.get(), "a leader proposed twice");
+        if self.proposed_twice.insert(view) {
+            self.parts.counters.equivocations.fetch_add(1, Relaxed);
+            warn!(view = view.get(), leader = leader.get(), "a leader proposed twice");
+        }
     }
-}
-
-fn hex(bytes: &[u8]) -> String {
-    bytes.iter().map(|byte| format!("{byte:02x}")).collect()
 }

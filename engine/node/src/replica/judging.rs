@@ -3,11 +3,9 @@
 use super::Replica;
 use crate::application::Application;
 use crate::blocks::Block;
-use crate::inbox::Event;
 use crate::settings::Outcome;
 use simplex_view_state::{Context, Input, Proposal};
-use std::thread;
-use std::time::Duration;
+use std::time::Instant;
 
 impl<A: Application> Replica<A> {
     /// Has the application verify a proposal, at once or when its block has come.
@@ -35,21 +33,16 @@ impl<A: Application> Replica<A> {
         Ok(())
     }
 
-    /// Has the application build a block, once the least time between two of this node is over.
-    pub(super) fn build(&mut self, context: Context) -> Outcome {
-        let pace = self.parts.settings.protocol.pace_ms;
-        if pace == 0 {
-            return self.build_now(&context);
+    /// Has the application build the blocks that are due.
+    pub(super) fn build_due(&mut self) -> Outcome {
+        self.pace.forget(self.views()?.current);
+        while let Some(context) = self.pace.due(Instant::now()) {
+            self.build(&context)?;
         }
-        let inbox = self.parts.inbox.clone();
-        thread::Builder::new().name("pace".into()).spawn(move || {
-            thread::sleep(Duration::from_millis(pace));
-            inbox.tell(Event::Paced(context));
-        })?;
         Ok(())
     }
 
-    pub(super) fn build_now(&mut self, context: &Context) -> Outcome {
+    fn build(&mut self, context: &Context) -> Outcome {
         let (context, block) = (*context, Block::new(context, &self.parts.application.build(context)));
         let payload = block.payload();
         self.parts.blocks.keep(block)?;

@@ -1,0 +1,258 @@
+//! Who may come in: a small room for connections that have not greeted, and one connection for each member that has.
+//!
+//! Neither strangers nor a faulty member can keep another member out. A greeting has two seconds as a whole, and where the room is full the
+//! oldest one goes. A member's newer connection takes the place of its older one, which may be what is left of a process or of a path that
+//! is gone. A member that sent forgeries is refused for a time that doubles.
+
+use super::link::{GREETING, HEARTBEAT, SILENCE, greeting};
+use super::reader::Reader;
+use crate::crypto::{Keys, SIGNATURE};
+use crate::message::Message;
+use crate::metrics::Counters;
+use simplex_view_state::Participant;
+use std::collections::VecDeque;
+use std::io::{self, Read, Write};
+use std::net::{Shutdown, TcpListener, TcpStream};
+use std::sync::atomic::{AtomicU64, Ordering::Relaxed};
+use std::sync::{Arc, Mutex, MutexGuard};
+use std::thread;
+use std::time::{Duration, Instant};
+use tracing::{debug, warn};
+
+/// How many connections may be greeting at once, beside two for each member.
+const GREETING_ROOM: usize = 32;
+/// The bytes of a greeting: a frame's length, the kind, the member and its signature.
+const GREETING_BYTES: usize = 4 + 1 + 4 + SIGNATURE;
+/// For how long a member that sent forgeries is refused: at first, and at most.
+const PENALTY: (Duration, Duration) = (Duration::from_secs(1), Duration::from_secs(60));
+/// After how long without an offence a member is refused for the shortest time again.
+const FORGIVEN: Duration = Duration::from_secs(600);
+/// How often refused connections are logged at most.
+const LOGGED: Duration = Duration::from_secs(10);
+/// How long the listener waits where the system has no room for a connection.
+const NO_ROOM: Duration = Duration::from_millis(50);
+
+/// An open connection, so that another thread may end it.
+struct Open {
+    id: u64,
+    stream: TcpStream,
+}
+
+#[derive(Clone, Copy)]
+struct Offence {
+    at: Instant,
+    penalty: Duration,
+}
+
+/// The connections that are open.
+pub struct Doors {
+    greeting: Mutex<VecDeque<Open>>,
+    members: Mutex<Vec<Option<Open>>>,
+    offences: Mutex<Vec<Option<Offence>>>,
+    logged: Mutex<Option<Instant>>,
+    room: usize,
+    next: AtomicU64,
+    counters: Arc<Counters>,
+}
+
+fn locked<T>(it: &Mutex<T>) -> MutexGuard<'_, T> {
+    it.lock().unwrap_or_else(|it| it.into_inner())
+}
+
+impl Doors {
+    /// Of a network of so many members; none is open.
+    pub fn new(members: usize, counters: &Arc<Counters>) -> Doors {
+        Doors {
+            greeting: Mutex::default(),
+            members: Mutex::new((0..members).map(|_| None).collect()),
+            offences: Mutex::new(vec![None; members]),
+            logged: Mutex::default(),
+            room: GREETING_ROOM + 2 * members,
+            next: AtomicU64::new(0),
+            counters: counters.clone(),
+        }
+    }
+
+    /// A connection came, and has to greet. Where the room is full the oldest one that has not greeted goes.
+    fn enter(&self, stream: &TcpStream) -> io::Result<u64> {
+        let open = Open {
+            id: self.next.fetch_add(1, Relaxed),
+            stream: stream.try_clone()?,
+        };
+        let id = open.id;
+        let mut greeting = locked(&self.greeting);
+        if greeting.len() >= self.room
+            && let Some(oldest) = greeting.pop_front()
+        {
+            let _ = oldest.stream.shutdown(Shutdown::Both);
+            self.refused("too many connections that do not greet");
+        }
+        greeting.push_back(open);
+        Ok(id)
+    }
+
+    /// The connection does not greet any more.
+    fn leave(&self, id: u64) -> Option<Open> {
+        let mut greeting = locked(&self.greeting);
+        let at = greeting.iter().position(|it| it.id == id)?;
+        greeting.remove(at)
+    }
+
+    /// The connection is this member's, and takes the place of its older one. False where the member is refused for now, or the connection
+    /// was ended meanwhile.
+    fn admit(&self, id: u64, from: Participant) -> bool {
+        let Some(open) = self.leave(id) else { return false };
+        if self.is_refused(from) {
+            self.refused("a member that sent forgeries");
+            return false;
+        }
+        let older = locked(&self.members)[from.get() as usize].replace(open);
+        if let Some(older) = older {
+            let _ = older.stream.shutdown(Shutdown::Both);
+        }
+        true
+    }
+
+    fn close(&self, id: u64, from: Participant) {
+        let place = &mut locked(&self.members)[from.get() as usize];
+        if place.as_ref().is_some_and(|it| it.id == id) {
+            *place = None;
+        }
+    }
+
+    fn is_refused(&self, from: Participant) -> bool {
+        locked(&self.offences)[from.get() as usize].is_some_and(|it| it.at.elapsed() < it.penalty)
+    }
+
+    /// The member sent forgeries: it is refused for a time that doubles with each offence.
+    fn offended(&self, from: Participant) {
+        let place = &mut locked(&self.offences)[from.get() as usize];
+        let penalty = match *place {
+            Some(it) if it.at.elapsed() < FORGIVEN => (it.penalty * 2).min(PENALTY.1),
+            _ => PENALTY.0,
+        };
+        *place = Some(Offence {
+            at: Instant::now(),
+            penalty,
+        });
+        self.counters.offences.fetch_add(1, Relaxed);
+        warn!(
+            peer = from.get(),
+            seconds = penalty.as_secs(),
+            "a member sends what it can't have signed: it is refused"
+        );
+    }
+
+    /// Counts a connection that was refused, and logs it if none was logged for a while.
+    fn refused(&self, why: &str) {
+        let count = self.counters.refused_connections.fetch_add(1, Relaxed) + 1;
+        let mut logged = locked(&self.logged);
+        if logged.is_none_or(|it| it.elapsed() > LOGGED) {
+            *logged = Some(Instant::now());
+            warn!(count, why, "connections are refused");
+        }
+    }
+}
+
+/// Accepts connections for ever, each with a thread of its own.
+pub fn listen(listener: &TcpListener, reader: &Arc<Reader>, doors: &Arc<Doors>) {
+    loop {
+        let accepted = listener
+            .accept()
+            .and_then(|(stream, _)| doors.enter(&stream).map(|id| (stream, id)));
+        let (stream, id) = match accepted {
+            Ok(it) => it,
+            Err(error) => {
+                debug!(%error, "a connection can't be accepted");
+                thread::sleep(NO_ROOM);
+                continue;
+            }
+        };
+        let (reader, its_doors) = (reader.clone(), doors.clone());
+        let begun = thread::Builder::new()
+            .name("from".into())
+            .spawn(move || serve(stream, id, &reader, &its_doors));
+        if let Err(error) = begun {
+            doors.leave(id);
+            warn!(%error, "no thread for a connection");
+        }
+    }
+}
+
+fn serve(stream: TcpStream, id: u64, reader: &Reader, doors: &Doors) {
+    let greeted = greeted(&stream, reader.keys());
+    let ended = match greeted {
+        Ok(from) if doors.admit(id, from) => {
+            let ended = read_all(&stream, from, reader);
+            if ended.as_ref().is_err_and(|it| it.kind() == io::ErrorKind::PermissionDenied) {
+                doors.offended(from);
+            }
+            doors.close(id, from);
+            ended
+        }
+        Ok(_) => Ok(()),
+        Err(error) => {
+            doors.leave(id);
+            if error.kind() == io::ErrorKind::PermissionDenied {
+                doors.counters.refused_greetings.fetch_add(1, Relaxed);
+            }
+            Err(error)
+        }
+    };
+    let _ = stream.shutdown(Shutdown::Both);
+    if let Err(error) = ended {
+        debug!(%error, "a connection ended");
+    }
+}
+
+/// Who began a connection, as it has signed. `PermissionDenied` where the signature is not good.
+fn greeted(mut stream: &TcpStream, keys: &Keys) -> io::Result<Participant> {
+    stream.set_nodelay(true)?;
+    stream.set_write_timeout(Some(GREETING))?;
+    let mut asked = [0; 32];
+    openssl::rand::rand_bytes(&mut asked)?;
+    stream.write_all(&asked)?;
+    let mut frame = [0; GREETING_BYTES];
+    read_within(stream, &mut frame, GREETING)?;
+    let Some(Message::Hello(from, signature)) = Message::read(&frame[4..]) else {
+        return Err(io::ErrorKind::InvalidData.into());
+    };
+    if from == keys.me || !keys.is_signed(from, &greeting(&asked, from, keys.me), &signature) {
+        return Err(io::ErrorKind::PermissionDenied.into());
+    }
+    Ok(from)
+}
+
+/// Fills a buffer, within a time for all of it.
+fn read_within(mut stream: &TcpStream, buffer: &mut [u8], within: Duration) -> io::Result<()> {
+    let until = Instant::now() + within;
+    let mut filled = 0;
+    while filled < buffer.len() {
+        let left = until.checked_duration_since(Instant::now()).filter(|it| !it.is_zero());
+        stream.set_read_timeout(Some(left.ok_or(io::ErrorKind::TimedOut)?))?;
+        match stream.read(&mut buffer[filled..])? {
+            0 => return Err(io::ErrorKind::UnexpectedEof.into()),
+            count => filled += count,
+        }
+    }
+    Ok(())
+}
+
+/// Reads a member's messages until the connection ends, and answers with heartbeats. `PermissionDenied` where it sends forgeries.
+fn read_all(stream: &TcpStream, from: Participant, reader: &Reader) -> io::Result<()> {
+    stream.set_read_timeout(Some(SILENCE))?;
+    stream.set_write_timeout(Some(SILENCE))?;
+    let mut answers = stream;
+    let mut link = reader.link(from);
+    let mut shown = Instant::now();
+    let mut bytes = io::BufReader::new(stream);
+    loop {
+        if !link.read_one(&mut bytes)? {
+            return Ok(());
+        }
+        if shown.elapsed() >= HEARTBEAT / 2 {
+            shown = Instant::now();
+            answers.write_all(&[0])?;
+        }
+    }
+}

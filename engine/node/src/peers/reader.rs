@@ -1,0 +1,270 @@
+//! What comes over a connection: it is read within a budget, verified here, and put into the peer's queue where it is of use.
+//!
+//! Signatures are verified and blocks hashed on the thread of the connection, so that the thread which owns the engine has neither to do. A
+//! vote that was verified is remembered: the same one from another connection, or once more, costs a look-up.
+
+use super::budget::Budget;
+use crate::crypto::{Keys, digest};
+use crate::inbox::{Inbox, Put};
+use crate::message::{LONGEST, Message};
+use crate::metrics::Counters;
+use crate::settings::Turns;
+use crate::vote::{is_sound, kind_of};
+use simplex_view_state::{CertificateKind, Digest, Epoch, Participant, Subject, View, Vote};
+use std::collections::{BTreeMap, HashMap, HashSet};
+use std::io::{self, Read};
+use std::sync::atomic::{AtomicU64, Ordering::Relaxed};
+use std::sync::{Arc, Mutex, MutexGuard};
+use std::thread;
+use std::time::Instant;
+
+/// How far above the current view the signature of a vote or proposal is verified at all.
+const AHEAD: u64 = 64;
+/// How many forged messages end a connection.
+const MOST_FORGED: u32 = 16;
+/// How many proposals of a view's leader are taken: a second one is evidence, and any more tell nothing.
+const PROPOSALS_A_VIEW: usize = 2;
+
+/// What the reading threads know of the member.
+#[derive(Default)]
+pub struct Horizon {
+    current: AtomicU64,
+    min_active: AtomicU64,
+    known: Mutex<Known>,
+    wanted: Mutex<HashSet<Digest>>,
+}
+
+#[derive(Default)]
+struct Known {
+    /// The certificates that the member has.
+    certificates: HashSet<(View, CertificateKind)>,
+    /// The signatures of votes that were good, by view, kind and signer.
+    votes: HashMap<(View, CertificateKind, Participant), Vote>,
+    /// The payloads of proposals that came, by view.
+    proposals: BTreeMap<View, Vec<Digest>>,
+}
+
+fn locked<T>(it: &Mutex<T>) -> MutexGuard<'_, T> {
+    it.lock().unwrap_or_else(|it| it.into_inner())
+}
+
+fn key_of(vote: &Vote) -> (View, CertificateKind, Participant) {
+    (vote.subject.round().view, kind_of(&vote.subject), vote.signer)
+}
+
+impl Horizon {
+    /// The member has moved to these views.
+    pub fn moved(&self, current: View, min_active: View) {
+        self.current.store(current.get(), Relaxed);
+        if self.min_active.swap(min_active.get(), Relaxed) != min_active.get() {
+            let mut known = locked(&self.known);
+            known.certificates.retain(|(view, _)| *view >= min_active);
+            known.votes.retain(|(view, ..), _| *view >= min_active);
+            known.proposals = known.proposals.split_off(&min_active);
+        }
+    }
+
+    /// The member has a certificate: what its votes say need not be verified again.
+    pub fn know(&self, kind: CertificateKind, view: View) {
+        locked(&self.known).certificates.insert((view, kind));
+    }
+
+    /// The blocks that the member asks for. Others are dropped unread.
+    pub fn want(&self, blocks: HashSet<Digest>) {
+        *locked(&self.wanted) = blocks;
+    }
+
+    fn wants(&self, block: &[u8]) -> bool {
+        let is_any = !locked(&self.wanted).is_empty();
+        is_any && {
+            let payload = digest(block);
+            locked(&self.wanted).contains(&payload)
+        }
+    }
+
+    fn knows(&self, subject: &Subject) -> bool {
+        locked(&self.known).certificates.contains(&(subject.round().view, kind_of(subject)))
+    }
+
+    /// Whether just this vote, with its signature, was verified before.
+    fn was_verified(&self, vote: &Vote) -> bool {
+        locked(&self.known).votes.get(&key_of(vote)) == Some(vote)
+    }
+
+    fn verified(&self, vote: &Vote) {
+        locked(&self.known).votes.insert(key_of(vote), vote.clone());
+    }
+
+    /// Whether a proposal tells something: it is among the first of its view, or came before.
+    fn takes_proposal(&self, view: View, payload: Digest) -> bool {
+        let mut known = locked(&self.known);
+        let payloads = known.proposals.entry(view).or_default();
+        let is_known = payloads.contains(&payload);
+        if !is_known && payloads.len() < PROPOSALS_A_VIEW {
+            payloads.push(payload);
+            return true;
+        }
+        false
+    }
+
+    /// Whether a vote of the view may be of use.
+    fn admits(&self, view: View) -> bool {
+        self.min_active.load(Relaxed) <= view.get() && view.get() <= self.current.load(Relaxed) + AHEAD
+    }
+
+    fn is_kept(&self, view: View) -> bool {
+        self.min_active.load(Relaxed) <= view.get()
+    }
+}
+
+/// What the reading threads share.
+pub struct Reader {
+    pub(super) keys: Arc<Keys>,
+    pub(super) horizon: Arc<Horizon>,
+    pub(super) counters: Arc<Counters>,
+    pub(super) inbox: Arc<Inbox>,
+    pub(super) epoch: Epoch,
+    pub(super) turns: Turns,
+}
+
+/// One connection of a member.
+pub struct Link<'a> {
+    reader: &'a Reader,
+    from: Participant,
+    budget: Budget,
+    forged: u32,
+}
+
+impl Reader {
+    /// The keys of the members.
+    pub fn keys(&self) -> &Keys {
+        &self.keys
+    }
+
+    /// A new connection of a member.
+    pub fn link(&self, from: Participant) -> Link<'_> {
+        Link {
+            reader: self,
+            from,
+            budget: Budget::new(Instant::now()),
+            forged: 0,
+        }
+    }
+}
+
+impl Link<'_> {
+    /// Reads a message, and puts it where it is of use. Returns whether messages are taken still. `PermissionDenied` after many forgeries.
+    pub fn read_one(&mut self, stream: &mut impl Read) -> io::Result<bool> {
+        let Some(bytes) = read_frame(stream)? else { return Ok(true) };
+        let begun = Instant::now();
+        let message = message_of(&bytes)?;
+        let is_of_use = self.is_of_use(&message);
+        let wait = self.budget.spend(bytes.len(), begun.elapsed(), Instant::now());
+        if self.forged > MOST_FORGED {
+            return Err(io::ErrorKind::PermissionDenied.into());
+        }
+        let put = if is_of_use {
+            self.reader.inbox.put(self.from, message, bytes.len())
+        } else {
+            Put::Taken
+        };
+        if put == Put::Dropped {
+            self.reader.counters.dropped_messages.fetch_add(1, Relaxed);
+        }
+        if !wait.is_zero() {
+            self.reader.counters.slowed_readers.fetch_add(1, Relaxed);
+            thread::sleep(wait.min(super::link::HEARTBEAT));
+        }
+        Ok(put != Put::Closed)
+    }
+
+    /// Whether a message is well formed and signed, and tells something new. What is certified already is not verified.
+    fn is_of_use(&mut self, message: &Message) -> bool {
+        let (epoch, horizon) = (self.reader.epoch, self.reader.horizon.clone());
+        match message {
+            Message::Hello(..) => false,
+            Message::Proposal(vote, block) => {
+                let Subject::Notarize(proposal) = &vote.subject else { return false };
+                let view = proposal.view();
+                is_sound(&vote.subject, epoch)
+                    && horizon.admits(view)
+                    && vote.signer == self.reader.turns.leader(view)
+                    && self.is_signed(vote)
+                    && self.has_payload(block, proposal.payload)
+                    && horizon.takes_proposal(view, proposal.payload)
+            }
+            Message::Vote(vote) => {
+                let view = vote.subject.round().view;
+                // A leader's vote may be for another proposal than the one that is certified.
+                let is_proposal = matches!(vote.subject, Subject::Notarize(_)) && vote.signer == self.reader.turns.leader(view);
+                is_sound(&vote.subject, epoch)
+                    && horizon.admits(view)
+                    && (is_proposal || !horizon.knows(&vote.subject))
+                    && self.is_signed(vote)
+            }
+            Message::Certificate(it) => {
+                let subject = it.subject();
+                is_sound(&subject, epoch)
+                    && horizon.is_kept(subject.round().view)
+                    && !horizon.knows(&subject)
+                    && self.is_good(self.reader.keys.is_certificate(it))
+            }
+            Message::AskCertificate(..) | Message::AskBlock(_) => self.budget.may_ask(Instant::now()),
+            Message::Block(bytes) => horizon.wants(bytes),
+        }
+    }
+
+    /// Whether a vote's signature is good. One that was verified before is not verified again.
+    fn is_signed(&mut self, vote: &Vote) -> bool {
+        if self.reader.horizon.was_verified(vote) {
+            return true;
+        }
+        let is_good = self.is_good(self.reader.keys.is_signed_vote(vote));
+        if is_good {
+            self.reader.horizon.verified(vote);
+        }
+        is_good
+    }
+
+    /// Whether a block is the one that its proposal names. A block under another name is as bad as a forged signature.
+    fn has_payload(&mut self, block: &[u8], payload: Digest) -> bool {
+        digest(block) == payload || self.is_good(false)
+    }
+
+    fn is_good(&mut self, is_good: bool) -> bool {
+        let counters = &self.reader.counters;
+        let counter = if is_good { &counters.verified } else { &counters.forged };
+        counter.fetch_add(1, Relaxed);
+        self.forged += u32::from(!is_good);
+        is_good
+    }
+}
+
+/// Reads a message from its frame; heartbeats before it are passed over.
+pub fn read_message(stream: &mut impl Read) -> io::Result<Message> {
+    loop {
+        if let Some(bytes) = read_frame(stream)? {
+            return message_of(&bytes);
+        }
+    }
+}
+
+/// Reads the bytes of a frame; `None` of a heartbeat.
+fn read_frame(stream: &mut impl Read) -> io::Result<Option<Vec<u8>>> {
+    let mut length = [0; 4];
+    stream.read_exact(&mut length)?;
+    let length = u32::from_be_bytes(length) as usize;
+    if length > LONGEST {
+        return Err(io::Error::new(io::ErrorKind::InvalidData, "a frame is too long"));
+    }
+    if length == 0 {
+        return Ok(None);
+    }
+    let mut bytes = vec![0; length];
+    stream.read_exact(&mut bytes)?;
+    Ok(Some(bytes))
+}
+
+fn message_of(bytes: &[u8]) -> io::Result<Message> {
+    Message::read(bytes).ok_or_else(|| io::Error::new(io::ErrorKind::InvalidData, "a frame is no message"))
+}

@@ -1,0 +1,218 @@
+//! Journals that a node must not begin with: lost ones, those of others, and those that are older than its chain.
+
+use simplex_node::journal;
+use simplex_node::network::{Network, Plan, folder_of};
+use simplex_node::settings::Protocol;
+use std::fs;
+use std::path::Path;
+use std::process::{Command, Output, Stdio};
+use std::thread::sleep;
+use std::time::{Duration, Instant};
+
+/// Within what time something has to be seen, on a machine that does much else.
+const SOON: Duration = Duration::from_secs(60);
+/// Where the pieces of a journal begin: after eight letters, a version, an identity and a digest.
+const HEAD: usize = 9 + simplex_node::identity::SIZE + 32;
+
+/// A network of so many nodes that has finalized some views, and has stopped.
+fn stopped(name: &str, nodes: u32) -> Network {
+    let plan = Plan {
+        nodes,
+        protocol: Protocol::default(),
+        sync: true,
+        faults: Vec::new(),
+        delay_ms: 0,
+        program: env!("CARGO_BIN_EXE_simplex-node").into(),
+        folder: folder_of(name),
+    };
+    let mut network = Network::new(plan).expect("keys and settings");
+    runs_on(&mut network);
+    network
+}
+
+/// Begins all nodes, has them finalize some views, and stops them.
+fn runs_on(network: &mut Network) {
+    let longest = network.chains().expect("chains").iter().map(Vec::len).max().unwrap_or(0);
+    network.begin_all().expect("processes");
+    let is_longer = network.wait_until(&network.honest(), "height", longest as u64 + 5, SOON);
+    assert!(is_longer, "the chain does not grow");
+    network.stop().expect("they stop");
+}
+
+/// Runs the program with a node's settings until it ends, or runs for long.
+fn run(words: &[&str], config: &Path) -> Option<Output> {
+    let mut child = Command::new(env!("CARGO_BIN_EXE_simplex-node"))
+        .args(words)
+        .arg("--config")
+        .arg(config)
+        .stderr(Stdio::piped())
+        .spawn()
+        .expect("a process");
+    let begun = Instant::now();
+    while child.try_wait().expect("a process").is_none() {
+        if begun.elapsed() > Duration::from_secs(3) {
+            child.kill().expect("a process");
+            child.wait().expect("a process");
+            return None;
+        }
+        sleep(Duration::from_millis(20));
+    }
+    Some(child.wait_with_output().expect("a process"))
+}
+
+/// Why a node is refused.
+fn refused(network: &Network, index: u32) -> String {
+    let done = run(&[], &network.config(index)).expect("it is refused, and does not run");
+    assert!(!done.status.success());
+    let said = String::from_utf8_lossy(&done.stderr).into_owned();
+    assert!(!said.contains("begun"), "it began: {said}");
+    said
+}
+
+fn end(network: Network) {
+    fs::remove_dir_all(network.folder()).expect("a folder");
+}
+
+#[test]
+fn a_node_that_lost_its_journal_is_refused_by_what_it_left() {
+    let network = stopped("lost", 1);
+    let data = network.data(0);
+    fs::remove_file(journal::path(&data)).expect("a journal");
+    for left in ["chain", "blocks"] {
+        let said = refused(&network, 0);
+        assert!(said.contains(data.join(left).to_str().expect("letters")), "{said}");
+        assert!(said.contains("journal") && said.contains("Put the journal back"), "{said}");
+        assert!(!journal::path(&data).exists(), "no other journal is begun");
+        fs::remove_file(data.join(left)).expect("it is left");
+    }
+    end(network);
+}
+
+#[test]
+fn a_journal_of_another_key_is_refused() {
+    let mut network = stopped("key", 1);
+    let folder = network.folder().to_owned();
+    fs::remove_file(folder.join("0.pem")).expect("a key");
+    let key = simplex_node::crypto::make_key(&folder.join("0.pem")).expect("a key");
+    let before = fs::read(journal::path(&network.data(0))).expect("a journal");
+    network.set(0, |it| it.members[0].key = key.clone()).expect("settings");
+    let said = refused(&network, 0);
+    assert!(
+        said.contains("journal") && said.contains("the journal of the key") && said.contains(&key),
+        "{said}"
+    );
+    assert_eq!(
+        fs::read(journal::path(&network.data(0))).expect("a journal"),
+        before,
+        "it stays as it is"
+    );
+    end(network);
+}
+
+#[test]
+fn a_journal_of_another_epoch_is_refused() {
+    let mut network = stopped("epoch", 1);
+    network.set(0, |it| it.protocol.epoch = 7).expect("settings");
+    let said = refused(&network, 0);
+    assert!(said.contains("of epoch 1") && said.contains("epoch 7"), "{said}");
+    end(network);
+}
+
+#[test]
+fn a_journal_of_another_term_length_is_refused() {
+    let mut network = stopped("term", 1);
+    network
+        .set(0, |it| it.protocol.term_length = 3.try_into().expect("not 0"))
+        .expect("settings");
+    let said = refused(&network, 0);
+    assert!(said.contains("terms of 1") && said.contains("`term_length` is 3"), "{said}");
+    end(network);
+}
+
+#[test]
+fn a_journal_of_another_list_of_members_is_refused() {
+    let mut network = stopped("members", 4);
+    network.set(0, |it| it.members.swap(2, 3)).expect("settings");
+    let said = refused(&network, 0);
+    assert!(said.contains("other members"), "{said}");
+    // Addresses may change.
+    let listens = std::net::TcpListener::bind("127.0.0.1:0")
+        .expect("a port")
+        .local_addr()
+        .expect("an address");
+    network
+        .set(0, |it| {
+            it.members.swap(2, 3);
+            it.members[3].address = listens;
+        })
+        .expect("settings");
+    assert!(run(&[], &network.config(0)).is_none(), "it runs");
+    end(network);
+}
+
+#[test]
+fn a_journal_that_names_no_member_has_to_be_adopted() {
+    let network = stopped("adopt", 1);
+    let path = journal::path(&network.data(0));
+    let bytes = fs::read(&path).expect("a journal");
+    fs::write(&path, [b"simplexj\x02", &bytes[HEAD..]].concat()).expect("a disk");
+    let said = refused(&network, 0);
+    assert!(said.contains("version 2") && said.contains("simplex-node adopt --config"), "{said}");
+    let adopted = run(&["adopt"], &network.config(0)).expect("it ends");
+    assert!(adopted.status.success(), "{}", String::from_utf8_lossy(&adopted.stderr));
+    assert_eq!(fs::read(&path).expect("a journal"), bytes);
+    assert!(run(&[], &network.config(0)).is_none(), "it runs");
+    let again = run(&["adopt"], &network.config(0)).expect("it ends");
+    assert!(!again.status.success(), "it names its member already");
+    end(network);
+}
+
+#[test]
+fn a_journal_of_another_member_is_not_adopted() {
+    let network = stopped("foreign", 4);
+    let bytes = fs::read(journal::path(&network.data(1))).expect("a journal");
+    let before = [b"simplexj\x02", &bytes[HEAD..]].concat();
+    let path = journal::path(&network.data(0));
+    fs::write(&path, &before).expect("a disk");
+    let adopted = run(&["adopt"], &network.config(0)).expect("it ends");
+    assert!(!adopted.status.success());
+    assert_eq!(fs::read(&path).expect("a journal"), before, "it stays as it is");
+    end(network);
+}
+
+#[test]
+fn a_journal_that_is_older_than_the_chain_is_refused() {
+    let mut network = stopped("older", 1);
+    let path = journal::path(&network.data(0));
+    let older = fs::read(&path).expect("a journal");
+    runs_on(&mut network);
+    let newer = fs::read(&path).expect("a journal");
+    fs::write(&path, older).expect("a disk");
+    let said = refused(&network, 0);
+    assert!(
+        said.contains("is older than") && said.contains("chain") && said.contains("newest journal"),
+        "{said}"
+    );
+    fs::write(&path, newer).expect("a disk");
+    assert!(run(&[], &network.config(0)).is_none(), "it runs");
+    end(network);
+}
+
+/// A member alone stores a finalization in each turn. Where that fails, its chain must not have the block already.
+#[test]
+fn a_node_whose_disk_is_full_goes_on_with_its_own_journal() {
+    let mut network = stopped("full", 1);
+    for blocks in 0..2 {
+        let longest = fs::metadata(journal::path(&network.data(0))).expect("a journal").len() / 512;
+        network.begin_on_small_disk(0, longest as u32 + 20 + blocks).expect("a process");
+        let begun = Instant::now();
+        while !network.has_ended(0).expect("a process") {
+            assert!(begun.elapsed() < SOON, "its disk is not full");
+            sleep(Duration::from_millis(20));
+        }
+        runs_on(&mut network);
+    }
+    let said = fs::read_to_string(network.log(0)).expect("a log");
+    assert!(said.contains("File too large") && !said.contains("is older than"), "{said}");
+    end(network);
+}
