@@ -1,11 +1,12 @@
 //! One node against members and strangers that attack it, whom the test plays: what they do costs the others nothing that matters.
 
+use simplex_node::blocks::Block;
 use simplex_node::crypto::Keys;
 use simplex_node::message::Message;
 use simplex_node::network::{Network, Plan, folder_of};
 use simplex_node::peers::{HEARTBEAT_FRAME, SILENCE, greet};
-use simplex_node::settings::{Protocol, Settings};
-use simplex_view_state::{Certificate, Epoch, FetchKind, Participant, Round, Subject, View, Vote};
+use simplex_node::settings::{Protocol, Settings, genesis};
+use simplex_view_state::{Certificate, Context, Epoch, FetchKind, Participant, Proposal, Round, Subject, View, Vote};
 use std::fs;
 use std::io::{Read, Write};
 use std::net::{SocketAddr, TcpListener, TcpStream};
@@ -270,5 +271,33 @@ fn a_member_that_forges_is_refused_for_a_while() {
     sleep(Duration::from_secs(1));
     let mut link = attacked.link(3);
     attacked.goes_through(&mut link, 1..2);
+    attacked.end();
+}
+
+#[test]
+fn a_block_under_the_name_of_another_is_not_kept() {
+    let attacked = Attacked::begin("names");
+    let mut link = attacked.link(1);
+    attacked.goes_through(&mut link, 1..2);
+    let context = Context {
+        round: round(2),
+        leader: Participant::new(1),
+        parent: View::GENESIS,
+        parent_payload: genesis(1),
+    };
+    let (named, other) = (Block::new(&context, &[1; 256]), Block::new(&context, &[2; 256]));
+    let proposal = Proposal {
+        round: context.round,
+        parent: context.parent,
+        payload: named.payload(),
+    };
+    let bytes = || fs::metadata(attacked.network.data(0).join("blocks")).map_or(0, |it| it.len());
+    let before = bytes();
+    let vote = attacked.vote(1, Subject::Notarize(proposal));
+    let message = Message::Proposal(vote, other.bytes().to_vec());
+    link.write_all(&message.frame()).expect("it reads");
+    attacked.comes_to("forged", 1);
+    attacked.goes_through(&mut link, 2..3);
+    assert_eq!(bytes(), before);
     attacked.end();
 }
