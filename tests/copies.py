@@ -90,6 +90,8 @@ def source_copies():
     lines = [f"{line}\n" for line, *_ in first_script()]
     if text_of("crates/viewstate/stdin") != "".join(lines):
         yield "crates/viewstate/stdin is not the first script of docs/PROGRAM.md"
+    if not any(block in blocks("README.md", "text") for block in blocks("docs/PROGRAM.md", "text")):
+        yield "README.md does not show the first script of docs/PROGRAM.md"
     samples = text_of(SAMPLE).replace("\n    ", "\n"), re.sub("^//! ?", "", text_of(PACKAGE), flags=re.MULTILINE)
     for block in blocks("README.md", "rust"):
         if not any(block in sample for sample in samples):
