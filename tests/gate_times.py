@@ -10,8 +10,8 @@ as long as the stored table says (`tests/gate_times.txt`).
     tests/gate_times.py [--told FILE] COMMAND ..      prints the table; what the command prints goes to FILE too
     tests/gate_times.py --write COMMAND ..            writes it to `tests/gate_times.txt` besides: a decision, to be reasoned in a commit
 
-It ends with the command's status, or with 1 where a crate took over a fifth more than the stored table has, or is not in it. Crates under
-thirty seconds are not judged, nor is a run in which one reference took twice as long as another.
+It ends with the command's status, or with 1 where a crate took over a fifth and over half a minute more than the stored table has. A run
+is not judged in which one reference took twice as long as another, or where no table is stored.
 `taskset -c 0,1` before the command shows what two processors make of it. Some kits' `rt ci` keeps what earlier runs on this machine
 proved, which then takes nothing here: `rt ci --anew` proves all of it."""
 
@@ -124,8 +124,8 @@ class Reference(threading.Thread):
             self.ended.wait(EVERY)
 
     def near(self, begun, ended):
-        """What the reference took while a step ran, in the mean, or the nearest one."""
-        within = [taken for moment, taken in self.taken if begun <= moment <= ended]
+        """What the reference took round the time in which a step ran, in the mean, or the nearest one."""
+        within = [taken for moment, taken in self.taken if begun - EVERY <= moment <= ended + EVERY]
         return statistics.mean(within) if within else min(self.taken, key=lambda it: abs(it[0] - begun))[1]
 
 
@@ -156,10 +156,10 @@ def stored():
 
 
 def grown(times, table):
-    """The crates that took over a fifth more than the table has."""
+    """The crates that took over a fifth and half a minute more than the table has."""
     for name in times.names:
         seconds = times.scaled[name]
-        if seconds > LEAST_JUDGED and seconds > GROWTH * table.get(name, 0):
+        if seconds > GROWTH * table.get(name, 0) and seconds > table.get(name, 0) + LEAST_JUDGED:
             yield f"{name} took {seconds:.0f} s, where tests/gate_times.txt has {table.get(name, 0):.0f}: make it cheaper, or change the table and say why"
 
 
@@ -208,7 +208,7 @@ def main():
     if given.write:
         write(times, statistics.median(taken))
     is_steady = max(taken) < UNSTEADY * min(taken)
-    faults = list(grown(times, table)) if is_steady and not given.write else []
+    faults = list(grown(times, table)) if is_steady and table and not given.write else []
     if not is_steady:
         print("the machine was not steady, so no crate's time is judged")
     print("".join(f"{fault}\n" for fault in faults), end="")
