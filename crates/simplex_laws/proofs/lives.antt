@@ -9,5 +9,7 @@ pub mod WithinRuns
 pub mod TimingOut
 pub mod Waiting
 pub mod Polls
+pub mod LeftViews
+pub mod LeftByEntries
 pub mod Gapless
 pub mod Progress

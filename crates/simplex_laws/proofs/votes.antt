@@ -19,3 +19,5 @@ pub mod NotarizeVotesByWork
 pub mod NotarizeVotesByCalls
 pub mod NotarizeVotes
 pub mod ShownVotesBySteps
+pub mod NullifyVotesDecided
+pub mod NullifiedAbove

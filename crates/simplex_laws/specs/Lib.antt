@@ -3,6 +3,7 @@ pub mod Lawful
 pub mod Accountability
 pub mod TermLengths
 pub mod LifeLaws
+pub mod StateLaws
 pub mod Outside
 pub mod Standings
 pub mod RecordsOnce

@@ -11,6 +11,7 @@ mod plain;
 mod progress;
 mod resumes;
 mod rivals;
+mod states;
 
 pub use continuations::{conflicts_are_left, gaps_are_closed, nullified_handoffs_are_left};
 pub use contradictions::{accountability, contradictions_need_faults};
@@ -25,3 +26,4 @@ pub use plain::plain_members_agree;
 pub use progress::views_are_left;
 pub use resumes::resumes_are_restarts;
 pub use rivals::{rivals_are_answered_for, skipped_finalizations_are_answered_for};
+pub use states::{nullify_votes_are_decided, states_time_out};

@@ -35,6 +35,13 @@ none_from_is_some : {V : Type 0} (o : Option V) → is_some o ≡ false → o �
 none_from_is_some None e = refl
 none_from_is_some (Some x) e = absurd (false≢true (sym e))
 
+-- a view is above another exactly where it is some distance above it
+pub far_above : (view other : ℕ) → ltb 0 (view - other) ≡ ltb other view
+far_above view other = elim (cases_lt other view) [
+  | inl lower ↦ lt-ltb 0 (view - other) (omega (arith, lower)) ∙ sym (lt-ltb other view lower)
+  | inr higher ↦ le-ltb 0 (view - other) (omega (arith, higher)) ∙ sym (le-ltb other view higher)
+]
+
 pub is_eq-nat_cmp : (x y : ℕ) → eq_by_cmp nat_cmp x y ≡ eqb x y
 is_eq-nat_cmp x y = grind (arith, nat_tests)
 

@@ -148,6 +148,12 @@ below_low v u is = let lower = ltb-true u v is in omega (arith, lower)
 
 -- ---- terms that have ended
 
+-- the term of the view after v starts after the whole terms up to v
+pub start_after : (length v : ℕ) → v / length * length + 1 ≡ term_start length (v + 1)
+start_after length v =
+    let same : v + 1 - 1 ≡ v = omega arith in
+    rw same refl
+
 -- before the end of the first term none has
 none_ended : (length v u : ℕ) → v < length → ltb v (term_end length u) ≡ true
 none_ended length v u first = lt-ltb v (term_end length u) (omega (arith, first))

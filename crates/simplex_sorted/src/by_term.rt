@@ -98,7 +98,6 @@ impl<V: Drop> ByTerm<V> {
 
     /// Removes the terms that end at or below a view.
     pub fn drop_ended(&mut self, view: View)
-        requires { view + 1 < 2 ^ 64 }
         ensures { self.new ≡ record self.old { by_view = not_ended self.old view } }
     {
         self.table.drop_ended(view);

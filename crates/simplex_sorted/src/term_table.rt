@@ -165,14 +165,14 @@ impl<V: Drop> TermTable<V> {
 
     /// Removes the terms that end at or below a view.
     pub(super) fn drop_ended(&mut self, view: View)
-        requires { view + 1 < 2 ^ 64 }
         ensures { self.new ≡ record self.old { by_view = not_ended self.old view } }
     {
-        if view.get() < u64::from(self.term_length.get().get()) {
+        let views = u64::from(self.term_length.get().get());
+        if view.get() < views {
             return;
         }
-        let start = view.next().term_start(self.term_length);
-        self.by_view.drop_below(start);
+        let end = view.get() / views * views;
+        self.by_view.drop_up_to(View::new(end));
     }
 
     /// Removes the entries below a view.

@@ -1,6 +1,6 @@
 //! Values at the views that are tracked, in rows sorted by view.
 
-ghost use Rattle.std.specs.Prelude.{◌≡◌, ◌+◌, ◌<◌, ◌≤◌, IfOk, IfErr, OnErr, Some, None, is_some, option_map, nat_lt, drop, if◌then◌else◌};
+ghost use Rattle.std.specs.Prelude.{◌≡◌, ◌+◌, ◌-◌, ◌^◌, ◌<◌, ◌≤◌, IfOk, IfErr, IfSome, OnErr, Some, None, is_some, option_map, nat_lt, drop, if◌then◌else◌};
 ghost use Rattle.std.specs.Option.{option_copied};
 ghost use Rattle.std.specs.FinMap as map;
 ghost use Rattle.std.specs.Ordering.{nat_cmp};
@@ -56,35 +56,16 @@ impl<V> Tracked<V> {
         self.entries.len()
     }
 
-    /// Between which places the view's own lies. No more entries stand below it than views from the first one on, and no more at
-    /// or above it than views up to the last one. So where each view between these two is tracked, this is its place.
-    fn bounds(&self, view: View) -> (usize, usize)
-        ensures low { result.0 ≤ map.len (below self.now view) }
-        ensures high { map.len (below self.now view) ≤ result.1 }
-        ensures in_range { result.1 ≤ map.len self.now }
-    {
-        let count = self.len();
-        let Some(end) = count.checked_sub(1) else {
-            return (0, 0);
-        };
-        let first = self.entries[0].0.get();
-        let last = self.entries[end].0.get();
-        let below = view.get().saturating_sub(first).min(count as u64) as usize;
-        if last < view.get() {
-            return (count, count);
-        }
-        let above = (last - view.get()).min(end as u64) as usize;
-        (end - above, below)
-    }
-
     /// The place of a view, which is the number of entries below it, and how many entries the search compared with it.
     pub fn find(&self, view: View) -> (usize, usize)
         ensures place { result.0 ≡ map.len (below self.now view) }
         ensures probes { IsAtMostBinaryDigits result.1 (map.len self.now) }
     {
-        let (first, last) = self.bounds(view);
-        let mut low = first;
-        let mut high = last;
+        if let Some(found) = self.find_in_run(view) {
+            return found;
+        }
+        let mut low = 0;
+        let mut high = self.len();
         let mut probes = 0;
         while low < high {
             let middle = low + (high - low) / 2;
@@ -97,16 +78,31 @@ impl<V> Tracked<V> {
         (low, probes)
     }
 
-    /// Whether the entry at a place is below the view: the one comparison of a search, which is counted.
+    /// The same where each view from the first entry's to the last one's is there: the first entry alone tells the place then.
+    fn find_in_run(&self, view: View) -> Option<(usize, usize)>
+        ensures place { IfSome result (λ found. found.0 ≡ map.len (below self.now view)) }
+        ensures probes { IfSome result (λ found. IsAtMostBinaryDigits found.1 (map.len self.now)) }
+    {
+        let count = self.len();
+        let end = count.checked_sub(1)?;
+        let first = self.entries[0].0;
+        let last = self.entries[end].0;
+        if last.get().saturating_sub(first.get()) != end as u64 {
+            return None;
+        }
+        let mut probes = 0;
+        let distance = distance(view, first, &mut probes);
+        Some((distance.min(count as u64) as usize, probes))
+    }
+
+    /// Whether the entry at a place is below the view.
     fn is_below(&self, place: usize, view: View, probes: &mut usize) -> bool
         requires in_range { place < map.len self.now }
         requires room { probes.old < map.len self.now }
         ensures answer { result ≡ nat_lt place (map.len (below self.now view)) }
         ensures counted { probes.new ≡ probes.old + 1 }
     {
-        let below = self.entries[place].0 < view;
-        *probes += 1;
-        below
+        distance(view, self.entries[place].0, probes) > 0
     }
 
     /// Whether the view stands at its place.
@@ -269,6 +265,14 @@ impl<V: Drop> Tracked<V> {
         drop_first(&mut self.entries, below);
     }
 
+    /// Removes the entries at or below a view.
+    pub(super) fn drop_up_to(&mut self, view: View)
+        ensures { self.new ≡ at_or_above self.old (view + 1) }
+    {
+        let end = self.end_of(view);
+        drop_first(&mut self.entries, end);
+    }
+
     /// Removes the entry of a view, where there is one.
     pub fn remove(&mut self, view: View)
         ensures { self.new ≡ map.remove self.old view }
@@ -278,6 +282,16 @@ impl<V: Drop> Tracked<V> {
             self.entries.remove(place);
         }
     }
+}
+
+/// How far a view is above an entry's view: 0 where it isn't. It is the only comparison of a search, and counts itself.
+fn distance(view: View, entry: View, probes: &mut usize) -> u64
+    requires { probes.old + 1 < 2 ^ 64 }
+    ensures distance { result ≡ view - entry }
+    ensures counted { probes.new ≡ probes.old + 1 }
+{
+    *probes += 1;
+    view.get().saturating_sub(entry.get())
 }
 
 /// Puts a value on the heap. Where there is no memory it comes back.

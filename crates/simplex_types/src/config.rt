@@ -95,7 +95,7 @@ pub enum Floor<S: CertificateScheme, D> {
 }
 
 impl<S: CertificateScheme, D: Digest> Floor<S, D> {
-    /// The finalized view that the engine starts from: 0 for genesis.
+    /// Returns 0 for genesis, else the view of the finalization.
     pub fn view(&self) -> View
         ensures { result ≡ floor_view self.now }
     {

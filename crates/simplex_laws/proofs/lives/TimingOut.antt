@@ -132,7 +132,7 @@ module _ {K L D : Type 0} (same : D → D → Bool) (elect : Elect L) (x : State
 
 -- a new state that sets a floor
 module _ {K L D : Type 0} (same : D → D → Bool) (elect : Elect L) where
-  new_times_out : (settings : Settings) (me : Option ℕ) (members : List K) (elector : L) (terms : Terms) (early : Bool) (floor : FloorFacts D) (now : ℕ) → TimesOut (after_set_floor same elect (new_facts settings me members elector terms early) floor now)
+  pub new_times_out : (settings : Settings) (me : Option ℕ) (members : List K) (elector : L) (terms : Terms) (early : Bool) (floor : FloorFacts D) (now : ℕ) → TimesOut (after_set_floor same elect (new_facts settings me members elector terms early) floor now)
   new_times_out settings me members elector terms early floor now =
       let x : StateFacts K L D = new_facts settings me members elector terms early in
       let e : Event K D = event.SetFloor floor now in

@@ -223,7 +223,7 @@ static WHOLE: [(Began, &[Entry]); 4] = [
 ];
 
 /// Records, each with the first rule that it breaks.
-static BROKEN: [(Began, &[Entry], RecoverError); 24] = [
+static BROKEN: [(Began, &[Entry], RecoverError); 25] = [
     (AtGenesis, &[Nullified(3), Nullified(2)], Error::OutOfOrder),
     (AtGenesis, &[VotedToNotarize(2, 3, 3, 7)], Error::OtherEpoch),
     (AtGenesis, &[Notarized(2, 3, 0)], Error::OtherEpoch),
@@ -255,6 +255,11 @@ static BROKEN: [(Began, &[Entry], RecoverError); 24] = [
         AtGenesis,
         &[VotedToNotarize(1, 3, 4, 7)],
         Error::ParentNotBelow,
+    ),
+    (
+        AtGenesis,
+        &[Judged(3, true)],
+        Error::VerdictWithoutNotarization,
     ),
     (
         AtFinalization(1, 20, 19),

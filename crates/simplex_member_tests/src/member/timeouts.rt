@@ -8,7 +8,8 @@ use Event::{Certified, Finalized, GivenUp, Nullified, Proposed};
 use simplex_member::member::{Member, RecoverError, Refusal, Start};
 use simplex_types::reasons::TimeoutReason;
 use simplex_types::types::plain::{PlainCertificate, PlainDigest, PlainElector, PlainScheme};
-use simplex_types::types::{Finalization, Nullification, TermLength, Terms, View};
+use simplex_types::types::{Fault, Finalization, Nullification, TermLength, Terms, View};
+use simplex_voter::voter::State;
 use std::alloc::{AllocError, Global};
 use std::num::NonZeroU32;
 use std::test::Fail;
@@ -269,5 +270,16 @@ fn a_start_whose_deadline_passes_64_bits_is_refused(rt: HostRuntime) -> Result<(
         Member::start(alloc, begun).err(),
         Some(RecoverError::TimeOverflow)
     );
+    Ok(())
+}
+
+#[test]
+fn a_genesis_whose_deadline_passes_64_bits_is_refused(rt: HostRuntime) -> Result<(), Fail> {
+    let alloc = rt.alloc();
+    let mut begun = start(alloc, 10)?;
+    begun.settings.leader_timeout = 1;
+    let mut state = State::new(alloc, begun.settings);
+    let answer = state.set_genesis(PlainDigest::new(0), u64::MAX);
+    assert!(rt; answer == Err(Fault::TimeOverflow) && state.current_view().is_zero());
     Ok(())
 }

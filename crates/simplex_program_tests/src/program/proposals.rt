@@ -2,7 +2,7 @@
 
 use super::script::Script;
 
-pub static PROPOSALS: [Script; 18] = [
+pub static PROPOSALS: [Script; 19] = [
     Script {
         shows: "the proposals of a window are verified one after another, each on the one before",
         command: "viewstate voter 4 1 5 4",
@@ -54,6 +54,17 @@ pub static PROPOSALS: [Script; 18] = [
         lines: "\
             propose => propose 1 0 0 0\n\
             proposed 1 7 5 => true\n\
+            finalization 20 19 9 10 => added true -\n\
+            prune => pruned 1\n\
+            notarize 1 => none\n",
+    },
+    Script {
+        shows: "a proposal that was verified is not voted for once its view is pruned",
+        command: "viewstate voter 4 1 1 0",
+        lines: "\
+            proposal 1 0 7 => true\n\
+            verify => ready 1 0 0 0 7\n\
+            verified 1 => true\n\
             finalization 20 19 9 10 => added true -\n\
             prune => pruned 1\n\
             notarize 1 => none\n",

@@ -1,26 +1,26 @@
-//! What follows from a recorded certificate or verdict.
+//! How calls of the resolver change the open fetches.
 
 use simplex_types::reasons::{FetchReason, Kind};
 use simplex_types::types::View;
 
-/// A change to the open fetches that follows from a recorded certificate or verdict.
+/// One step for the host's set of open fetches. A call returns its steps in the order in which they apply.
 #[derive(Clone, Copy, PartialEq, Eq, Debug)]
 pub enum Effect {
-    /// Fetch a nullification that covers `view`.
+    /// Open a fetch at `view`. Any nullification that covers it will do.
     Fetch {
         view: View,
         /// The view of the certificate or verdict that called for the fetch.
         cause: View,
         reason: FetchReason,
     },
-    /// Nothing is left to ask for of `kind` at the views `start..=end`.
+    /// No certificate of `kind` is needed any more from `start` to `end`, both included.
     Settled {
         kind: Kind,
         start: View,
         end: View,
     },
-    /// A finalization settles every ask at or below the view.
+    /// This view is finalized: close every fetch up to it, of either kind.
     Finalized(View),
-    /// The floor rose to the view, which ends every fetch at or below it.
+    /// The floor is at this view now: close every fetch up to it.
     Raised(View),
 }

@@ -1,11 +1,13 @@
 //! Which views have to be fetched.
 
-ghost use Rattle.std.specs.Prelude.{◌≡◌, ◌<◌, ◌≤◌, ◌^◌, ◌++◌, filter, not, nat_lt, ◌&&◌, is_some, IfOk, OnOk};
+ghost use Rattle.std.specs.Prelude.{◌≡◌, ◌<◌, ◌≤◌, ◌^◌, [], ◌∷◌, ◌++◌, if◌then◌else◌, filter, not, nat_lt, ◌&&◌, is_some, IfOk, OnOk};
 ghost use Rattle.std.specs.Option.{option_copied};
 ghost use Rattle.std.specs.FinMap as map;
 ghost use Rattle.simplex_sorted.specs.ByTerm.{has_covering};
 ghost use Rattle.simplex_resolver.specs.Facts.{covering_encoding, uncovered_anchors, end_of_scan};
 ghost use Rattle.simplex_resolver.specs.Steps.{missing_fetches, failure_fetches};
+ghost use Rattle.simplex_types.specs.declared.reasons.FetchReason.TheVariants.{MissingNullification};
+ghost use Rattle.simplex_resolver.specs.declared.resolver.effect.Effect.TheVariants.{Fetch};
 
 use crate::resolver::effect::Effect;
 use crate::resolver::views::Views;
@@ -26,7 +28,7 @@ pub(super) fn covering_nullification(nullifications: &ByTerm<Bytes>, view: View)
     }
 }
 
-/// Whether the view is above the floor and no nullification covers it.
+/// Returns whether a nullification for the view is missing and still of interest, since the floor is below.
 pub(super) fn needs_nullification(nullifications: &ByTerm<Bytes>, floor: View, view: View) -> bool
     ensures { result ≡ (nat_lt floor view && not (has_covering nullifications.now view)) }
 {
@@ -52,17 +54,31 @@ pub(super) fn scan(
 {
     let mut anchor = first;
     while anchor < current {
-        if covering_nullification(nullifications, anchor).is_none() {
-            effects.push(Effect::Fetch {
-                view: anchor,
-                cause,
-                reason: FetchReason::MissingNullification,
-            })?;
-        }
+        fetch_anchor(nullifications, anchor, cause, effects)?;
         let next = anchor.next_term_start(term_length);
         anchor = next;
     }
     Ok(anchor)
+}
+
+/// Fetches an anchor, unless it is covered.
+fn fetch_anchor(
+    nullifications: &ByTerm<Bytes>,
+    anchor: View,
+    cause: View,
+    effects: &mut Vec<Effect>,
+) -> Result<(), AllocError>
+    ensures { OnOk result (effects.new.items ≡ effects.old.items
+        ++ (if not (has_covering nullifications.now anchor) then Fetch anchor cause MissingNullification ∷ [] else [])) }
+{
+    if covering_nullification(nullifications, anchor).is_none() {
+        effects.push(Effect::Fetch {
+            view: anchor,
+            cause,
+            reason: FetchReason::MissingNullification,
+        })?;
+    }
+    Ok(())
 }
 
 /// Fetches each of the views that is above the floor and uncovered.

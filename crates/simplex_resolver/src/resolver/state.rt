@@ -182,8 +182,8 @@ impl State {
         }
     }
 
-    /// Records a verdict on a notarization, and answers what follows from it. The verdict may come before
-    /// `updated` hands in its notarization, or after it.
+    /// Records whether a notarization was certified, and returns the effects. `updated` need not have been called
+    /// with the notarization.
     ///
     /// A true verdict raises the floor to the notarization, which is served from then on. A false one is
     /// remembered until a finalization; its view is fetched where it is above the floor and uncovered. The

@@ -13,6 +13,18 @@ use simplex_types::types::{
 };
 use std::alloc::Global;
 
+/// Stores a certificate where none is stored yet. Returns whether it did.
+fn keep_first<C: Drop>(stored: &mut Option<C>, certificate: C) -> bool
+    ensures first { result ≡ not (is_some stored.old) }
+    ensures stored { stored.new ≡ (if is_some stored.old then stored.old else Some certificate) }
+{
+    let is_first = stored.is_none();
+    if is_first {
+        *stored = Some(certificate);
+    }
+    is_first
+}
+
 impl<S: CertificateScheme, D: Digest> Round<S, D> {
     /// The view's notarization, where one was added.
     pub fn notarization(&self) -> Option<&Notarization<S, D>>
@@ -70,12 +82,12 @@ impl<S: CertificateScheme, D: Digest> Round<S, D> {
             (true, equivocator (same_proposal D.eq) self.old notarization.proposal)) }
         ensures facts { self.new ≡ with_notarization (same_proposal D.eq) self.old (notarization_facts S.certificate_bytes notarization) }
     {
-        if self.notarization.is_some() {
-            return (false, None);
+        let proposal = notarization.proposal;
+        if keep_first(&mut self.notarization, notarization) {
+            (true, self.add_recovered_proposal(&proposal))
+        } else {
+            (false, None)
         }
-        let equivocator = self.add_recovered_proposal(&notarization.proposal);
-        self.notarization = Some(notarization);
-        (true, equivocator)
     }
 
     /// Takes a nullification. Answers whether it was newly added; a second one is not.
@@ -83,11 +95,7 @@ impl<S: CertificateScheme, D: Digest> Round<S, D> {
         ensures added { result ≡ not (is_some self.old.nullification) }
         ensures facts { self.new ≡ with_nullification self.old (nullification_facts S.certificate_bytes nullification) }
     {
-        if self.nullification.is_some() {
-            return false;
-        }
-        self.nullification = Some(nullification);
-        true
+        keep_first(&mut self.nullification, nullification)
     }
 
     /// Takes a finalization and its proposal. Answers whether it was newly added, with the key
@@ -100,12 +108,12 @@ impl<S: CertificateScheme, D: Digest> Round<S, D> {
             (true, equivocator (same_proposal D.eq) self.old finalization.proposal)) }
         ensures facts { self.new ≡ with_finalization (same_proposal D.eq) self.old (finalization_facts S.certificate_bytes finalization) }
     {
-        if self.finalization.is_some() {
-            return (false, None);
+        let proposal = finalization.proposal;
+        if keep_first(&mut self.finalization, finalization) {
+            (true, self.add_recovered_proposal(&proposal))
+        } else {
+            (false, None)
         }
-        let equivocator = self.add_recovered_proposal(&finalization.proposal);
-        self.finalization = Some(finalization);
-        (true, equivocator)
     }
 
     /// A copy of the notarization to send to others, once. None where there is none or it was

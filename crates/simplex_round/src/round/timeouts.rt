@@ -17,8 +17,8 @@ impl<S: CertificateScheme, D: Digest> Round<S, D> {
         }
     }
 
-    /// The time since this member began work on the view: since it built its own proposal, else
-    /// since it entered the view. 0 where `now` is earlier, none where it did neither.
+    /// Returns the milliseconds from the build of this member's own proposal to `now`, or without
+    /// one from its entry: 0 where `now` is earlier, none without either.
     pub fn elapsed_since_start(&self, now: u64) -> Option<u64>
         ensures { result ≡ elapsed now (start_of self.now) }
     {

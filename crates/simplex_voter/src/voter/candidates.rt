@@ -124,12 +124,11 @@ impl<S: CertificateScheme, L: Elector<S>, D: Digest> State<S, L, D> {
         self.certification_fetch(view, proposal)
     }
 
-    /// The notarization that a proposal has to fetch: what it requires is neither certified nor notarized, and its parent
-    /// may still be built on.
+    /// Returns the notarization to fetch before the proposal can be certified: that of its required parent, while the parent
+    /// may be built on and is neither certified nor notarized here.
     ///
-    /// One that is notarized is on its way to be certified. One that isn't comes by no event of its own: peers broadcast a
-    /// certificate once, and the votes behind it stopped circulating when the view above was notarized. Any member that
-    /// certified it holds it, while the leader that kept it back may never answer.
+    /// A notarized parent awaits only its verdict. A missing one has to be asked for: each member sends a notarization
+    /// a single time, and votes on a view end with the notarization of the next.
     fn certification_fetch(&self, view: View, proposal: &Proposal<D>) -> Option<CertificateFetch>
         ensures { result ≡ certification_fetch L.elect self.now view proposal.now }
     {

@@ -181,12 +181,12 @@ impl<S: CertificateScheme, L: Elector<S>, D: Digest> State<S, L, D> {
         if self.is_failed() {
             return Err(Fault::Failed);
         }
-        // a handoff no more, but a request like any other
+        // with a certified parent this is an ordinary request
         if self.parent_certified(context.parent) {
             return Ok(None);
         }
-        // the application may verify other blocks only once it has built this one, which could keep the very view that this
-        // member gives up, or a parent to fall back on, from being certified
+        // an application that builds one block at a time would go on with this one, while verdicts are needed to leave the
+        // nullified view
         if self.voted_nullify(self.current) {
             return Ok(Some(HandoffAbandonedReason::ParentNullify));
         }

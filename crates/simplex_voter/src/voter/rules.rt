@@ -82,13 +82,12 @@ impl<S: CertificateScheme, L: Elector<S>, D: Digest> State<S, L, D> {
         }
     }
 
-    /// The view that has to be certified before a proposal of this view: the proposal was voted for on a parent that may still
-    /// be refused, and to finalize it finalizes the parent too.
+    /// Returns the view that this member must certify before the proposal: the previous view, if the proposal was voted for
+    /// while that view could still be refused.
     ///
-    /// Of a term's first proposal that is so alone where this member leads the term. The vote marks the view and not one
-    /// proposal: any other member may have voted for one proposal of an equivocating leader, then see another one notarized,
-    /// and would wait for a parent that it may lack for good. And whoever else votes at a term's start has verified the proposal
-    /// on a certified parent, so its notarization holds the vote of an honest member that certified it.
+    /// Inside a term each proposal is voted for that early, at a term's start only by a leader that was elected early and
+    /// proposed it. This member's vote there tells which proposal that was, since it signs one as leader. The vote of
+    /// another member may be for a second proposal of a faulty leader, and its parent may never arrive: it must not wait.
     #[tactic(auto, unfolding(crate::specs::Rules::required_certification_parent))]
     pub(super) fn required_certification_parent(
         &self,

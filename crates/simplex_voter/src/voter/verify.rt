@@ -142,7 +142,7 @@ impl<S: CertificateScheme, L: Elector<S>, D: Digest> State<S, L, D> {
         if let Some(payload) = self.ancestry_payload_for_child(view, parent) {
             return Standing::Ready(payload);
         }
-        // the parent's certificate is still forming from live votes. A member that falls behind leaves the window, and asks
+        // inside its window a proposal is recent, and the parent's certificate is expected without a fetch
         if self.in_issuance_window(view) {
             return Standing::NothingToDo;
         }

@@ -5,6 +5,7 @@ ghost use Rattle.std.specs.Option.{option_copied};
 ghost use Rattle.std.specs.FinMap as map;
 ghost use Rattle.simplex_types.specs.declared.types.fault.Fault.TheVariants.{OutOfMemory, Failed};
 ghost use Rattle.simplex_types.specs.declared.reasons.Kind.TheVariants.{Nullification as OfNullification, Notarization as OfNotarization};
+ghost use Rattle.simplex_sorted.specs.ByTerm.{has_covering};
 ghost use Rattle.simplex_resolver.specs.Held.{is_settled, served_encoding, finalized_for, floor_for};
 
 use crate::resolver::scan;
@@ -19,22 +20,28 @@ impl State {
     pub fn settled(&self, view: View, kind: Kind) -> bool
         ensures { result ≡ is_settled self.now view kind }
     {
-        if view <= self.last_finalized() {
-            return true;
-        }
-        match kind {
-            Kind::Nullification => {
-                scan::covering_nullification(&self.nullifications, view).is_some()
-            }
+        let is_held = match kind {
+            Kind::Nullification => self.is_covered(view),
             Kind::Notarization => self.notarizations.contains(view),
-        }
+        };
+        view <= self.last_finalized() || is_held
+    }
+
+    /// Whether a nullification covers the view.
+    fn is_covered(&self, view: View) -> bool
+        ensures { result ≡ has_covering self.now.nullifications view }
+    {
+        scan::covering_nullification(&self.nullifications, view).is_some()
     }
 
     /// Whether nothing is left to ask for at the view, of either kind.
     pub fn key_settled(&self, view: View) -> bool
         ensures { result ≡ (is_settled self.now view OfNullification && is_settled self.now view OfNotarization) }
     {
-        self.settled(view, Kind::Nullification) && self.settled(view, Kind::Notarization)
+        if view <= self.last_finalized() {
+            return true;
+        }
+        self.is_covered(view) && self.notarizations.contains(view)
     }
 
     /// Whether a verdict has failed the notarization at the view, which isn't finalized.

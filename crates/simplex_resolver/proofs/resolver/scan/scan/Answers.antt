@@ -1,12 +1,12 @@
 -- How the contract of `scan` follows: the anchors go on from one to the next term's start, and each uncovered one is fetched.
-use Rattle.std.proofs.Common.{arith, ◌∙◌, sym, ap, not, ◌<◌, append-nil, subst, true, false}
+use Rattle.std.proofs.Common.{arith, refl, ◌∙◌, sym, ap, not, ◌<◌, subst}
+use Rattle.simplex_sorted.specs.ByTerm.{has_covering}
 use Rattle.std.proofs.lemmas.Bool.Decides.{nat_tests}
 use Rattle.simplex_types.specs.Terms.{next_term_start}
 use Rattle.simplex_resolver.specs.Facts.{end_of_scan}
 use Rattle.simplex_resolver.proofs.Terms.{terms}
 use Rattle.simplex_resolver.proofs.Anchors.{turn, end_of_scan-next}
 use Rattle.simplex_resolver.proofs.resolver.scan.scan.Goals as goal
-use Rattle.simplex_resolver.proofs.resolver.scan.scan.Goals.{then-is_none+in_ok-push, else-is_none}
 
 pub loop-term_length-smaller : goal.loop-term_length-smaller
 loop-term_length-smaller c =
@@ -29,11 +29,5 @@ loop-term_length-preserved c =
           ∙ end_of_scan-next c.args.term_length anchor c.args.current c.requires.long low more ∙ c.loop-term_length.invariant.end;
       fetched =
           let m = c.args.nullifications.now in
-          let covered = sym c.covering_nullification.ensures.found ∙ c.is_none.ensures in
-          elim c.if-is_none.branch [
-            | then-is_none+in_ok-push w ↦ turn true c.args.cause anchor _ c.args.current m before _ _ long low more to
-                (ap not (covered ∙ ap not w.if-is_none.true)) (ap (λ v. v.items) w.effects-is ∙ w.in_ok-push.ensures.items) c.loop-term_length.invariant.fetched
-            | else-is_none w ↦ turn false c.args.cause anchor _ c.args.current m before _ _ long low more to
-                (ap not (covered ∙ ap not w.if-is_none.false)) (ap (λ v. v.items) w.effects-is ∙ sym (append-nil _)) c.loop-term_length.invariant.fetched
-          ];
+          turn (not (has_covering m anchor)) c.args.cause anchor _ c.args.current m before _ _ long low more to refl c.in_ok-fetch_anchor.ensures c.loop-term_length.invariant.fetched;
     }

@@ -2,16 +2,16 @@
 use Rattle.std.proofs.Common.{sym, arith}
 use Rattle.std.proofs.lemmas.Bool.{ltb-true, ltb-false}
 use Rattle.simplex_types.proofs.Digits.{halve_once}
-use Rattle.simplex_sorted.proofs.Maps.{not_halved}
+use Rattle.simplex_sorted.proofs.Maps.{not_halved, len-below-le-len}
 use Rattle.simplex_sorted.proofs.tracked.Tracked.find.Goals as goal
 
 pub loop-low-init : goal.loop-low-init
 loop-low-init g c = record {
-  at_least = c.bounds-first.ensures.low;
-  at_most = c.bounds-first.ensures.high;
-  in_range = c.bounds-first.ensures.in_range;
-  counted = omega (arith, c.bounds-first.ensures.in_range);
-  halved = not_halved _ _ (omega (arith, c.bounds-first.ensures.in_range));
+  at_least = omega arith;
+  at_most = rw c.len-high.ensures (len-below-le-len _ _);
+  in_range = omega (arith, c.len-high.ensures);
+  counted = omega (arith, c.len-high.ensures);
+  halved = not_halved _ _ (omega (arith, c.len-high.ensures));
 }
 
 pub loop-low-preserved-then-is_below : goal.loop-low-preserved-then-is_below
