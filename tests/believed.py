@@ -34,6 +34,7 @@ STATEMENTS = [
         EXECUTIONS,
     ),
     ("no network is stuck", [("simplex_progress", "Going", "NoNetworkIsStuck")], [*EXECUTIONS, ("simplex_progress", "Living", "LivesWith")]),
+    ("chains reach genesis", [("simplex_chains", "Chains", "FinalizedReachGenesis")], EXECUTIONS),
     ("exactness", [("simplex_laws", "Exactly", "ExactAt")], []),
 ]
 

@@ -55,10 +55,13 @@ EXAMPLES = {
         tuple(f"networks.{name}" for name in ("Scripts", "ChangingLives", "AheadNetwork", "Rivals", "PlainNetwork")),
         ("laws::instances", "laws::plain", "laws::rivals")),
     "simplex_progress": Examples((), ("progress::continuations", "progress::instances")),
+    "simplex_chains": Examples((), tuple(f"chains::{name}" for name in (
+        "finalized_parents_are_certified", "finalized_chains_reach_genesis", "views_ahead_reach_genesis", "chains_need_offers",
+        "parents_need_one_elector", "votes_may_be_on_another_parent"))),
     "simplex_engine_definitions": Examples(("Examples", "Votes"), ("laws::calls_were_told_before", "laws::nullifies_once_due", "laws::work_was_given")),
 }
-VOTER, RECORD, MEMBER, RESOLVER, LAWS, PROGRESS, ENGINE = (
-    (f"simplex_{name}",) for name in ("definitions", "record", "member", "resolver", "laws", "progress", "engine_definitions"))
+VOTER, RECORD, MEMBER, RESOLVER, LAWS, PROGRESS, CHAINS, ENGINE = (
+    (f"simplex_{name}",) for name in ("definitions", "record", "member", "resolver", "laws", "progress", "chains", "engine_definitions"))
 
 
 class Wrong(NamedTuple):
@@ -379,6 +382,23 @@ WRONG_DEFINITIONS = (
         "the next view alone may be finalized", "simplex_progress/specs/Going.antt",
         (("(x.current < start))", "(start ≡ suc x.current))"),
          ("use Rattle.std.specs.Prelude.{◌≡◌, ℕ,", "use Rattle.std.specs.Prelude.{◌≡◌, ℕ, suc,")), PROGRESS,
+    ),
+    Wrong(
+        "a verdict is on whatever was offered", "simplex_chains/specs/Chains.antt",
+        (("Contains s.replies (Candidates offers fetches) × Contains offers q", "Contains s.replies (Candidates offers fetches) × Unit {0}"),), CHAINS,
+    ),
+    Wrong(
+        "one honest member witnesses a handoff", "simplex_chains/specs/Parents.antt",
+        (("TwoHonest network = faults network + 2 ≤ quorum (length network)", "TwoHonest network = faults network + 1 ≤ quorum (length network)"),), CHAINS,
+    ),
+    Wrong(
+        "a parent has to be finalized", "simplex_chains/specs/Parents.antt",
+        (("(Backed network (subject.Notarize q) × IsCertifiedByHonest network q)", "(Backed network (subject.Finalize q) × IsCertifiedByHonest network q)"),),
+        CHAINS,
+    ),
+    Wrong(
+        "a proposal that was found bad is certified", "simplex_chains/specs/Parents.antt",
+        (("Contains (judged_of s) (true, q)", "Contains (judged_of s) (false, q)"),), CHAINS,
     ),
     Wrong(
         "a verdict is of an engine's own accord", "simplex_plan/specs/Matters.antt",

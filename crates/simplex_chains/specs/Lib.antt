@@ -1,0 +1,6 @@
+pub mod Parents
+pub mod Chains
+pub mod ViewsAhead
+pub mod UnofferedVerdicts
+pub mod EarlyLeaders
+pub mod OtherParents

@@ -1,0 +1,4 @@
+//! The parents and the chain below a finalized proposal.
+#![tactic(auto)]
+
+pub mod chains;
