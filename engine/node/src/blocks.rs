@@ -13,7 +13,7 @@ use std::time::{SystemTime, UNIX_EPOCH};
 const HEAD: usize = 8 + 8 + 32 + 8;
 /// How many views below the last one that was taken blocks are kept for peers that lag.
 const KEPT: u64 = 1000;
-/// Above how many bytes the file is written anew.
+/// Above how many bytes the file is written anew, where less than half of it is kept.
 const LONGEST_FILE: u64 = 64 << 20;
 
 /// A block.
@@ -93,6 +93,8 @@ pub struct Blocks {
     path: PathBuf,
     file: File,
     bytes: u64,
+    /// How many of the file's bytes are of blocks that are kept.
+    kept: u64,
     by_payload: HashMap<Digest, Block>,
     by_view: BTreeMap<View, Vec<Digest>>,
     is_dirty: bool,
@@ -118,6 +120,7 @@ impl Blocks {
             path,
             file,
             bytes: 0,
+            kept: 0,
             by_payload: HashMap::new(),
             by_view: BTreeMap::new(),
             is_dirty: false,
@@ -150,6 +153,7 @@ impl Blocks {
     }
 
     fn hold(&mut self, payload: Digest, block: Block) {
+        self.kept += length_of(&block);
         self.by_view.entry(block.view).or_default().push(payload);
         self.by_payload.insert(payload, block);
     }
@@ -178,9 +182,11 @@ impl Blocks {
         let lowest = View::new(taken.get().saturating_sub(KEPT));
         let kept = self.by_view.split_off(&lowest);
         for payload in std::mem::replace(&mut self.by_view, kept).into_values().flatten() {
-            self.by_payload.remove(&payload);
+            if let Some(block) = self.by_payload.remove(&payload) {
+                self.kept -= length_of(&block);
+            }
         }
-        if self.bytes > LONGEST_FILE {
+        if self.bytes > LONGEST_FILE && self.bytes > 2 * self.kept {
             self.rewrite()?;
         }
         Ok(())
@@ -193,10 +199,17 @@ impl Blocks {
         file.write_all(&bytes)?;
         file.sync_all()?;
         fs::rename(&fresh, &self.path)?;
+        // (or a power cut could bring the old file back, without the blocks that come now)
+        File::open(self.path.parent().unwrap_or(Path::new(".")))?.sync_all()?;
         self.file = OpenOptions::new().append(true).open(&self.path)?;
         self.bytes = bytes.len() as u64;
         Ok(())
     }
+}
+
+/// How many bytes a block has in the file.
+fn length_of(block: &Block) -> u64 {
+    4 + block.bytes.len() as u64
 }
 
 fn framed(block: &Block) -> Vec<u8> {
@@ -208,4 +221,50 @@ fn framed(block: &Block) -> Vec<u8> {
 fn split(bytes: &[u8]) -> Option<(&[u8], &[u8])> {
     let (length, rest) = bytes.split_first_chunk::<4>()?;
     rest.split_at_checked(u32::from_be_bytes(*length) as usize)
+}
+
+#[cfg(test)]
+mod tests {
+    use super::*;
+    use simplex_view_state::{Epoch, Participant, Round};
+    use std::os::unix::fs::MetadataExt;
+
+    fn block(view: u64, bytes: usize) -> Block {
+        let context = Context {
+            round: Round {
+                epoch: Epoch::new(1),
+                view: View::new(view),
+            },
+            leader: Participant::new(0),
+            parent: View::new(view - 1),
+            parent_payload: Digest::new([0; 32]),
+        };
+        Block::new(&context, &vec![view as u8; bytes])
+    }
+
+    #[test]
+    fn a_long_file_of_blocks_that_are_kept_is_not_written_anew_at_each_view() {
+        let folder = std::env::temp_dir().join(format!("simplex-blocks-{}", std::process::id()));
+        fs::create_dir_all(&folder).expect("a folder");
+        let mut blocks = Blocks::open(&folder, false).expect("a file");
+        let file_now = || fs::metadata(path(&folder)).expect("a file").ino();
+        let (mut files, mut last) = (0, file_now());
+        for view in 1..=1500 {
+            blocks.keep(block(view, 96 << 10)).expect("a disk");
+            blocks.forget(View::new(view)).expect("a disk");
+            files += u32::from(file_now() != last);
+            last = file_now();
+        }
+        assert_eq!(files, 0, "less than half of it could go");
+        for view in 1501..=2100 {
+            blocks.keep(block(view, 10)).expect("a disk");
+            blocks.forget(View::new(view)).expect("a disk");
+            files += u32::from(file_now() != last);
+            last = file_now();
+        }
+        assert!((1..=3).contains(&files), "{files}");
+        let again = Blocks::open(&folder, false).expect("a file");
+        assert!(again.has_of(View::new(2100)) && again.has_of(View::new(1101)) && !again.has_of(View::new(500)));
+        fs::remove_dir_all(&folder).expect("its own folder");
+    }
 }

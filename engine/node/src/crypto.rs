@@ -6,7 +6,7 @@ use openssl::sign::{Signer, Verifier};
 use simplex_view_state::{Certificate, Digest, Participant, Vote};
 use std::fs;
 use std::io::Write;
-use std::os::unix::fs::OpenOptionsExt;
+use std::os::unix::fs::{OpenOptionsExt, PermissionsExt};
 use std::path::Path;
 
 /// How long a signature is.
@@ -30,8 +30,17 @@ pub struct Keys {
 impl Keys {
     /// The keys that the settings name. The secret one has to be that of the member.
     pub fn read(settings: &Settings) -> Outcome<Keys> {
-        let pem = fs::read(&settings.key).map_err(|error| format!("{}: {error}", settings.key.display()))?;
-        let secret = PKey::private_key_from_pem(&pem)?;
+        let named = |error: &dyn std::fmt::Display| format!("{}: {error}", settings.key.display());
+        let mode = fs::metadata(&settings.key).map_err(|error| named(&error))?.permissions().mode();
+        if mode & 0o077 != 0 {
+            return Err(named(&format!(
+                "others may read this secret key: run chmod 600 {}",
+                settings.key.display()
+            ))
+            .into());
+        }
+        let pem = fs::read(&settings.key).map_err(|error| named(&error))?;
+        let secret = PKey::private_key_from_pem(&pem).map_err(|error| named(&error))?;
         let public = settings.members.iter().map(|it| public_key(&it.key)).collect::<Outcome<Vec<_>>>()?;
         if !secret.public_eq(&public[settings.index as usize]) {
             return Err(format!("{} is not the key of member {}", settings.key.display(), settings.index).into());
@@ -86,12 +95,32 @@ fn public_key(hex: &str) -> Outcome<PKey<Public>> {
 pub fn raw_key(hex: &str) -> Outcome<[u8; 32]> {
     let wrong = || format!("{hex} is no public key: 64 hexadecimal digits");
     let digits = hex.as_bytes().as_chunks::<2>();
-    if hex.len() != 64 || !digits.1.is_empty() {
+    if hex.len() != 64 || !hex.bytes().all(|digit| digit.is_ascii_hexdigit()) {
         return Err(wrong().into());
     }
     let byte = |pair: &[u8; 2]| u8::from_str_radix(std::str::from_utf8(pair).ok()?, 16).ok();
     let raw: Vec<u8> = digits.0.iter().map(byte).collect::<Option<_>>().ok_or_else(wrong)?;
-    Ok(raw.try_into().map_err(|_| wrong())?)
+    let raw: [u8; 32] = raw.try_into().map_err(|_| wrong())?;
+    if is_of_small_order(&raw) {
+        return Err(
+            format!("{hex} is a key of small order, under which signatures can be forged: make one by `simplex-node keygen`").into(),
+        );
+    }
+    Ok(raw)
+}
+
+/// Whether a public key is one of the few points under which others than its owner can sign: by its y coordinate, that of a multiple of
+/// the curve's torsion, in each of its encodings.
+fn is_of_small_order(key: &[u8; 32]) -> bool {
+    const OF_ORDER_EIGHT: [&str; 2] = [
+        "26e8958fc2b227b045c3f489f2ef98f0d5dfac05d3c63339b13802886d53fc05",
+        "c7176a703d4dd84fba3c0b760d10670f2a2053fa2c39ccc64ec7fd7792ac037a",
+    ];
+    let mut y = *key;
+    y[31] &= 0x7f;
+    let is_small = y[0] <= 1 && y[1..].iter().all(|byte| *byte == 0);
+    let is_near_the_prime = (0xec..=0xee).contains(&y[0]) && y[1..31].iter().all(|byte| *byte == 0xff) && y[31] == 0x7f;
+    is_small || is_near_the_prime || OF_ORDER_EIGHT.contains(&hex(&y).as_str())
 }
 
 /// Bytes in hexadecimal digits.
@@ -221,5 +250,24 @@ mod tests {
         let votes = members[..3].iter().map(|it| vote(it, nullify(1)));
         let before = votes.flat_map(|it| [it.signer.get().to_be_bytes().to_vec(), it.signature].concat());
         assert!(!members[0].is_certificate(&Certificate::of(nullify(1), before.collect())));
+    }
+
+    #[test]
+    fn keys_of_small_order_and_signs_among_digits_are_refused() {
+        let refused = |text: &str| raw_key(text).expect_err("it is refused").to_string();
+        let zeros = "00".repeat(31);
+        for text in [
+            format!("00{zeros}"),
+            format!("01{zeros}"),
+            format!("00{}80", "00".repeat(30)),
+            format!("ec{}7f", "ff".repeat(30)),
+            format!("ee{}ff", "ff".repeat(30)),
+            "26e8958fc2b227b045c3f489f2ef98f0d5dfac05d3c63339b13802886d53fc85".into(),
+            "C7176A703D4DD84FBA3C0B760D10670F2A2053FA2C39CCC64EC7FD7792AC037A".into(),
+        ] {
+            assert!(refused(&text).contains("small order"), "{text}");
+        }
+        assert!(refused(&format!("+f{zeros}")).contains("64 hexadecimal digits"));
+        assert!(raw_key(&format!("02{zeros}")).is_ok());
     }
 }

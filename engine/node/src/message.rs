@@ -10,6 +10,9 @@ pub const VERSION: u8 = 3;
 /// The longest message that is read: 1 MiB.
 pub const LONGEST: usize = 1 << 20;
 
+/// The longest block: a proposal of it is a message, with its leader's vote.
+pub const LONGEST_BLOCK: usize = LONGEST - 256;
+
 /// A message from one member to another.
 #[derive(Clone, Debug)]
 pub enum Message {
@@ -177,6 +180,19 @@ mod tests {
             let frame = message.frame();
             assert_eq!(format!("{:?}", Message::read(&frame[4..])), format!("{:?}", Some(&message)));
         }
+    }
+
+    #[test]
+    fn a_proposal_of_the_longest_block_is_a_message() {
+        let proposals = messages().into_iter().filter_map(|it| match it {
+            Message::Proposal(vote, _) => Some(vote),
+            _ => None,
+        });
+        for vote in proposals {
+            let frame = Message::Proposal(vote, vec![0; LONGEST_BLOCK]).frame();
+            assert!(frame.len() - 4 <= LONGEST);
+        }
+        assert!(Message::Block(vec![0; LONGEST_BLOCK]).frame().len() - 4 <= LONGEST);
     }
 
     #[test]

@@ -6,7 +6,7 @@ use std::net::{SocketAddr, TcpListener, TcpStream};
 use std::sync::Arc;
 use std::sync::atomic::{AtomicU64, Ordering::Relaxed};
 use std::thread;
-use std::time::Duration;
+use std::time::{Duration, Instant};
 
 macro_rules! counters {
     ($($(#[doc = $help:literal])+ $name:ident: $kind:literal,)+) => {
@@ -94,6 +94,8 @@ counters! {
     slowed_readers: "counter",
     /// Messages of peers that waited for too long, and were dropped.
     dropped_messages: "counter",
+    /// Blocks that the application built too long to be proposed.
+    oversized_blocks: "counter",
     /// Frames that did not fit a peer's queue.
     dropped_frames: "counter",
 }
@@ -108,14 +110,27 @@ pub fn resident_kb() -> u64 {
 
 /// How long a request may be, in bytes.
 const LONGEST_REQUEST: u64 = 8192;
+/// How many requests are answered at once: who is slow with one holds up no other.
+const MOST_REQUESTS: usize = 16;
 
 /// Serves the counters by HTTP, one request a connection.
 pub fn serve(address: SocketAddr, counters: Arc<Counters>) -> io::Result<SocketAddr> {
     let listener = TcpListener::bind(address)?;
     let bound = listener.local_addr()?;
     thread::Builder::new().name("metrics".into()).spawn(move || {
+        let open = Arc::new(());
         for stream in listener.incoming().flatten() {
-            let _ = answer(stream, &counters);
+            if Arc::strong_count(&open) > MOST_REQUESTS {
+                continue;
+            }
+            let (counters, its_place) = (counters.clone(), open.clone());
+            let begun = thread::Builder::new().name("metrics of one".into()).spawn(move || {
+                let _ = answer(stream, &counters);
+                drop(its_place);
+            });
+            if begun.is_err() {
+                thread::sleep(Duration::from_millis(50));
+            }
         }
     })?;
     Ok(bound)
@@ -124,11 +139,13 @@ pub fn serve(address: SocketAddr, counters: Arc<Counters>) -> io::Result<SocketA
 /// Reads a request up to its end, within a second and so many bytes, and answers it.
 fn answer(mut stream: TcpStream, counters: &Counters) -> io::Result<()> {
     stream.set_read_timeout(Some(Duration::from_secs(1)))?;
+    stream.set_write_timeout(Some(Duration::from_secs(1)))?;
+    let begun = Instant::now();
     let mut lines = BufReader::new(&stream).take(LONGEST_REQUEST);
     let mut request = String::new();
     lines.read_line(&mut request)?;
     let mut line = request.clone();
-    while !line.trim_end().is_empty() {
+    while !line.trim_end().is_empty() && begun.elapsed() < Duration::from_secs(2) {
         line.clear();
         lines.read_line(&mut line)?;
     }
@@ -161,7 +178,12 @@ mod tests {
             stream.read_to_string(&mut text).expect("it answers");
             text
         };
+        // Who sends no request holds up nobody.
+        let slow: Vec<TcpStream> = (0..8).map(|_| TcpStream::connect(address).expect("it listens")).collect();
+        let begun = Instant::now();
         assert!(ask("/metrics").contains("\n# TYPE simplex_height gauge\nsimplex_height 7\n"));
         assert!(ask("/").starts_with("HTTP/1.1 404"));
+        assert!(begun.elapsed() < Duration::from_millis(900), "{:?}", begun.elapsed());
+        drop(slow);
     }
 }

@@ -124,6 +124,25 @@ impl Settings {
         {
             return Err(format!("metrics are served to this machine alone, not at {metrics}"));
         }
+        self.test_members()
+    }
+
+    /// Each member has a key and an address of its own: two with one key would vote against each other.
+    fn test_members(&self) -> Result<(), String> {
+        for (index, member) in self.members.iter().enumerate() {
+            crate::crypto::raw_key(&member.key).map_err(|error| format!("member {index}: {error}"))?;
+            for (other, earlier) in self.members[..index].iter().enumerate() {
+                if earlier.key.eq_ignore_ascii_case(&member.key) {
+                    return Err(format!("members {other} and {index} have one key: give each a key of its own"));
+                }
+                if earlier.address == member.address {
+                    return Err(format!(
+                        "members {other} and {index} have one address, {}: give each its own",
+                        member.address
+                    ));
+                }
+            }
+        }
         Ok(())
     }
 
@@ -226,5 +245,22 @@ mod tests {
         settings.index = 3;
         settings.metrics = Some("10.0.0.1:9100".parse().expect("an address"));
         assert!(settings.test().is_err());
+    }
+
+    #[test]
+    fn members_with_one_key_or_one_address_are_refused_by_name() {
+        let settings = || toml::from_str::<Settings>(EXAMPLE).expect("settings");
+        let (mut of_one_key, mut of_one_address, mut weak) = (settings(), settings(), settings());
+        of_one_key.members[2].key = of_one_key.members[0].key.to_uppercase();
+        of_one_address.members[3].address = of_one_address.members[1].address;
+        weak.members[1].key = format!("01{}", "00".repeat(31));
+        let refused = [of_one_key, of_one_address, weak].map(|it| it.test().expect_err("it is refused"));
+        assert!(refused[0].contains("members 0 and 2 have one key"), "{}", refused[0]);
+        assert!(refused[1].contains("members 1 and 3 have one address"), "{}", refused[1]);
+        assert!(
+            refused[2].contains("member 1") && refused[2].contains("small order"),
+            "{}",
+            refused[2]
+        );
     }
 }

@@ -3,9 +3,12 @@
 use super::Replica;
 use crate::application::Application;
 use crate::blocks::Block;
+use crate::message::LONGEST_BLOCK;
 use crate::settings::Outcome;
 use simplex_view_state::{Context, Input, Proposal};
+use std::sync::atomic::Ordering::Relaxed;
 use std::time::Instant;
+use tracing::error;
 
 impl<A: Application> Replica<A> {
     /// Has the application verify a proposal, at once or when its block has come.
@@ -44,7 +47,17 @@ impl<A: Application> Replica<A> {
 
     fn build(&mut self, context: &Context) -> Outcome {
         let (context, block) = (*context, Block::new(context, &self.parts.application.build(context)));
-        let payload = block.payload();
+        let (payload, bytes) = (block.payload(), block.bytes().len());
+        if bytes > LONGEST_BLOCK {
+            self.parts.counters.oversized_blocks.fetch_add(1, Relaxed);
+            error!(
+                view = context.round.view.get(),
+                bytes,
+                most = LONGEST_BLOCK,
+                "the application built a block that no peer would take: it is not proposed"
+            );
+            return Ok(());
+        }
         self.parts.blocks.keep(block)?;
         self.handle(Input::Built { context, payload })?;
         Ok(())
