@@ -24,7 +24,7 @@ from lib.program import ROOT
 
 ENGINE = ROOT / "engine"
 SKIPPED = 77
-LEAST_TESTS = 100
+LEAST_TESTS = 105
 # The words of the README's command.
 NETWORK = re.compile(r"^target/release/simplex-local (--.*)$", re.M)
 

@@ -12,6 +12,8 @@
 #define IS(what) do { if (!(what)) { fprintf(stderr, "%s:%d: not so: %s\n", __FILE__, __LINE__, #what); exit(1); } } while (0)
 
 static const uint32_t LEADERS[4] = {0, 1, 2, 3};
+/* Its last entry is no member's index. */
+static const uint32_t BEYOND[4] = {0, 1, 2, 4};
 static const struct simplex_settings SETTINGS = {.members = 4, .signer = 0, .term_length = 1, .epoch = 1, .view_retention = 10,
     .leader_timeout = 1000, .certification_timeout = 2000, .timeout_retry = 500, .skip_timeout = 3000};
 static uint8_t journal[1 << 20];
@@ -112,6 +114,8 @@ static void bad_settings(void) {
     it.signer = 4;
     IS(started(&it, 4, &none) == SIMPLEX_NO_SUCH_MEMBER);
     IS(started(&SETTINGS, 0, &none) == SIMPLEX_NOTHING_LEADS);
+    IS(started(&SETTINGS, 3, &none) == SIMPLEX_OTHER_TABLE);
+    IS(simplex_member_start(&SETTINGS, BEYOND, 4, 0, 0, 0, &none) == SIMPLEX_NO_SUCH_LEADER);
     it = SETTINGS;
     it.draws = 2;
     IS(started(&it, 4, &none) == SIMPLEX_NO_FLAG);
@@ -221,6 +225,8 @@ static void engine(void) {
     struct simplex_stored stored = {0};
     size_t len = 0, order = 0;
     IS(simplex_engine_start(&SETTINGS, LEADERS, 0, 0, 0, &OPTIONS, 0, &at) == SIMPLEX_NOTHING_LEADS && !at);
+    IS(simplex_engine_start(&SETTINGS, LEADERS, 3, 0, 0, &OPTIONS, 0, &at) == SIMPLEX_OTHER_TABLE && !at);
+    IS(simplex_engine_start(&SETTINGS, BEYOND, 4, 0, 0, &OPTIONS, 0, &at) == SIMPLEX_NO_SUCH_LEADER && !at);
     IS(!simplex_engine_start(&SETTINGS, LEADERS, 4, 0, 0, &OPTIONS, 0, &at));
     tells_nothing(at);
     for (uint32_t first = 1;; first = 0) {

@@ -105,6 +105,9 @@ enum simplex_status {
     SIMPLEX_FLOOR_AT_GENESIS = 28,
     SIMPLEX_FLOOR_UNVERIFIED = 29,
     SIMPLEX_OTHER_MEMBERS = 30,
+    /* The table of leaders: an entry is no member's index; or it has another number of entries than there are members, and draws is 0. */
+    SIMPLEX_NO_SUCH_LEADER = 31,
+    SIMPLEX_OTHER_TABLE = 32,
     /* Why a record or a floor is refused. */
     SIMPLEX_OUT_OF_ORDER = 40,
     SIMPLEX_OTHER_EPOCH = 41,
@@ -278,7 +281,8 @@ struct simplex_settings {
     uint32_t members;           /* how many there are */
     uint32_t signer;            /* the member that signs here, or SIMPLEX_NOBODY */
     uint32_t term_length;       /* how many views one leader leads */
-    uint32_t draws;             /* 1: certificates name leaders, by their first four bytes, big-endian; 0: the table alone does */
+    uint32_t draws;             /* 1: certificates name leaders, by their first four bytes, big-endian: a number of no member stands for its
+                                   rest by members; 0: the table alone does, and has members entries. Each entry is a member's index */
     uint32_t stalls;            /* 1: terms stall after stall_timeout */
     uint32_t is_finalized;      /* 1: the floor is a finalized proposal; 0: it is genesis */
     uint64_t stall_timeout;
@@ -503,7 +507,7 @@ SIMPLEX_SIZE(struct simplex_subject, 64);
 
 /* How an engine is set up beside its member. Times are milliseconds. Usual ones are 250, 25 and 2048. */
 struct simplex_options {
-    uint64_t retry;       /* after how long a fetch is asked again, of the next member: 1 ms at least */
+    uint64_t retry;       /* after how long a fetch is asked again, of the next member: 0 counts as 1 ms. The Rust package refuses 0 */
     uint64_t on_its_way;  /* how long a certificate that is lacking may be on its way before it is asked for */
     uint64_t long_record; /* the record is made short once it has more entries, and more of its views would go than stay */
 };

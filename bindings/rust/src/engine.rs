@@ -8,7 +8,7 @@ mod tests;
 pub use input::Input;
 pub use output::{Fetch, FetchKind, OpenFetch, Order, Output};
 
-use crate::errors::{EngineError, OpenError};
+use crate::errors::{EngineError, OpenError, SettingsError};
 use crate::ffi;
 use crate::journal::{EntryCount, Stored};
 use crate::member::{Views, tested};
@@ -22,7 +22,8 @@ use std::time::Duration;
 /// Intervals, and how long a record grows. They need not be those of the other members.
 #[derive(Clone, Copy, PartialEq, Eq, Hash, Debug)]
 pub struct Options {
-    /// After how long a fetch is asked again, of the next member: one millisecond at least.
+    /// After how long a fetch is asked again, of the next member: a millisecond at least, or the options are refused
+    /// ([`SettingsError::FetchRetryZero`]).
     pub retry: Duration,
     /// How long a certificate that is lacking may be on its way before it is asked for.
     pub on_its_way: Duration,
@@ -41,10 +42,18 @@ impl Default for Options {
     }
 }
 
+/// The library counts 0 as 1 millisecond, so it is refused here.
+fn retry_millis(time: Duration) -> Result<u64, SettingsError> {
+    match millis(time)? {
+        0 => Err(SettingsError::FetchRetryZero),
+        time => Ok(time),
+    }
+}
+
 impl Options {
     fn flat(&self) -> Result<ffi::Options, OpenError> {
         Ok(ffi::Options {
-            retry: millis(self.retry).map_err(OpenError::Settings)?,
+            retry: retry_millis(self.retry).map_err(OpenError::Settings)?,
             on_its_way: millis(self.on_its_way).map_err(OpenError::Settings)?,
             long_record: self.long_record.get(),
         })

@@ -138,6 +138,13 @@ pub enum SettingsError {
     FloorUnverified,
     /// The elector has other members.
     OtherMembers,
+    /// An entry of the table of leaders is no member's index.
+    NoSuchLeader,
+    /// The table of leaders has another number of entries than there are members ([`Leaders::Table`](crate::Leaders::Table)): make it anew
+    /// where the number of members has changed.
+    OtherTable,
+    /// A fetch would be asked again at once: [`Options::retry`](crate::Options::retry) is below a millisecond.
+    FetchRetryZero,
     /// A time has more than 2^64 - 1 milliseconds.
     TimeTooLong,
 }
@@ -158,6 +165,9 @@ impl fmt::Display for SettingsError {
             SettingsError::FloorAtGenesis => "the floor's finalization is of genesis",
             SettingsError::FloorUnverified => "the floor's finalization is not accepted",
             SettingsError::OtherMembers => "the elector has other members",
+            SettingsError::NoSuchLeader => "an entry of the table of leaders is no member's index",
+            SettingsError::OtherTable => "the table of leaders has another number of entries than there are members",
+            SettingsError::FetchRetryZero => "the retry of fetches is below a millisecond",
             SettingsError::TimeTooLong => "a time has more than 2^64 - 1 milliseconds",
         })
     }
@@ -248,7 +258,7 @@ impl OpenError {
             11 => OpenError::EntriesLost,
             12 => OpenError::Damaged,
             13 => OpenError::NoEntry,
-            8..=30 => OpenError::Settings(settings_error(status)),
+            8..=32 => OpenError::Settings(settings_error(status)),
             40..=52 => OpenError::Recover(recover_error(status)),
             _ => unreachable!("status {status} of a start"),
         })
@@ -270,6 +280,8 @@ fn settings_error(status: u32) -> SettingsError {
         28 => SettingsError::FloorAtGenesis,
         29 => SettingsError::FloorUnverified,
         30 => SettingsError::OtherMembers,
+        31 => SettingsError::NoSuchLeader,
+        32 => SettingsError::OtherTable,
         _ => unreachable!("status {status} of settings whose flags are typed"),
     }
 }

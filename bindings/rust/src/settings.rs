@@ -39,10 +39,12 @@ pub struct Config {
 /// Who leads.
 #[derive(Clone, PartialEq, Eq, Debug)]
 pub enum Leaders {
-    /// The table's members lead in turn, a term each, from its start again after its end. A member that stands there twice leads twice.
+    /// The table's members lead in turn, a term each, from its start again after its end. It has as many entries as there are members, each
+    /// a member's index; a member that stands there twice leads twice. Other tables are refused.
     Table(Vec<Participant>),
-    /// The certificate that leads to a term names its leader: its first four bytes are the index, big-endian. The table serves for the
-    /// first term, and after a certificate of fewer bytes. All certificates that may lead to a view have to name the same leader.
+    /// The certificate that leads to a term names its leader: its first four bytes are the index, big-endian, and an index of no member
+    /// stands for its rest by the number of members. The table serves for the first term, and after a certificate of fewer bytes: it has one
+    /// entry or more, each a member's index. All certificates that may lead to a view have to name the same leader.
     Drawn(Vec<Participant>),
 }
 

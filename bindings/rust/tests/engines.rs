@@ -533,6 +533,49 @@ fn settings_that_break_a_rule_are_refused() {
 }
 
 #[test]
+fn a_table_of_leaders_that_is_not_one_of_these_members_is_refused() {
+    let refused = |config: &Config| {
+        let engine = Engine::start(config, &Options::default(), START).err();
+        assert_eq!(Member::start(config, START).err(), engine);
+        match engine {
+            Some(OpenError::Settings(error)) => Some(error),
+            other => panic!("it is refused for its settings: {other:?}"),
+        }
+    };
+    let of = |leaders: &[u32]| leaders.iter().copied().map(Participant::new).collect::<Vec<_>>();
+    let with = |leaders| Config { leaders, ..config(1) };
+    for leaders in [&[0, 1, 2, 4][..], &[77], &[u32::MAX, 0, 1, 2]] {
+        assert_eq!(refused(&with(Leaders::Table(of(leaders)))), Some(SettingsError::NoSuchLeader));
+        assert_eq!(refused(&with(Leaders::Drawn(of(leaders)))), Some(SettingsError::NoSuchLeader));
+    }
+    for leaders in [&[0, 1, 2][..], &[0], &[0, 1, 2, 3, 0]] {
+        assert_eq!(refused(&with(Leaders::Table(of(leaders)))), Some(SettingsError::OtherTable));
+    }
+    let mut changed = config(1);
+    changed.members = 5.try_into().expect("not 0");
+    assert_eq!(refused(&changed), Some(SettingsError::OtherTable));
+    for leaders in [Leaders::Table(of(&[3, 3, 1, 0])), Leaders::Drawn(of(&[3]))] {
+        assert!(Engine::start(&with(leaders), &Options::default(), START).is_ok());
+    }
+}
+
+#[test]
+fn a_fetch_that_would_be_asked_again_at_once_is_refused() {
+    for retry in [Duration::ZERO, Duration::from_micros(999)] {
+        let options = Options {
+            retry,
+            ..Options::default()
+        };
+        let refused = Some(OpenError::Settings(SettingsError::FetchRetryZero));
+        assert_eq!(Engine::start(&config(0), &options, START).err(), refused);
+        let mut member = Member::start(&config(0), START).expect("good settings");
+        let entries = member.entries_since(EntryCount::ZERO).expect("memory");
+        let resumed = Engine::resume(&config(0), &options, START, &entries.stored, &entries.bytes);
+        assert_eq!(resumed.err(), refused);
+    }
+}
+
+#[test]
 fn an_engine_goes_from_thread_to_thread() -> Tested {
     let engine = engine(1)?;
     let views = thread::spawn(move || engine.views()).join().expect("it does not panic");

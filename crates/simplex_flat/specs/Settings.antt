@@ -1,5 +1,6 @@
 -- How a member is set up by flat settings.
-use Rattle.std.specs.Prelude.{◌≡◌, ℕ, ◌<◌, ◌==◌, ◌&&◌, nat_le, true, if◌then◌else◌, List, Option, Some, None, MatchOption, not, length}
+use Rattle.std.specs.Prelude.{◌≡◌, ℕ, ◌<◌, ◌==◌, ◌&&◌, nat_le, nat_lt, Bool, true, if◌then◌else◌, List, Option, Some, None, MatchOption, not, length}
+use Rattle.std.specs.List.{list_all}
 use Rattle.std.specs.Option.{option_or}
 use Rattle.simplex_record.specs.declared.record.settings.StartError.{StartError}
 use Rattle.simplex_record.specs.declared.record.start.Start.{Start}
@@ -95,12 +96,26 @@ flag_error flag = if nat_le 2 flag then Some error.NoFlag else None
 abbrev pub terms_error : FlatSettings → Option SettingsError
 terms_error f = if f.term_length == 0 then Some error.NothingLeads else flag_error f.stalls
 
+-- each entry of a table is a member's index
+abbrev pub names_members : ℕ → List ℕ → Bool
+names_members members leaders = list_all (λ index. nat_lt index members) leaders
+
+-- a table that leads in all views has as many entries as there are members
+abbrev pub length_error : FlatSettings → List ℕ → Option SettingsError
+length_error f leaders = if (f.draws == 0) && not (length leaders == f.members) then Some error.OtherTable else None
+
+-- the first rule that a table of leaders breaks: each entry is a member's index, and there are as many as have to be
+abbrev pub table_error : FlatSettings → List ℕ → Option SettingsError
+table_error f leaders = if not (names_members f.members leaders) then Some error.NoSuchLeader else length_error f leaders
+
 -- the first rule that the numbers of an elector break: there is a member, and an entry in the table of leaders
 abbrev pub elector_error : FlatSettings → List ℕ → Option SettingsError
 elector_error f leaders =
     if f.members == 0
     then Some error.NoSuchMember
-    else if length leaders == 0 then Some error.NothingLeads else option_or (terms_error f) (flag_error f.draws)
+    else if length leaders == 0
+    then Some error.NothingLeads
+    else option_or (terms_error f) (option_or (flag_error f.draws) (table_error f leaders))
 
 -- the first rule that the numbers of an engine's settings break
 abbrev pub config_error : FlatSettings → Option SettingsError

@@ -35,6 +35,8 @@ settings_number settings.OutOfMemory = 1
 settings_number settings.NoSuchMember = 8
 settings_number settings.NothingLeads = 9
 settings_number settings.NoFlag = 10
+settings_number settings.NoSuchLeader = 31
+settings_number settings.OtherTable = 32
 settings_number (settings.Refused (start.Config e)) = config_number e
 settings_number (settings.Refused start.OtherMembers) = 30
 

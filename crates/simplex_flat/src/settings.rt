@@ -1,12 +1,13 @@
 //! How a member starts, by flat settings.
 
 ghost use Rattle.std.specs.Prelude.{◌≡◌, ◌<◌, Some, None, IfOk, IfErr, OnOk, MatchOption, length};
-ghost use Rattle.std.specs.Option.{ForSome};
+ghost use Rattle.std.specs.Option.{ForSome, option_or};
 ghost use Rattle.simplex_host.specs.Electing.{host_members, host_terms};
 ghost use Rattle.simplex_host.specs.Host.{certificate_bytes, host_signer, host_keys, host_keys_below};
 ghost use Rattle.simplex_flat.specs.Calls.{IsFlatProposal};
 ghost use Rattle.simplex_flat.specs.Settings.{IsConfig, IsSettingsErrorDue, IsElector, IsFloor, IsNoStart, IsSigner, IsSkip, IsStart, IsTerms};
-ghost use Rattle.simplex_flat.specs.Settings.{config_error, elector_error, flag_error, signer_error, terms_error};
+ghost use Rattle.simplex_flat.specs.Numbers.{flag_number};
+ghost use Rattle.simplex_flat.specs.Settings.{config_error, elector_error, flag_error, names_members, signer_error, table_error, terms_error};
 
 use crate::asking::finalization_of;
 use crate::flat::FlatSettings;
@@ -32,6 +33,10 @@ pub enum SettingsError {
     NothingLeads,
     /// A number that has to be 0 or 1 is another.
     NoFlag,
+    /// An entry of the table of leaders is no member's index.
+    NoSuchLeader,
+    /// The table of leaders has another number of entries than there are members, and no certificate names leaders.
+    OtherTable,
     /// They break a rule of an engine's settings.
     Refused(StartError),
 }
@@ -113,15 +118,38 @@ pub fn elector_of(
         return Err(SettingsError::NothingLeads);
     }
     let terms = terms_in(flat)?;
-    let Some(draws) = flag_of(flat.draws) else {
-        return Err(SettingsError::NoFlag);
-    };
+    let draws = draws_in(flat, leaders)?;
     let table = Vec::from_slice(alloc, leaders)?;
     Ok(if draws {
         HostElector::drawn(table, flat.members, terms)
     } else {
         HostElector::by_table(table, flat.members, terms)
     })
+}
+
+/// Whether leaders are drawn from certificates; the table of leaders is tested for that.
+fn draws_in(flat: &FlatSettings, leaders: &[u32]) -> Result<bool, SettingsError>
+    ensures draws { IfOk result (λ draws. flat.now.draws ≡ flag_number draws) }
+    ensures accepted { OnOk result (option_or (flag_error flat.now.draws) (table_error flat.now leaders.now) ≡ None) }
+    ensures refused { IfErr result (λ error. option_or (flag_error flat.now.draws) (table_error flat.now leaders.now) ≡ Some error) }
+{
+    let Some(draws) = flag_of(flat.draws) else {
+        return Err(SettingsError::NoFlag);
+    };
+    if !names_members(leaders, flat.members) {
+        return Err(SettingsError::NoSuchLeader);
+    }
+    if !draws && leaders.len() as u64 != u64::from(flat.members) {
+        return Err(SettingsError::OtherTable);
+    }
+    Ok(draws)
+}
+
+/// Whether each entry of a table is a member's index.
+fn names_members(leaders: &[u32], members: u32) -> bool
+    ensures { result ≡ names_members members leaders.now }
+{
+    leaders.iter().all(|index| *index < members)
 }
 
 fn signer_in(flat: &FlatSettings) -> Result<Option<Participant>, SettingsError>

@@ -63,6 +63,8 @@ fn number_of_settings(error: SettingsError) -> u32
         SettingsError::NoSuchMember => 8,
         SettingsError::NothingLeads => 9,
         SettingsError::NoFlag => 10,
+        SettingsError::NoSuchLeader => 31,
+        SettingsError::OtherTable => 32,
         SettingsError::Refused(StartError::Config(error)) => number_of_config(error),
         SettingsError::Refused(StartError::OtherMembers) => 30,
     }

@@ -323,8 +323,11 @@ fn two_proposals(name: &str) -> (Others, (Vote, Block), Vote) {
     (others, first, second)
 }
 
+/// Sends a proposal, and waits until the node has voted for it.
 fn propose(others: &mut Others, (vote, block): &(Vote, Block)) {
     others.send(1, &Message::Proposal(vote.clone(), block.bytes().to_vec()));
+    let is_vote = |message: &Message| matches!(message, Message::Vote(it) if it.signer.get() == 0 && it.subject == vote.subject);
+    assert!(others.hears(SOON, |_, message| is_vote(message)), "it does not vote");
 }
 
 /// To which members the node sends this vote, in order, until it was sent so often or for so long.
@@ -373,8 +376,10 @@ fn a_vote_that_comes_before_the_proposal_is_compared_too() {
     let (mut others, first, second) = two_proposals("before");
     others.send(2, &Message::Vote(others.vote(2, second.subject)));
     others.comes_to("verified", 2);
-    propose(&mut others, &first);
-    assert_eq!(sent_to(&others, &first.0, 1, SOON), [2]);
+    sleep(WHILE);
+    let (vote, block) = &first;
+    others.send(1, &Message::Proposal(vote.clone(), block.bytes().to_vec()));
+    assert_eq!(sent_to(&others, vote, 1, SOON), [2]);
     others.end();
 }
 
@@ -382,7 +387,6 @@ fn a_vote_that_comes_before_the_proposal_is_compared_too() {
 fn a_notarization_of_another_proposal_is_evidence_with_the_leaders_vote_in_it() {
     let (mut others, first, second) = two_proposals("certified");
     propose(&mut others, &first);
-    others.comes_to("verified", 2);
     let certificate = others.certificate(&[1, 2, 3], second.subject);
     others.send(3, &Message::Certificate(certificate));
     assert_eq!(sent_to(&others, &first.0, 3, WHILE * 4), [2, 3], "those that voted for the other");
