@@ -101,7 +101,9 @@ def build_below(crates):
     for dep in sorted(wanted.values(), key=lambda it: len(it.below())):
         if not dep.is_built():
             print(f"{dep.name} is not built: proving it first", flush=True)
-            if dep.build_rlib(["--jobs", "2"], anew=False):
+            with tempfile.TemporaryFile("w+") as dep.out:
+                is_refused = dep.build_rlib(["--jobs", "2"], anew=False)
+            if is_refused:
                 raise SystemExit(f"{dep.name} is not proved, so no edit above it can be tried")
 
 
@@ -118,7 +120,13 @@ def verdicts_of(rt, crate, chosen, kept):
     for part, texts in parts:
         found += batches.tried(rt, crate, part, texts, kept)
     print(f"  {crate.name}: {len(chosen)} edits in {len(parts)} checks, {time.monotonic() - begun:.0f} s", flush=True)
+    print("".join(f"    {fault}\n" for fault in faults_of(found)), end="", flush=True)
     return found
+
+
+def faults_of(verdicts):
+    """What is not as asked of these verdicts."""
+    return [f"{it.edit.title} {WORDS[it.kind]}: {it.said}" for it in verdicts if it.kind != "contract"]
 
 
 def tried(rt, crates, chosen, jobs):
@@ -145,7 +153,7 @@ def main():
     if not all(are_from_the_gate(crate) for crate in needed):
         build_below(needed)
     found = tried(rt, crates, chosen, given.jobs)
-    faults = [f"{it.edit.title} {WORDS[it.kind]}: {it.said}" for it in found if it.kind != "contract"]
+    faults = faults_of(found)
     faults += missing_from_the_gate(given.gate.read_text() if given.gate else None)
     if not given.only and not given.crates:
         faults += lacking({"edits": len(found)}, LEAST)
