@@ -54,8 +54,8 @@ module _ (K : Type 0) {L D : Type 0} (same : D → D → Bool) (elect : Elect L)
       → recover_error same (new_state start.setup) start.floor start.now entries ≡ None
       → CurrentTimesOut (recovered_state same elect (new_state start.setup) start.floor start.now entries)
 
-  -- of a state whose floor is set, whatever the events are that it allows: it tells a vote to nullify a view exactly where this
-  -- member has a key and the vote was decided at the view, which is tracked then
+  -- of a state whose floor is set, whatever events it allows: `voted_nullify` is true of a view exactly where this member has a
+  -- key and its vote to nullify is decided there; the view is tracked then
   abbrev pub NullifyVotesAreDecided : Type 0
   NullifyVotesAreDecided =
       (setup : Setup K L) (floor : FloorFacts D) (now : ℕ) (events : List (Event K D)) (v : ℕ)
