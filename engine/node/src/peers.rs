@@ -12,7 +12,7 @@ use crate::metrics::Counters;
 use crate::settings::{Outcome, Settings, Turns};
 use crate::vote::{is_sound, kind_of};
 use simplex_view_state::{CertificateKind, Epoch, Participant, Subject, View};
-use std::collections::{BTreeSet, HashSet, VecDeque};
+use std::collections::{BTreeSet, HashMap, VecDeque};
 use std::io::{self, BufReader, Read, Write};
 use std::net::{SocketAddr, TcpListener, TcpStream};
 use std::sync::atomic::{AtomicU64, AtomicUsize, Ordering::Relaxed};
@@ -42,7 +42,8 @@ const CONNECTIONS_A_MEMBER: usize = 4;
 pub struct Horizon {
     current: AtomicU64,
     min_active: AtomicU64,
-    known: Mutex<HashSet<(View, CertificateKind)>>,
+    /// What the certificates that it has are on, by view and kind.
+    known: Mutex<HashMap<(View, CertificateKind), Subject>>,
 }
 
 impl Horizon {
@@ -50,20 +51,21 @@ impl Horizon {
     pub fn moved(&self, current: View, min_active: View) {
         self.current.store(current.get(), Relaxed);
         if self.min_active.swap(min_active.get(), Relaxed) != min_active.get() {
-            self.lock().retain(|(view, _)| *view >= min_active);
+            self.lock().retain(|(view, _), _| *view >= min_active);
         }
     }
 
-    /// The member has a certificate: what its votes say need not be verified again.
-    pub fn know(&self, kind: CertificateKind, view: View) {
-        self.lock().insert((view, kind));
+    /// The member has a certificate on this: its votes need not be verified again.
+    pub fn know(&self, subject: Subject) {
+        self.lock().insert((subject.round().view, kind_of(&subject)), subject);
     }
 
+    /// Whether the member has a certificate on just this. Votes for another proposal of the view are evidence.
     fn knows(&self, subject: &Subject) -> bool {
-        self.lock().contains(&(subject.round().view, kind_of(subject)))
+        self.lock().get(&(subject.round().view, kind_of(subject))) == Some(subject)
     }
 
-    fn lock(&self) -> std::sync::MutexGuard<'_, HashSet<(View, CertificateKind)>> {
+    fn lock(&self) -> std::sync::MutexGuard<'_, HashMap<(View, CertificateKind), Subject>> {
         self.known.lock().unwrap_or_else(|it| it.into_inner())
     }
 
@@ -309,7 +311,7 @@ pub fn read_message(stream: &mut impl Read) -> io::Result<Message> {
 
 impl Reader {
     /// Whether a message is well formed and signed, and tells something new. What is certified already is not verified, but for a leader's
-    /// vote to notarize: it may be for another proposal than the one that is certified.
+    /// vote to notarize: this node may hold its vote for another proposal.
     fn is_of_use(&self, message: &Message) -> bool {
         match message {
             Message::Hello(..) => false,
