@@ -16,8 +16,8 @@ from pathlib import Path
 ROOT = Path(__file__).resolve().parent.parent
 ENGINE = ROOT / "engine"
 LINE = re.compile(r"^ *(\d+) s  view (\d+), (\d+) a second, .*?, at most (\d+) kB and (\d+) entries a node$")
-LIFE = re.compile(r"^node \d+, last life: ([\d.]+) % in the core, ([\d.]+) % signing, ([\d.]+) % waiting for the disk \((\d+) times\), ([\d.]+) %")
-ROW = re.compile(r"^node \d+: (\d+) blocks, the last of view (\d+), (\d+) a second, ([\d.]+) ms \(half\), ([\d.]+) ms")
+LIFE = re.compile(r"^node \d+, last lifetime: ([\d.]+) % in the core, ([\d.]+) % signing, ([\d.]+) % waiting for the disk \((\d+) times\), ([\d.]+) %")
+ROW = re.compile(r"^node \d+: (\d+) blocks, the last of view (\d+), (\d+) a second, ([\d.]+) ms \(median\), ([\d.]+) ms")
 
 
 def run(*arguments):
@@ -30,7 +30,7 @@ def run(*arguments):
 
 
 def table(seconds):
-    print("| Nodes | The disk | Views a second | From build to final, half | 99 % | In the core | Signing | Waiting for the disk | For events |")
+    print("| Nodes | The disk | Views a second | From build to final, median | 99 % | In the core | Signing | Waiting for the disk | For events |")
     print("|---|---|---|---|---|---|---|---|---|")
     for nodes in (4, 10):
         for words in ((), ("--no-sync",)):

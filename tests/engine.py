@@ -64,6 +64,9 @@ WRONG_BODIES = (
     ("a leader's vote is not sent to those that voted for another proposal", "leader_votes.rs", "found.to_send = seen.others(leader);", ""),
     ("a leader's vote is dropped where its view is certified", "peers.rs", "(is_proposal || !self.horizon.knows(&vote.subject))",
      "!self.horizon.knows(&vote.subject)"),
+    ("a vote for another proposal is dropped where the view is certified", "peers.rs",
+     "self.lock().get(&(subject.round().view, kind_of(subject))) == Some(subject)",
+     "self.lock().contains_key(&(subject.round().view, kind_of(subject)))"),
     ("votes in a notarization are not compared", "replica.rs", "let found = self.leader_votes.see_certificate(&it);", "let found = Default::default();"),
     ("a clock falls back with the machine's", "clock.rs", "self.ahead += by;", "self.ahead = Duration::ZERO; self.begun = Instant::now();"),
 )

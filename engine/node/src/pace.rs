@@ -43,13 +43,17 @@ impl Pace {
         (!self.waiting.is_empty()).then(|| due.saturating_duration_since(now))
     }
 
-    /// Returns the context of the block that is to be built now, the lowest view first, and counts it as built; `None` where none is due.
+    /// Returns the context of the block that is to be built now, the lowest view first; `None` where none is due.
     pub fn due(&mut self, now: Instant) -> Option<Context> {
         if self.wait(now)? > Duration::ZERO {
             return None;
         }
-        self.last = Some(now);
         self.waiting.pop_first().map(|(_, context)| context)
+    }
+
+    /// A block was built.
+    pub fn built(&mut self, now: Instant) {
+        self.last = Some(now);
     }
 }
 
@@ -76,12 +80,14 @@ mod tests {
         assert_eq!((pace.wait(start), pace.due(start)), (None, None));
         pace.ask(context(1, 0));
         assert_eq!((pace.wait(start), pace.due(start)), (Some(Duration::ZERO), Some(context(1, 0))));
+        pace.built(start);
         pace.ask(context(6, 5));
         pace.ask(context(5, 4));
         let early = start + LEAST * 3 / 4;
         assert_eq!((pace.wait(early), pace.due(early)), (Some(LEAST / 4), None));
         assert_eq!(pace.due(start + LEAST), Some(context(5, 4)));
-        assert_eq!(pace.due(start + LEAST), None);
+        pace.built(start + LEAST * 3 / 2);
+        assert_eq!(pace.due(start + LEAST * 2), None, "it is counted from when the block was built");
         assert_eq!(pace.due(start + 3 * LEAST), Some(context(6, 5)));
         assert_eq!(pace.wait(start + 3 * LEAST), None);
     }

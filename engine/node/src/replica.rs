@@ -278,13 +278,13 @@ impl<A: Application> Replica<A> {
 
     /// A certificate that is good.
     fn take_certificate(&mut self, it: Certificate) -> Outcome {
-        let (kind, view) = (it.kind(), it.round().view);
+        let (subject, view) = (it.subject(), it.round().view);
         if self.parts.engine.admits_vote(view) {
             let found = self.leader_votes.see_certificate(&it);
             self.compare(found);
         }
         if self.handle(Input::Certificate(it))? {
-            self.parts.horizon.know(kind, view);
+            self.parts.horizon.know(subject);
         }
         Ok(())
     }
@@ -367,7 +367,7 @@ impl<A: Application> Replica<A> {
             }
             Output::Vote(order) => self.cast(&order)?,
             Output::Broadcast(it) => {
-                self.parts.horizon.know(it.kind(), it.round().view);
+                self.parts.horizon.know(it.subject());
                 self.parts.peers.send_to_all(&Message::Certificate(it));
             }
             Output::Fetch(it) => self.fetch(&it),

@@ -372,6 +372,18 @@ fn who_votes_for_another_proposal_is_sent_the_leaders_vote_once() {
 }
 
 #[test]
+fn a_vote_for_another_proposal_is_compared_also_where_the_view_is_notarized() {
+    let (mut others, first, second) = two_proposals("notarized");
+    propose(&mut others, &first);
+    let certificate = others.certificate(&[0, 1, 3], first.0.subject);
+    others.send(3, &Message::Certificate(certificate));
+    others.comes_to("current_view", 3);
+    others.send(2, &Message::Vote(others.vote(2, second.subject)));
+    assert_eq!(sent_to(&others, &first.0, 1, SOON), [2]);
+    others.end();
+}
+
+#[test]
 fn a_vote_that_comes_before_the_proposal_is_compared_too() {
     let (mut others, first, second) = two_proposals("before");
     others.send(2, &Message::Vote(others.vote(2, second.subject)));

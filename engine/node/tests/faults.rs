@@ -4,13 +4,15 @@
 //! `SIMPLEX_LONG=1` kills fifty times in place of six.
 
 use simplex_node::audit::{contradictions, disagreements};
+use simplex_node::crypto::raw_key;
 use simplex_node::faults::Fault;
 use simplex_node::identity::Identity;
 use simplex_node::ledger::Link;
 use simplex_node::network::{Network, Plan, folder_of};
-use simplex_node::settings::{Protocol, Settings, genesis};
+use simplex_node::settings::{Protocol, Settings};
+use simplex_node::trace::Line;
 use simplex_node::{journal, trace};
-use simplex_view_state::{Floor, Member, Moment};
+use simplex_view_state::{Digest, Epoch, Proposal, Round, Subject, View};
 use std::fs;
 use std::path::Path;
 use std::process::{Command, Stdio};
@@ -267,14 +269,31 @@ fn fewer_than_a_quorum() {
     ends_well(network, 1);
 }
 
-/// The current view of the member that a node's journal leads to.
-fn stored_view(network: &Network, index: u32) -> u64 {
-    let settings = Settings::read(&network.config(index)).expect("settings");
-    let config = settings.config(Floor::Genesis(genesis(settings.protocol.epoch)));
+/// Whether a node's journal has a vote of its own: the record holds the text that was signed.
+fn has_stored(network: &Network, vote: &Line) -> bool {
+    let settings = Settings::read(&network.config(vote.signer)).expect("settings");
     let identity = Identity::of(&settings).expect("keys");
     let kept = journal::read(&settings.data, &identity).expect("a journal").expect("it began");
-    let member = Member::resume(&config, Moment::from_millis(0), &kept.stored, &kept.frames).expect("a record");
-    member.views().expect("it lives").current.get()
+    let text = subject_of(vote, settings.protocol.epoch).encode();
+    kept.frames.windows(text.len()).any(|it| it == text)
+}
+
+/// What a vote of a trace is on.
+fn subject_of(vote: &Line, epoch: u64) -> Subject {
+    let (epoch, view) = (Epoch::new(epoch), View::new(vote.view));
+    let round = Round { epoch, view };
+    let Some((parent, payload)) = vote.proposal.split_once(' ') else {
+        return Subject::Nullify(round);
+    };
+    let proposal = Proposal {
+        round,
+        parent: View::new(parent.parse().expect("a view")),
+        payload: Digest::new(raw_key(payload).expect("a digest has as many digits as a key")),
+    };
+    match vote.kind {
+        'n' => Subject::Notarize(proposal),
+        _ => Subject::Finalize(proposal),
+    }
 }
 
 #[test]
@@ -295,11 +314,11 @@ fn a_disk_that_is_full() {
     assert!(fs::read_to_string(network.log(0)).expect("a log").contains("simplex-node: "));
     goes_on(&network, &[1, 2, 3]);
     let votes = network.votes().expect("traces");
-    let voted = votes.iter().filter(|it| it.signer == 0).map(|it| it.view).max().expect("it voted");
-    assert!(
-        voted <= stored_view(&network, 0),
-        "it voted in view {voted}, and did not store that"
-    );
+    let of_it: Vec<&Line> = votes.iter().filter(|it| it.signer == 0).collect();
+    let last = of_it.iter().map(|it| it.view).max().expect("it voted");
+    for vote in of_it.iter().filter(|it| it.view + 1 >= last) {
+        assert!(has_stored(&network, vote), "it sent {vote:?}, and did not store that");
+    }
     network.begin(0).expect("a process");
     goes_on(&network, &[0, 1, 2, 3]);
     ends_well(network, 1);

@@ -36,8 +36,8 @@ pub struct Horizon {
 
 #[derive(Default)]
 struct Known {
-    /// The certificates that the member has.
-    certificates: HashSet<(View, CertificateKind)>,
+    /// What the certificates that the member has are on, by view and kind.
+    certificates: HashMap<(View, CertificateKind), Subject>,
     /// The signatures of votes that were good, by view, kind and signer.
     votes: HashMap<(View, CertificateKind, Participant), Vote>,
     /// The payloads of proposals that came, by view.
@@ -58,15 +58,16 @@ impl Horizon {
         self.current.store(current.get(), Relaxed);
         if self.min_active.swap(min_active.get(), Relaxed) != min_active.get() {
             let mut known = locked(&self.known);
-            known.certificates.retain(|(view, _)| *view >= min_active);
+            known.certificates.retain(|(view, _), _| *view >= min_active);
             known.votes.retain(|(view, ..), _| *view >= min_active);
             known.proposals = known.proposals.split_off(&min_active);
         }
     }
 
-    /// The member has a certificate: what its votes say need not be verified again.
-    pub fn know(&self, kind: CertificateKind, view: View) {
-        locked(&self.known).certificates.insert((view, kind));
+    /// The member has a certificate on this: its votes need not be verified again.
+    pub fn know(&self, subject: Subject) {
+        let key = (subject.round().view, kind_of(&subject));
+        locked(&self.known).certificates.insert(key, subject);
     }
 
     /// The blocks that the member asks for. Others are dropped unread.
@@ -82,8 +83,10 @@ impl Horizon {
         }
     }
 
+    /// Whether the member has a certificate on just this. Votes for another proposal of the view are evidence.
     fn knows(&self, subject: &Subject) -> bool {
-        locked(&self.known).certificates.contains(&(subject.round().view, kind_of(subject)))
+        let key = (subject.round().view, kind_of(subject));
+        locked(&self.known).certificates.get(&key) == Some(subject)
     }
 
     /// Whether just this vote, with its signature, was verified before.
@@ -178,7 +181,8 @@ impl Link<'_> {
         Ok(put != Put::Closed)
     }
 
-    /// Whether a message is well formed and signed, and tells something new. What is certified already is not verified.
+    /// Whether a message is well formed and signed, and tells something new. What is certified already is not verified, but for a leader's
+    /// vote to notarize: this node may hold its vote for another proposal.
     fn is_of_use(&mut self, message: &Message) -> bool {
         let (epoch, horizon) = (self.reader.epoch, self.reader.horizon.clone());
         match message {
@@ -195,7 +199,6 @@ impl Link<'_> {
             }
             Message::Vote(vote) => {
                 let view = vote.subject.round().view;
-                // A leader's vote may be for another proposal than the one that is certified.
                 let is_proposal = matches!(vote.subject, Subject::Notarize(_)) && vote.signer == self.reader.turns.leader(view);
                 is_sound(&vote.subject, epoch)
                     && horizon.admits(view)

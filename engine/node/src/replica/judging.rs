@@ -41,6 +41,7 @@ impl<A: Application> Replica<A> {
         self.pace.forget(self.views()?.current);
         while let Some(context) = self.pace.due(Instant::now()) {
             self.build(&context)?;
+            self.pace.built(Instant::now());
         }
         Ok(())
     }
