@@ -106,8 +106,12 @@ impl Doors {
             self.refused("a member that sent forgeries");
             return false;
         }
-        let older = locked(&self.members)[from.get() as usize].replace(open);
-        if let Some(older) = older {
+        let place = &mut locked(&self.members)[from.get() as usize];
+        // (greetings are verified side by side, and may end in another order)
+        if place.as_ref().is_some_and(|it| it.id > id) {
+            return false;
+        }
+        if let Some(older) = place.replace(open) {
             let _ = older.stream.shutdown(Shutdown::Both);
         }
         true
