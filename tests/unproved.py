@@ -20,7 +20,7 @@ from lib import batches, program
 from lib.floors import lacking
 from lib.program import ROOT
 
-LEAST = {"tests": 150}
+LEAST = {"tests": 70}
 ENDED = re.compile(r"(\d+) passed")
 
 
