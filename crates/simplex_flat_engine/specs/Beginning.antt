@@ -14,6 +14,9 @@ use Rattle.simplex_engine.specs.Heights.{AsksForTheHeard}
 use Rattle.simplex_engine.specs.Duties.{HasToldAll}
 use Rattle.simplex_engine.specs.declared.engine.begin.StartError.{StartError}
 use Rattle.simplex_engine.specs.declared.engine.begin.StartError.TheVariants as start_error
+use Rattle.simplex_record.specs.declared.record.settings.StartError.TheVariants as record_error
+use Rattle.simplex_types.specs.declared.config.ConfigError.TheVariants as config_error
+use Rattle.simplex_flat.specs.declared.settings.SettingsError.TheVariants as settings_error
 use Rattle.simplex_plan.specs.declared.plan.Options.{Options}
 use Rattle.simplex_engine.specs.Bounds.{HoldsNoneAhead}
 use Rattle.simplex_outbox.specs.Going.{IsWhole, TellsNothing}
@@ -71,6 +74,7 @@ pub record IsEngineBegun (f : FlatSettings) (leaders bytes : List ℕ) (options 
 
 -- the error of an engine, by the member's and the resolver's
 abbrev pub not_begun_of : StartError → NotBegun
+not_begun_of start_error.RetryZero = not_begun.Member (not_resumed.Settings (settings_error.Refused (record_error.Config config_error.RetryZero)))
 not_begun_of (start_error.Resume resume.EntriesLost) = not_begun.Member not_resumed.EntriesLost
 not_begun_of (start_error.Resume (resume.Recover e)) = not_begun.Member (not_resumed.Recover e)
 not_begun_of (start_error.Replay e) = not_begun.Resolver e
@@ -81,7 +85,7 @@ pub record IsStartRefused (f : FlatSettings) (leaders bytes : List ℕ) (now : �
   pub by : IsStart f leaders bytes now start
   pub error : StartError
   pub is_of : e ≡ not_begun_of error
-  pub refused : IsNotBegun (IsMemberError (begin_error start)) (λ m. m ≡ begun start) error
+  pub refused : IsNotBegun start.settings.timeout_retry (IsMemberError (begin_error start)) (λ m. m ≡ begun start) error
 
 -- why none begins: by its settings; or by what they begin, or for want of memory
 abbrev pub IsEngineNotBegun : FlatSettings → List ℕ → List ℕ → ℕ → NotBegun → Type 0
@@ -110,7 +114,7 @@ pub record IsResumeRefused (f : FlatSettings) (leaders bytes : List ℕ) (now : 
   pub from : IsGoingOn f leaders bytes now beside journal start stored entries
   pub error : StartError
   pub is_of : e ≡ not_begun_of error
-  pub refused : IsNotBegun (IsNotResumed same_host_payload host_leader stored (entries_of certificate_bytes entries) (host_start start))
+  pub refused : IsNotBegun start.settings.timeout_retry (IsNotResumed same_host_payload host_leader stored (entries_of certificate_bytes entries) (host_start start))
       (IsResumed same_host_payload host_leader stored (entries_of certificate_bytes entries) (host_start start)) error
 
 -- why none goes on: by its settings or journal; or by what these are, or for want of memory

@@ -1,7 +1,7 @@
 //! How an engine begins: a first life at a floor, or another from what was stored.
 #![tactic(auto)]
 
-ghost use Rattle.std.specs.Prelude.{◌≡◌, ℕ, List, Option, [], ◌∷◌, IfOk, IfErr, IfSome, length, reverse};
+ghost use Rattle.std.specs.Prelude.{◌≡◌, ◌==◌, ℕ, List, Option, [], ◌∷◌, Err, IfOk, IfErr, IfSome, length, reverse};
 ghost use Rattle.simplex_resolver.specs.RecordCalls.{calls_of};
 ghost use Rattle.simplex_resolver.specs.Steps.{Replayed};
 ghost use Rattle.simplex_resolver.specs.Told.{HasBeenTold};
@@ -30,6 +30,8 @@ use std::fmt;
 /// Why no engine begins.
 #[derive(Clone, Copy, PartialEq, Eq, Debug)]
 pub enum StartError {
+    /// `timeout_retry` is 0: pass a millisecond at least.
+    RetryZero,
     /// The floor or what was stored is refused.
     Resume(ResumeError),
     /// The resolver refuses the record.
@@ -39,6 +41,7 @@ pub enum StartError {
 impl fmt::Display for StartError {
     fn fmt<W: fmt::Write>(&self, f: &mut fmt::Formatter<W>) -> fmt::Result {
         match self {
+            StartError::RetryZero => write!(f, "RetryZero"),
             StartError::Resume(error) => write!(f, "{error}"),
             StartError::Replay(error) => write!(f, "{error}"),
         }
@@ -77,6 +80,7 @@ impl<S: Assembly<D>, L: Elector<S>, D: Digest> Engine<S, L, D> {
     ghost use Rattle.simplex_member.specs.Start.{started_member};
     ghost use Rattle.simplex_laws.specs.Living.{HasBegun, HasGoneOn};
     ghost use Rattle.simplex_engine.specs.Beginning.{IsMemberError, IsNotBegun};
+    ghost use Rattle.simplex_engine.specs.declared.engine.begin.StartError.TheVariants.{RetryZero};
     ghost use Rattle.simplex_engine.specs.Bounds.{HoldsNoneAhead};
     ghost use Rattle.simplex_engine.specs.Causes.{at_hand};
     ghost use Rattle.simplex_engine.specs.Heights.{AsksForTheHeard};
@@ -93,10 +97,11 @@ impl<S: Assembly<D>, L: Elector<S>, D: Digest> Engine<S, L, D> {
     ///   record, and what it has open is asked for at once, of all participants but this member; no input was of no use.
     /// - `nothing`: no work is queued or planned, no proposal is kept, and each fetch is one that the resolver wants.
     /// - `heights`: no certificate is asked for of a view above the first one of the next term and above those of all entries.
-    /// - `refused`: why there is none.
+    /// - `no_retry`, `refused`: `RetryZero` is returned just where `timeout_retry` is 0; why else there is none.
     ///
     /// # Errors
     ///
+    /// `RetryZero` where `start.settings.timeout_retry` is 0: a vote to nullify would be repeated at once, and `poll` would not return.
     /// `OutOfMemory`, those of `LawfulMember::start`, and those of `LawfulResolver::start` on the record.
     pub fn start(
         alloc: Global,
@@ -116,7 +121,8 @@ impl<S: Assembly<D>, L: Elector<S>, D: Digest> Engine<S, L, D> {
             (set_up S.me S.participants L.terms L.elects_early start.settings)
             (floor_facts S.certificate_bytes start.floor) start.now) }
         ensures begins { IfOk result (λ engine. HasBegun D.eq L.elect S.me L.terms start engine.core.member.facts) }
-        ensures refused { IfErr result (IsNotBegun
+        ensures no_retry { start.settings.timeout_retry ≡ 0 → result ≡ Err RetryZero }
+        ensures refused { IfErr result (IsNotBegun start.settings.timeout_retry
             (IsMemberError (recover_error D.eq (set_up S.me S.participants L.terms L.elects_early start.settings)
             (floor_facts S.certificate_bytes start.floor) start.now []))
             (λ m. m ≡ started_member D.eq L.elect (set_up S.me S.participants L.terms L.elects_early start.settings)
@@ -124,6 +130,9 @@ impl<S: Assembly<D>, L: Elector<S>, D: Digest> Engine<S, L, D> {
         ensures nothing { IfOk result (λ engine. at_hand engine ≡ []) }
         ensures heights { IfOk result AsksForTheHeard }
     {
+        if has_no_retry(&start) {
+            return Err(StartError::RetryZero);
+        }
         let company = company_of(alloc, &start)?;
         match LawfulMember::start(alloc, start) {
             Ok(member) => begin(alloc, member, company, options),
@@ -137,11 +146,11 @@ impl<S: Assembly<D>, L: Elector<S>, D: Digest> Engine<S, L, D> {
     /// - `resumed`: its member is the one that `LawfulMember::resume` makes.
     /// - `goes_on`: in terms of the same length and with the key of the same member or none, what was done before stays done,
     ///   and the floor's finalization is accepted too.
-    /// - `kept`, `whole`, `queued`, `told`, `bounded`, `duties`, `begun`, `nothing`, `heights`, `refused`: as of `start`.
+    /// - `kept`, `whole`, `queued`, `told`, `bounded`, `duties`, `begun`, `nothing`, `heights`, `no_retry`, `refused`: as of `start`.
     ///
     /// # Errors
     ///
-    /// `OutOfMemory`, those of `LawfulMember::resume`, and those of `LawfulResolver::start` on the record.
+    /// `RetryZero` as of `start`, before what was stored is read. `OutOfMemory`, those of `LawfulMember::resume`, and those of `LawfulResolver::start` on the record.
     pub fn resume(
         alloc: Global,
         start: Start<S, L, D>,
@@ -163,7 +172,8 @@ impl<S: Assembly<D>, L: Elector<S>, D: Digest> Engine<S, L, D> {
             (start_facts S.me S.participants L.terms L.elects_early S.certificate_bytes start) engine.core.member.facts) }
         ensures goes_on { IfOk result (λ engine. HasGoneOn D.eq L.elect S.me L.terms stored
             (entries_of S.certificate_bytes entries.items) start engine.core.member.facts) }
-        ensures refused { IfErr result (IsNotBegun
+        ensures no_retry { start.settings.timeout_retry ≡ 0 → result ≡ Err RetryZero }
+        ensures refused { IfErr result (IsNotBegun start.settings.timeout_retry
             (IsNotResumed D.eq L.elect stored (entries_of S.certificate_bytes entries.items)
             (start_facts S.me S.participants L.terms L.elects_early S.certificate_bytes start))
             (IsResumed D.eq L.elect stored (entries_of S.certificate_bytes entries.items)
@@ -171,12 +181,22 @@ impl<S: Assembly<D>, L: Elector<S>, D: Digest> Engine<S, L, D> {
         ensures nothing { IfOk result (λ engine. at_hand engine ≡ []) }
         ensures heights { IfOk result AsksForTheHeard }
     {
+        if has_no_retry(&start) {
+            return Err(StartError::RetryZero);
+        }
         let company = company_of(alloc, &start)?;
         match LawfulMember::resume(alloc, start, stored, entries) {
             Ok(member) => begin(alloc, member, company, options),
             Err(refusal) => Err(StartError::Resume(refusal.error)),
         }
     }
+}
+
+/// Returns whether a vote to nullify would be repeated after no time: `poll` would ask the member for it without end.
+fn has_no_retry<S: Scheme<D>, L: Elector<S>, D: Digest>(start: &Start<S, L, D>) -> bool
+    ensures { result ≡ (start.entry.now.settings.timeout_retry == 0) }
+{
+    start.settings.timeout_retry == 0
 }
 
 /// What an engine has beside its member, by its settings.
