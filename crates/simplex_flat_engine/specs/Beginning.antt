@@ -4,6 +4,7 @@ use Rattle.simplex_host.specs.Electing.{host_terms}
 use Rattle.simplex_codec.specs.Digests.{bytes_in_digest}
 use Rattle.simplex_host.specs.Host.{certificate_bytes, host_keys, host_signer}
 use Rattle.simplex_record.specs.Entries.{entries_of}
+use Rattle.simplex_record.specs.Votes.{votes_of}
 use Rattle.simplex_member.specs.Journal.{IsNotResumed, IsResumed}
 use Rattle.simplex_member.specs.declared.member.journal.Stored.{Stored}
 use Rattle.simplex_member.specs.declared.member.resume.ResumeError.TheVariants as resume
@@ -19,7 +20,7 @@ use Rattle.simplex_types.specs.declared.config.ConfigError.TheVariants as config
 use Rattle.simplex_flat.specs.declared.settings.SettingsError.TheVariants as settings_error
 use Rattle.simplex_plan.specs.declared.plan.Options.{Options}
 use Rattle.simplex_engine.specs.Bounds.{HoldsNoneAhead}
-use Rattle.simplex_outbox.specs.Going.{IsWhole, TellsNothing}
+use Rattle.simplex_outbox.specs.Going.{BeginsTraced, IsWhole, TellsNothing}
 use Rattle.simplex_outbox.specs.Journals.{BeginsWith}
 use Rattle.simplex_flat.specs.declared.flat.FlatSettings.{FlatSettings}
 use Rattle.simplex_flat.specs.declared.opening.NotResumed.TheVariants as not_resumed
@@ -42,11 +43,12 @@ use Rattle.simplex_flat_engine.specs.Handling.{IsAllGiven, HasShownNothing}
 abbrev pub options_of : FlatOptions → Options
 options_of f = record { retry = f.retry; on_its_way = f.on_its_way; long_record = f.long_record }
 
--- nothing was given out; the whole record is to be stored in place of all that is and nothing else is queued, no proposal to be told as
+-- nothing was given out, so it is traced by what the member has done before; the whole record is to be stored in place of all that is and nothing else is queued, no proposal to be told as
 -- final, nothing is at hand, the member waits for nothing, and leaders are drawn as set; and no certificate is asked for of a view above
 -- those that the member has heard of
 pub record HasGivenNothing (f : FlatSettings) (held : HeldEngine) : Type 0 where
   pub kept : IsAllGiven [] held
+  pub traced : BeginsTraced same_host_payload host_leader certificate_bytes held.engine.core.member held.engine.core
   pub whole : IsWhole certificate_bytes held.engine.core
   pub queued : BeginsWith certificate_bytes held.engine.core.member held.engine.core.outbox.queue.items
   pub told : TellsNothing held.engine.core
@@ -68,6 +70,7 @@ pub record IsEngineBegun (f : FlatSettings) (leaders bytes : List ℕ) (options 
   pub start : HostStart
   pub by : IsStart f leaders bytes now start
   pub facts : held.engine.core.member.facts ≡ begun start
+  pub votes : held.engine.core.member.votes ≡ []
   pub begun_by : HasBegunBy start options held
   pub begins : HasBegun same_host_payload host_leader host_signer host_terms start held.engine.core.member.facts
   pub nothing : HasGivenNothing f held
@@ -103,6 +106,7 @@ pub record IsEngineResumed (f : FlatSettings) (leaders bytes : List ℕ) (option
   pub resumed : IsResumed same_host_payload host_leader stored (entries_of certificate_bytes entries) (host_start start) held.engine.core.member.facts
   pub goes_on : HasGoneOn same_host_payload host_leader host_signer host_terms stored (entries_of certificate_bytes entries) start
       held.engine.core.member.facts
+  pub votes : held.engine.core.member.votes ≡ votes_of entries
   pub begun_by : HasBegunBy start options held
   pub nothing : HasGivenNothing f held
 

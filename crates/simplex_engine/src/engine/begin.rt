@@ -7,7 +7,8 @@ ghost use Rattle.simplex_resolver.specs.Steps.{Replayed};
 ghost use Rattle.simplex_resolver.specs.Told.{HasBeenTold};
 ghost use Rattle.simplex_record.specs.Entries.{entries_of};
 ghost use Rattle.simplex_engine.specs.Beginning.{with_a_retry, IsPlanOf, IsCompanyOf, HasBegunWith, IsNotReplayed};
-ghost use Rattle.simplex_outbox.specs.Going.{IsKept, IsWhole, TellsNothing};
+ghost use Rattle.simplex_record.specs.Votes.{votes_of};
+ghost use Rattle.simplex_outbox.specs.Going.{IsKept, IsWhole, TellsNothing, BeginsTraced};
 ghost use Rattle.simplex_outbox.specs.Journals.{BeginsWith};
 
 use super::Engine;
@@ -89,8 +90,9 @@ impl<S: Assembly<D>, L: Elector<S>, D: Digest> Engine<S, L, D> {
     /// The engine of a member that begins at a floor, where nothing was stored.
     ///
     /// The elector's members are the scheme's participants.
-    /// - `started`: its member is the one that `LawfulMember::start` makes.
+    /// - `started`, `votes`: its member is the one that `LawfulMember::start` makes, with no vote in its record.
     /// - `begins`: it has accepted the floor's finalization, if there is one, and done nothing else.
+    /// - `traced`: it is traced by what the member has done before (`IsTraced`).
     /// - `kept`, `whole`, `queued`, `told`, `bounded`, `duties`: nothing was given out, the whole record stands to be stored in place of
     ///   all that is and nothing else is queued, no proposal to be told as final, and the member waits for nothing.
     /// - `begun`: no vote is held, and certificates are made by the number of the scheme's participants; the resolver was told of the
@@ -110,6 +112,7 @@ impl<S: Assembly<D>, L: Elector<S>, D: Digest> Engine<S, L, D> {
     ) -> Result<Engine<S, L, D>, StartError>
         requires { L.members start.settings.elector ≡ length (S.participants start.settings.scheme) }
         ensures kept { IfOk result (λ engine. IsKept S.certificate_bytes [] engine.core) }
+        ensures traced { IfOk result (λ engine. BeginsTraced D.eq L.elect S.certificate_bytes engine.core.member engine.core) }
         ensures whole { IfOk result (λ engine. IsWhole S.certificate_bytes engine.core) }
         ensures queued { IfOk result (λ engine. BeginsWith S.certificate_bytes engine.core.member engine.core.outbox.queue.items) }
         ensures told { IfOk result (λ engine. TellsNothing engine.core) }
@@ -120,6 +123,7 @@ impl<S: Assembly<D>, L: Elector<S>, D: Digest> Engine<S, L, D> {
         ensures started { IfOk result (λ engine. engine.core.member.facts ≡ started_member D.eq L.elect
             (set_up S.me S.participants L.terms L.elects_early start.settings)
             (floor_facts S.certificate_bytes start.floor) start.now) }
+        ensures votes { IfOk result (λ engine. engine.core.member.votes ≡ []) }
         ensures begins { IfOk result (λ engine. HasBegun D.eq L.elect S.me L.terms start engine.core.member.facts) }
         ensures no_retry { start.settings.timeout_retry ≡ 0 → result ≡ Err RetryZero }
         ensures refused { IfErr result (IsNotBegun start.settings.timeout_retry
@@ -143,10 +147,10 @@ impl<S: Assembly<D>, L: Elector<S>, D: Digest> Engine<S, L, D> {
     /// The engine of a member that goes on from what was stored, also at a later floor.
     ///
     /// The elector's members are the scheme's participants.
-    /// - `resumed`: its member is the one that `LawfulMember::resume` makes.
+    /// - `resumed`, `votes`: its member is the one that `LawfulMember::resume` makes, with the votes of the entries.
     /// - `goes_on`: in terms of the same length and with the key of the same member or none, what was done before stays done,
     ///   and the floor's finalization is accepted too.
-    /// - `kept`, `whole`, `queued`, `told`, `bounded`, `duties`, `begun`, `nothing`, `heights`, `no_retry`, `refused`: as of `start`.
+    /// - `kept`, `traced`, `whole`, `queued`, `told`, `bounded`, `duties`, `begun`, `nothing`, `heights`, `no_retry`, `refused`: as of `start`.
     ///
     /// # Errors
     ///
@@ -160,6 +164,7 @@ impl<S: Assembly<D>, L: Elector<S>, D: Digest> Engine<S, L, D> {
     ) -> Result<Engine<S, L, D>, StartError>
         requires { L.members start.settings.elector ≡ length (S.participants start.settings.scheme) }
         ensures kept { IfOk result (λ engine. IsKept S.certificate_bytes [] engine.core) }
+        ensures traced { IfOk result (λ engine. BeginsTraced D.eq L.elect S.certificate_bytes engine.core.member engine.core) }
         ensures whole { IfOk result (λ engine. IsWhole S.certificate_bytes engine.core) }
         ensures queued { IfOk result (λ engine. BeginsWith S.certificate_bytes engine.core.member engine.core.outbox.queue.items) }
         ensures told { IfOk result (λ engine. TellsNothing engine.core) }
@@ -170,6 +175,7 @@ impl<S: Assembly<D>, L: Elector<S>, D: Digest> Engine<S, L, D> {
         ensures resumed { IfOk result (λ engine. IsResumed D.eq L.elect stored
             (entries_of S.certificate_bytes entries.items)
             (start_facts S.me S.participants L.terms L.elects_early S.certificate_bytes start) engine.core.member.facts) }
+        ensures votes { IfOk result (λ engine. engine.core.member.votes ≡ votes_of entries.items) }
         ensures goes_on { IfOk result (λ engine. HasGoneOn D.eq L.elect S.me L.terms stored
             (entries_of S.certificate_bytes entries.items) start engine.core.member.facts) }
         ensures no_retry { start.settings.timeout_retry ≡ 0 → result ≡ Err RetryZero }
@@ -226,6 +232,7 @@ fn begin<S: Assembly<D>, L: Elector<S>, D: Digest>(
     options: Options,
 ) -> Result<Engine<S, L, D>, StartError>
     ensures kept { IfOk result (λ engine. IsKept S.certificate_bytes [] engine.core) }
+    ensures traced { IfOk result (λ engine. BeginsTraced D.eq L.elect S.certificate_bytes engine.core.member engine.core) }
     ensures whole { IfOk result (λ engine. IsWhole S.certificate_bytes engine.core) }
     ensures told { IfOk result (λ engine. TellsNothing engine.core) }
     ensures member { IfOk result (λ engine. engine.core.member ≡ member) }

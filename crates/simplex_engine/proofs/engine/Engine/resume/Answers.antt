@@ -1,5 +1,5 @@
 -- That the engine's member is the one that was resumed.
-use Rattle.std.proofs.Common.{sym, subst, ap, ◌∙◌, refl, inr, Ok}
+use Rattle.std.proofs.Common.{◌≡◌, sym, subst, ap, ◌∙◌, refl, inr, Ok}
 use Rattle.simplex_record.specs.Entries.{entries_of}
 use Rattle.simplex_record.specs.Start.{start_facts}
 use Rattle.simplex_member.specs.Journal.{IsResumed}
@@ -11,6 +11,7 @@ use Rattle.std.proofs.lemmas.Bool.{eqb-true}
 use Rattle.simplex_engine.proofs.Beginning.{has_retry, not_begun}
 use Rattle.simplex_engine.proofs.Causes.{both_ok, nothing_held}
 use Rattle.simplex_engine.proofs.heights.Engines.{heights_begun}
+use Rattle.simplex_record.specs.Votes.{votes_of}
 use Rattle.simplex_engine.proofs.engine.Engine.resume.Goals as goal
 
 pub returns-in-Ok-clause-resumed : goal.returns-in-Ok-clause-resumed
@@ -52,6 +53,9 @@ pub returns-in-Ok-clause-heights : goal.returns-in-Ok-clause-heights
 returns-in-Ok-clause-heights g c =
     where_ok c.begin.result (c.begin.ensures.begun _ _ _ c.in_ok-company.ensures)
     (λ engine begun. heights_begun g.D.Digest.bytes g.S.CertificateScheme.participants _ _ _ _ engine begun)
+
+pub returns-in-Ok-clause-votes : goal.returns-in-Ok-clause-votes
+returns-in-Ok-clause-votes g c = where_ok c.begin.result c.begin.ensures.member (λ engine is. subst (λ m. m.votes ≡ votes_of c.args.entries.items) (sym is) c.in-Ok.ensures.votes)
 
 pub returns-then-has_no_retry-clause-no_retry : goal.returns-then-has_no_retry-clause-no_retry
 returns-then-has_no_retry-clause-no_retry g c none = refl

@@ -1,5 +1,5 @@
 -- That the engine's member is the one that was started.
-use Rattle.std.proofs.Common.{◌≡◌, sym, subst, ap, inr, refl, ◌∙◌}
+use Rattle.std.proofs.Common.{◌≡◌, sym, subst, ap, inr, refl, ◌∙◌, []}
 use Rattle.simplex_types.specs.Config.{floor_facts}
 use Rattle.simplex_record.specs.Start.{set_up}
 use Rattle.simplex_member.specs.Start.{started_member}
@@ -50,6 +50,9 @@ pub returns-in-Ok-clause-heights : goal.returns-in-Ok-clause-heights
 returns-in-Ok-clause-heights g c =
     where_ok c.begin.result (c.begin.ensures.begun _ _ _ c.in_ok-company.ensures)
     (λ engine begun. heights_begun g.D.Digest.bytes g.S.CertificateScheme.participants _ _ _ _ engine begun)
+
+pub returns-in-Ok-clause-votes : goal.returns-in-Ok-clause-votes
+returns-in-Ok-clause-votes g c = where_ok c.begin.result c.begin.ensures.member (λ engine is. subst (λ m. m.votes ≡ []) (sym is) c.in-Ok.ensures.votes)
 
 pub returns-then-has_no_retry-clause-no_retry : goal.returns-then-has_no_retry-clause-no_retry
 returns-then-has_no_retry-clause-no_retry g c none = refl
