@@ -1,5 +1,5 @@
 -- An engine that begins, and why none does.
-use Rattle.std.proofs.Common.{◌≡◌, ◌∙◌, ap, sym, subst, inl, ℕ, ◌==◌, false, List, [], ◌∷◌, length, reverse, Option, Result, Ok, Err}
+use Rattle.std.proofs.Common.{◌≡◌, ◌∙◌, ap, sym, subst, inl, ℕ, ◌==◌, true, false, true≢false, List, [], ◌∷◌, length, reverse, Option, Result, Ok, Err}
 use Rattle.std.specs.Prelude.{IfErr}
 use Rattle.simplex_types.specs.Certificates.{ArtifactFacts}
 use Rattle.simplex_resolver.specs.RecordCalls.{calls_of}
@@ -15,7 +15,7 @@ use Rattle.simplex_plan.specs.declared.plan.Options.{Options}
 use Rattle.simplex_engine.specs.declared.engine.Engine.{Engine}
 use Rattle.simplex_engine.specs.declared.engine.begin.Company.{Company}
 use Rattle.simplex_engine.specs.declared.engine.begin.StartError.{StartError}
-use Rattle.simplex_engine.specs.declared.engine.begin.StartError.TheVariants.{Resume, Replay}
+use Rattle.simplex_engine.specs.declared.engine.begin.StartError.TheVariants.{RetryZero, Resume, Replay}
 use Rattle.simplex_engine.specs.Beginning.{others_of, IsRepairOf, IsPlanOf, IsCompanyOf, HasBegunWith, IsNotReplayed, IsNotBegun}
 
 -- the resolver and its fetches, once it was told of the record
@@ -50,8 +50,13 @@ begun_with bytes keys_of keys me term_length options company member engine is ba
 }
 
 -- none begins where the resolver refuses the record of a member that does, or memory is lacking
-pub not_begun : {K L D X : Type 0} (result : Result X StartError) (IsRefused : ResumeError → Type 0) (Begins : MemberFacts K L D → Type 0) (m : MemberFacts K L D)
-    → Begins m → IfErr result (IsNotReplayed m.entries) → IfErr result (IsNotBegun IsRefused Begins)
-not_begun (Ok x) IsRefused Begins m begins refused = tt
-not_begun (Err (Resume e)) IsRefused Begins m begins refused = inl refused
-not_begun (Err (Replay e)) IsRefused Begins m begins refused = (m, begins, refused)
+pub not_begun : {K L D X : Type 0} (result : Result X StartError) (timeout_retry : ℕ) (IsRefused : ResumeError → Type 0) (Begins : MemberFacts K L D → Type 0)
+    (m : MemberFacts K L D) → Begins m → IfErr result (IsNotReplayed m.entries) → IfErr result (IsNotBegun timeout_retry IsRefused Begins)
+not_begun (Ok x) timeout_retry IsRefused Begins m begins refused = tt
+not_begun (Err RetryZero) timeout_retry IsRefused Begins m begins refused = absurd refused
+not_begun (Err (Resume e)) timeout_retry IsRefused Begins m begins refused = inl refused
+not_begun (Err (Replay e)) timeout_retry IsRefused Begins m begins refused = (m, begins, refused)
+
+-- where a vote to nullify is repeated later, nothing is said of one that is repeated at once
+pub has_retry : {X : Type 0} (result : Result X StartError) (timeout_retry : ℕ) → (timeout_retry == 0) ≡ false → timeout_retry ≡ 0 → result ≡ Err RetryZero
+has_retry result timeout_retry later none = absurd (true≢false (sym (ap (λ n. n == 0) none) ∙ later))

@@ -23,7 +23,7 @@ use Rattle.simplex_engine.specs.declared.engine.Engine.{Engine}
 use Rattle.simplex_engine.specs.Views.{HasComeTo}
 use Rattle.simplex_engine.specs.declared.engine.begin.Company.{Company}
 use Rattle.simplex_engine.specs.declared.engine.begin.StartError.{StartError}
-use Rattle.simplex_engine.specs.declared.engine.begin.StartError.TheVariants.{Resume, Replay}
+use Rattle.simplex_engine.specs.declared.engine.begin.StartError.TheVariants.{RetryZero, Resume, Replay}
 
 -- ---- with what it begins
 
@@ -81,11 +81,14 @@ IsMemberError due e = (error : RecoverError) × (e ≡ Recover error) × IsError
 
 -- the resolver refuses a record of these entries, oldest first, or memory is lacking
 abbrev pub IsNotReplayed : {D : Type 0} → List (ArtifactFacts D) → StartError → Type 0
+IsNotReplayed entries RetryZero = ⊥
 IsNotReplayed entries (Replay e) = IsDue (record_error (reverse entries)) e
 IsNotReplayed entries (Resume e) = e ≡ Recover OutOfMemory
 
 module _ {K L D : Type 0} where
-  -- memory is lacking, or the member is refused, or the resolver refuses the record of the member that begins
-  abbrev pub IsNotBegun : (ResumeError → Type 0) → (MemberFacts K L D → Type 0) → StartError → Type 0
-  IsNotBegun IsRefused Begins (Resume e) = (e ≡ Recover OutOfMemory) ⊎ IsRefused e
-  IsNotBegun IsRefused Begins (Replay e) = (m : MemberFacts K L D) × Begins m × IsNotReplayed m.entries (Replay e)
+  -- a vote to nullify would be sent again after no time, or memory is lacking, or the member is refused, or the resolver refuses the record
+  -- of the member that begins
+  abbrev pub IsNotBegun : ℕ → (ResumeError → Type 0) → (MemberFacts K L D → Type 0) → StartError → Type 0
+  IsNotBegun timeout_retry IsRefused Begins RetryZero = timeout_retry ≡ 0
+  IsNotBegun timeout_retry IsRefused Begins (Resume e) = (e ≡ Recover OutOfMemory) ⊎ IsRefused e
+  IsNotBegun timeout_retry IsRefused Begins (Replay e) = (m : MemberFacts K L D) × Begins m × IsNotReplayed m.entries (Replay e)

@@ -52,11 +52,12 @@ impl<S: Assembly<D>, L: Elector<S>, D: Digest> Engine<S, L, D> {
     ghost use Rattle.simplex_laws.specs.Living.{OfAllDone, MayBeDoneBy};
     ghost use Rattle.simplex_laws.specs.RecordsOnce.{HoldsEachEntryOnce};
     ghost use Rattle.simplex_outbox.specs.Outputs.{AreBehind};
-    ghost use Rattle.simplex_outbox.specs.Finals.{finals_in, RiseByView, EndsAt, TellsNoMore};
+    ghost use Rattle.simplex_outbox.specs.Finals.{finals_in, RiseByView, EndsAt, TellsNoMore, WereAccepted};
     ghost use Rattle.simplex_outbox.specs.Journals.{journal_of, IsRecordOf};
     ghost use Rattle.simplex_outbox.specs.Leaving.{AllLeave};
     ghost use Rattle.simplex_outbox.specs.Reaching.{IsShort};
-    ghost use Rattle.simplex_outbox.specs.Going.{IsKept, IsWhole, GoesOn, DoesMoreOn, HasGivenOut, has_failed};
+    ghost use Rattle.simplex_outbox.specs.Going.{IsKept, IsTraced, IsWhole, GoesOn, EmitsOn, DoesMoreOn, HasGivenOut, has_failed};
+    ghost use Rattle.simplex_outbox.specs.Stops.{EachStopIsLawful};
     ghost use Rattle.simplex_engine.specs.Settled.{IsSettled};
     ghost use Rattle.simplex_plan.specs.PlannedWork.{constants_of, AreAmong};
     ghost use Rattle.simplex_plan.specs.Planning.{IsIdle, IsWake};
@@ -157,6 +158,7 @@ impl<S: Assembly<D>, L: Elector<S>, D: Digest> Engine<S, L, D> {
     ///
     /// - `given`: what is answered is given out.
     /// - `does`, `told`: no certificate is accepted, and no other proposal is queued to be told as final.
+    /// - `traced`: what is returned is given out, and stays traced by what the member has done so (`IsTraced`).
     /// - `held`: just the votes are forgotten that are of views below the lowest one that is kept, or none is.
     /// - `votes`, `bounded`, `failed`, `error`, `refused`: as of `handle`.
     /// - `ignored`, `constants`: no input is counted as of no use; what stays by `handle` stays.
@@ -192,6 +194,7 @@ impl<S: Assembly<D>, L: Elector<S>, D: Digest> Engine<S, L, D> {
     pub fn poll(&mut self, now: u64) -> Result<Option<Output<S, D, Stored>>, Fault>
         ensures given { HasGivenOut S.certificate_bytes (given_out result) self.old.core self.new.core }
         ensures does { DoesMoreOn D.eq L.elect None self.old.core.member.facts self.new.core.member.facts }
+        ensures traced { EmitsOn D.eq L.elect S.certificate_bytes None (given_out result) self.old.core self.new.core }
         ensures told { TellsNoMore (given_out result) self.old.core.outbox self.new.core.outbox }
         ensures none { IfOk result (λ out. IsNone out → IsSettled D.eq L.elect S.certificate_bytes self.new.core) }
         ensures idle { IfOk result (λ out. IsNone out → IsIdle now self.new.plan) }
@@ -234,6 +237,7 @@ impl<S: Assembly<D>, L: Elector<S>, D: Digest> Engine<S, L, D> {
     fn poll_after_work(&mut self, now: u64) -> Result<Option<Output<S, D, Stored>>, Fault>
         ensures given { HasGivenOut S.certificate_bytes (given_out result) self.old.core self.new.core }
         ensures does { DoesMoreOn D.eq L.elect None self.old.core.member.facts self.new.core.member.facts }
+        ensures traced { EmitsOn D.eq L.elect S.certificate_bytes None (given_out result) self.old.core self.new.core }
         ensures told { TellsNoMore (given_out result) self.old.core.outbox self.new.core.outbox }
         ensures none { IfOk result (λ out. IsNone out → IsSettled D.eq L.elect S.certificate_bytes self.new.core) }
         ensures idle { IfOk result (λ out. IsNone out → IsIdle now self.new.plan) }
@@ -326,6 +330,9 @@ impl<S: Assembly<D>, L: Elector<S>, D: Digest> Engine<S, L, D> {
     ///   out and what is queued holds the record, and beside it what a journal stores.
     /// - `leaving`: until it fails, each vote that is stored was given out or is queued, but those of the record that the life began
     ///   with, which the first output stores.
+    /// - `stops`: until it fails, a host may stop after each output that was given out: the journal is then the record of a member that
+    ///   the engine's member was, which had signed each vote among these outputs (`stops_are_resumed`).
+    /// - `finals`: of each proposal that it reported as final, its member accepted the finalization.
     /// - `rising`: the views of the proposals rise that it told as final.
     /// - `last`: the last of them, of those that it told and those that are queued, is of the member's last finalized view.
     /// - `lawful`: what its member has done keeps the voting rules, over all its lives.
@@ -338,6 +345,12 @@ impl<S: Assembly<D>, L: Elector<S>, D: Digest> Engine<S, L, D> {
             → IsRecordOf S.certificate_bytes self.now.core.member (journal_of (given ++ self.now.core.outbox.queue.items)) }
         ensures leaving { (given : _) → IsKept S.certificate_bytes given self.now.core → self.now.core.failed ≡ false
             → AllLeave (given ++ self.now.core.outbox.queue.items) }
+        ensures stops { (term_length i : _) (earlier given all : _)
+            → IsTraced D.eq L.elect S.certificate_bytes term_length i earlier given all self.now.core
+            → self.now.core.failed ≡ false
+            → EachStopIsLawful D.eq L.elect S.certificate_bytes term_length i earlier all (given ++ self.now.core.outbox.queue.items) }
+        ensures finals { (term_length i : _) (earlier given all : _)
+            → IsTraced D.eq L.elect S.certificate_bytes term_length i earlier given all self.now.core → WereAccepted all (finals_in given) }
         ensures rising { (given : _) → IsKept S.certificate_bytes given self.now.core → RiseByView (finals_in given) }
         ensures last { (given : _) → IsKept S.certificate_bytes given self.now.core → IfSome self.now.core.member.facts.life (λ x.
             EndsAt x.finalized (finals_in (given ++ self.now.core.outbox.queue.items))) }

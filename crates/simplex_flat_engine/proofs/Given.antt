@@ -1,5 +1,5 @@
 -- What is given out stands behind all that was.
-use Rattle.std.proofs.Common.{◌≡◌, ℕ, List, [], ◌∷◌, ◌++◌, false, inl, inr, sym, subst, ◌∙◌, Result, Err}
+use Rattle.std.proofs.Common.{◌≡◌, ℕ, List, [], ◌∷◌, ◌++◌, None, false, inl, inr, sym, subst, ◌∙◌, Result, Err}
 use Rattle.std.specs.Prelude.{option_to_list}
 use Rattle.std.proofs.lemmas.Bool.{false≢true}
 use Rattle.simplex_codec.specs.Digests.{bytes_in_digest}
@@ -9,7 +9,7 @@ use Rattle.simplex_outbox.specs.Outputs.{work_in}
 use Rattle.simplex_engine.specs.Causes.{forgettable, held_by, Comes}
 use Rattle.simplex_engine.specs.Duties.{work_ahead, HasToldAll}
 use Rattle.simplex_outbox.specs.Finals.{TellsNoMore}
-use Rattle.simplex_outbox.specs.Going.{HasGivenOut, IsKept}
+use Rattle.simplex_outbox.specs.Going.{EmitsOn, HasGivenOut, IsKept}
 use Rattle.simplex_flat.specs.Serving.{host_leader, same_host_payload}
 use Rattle.simplex_flat.specs.declared.shown.FlatStored.{FlatStored}
 use Rattle.simplex_flat_engine.specs.declared.held.HeldEngine.{HeldEngine}
@@ -34,6 +34,14 @@ pub tells_no_more : (out : HostOutput) (before : FlatStored) (r : FlatOutput) (o
     → IsGivenOut out before r new → new.is_lost ≡ false → TellsNoMore (option_to_list new.last) old.engine.core.outbox new.engine.core.outbox
 tells_no_more out before r old new tells (inl it) alive = subst (λ last. TellsNoMore (option_to_list last) old.engine.core.outbox new.engine.core.outbox) (sym it.0.last) tells
 tells_no_more out before r old new tells (inr it) alive = absurd (false≢true (sym alive ∙ it.0))
+
+-- what is given out is traced by what the member has done
+pub traced_given : (out : HostOutput) (before : FlatStored) (r : FlatOutput) (old new : HeldEngine)
+    → EmitsOn same_host_payload host_leader certificate_bytes None (out ∷ []) old.engine.core new.engine.core → IsGivenOut out before r new
+    → new.is_lost ≡ false → EmitsOn same_host_payload host_leader certificate_bytes None (option_to_list new.last) old.engine.core new.engine.core
+traced_given out before r old new traced (inl it) alive =
+    subst (λ last. EmitsOn same_host_payload host_leader certificate_bytes None (option_to_list last) old.engine.core new.engine.core) (sym it.0.last) traced
+traced_given out before r old new traced (inr it) alive = absurd (false≢true (sym alive ∙ it.0))
 
 -- what the member waits for stays told
 pub has_told : (out : HostOutput) (before : FlatStored) (r : FlatOutput) (old new : HeldEngine)

@@ -4,6 +4,7 @@ use Rattle.simplex_host.specs.Electing.{host_terms}
 use Rattle.simplex_codec.specs.Digests.{bytes_in_digest}
 use Rattle.simplex_host.specs.Host.{certificate_bytes, host_keys, host_signer}
 use Rattle.simplex_record.specs.Entries.{entries_of}
+use Rattle.simplex_record.specs.Votes.{votes_of}
 use Rattle.simplex_member.specs.Journal.{IsNotResumed, IsResumed}
 use Rattle.simplex_member.specs.declared.member.journal.Stored.{Stored}
 use Rattle.simplex_member.specs.declared.member.resume.ResumeError.TheVariants as resume
@@ -14,9 +15,12 @@ use Rattle.simplex_engine.specs.Heights.{AsksForTheHeard}
 use Rattle.simplex_engine.specs.Duties.{HasToldAll}
 use Rattle.simplex_engine.specs.declared.engine.begin.StartError.{StartError}
 use Rattle.simplex_engine.specs.declared.engine.begin.StartError.TheVariants as start_error
+use Rattle.simplex_record.specs.declared.record.settings.StartError.TheVariants as record_error
+use Rattle.simplex_types.specs.declared.config.ConfigError.TheVariants as config_error
+use Rattle.simplex_flat.specs.declared.settings.SettingsError.TheVariants as settings_error
 use Rattle.simplex_plan.specs.declared.plan.Options.{Options}
 use Rattle.simplex_engine.specs.Bounds.{HoldsNoneAhead}
-use Rattle.simplex_outbox.specs.Going.{IsWhole, TellsNothing}
+use Rattle.simplex_outbox.specs.Going.{BeginsTraced, IsWhole, TellsNothing}
 use Rattle.simplex_outbox.specs.Journals.{BeginsWith}
 use Rattle.simplex_flat.specs.declared.flat.FlatSettings.{FlatSettings}
 use Rattle.simplex_flat.specs.declared.opening.NotResumed.TheVariants as not_resumed
@@ -39,11 +43,12 @@ use Rattle.simplex_flat_engine.specs.Handling.{IsAllGiven, HasShownNothing}
 abbrev pub options_of : FlatOptions → Options
 options_of f = record { retry = f.retry; on_its_way = f.on_its_way; long_record = f.long_record }
 
--- nothing was given out; the whole record is to be stored in place of all that is and nothing else is queued, no proposal to be told as
+-- nothing was given out, so it is traced by what the member has done before; the whole record is to be stored in place of all that is and nothing else is queued, no proposal to be told as
 -- final, nothing is at hand, the member waits for nothing, and leaders are drawn as set; and no certificate is asked for of a view above
 -- those that the member has heard of
 pub record HasGivenNothing (f : FlatSettings) (held : HeldEngine) : Type 0 where
   pub kept : IsAllGiven [] held
+  pub traced : BeginsTraced same_host_payload host_leader certificate_bytes held.engine.core.member held.engine.core
   pub whole : IsWhole certificate_bytes held.engine.core
   pub queued : BeginsWith certificate_bytes held.engine.core.member held.engine.core.outbox.queue.items
   pub told : TellsNothing held.engine.core
@@ -65,12 +70,14 @@ pub record IsEngineBegun (f : FlatSettings) (leaders bytes : List ℕ) (options 
   pub start : HostStart
   pub by : IsStart f leaders bytes now start
   pub facts : held.engine.core.member.facts ≡ begun start
+  pub votes : held.engine.core.member.votes ≡ []
   pub begun_by : HasBegunBy start options held
   pub begins : HasBegun same_host_payload host_leader host_signer host_terms start held.engine.core.member.facts
   pub nothing : HasGivenNothing f held
 
 -- the error of an engine, by the member's and the resolver's
 abbrev pub not_begun_of : StartError → NotBegun
+not_begun_of start_error.RetryZero = not_begun.Member (not_resumed.Settings (settings_error.Refused (record_error.Config config_error.RetryZero)))
 not_begun_of (start_error.Resume resume.EntriesLost) = not_begun.Member not_resumed.EntriesLost
 not_begun_of (start_error.Resume (resume.Recover e)) = not_begun.Member (not_resumed.Recover e)
 not_begun_of (start_error.Replay e) = not_begun.Resolver e
@@ -81,7 +88,7 @@ pub record IsStartRefused (f : FlatSettings) (leaders bytes : List ℕ) (now : �
   pub by : IsStart f leaders bytes now start
   pub error : StartError
   pub is_of : e ≡ not_begun_of error
-  pub refused : IsNotBegun (IsMemberError (begin_error start)) (λ m. m ≡ begun start) error
+  pub refused : IsNotBegun start.settings.timeout_retry (IsMemberError (begin_error start)) (λ m. m ≡ begun start) error
 
 -- why none begins: by its settings; or by what they begin, or for want of memory
 abbrev pub IsEngineNotBegun : FlatSettings → List ℕ → List ℕ → ℕ → NotBegun → Type 0
@@ -99,6 +106,7 @@ pub record IsEngineResumed (f : FlatSettings) (leaders bytes : List ℕ) (option
   pub resumed : IsResumed same_host_payload host_leader stored (entries_of certificate_bytes entries) (host_start start) held.engine.core.member.facts
   pub goes_on : HasGoneOn same_host_payload host_leader host_signer host_terms stored (entries_of certificate_bytes entries) start
       held.engine.core.member.facts
+  pub votes : held.engine.core.member.votes ≡ votes_of entries
   pub begun_by : HasBegunBy start options held
   pub nothing : HasGivenNothing f held
 
@@ -110,7 +118,7 @@ pub record IsResumeRefused (f : FlatSettings) (leaders bytes : List ℕ) (now : 
   pub from : IsGoingOn f leaders bytes now beside journal start stored entries
   pub error : StartError
   pub is_of : e ≡ not_begun_of error
-  pub refused : IsNotBegun (IsNotResumed same_host_payload host_leader stored (entries_of certificate_bytes entries) (host_start start))
+  pub refused : IsNotBegun start.settings.timeout_retry (IsNotResumed same_host_payload host_leader stored (entries_of certificate_bytes entries) (host_start start))
       (IsResumed same_host_payload host_leader stored (entries_of certificate_bytes entries) (host_start start)) error
 
 -- why none goes on: by its settings or journal; or by what these are, or for want of memory

@@ -23,7 +23,7 @@ use Rattle.simplex_engine.specs.Dropping.{IsDropped}
 use Rattle.simplex_outbox.specs.Outputs.{work_in}
 use Rattle.simplex_engine.specs.Duties.{AllIsGivenOut, HasToldAll, KeepsTelling, work_ahead}
 use Rattle.simplex_outbox.specs.Finals.{TellsNoMore}
-use Rattle.simplex_outbox.specs.Going.{DoesMoreOn, GoesOn, IsKept, IsWhole, has_failed}
+use Rattle.simplex_outbox.specs.Going.{DoesMoreOn, EmitsOn, GoesOn, IsKept, IsWhole, has_failed}
 use Rattle.simplex_engine.specs.Inputs.{subject_in}
 use Rattle.simplex_outbox.specs.Journals.{IsRecordOf, journal_of}
 use Rattle.simplex_outbox.specs.Reaching.{IsShort}
@@ -206,6 +206,9 @@ pub record IsAsked (now : ℕ) (old : HeldEngine) (r : FlatOutput) (new : HeldEn
   pub given : (given : List HostOutput) → IsAllGiven given old → IsAllGiven (given ++ option_to_list new.last) new
   -- no other proposal is queued to be told as final
   pub told : new.is_lost ≡ false → TellsNoMore (option_to_list new.last) old.engine.core.outbox new.engine.core.outbox
+  -- what is given out is traced by what the member has done
+  pub traced : new.is_lost ≡ false
+      → EmitsOn same_host_payload host_leader certificate_bytes None (option_to_list new.last) old.engine.core new.engine.core
   -- no certificate is accepted, and no vote is taken
   pub does : DoesMoreOn same_host_payload host_leader None old.engine.core.member.facts new.engine.core.member.facts
   pub votes : TakesNone old.engine.batcher new.engine.batcher

@@ -9,11 +9,13 @@ use simplex_engine::engine::{Engine, Options, StartError};
 use simplex_flat::flat::FlatSettings;
 use simplex_flat::opening::{NotResumed, going_on};
 use simplex_flat::resolving::{NotReplayed, number_of_not_replayed};
-use simplex_flat::settings::start_of;
+use simplex_flat::settings::{SettingsError, start_of};
 use simplex_flat::shown::FlatStored;
 use simplex_flat::statuses::number_of_not_resumed;
 use simplex_member::member::ResumeError;
+use simplex_record::record::StartError as RefusedStart;
 use simplex_resolver::replay::ReplayError;
+use simplex_types::config::ConfigError;
 use std::alloc::Global;
 
 /// Why no engine begins.
@@ -91,6 +93,9 @@ fn not_begun(error: StartError) -> NotBegun
     ensures { result ≡ not_begun_of error }
 {
     match error {
+        StartError::RetryZero => NotBegun::Member(NotResumed::Settings(SettingsError::Refused(
+            RefusedStart::Config(ConfigError::RetryZero),
+        ))),
         StartError::Resume(ResumeError::EntriesLost) => NotBegun::Member(NotResumed::EntriesLost),
         StartError::Resume(ResumeError::Recover(error)) => {
             NotBegun::Member(NotResumed::Recover(error))

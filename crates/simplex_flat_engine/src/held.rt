@@ -52,7 +52,10 @@ impl HeldEngine {
     ghost use Rattle.simplex_laws.specs.RecordsOnce.{HoldsEachEntryOnce};
     ghost use Rattle.simplex_outbox.specs.Leaving.{AllLeave};
     ghost use Rattle.simplex_outbox.specs.Outputs.{AreBehind};
-    ghost use Rattle.simplex_outbox.specs.Finals.{finals_in, RiseByView};
+    ghost use Rattle.simplex_outbox.specs.Finals.{finals_in, RiseByView, WereAccepted};
+    ghost use Rattle.simplex_outbox.specs.Going.{IsTraced};
+    ghost use Rattle.simplex_outbox.specs.Stops.{EachStopIsLawful};
+    ghost use Rattle.simplex_host.specs.Host.{certificate_bytes};
     ghost use Rattle.simplex_flat.specs.Serving.{host_leader, same_host_payload};
     ghost use Rattle.simplex_host.specs.declared.scheme.HostKey.{HostKey};
 
@@ -222,6 +225,9 @@ impl HeldEngine {
     ///   it what a journal stores.
     /// - `leaving`: until it fails, each vote that is stored was given out or is queued, but those of the record that the life began
     ///   with, which the first output stores.
+    /// - `stops`: until it fails, a host may stop after each output that was given out: the journal is then the record of a member that
+    ///   the engine's member was, which had signed each vote among these outputs.
+    /// - `finals`: of each proposal that it reported as final, its member accepted the finalization.
     /// - `rising`: the views of the proposals rise that it told as final.
     /// - `lawful`: what its member has done keeps the voting rules, over all its lives.
     /// - `ran`: a network of `agreement` may have it as member `i`.
@@ -231,6 +237,13 @@ impl HeldEngine {
         ensures stored { (given : _) → IsAllGiven given self.now → self.now.is_lost ≡ false → HoldsRecord given self.now }
         ensures leaving { (given : _) → IsAllGiven given self.now → self.now.is_lost ≡ false → self.now.engine.core.failed ≡ false
             → AllLeave (given ++ self.now.engine.core.outbox.queue.items) }
+        ensures stops { (term_length i : _) (earlier given all : _)
+            → IsTraced same_host_payload host_leader certificate_bytes term_length i earlier given all self.now.engine.core
+            → self.now.engine.core.failed ≡ false → EachStopIsLawful same_host_payload host_leader certificate_bytes term_length i earlier all
+            (given ++ self.now.engine.core.outbox.queue.items) }
+        ensures finals { (term_length i : _) (earlier given all : _)
+            → IsTraced same_host_payload host_leader certificate_bytes term_length i earlier given all self.now.engine.core
+            → WereAccepted all (finals_in given) }
         ensures rising { (given : _) → IsAllGiven given self.now → self.now.is_lost ≡ false → RiseByView (finals_in given) }
         ensures lawful { OfAllDone same_host_payload host_leader self.now.engine.core.member.facts (λ term_length i all. IsLawful term_length all) }
         ensures ran { OfAllDone same_host_payload host_leader self.now.engine.core.member.facts (MayBeDoneBy HostKey same_host_payload host_leader) }

@@ -1,21 +1,22 @@
 -- For the code of the engine.
 -- Proposals that are told as final, by what was done.
-use Rattle.std.proofs.Common.{◌≡◌, ◌∙◌, ◌<◌, refl, ap, sym, subst, ℕ, Bool, true, false, cond, max, nat_lt, List, [], ◌∷◌, ◌++◌, map, Option, Some, None, Vec, append_assoc, append-nil, arith}
-use Rattle.std.specs.Prelude.{All, option_to_list}
+use Rattle.std.proofs.Common.{◌≡◌, ◌∙◌, ◌<◌, inl, inr, refl, ap, sym, subst, ℕ, zero, Bool, true, false, cond, max, nat_lt, List, [], ◌∷◌, ◌++◌, map, Option, Some, None, Vec, append_assoc, append-nil, arith}
+use Rattle.std.specs.Prelude.{All, Contains, option_to_list}
 use Rattle.std.specs.declared.alloc.Global.{Global}
 use Rattle.std.proofs.lemmas.Bool.Decides.{nat_tests}
-use Rattle.std.proofs.lemmas.List.Elements.{All-head, All-tail}
+use Rattle.std.proofs.lemmas.List.Elements.{All-head, All-tail, Contains-append_left, Contains-append_right, Contains-append_cases}
 use Rattle.simplex_types.specs.declared.types.messages.Artifact.{Artifact}
 use Rattle.simplex_types.specs.declared.types.messages.Proposal.{Proposal}
 use Rattle.simplex_types.specs.declared.types.messages.Subject.TheVariants as subject
 use Rattle.simplex_laws.specs.Traces.{TraceEvent, Accepts, Signs}
+use Rattle.simplex_laws.proofs.lists.Splits.{Contains-cases, Contains-cons_rest}
 use Rattle.simplex_outbox.specs.declared.outbox.Outbox.{Outbox}
 use Rattle.simplex_outbox.specs.declared.output.Output.{Output}
 use Rattle.simplex_outbox.specs.declared.output.Output.TheVariants as output
 use Rattle.simplex_batcher.specs.declared.votes.Vote.{Vote}
 use Rattle.simplex_outbox.specs.Doing.{IsDoneOn}
 use Rattle.simplex_outbox.specs.Entries.{votes_of_entries}
-use Rattle.simplex_outbox.specs.Finals.{finals_in, finals_by, RiseByView, EndsAt, rising_above, raised_to, TellsRising, TellsNoMore}
+use Rattle.simplex_outbox.specs.Finals.{finals_in, finals_by, RiseByView, EndsAt, WereAccepted, rising_above, raised_to, TellsRising, TellsNoMore}
 use Rattle.simplex_outbox.specs.Outboxes.{HasBecome, HasStayed, IsToldWhere, IsTold}
 use Rattle.simplex_outbox.specs.Outputs.{storing}
 
@@ -56,6 +57,30 @@ module _ {D : Type 0} where
   none_finalized [] none = refl
   none_finalized (Accepts certificate ∷ rest) none = absurd (All-head (IsDoneOn None) (Accepts certificate) rest none)
   none_finalized (Signs signer vote ∷ rest) none = none_finalized rest (All-tail (IsDoneOn None) (Signs signer vote) rest none)
+
+  -- each proposal that is final by what was done was accepted
+  by_accepting : (events : List (TraceEvent D)) → WereAccepted events (finals_by events)
+  by_accepting [] p has = absurd (omega (arith, has.1))
+  by_accepting (Accepts (subject.Finalize q) ∷ rest) p has = elim (Contains-cases q (finals_by rest) p has) [
+    | inl first ↦ (zero, omega arith, ap (λ r. Accepts (subject.Finalize r)) first)
+    | inr later ↦ Contains-cons_rest (Accepts (subject.Finalize q)) rest (Accepts (subject.Finalize p)) (by_accepting rest p later)
+  ]
+  by_accepting (Accepts (subject.Notarize q) ∷ rest) p has = Contains-cons_rest (Accepts (subject.Notarize q)) rest (Accepts (subject.Finalize p)) (by_accepting rest p has)
+  by_accepting (Accepts (subject.Nullify round) ∷ rest) p has = Contains-cons_rest (Accepts (subject.Nullify round)) rest (Accepts (subject.Finalize p)) (by_accepting rest p has)
+  by_accepting (Signs signer vote ∷ rest) p has = Contains-cons_rest (Signs signer vote) rest (Accepts (subject.Finalize p)) (by_accepting rest p has)
+
+  -- those that are told are among them
+  rising_within : (view : ℕ) (finals : List (Proposal D)) (p : Proposal D) → Contains (rising_above view finals) p → Contains finals p
+  rising_within view [] p has = has
+  rising_within view (q ∷ rest) p has = by_test (λ v. rising_within v rest p) (nat_lt view q.round.view) has
+    where
+      by_test : ((v : ℕ) → Contains (rising_above v rest) p → Contains rest p) → (t : Bool)
+          → Contains (cond t (q ∷ rising_above q.round.view rest) (rising_above view rest)) p → Contains (q ∷ rest) p
+      by_test within true here = elim (Contains-cases q (rising_above q.round.view rest) p here) [
+        | inl first ↦ (zero, omega arith, first)
+        | inr later ↦ Contains-cons_rest q rest p (within q.round.view later)
+      ]
+      by_test within false here = Contains-cons_rest q rest p (within view here)
 
   -- one more, above all
   pub rising_further : (view : ℕ) (xs : List (Proposal D)) (p : Proposal D) → RiseByView xs → EndsAt view xs → view < p.round.view → RiseByView (xs ++ p ∷ [])
@@ -101,6 +126,19 @@ module _ {S D J K G C : Type 0} where
     queued = ap finals_in become.queue ∙ finalized_in-append old.queue.items more ∙ ap (λ ps. finals_in old.queue.items ++ ps) none;
     told = become.told_is;
   }
+
+  -- where each was accepted, and those are told that are accepted besides, each still was
+  pub accepted_rising : (given : List (Output S D J K G C)) (old new : Outbox S D J K G C) (all more : List (TraceEvent D)) → TellsRising (finals_by more) old new
+      → WereAccepted all (finals_in (given ++ old.queue.items)) → WereAccepted (all ++ more) (finals_in (given ++ new.queue.items))
+  accepted_rising given old new all more tells accepted p has =
+      let fresh = rising_above old.told (finals_by more) in
+      let split : finals_in (given ++ new.queue.items) ≡ finals_in (given ++ old.queue.items) ++ fresh =
+      finalized_in-append given new.queue.items ∙ ap (λ ps. finals_in given ++ ps) tells.queued
+      ∙ sym (append_assoc (finals_in given) (finals_in old.queue.items) fresh) ∙ ap (λ ps. ps ++ fresh) (sym (finalized_in-append given old.queue.items)) in
+      elim (Contains-append_cases (finals_in (given ++ old.queue.items)) fresh p (subst (λ ps. Contains ps p) split has)) [
+        | inl before ↦ Contains-append_left all more (Accepts (subject.Finalize p)) (accepted p before)
+        | inr here ↦ Contains-append_right all more (Accepts (subject.Finalize p)) (by_accepting more p (rising_within old.told (finals_by more) p here))
+      ]
 
   -- and then others are
   pub tells_further : (xs ys : List (Proposal D)) (a b c : Outbox S D J K G C) → TellsRising xs a b → TellsRising ys b c → TellsRising (xs ++ ys) a c

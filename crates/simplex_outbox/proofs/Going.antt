@@ -20,7 +20,7 @@ use Rattle.simplex_outbox.specs.declared.journaled.Journaled.{Journaled}
 use Rattle.simplex_outbox.specs.Doing.{IsDoneOn}
 use Rattle.simplex_outbox.specs.Finals.{TellsRising, TellsNoMore, finals_by}
 use Rattle.simplex_outbox.specs.declared.output.Output.{Output}
-use Rattle.simplex_outbox.specs.Going.{IsKept, GoesOn, DoesMoreOn, HasGivenOut, HasRisen}
+use Rattle.simplex_outbox.specs.Going.{IsKept, IsTraced, StaysTraced, EmitsTraced, EmitsOn, GoesOn, DoesMoreOn, HasGivenOut, HasRisen}
 use Rattle.simplex_outbox.proofs.Finals.{finalized_by-append, none_finalized, tells_none, tells_further, tells_no_more, tells_nothing}
 use Rattle.simplex_batcher.specs.Counting.{certificate_of}
 use Rattle.simplex_outbox.proofs.Queued.{queues_none, queues_further}
@@ -49,10 +49,13 @@ module _ {K L D : Type 0} where
       each_call same elect (λ call told. HasRisen) (λ call fault x. stood x) (λ call x. stood x)
       (λ call x o allowed. let goes = call_goes same elect x o call in record { terms = goes.terms; views = never_falls x _ goes })
 
+traced_still : {S L D K G C : Type 0} (same : D → D → Bool) (elect : Elect L) (bytes_of : C → List ℕ) (a : Journaled S L D K G C) → StaysTraced same elect bytes_of [] a a
+traced_still same elect bytes_of a term_length i earlier given all is = subst (λ xs. IsTraced same elect bytes_of term_length i earlier given xs a) (sym (append-nil all)) is
+
 module _ {S L D K G C : Type 0} {same : D → D → Bool} {elect : Elect L} {bytes_of : C → List ℕ} {taken : Option (Subject D)} where
   -- nothing has changed
   pub stays : (a : Journaled S L D K G C) → GoesOn same elect bytes_of taken a a
-  stays a = record { kept = λ given kept. kept; more = []; on_this = All-nil (IsDoneOn taken); done = does_nothing a.member.facts; told = tells_none a.outbox a.outbox refl refl; queued = queues_none a.outbox; risen = risen_not a.member.facts }
+  stays a = record { kept = λ given kept. kept; more = []; on_this = All-nil (IsDoneOn taken); done = does_nothing a.member.facts; traced = traced_still same elect bytes_of a; told = tells_none a.outbox a.outbox refl refl; queued = queues_none a.outbox; risen = risen_not a.member.facts }
 
   -- from one moment to a later one, and on to one later still
   pub goes_further : {a b c : Journaled S L D K G C} → GoesOn same elect bytes_of taken a b → GoesOn same elect bytes_of taken b c → GoesOn same elect bytes_of taken a c
@@ -63,6 +66,9 @@ module _ {S L D K G C : Type 0} {same : D → D → Bool} {elect : Elect L} {byt
     done = λ term_length i all done.
         subst (λ xs. HasDone same elect term_length i xs c.member.facts) (append_assoc all first.more second.more)
         (second.done term_length i (all ++ first.more) (first.done term_length i all done));
+    traced = λ term_length i earlier given all is.
+        subst (λ xs. IsTraced same elect bytes_of term_length i earlier given xs c) (append_assoc all first.more second.more)
+        (second.traced term_length i earlier given (all ++ first.more) (first.traced term_length i earlier given all is));
     told =
         subst (λ ps. TellsRising ps a.outbox c.outbox) (sym (finalized_by-append first.more second.more))
         (tells_further (finals_by first.more) (finals_by second.more) a.outbox b.outbox c.outbox first.told second.told);
@@ -72,7 +78,7 @@ module _ {S L D K G C : Type 0} {same : D → D → Bool} {elect : Elect L} {byt
 
   -- where no certificate is accepted
   pub goes_on_anyway : {a b : Journaled S L D K G C} → GoesOn same elect bytes_of None a b → GoesOn same elect bytes_of taken a b
-  goes_on_anyway went = record { kept = went.kept; more = went.more; on_this = λ k d less. anyway _ (went.on_this k d less); done = went.done; told = went.told; queued = went.queued; risen = went.risen }
+  goes_on_anyway went = record { kept = went.kept; more = went.more; on_this = λ k d less. anyway _ (went.on_this k d less); done = went.done; traced = went.traced; told = went.told; queued = went.queued; risen = went.risen }
     where
       anyway : (event : TraceEvent D) → IsDoneOn None event → IsDoneOn taken event
       anyway (Signs _ _) is = tt
@@ -114,3 +120,30 @@ pub made_on : (S K G : Type 0) {D C : Type 0} (bytes_of : C → List ℕ) (subje
 made_on S K G bytes_of (subject.Notarize _) c = refl
 made_on S K G bytes_of (subject.Nullify _) c = refl
 made_on S K G bytes_of (subject.Finalize _) c = refl
+
+module _ {S L D K G C : Type 0} {same : D → D → Bool} {elect : Elect L} {bytes_of : C → List ℕ} {taken : Option (Subject D)} where
+  -- what it has done, and then what is given out
+  pub gives_then : {a b : Journaled S L D K G C} (c : Journaled S L D K G C) (out : List (Output S D Stored K G C)) → GoesOn same elect bytes_of taken a b
+      → EmitsTraced same elect bytes_of out b c → c.member ≡ b.member → EmitsOn same elect bytes_of taken out a c
+  gives_then {a = a} c out went gives is = record {
+    more = went.more;
+    on_this = went.on_this;
+    done = subst (λ member. DoesMore same elect a.member.facts went.more member.facts) (sym is) went.done;
+    traced = λ term_length i earlier given all traced. gives term_length i earlier given (all ++ went.more) (went.traced term_length i earlier given all traced);
+  }
+
+  -- nothing is given out
+  pub gives_none : {a b : Journaled S L D K G C} → GoesOn same elect bytes_of taken a b → EmitsOn same elect bytes_of taken [] a b
+  gives_none {b = b} went = gives_then b [] went
+      (λ term_length i earlier given all traced. subst (λ outs. IsTraced same elect bytes_of term_length i earlier outs all b) (sym (append-nil given)) traced) refl
+
+  -- nothing was queued any more, and so it goes on
+  pub gives_later : {a b c : Journaled S L D K G C} (out : List (Output S D Stored K G C)) → EmitsTraced same elect bytes_of [] a b → b.member ≡ a.member
+      → EmitsOn same elect bytes_of taken out b c → EmitsOn same elect bytes_of taken out a c
+  gives_later {a = a} {b = b} {c = c} out none is gives = record {
+    more = gives.more;
+    on_this = gives.on_this;
+    done = subst (λ member. DoesMore same elect member.facts gives.more c.member.facts) is gives.done;
+    traced = λ term_length i earlier given all traced. gives.traced term_length i earlier given all
+        (subst (λ outs. IsTraced same elect bytes_of term_length i earlier outs all b) (append-nil given) (none term_length i earlier given all traced));
+  }

@@ -5,11 +5,9 @@ use Rattle.std.specs.Prelude.{Contains, option_to_list}
 use Rattle.std.specs.List.{flat_map}
 use Rattle.std.specs.declared.alloc.Global.{Global}
 use Rattle.std.proofs.lemmas.List.Elements.{Contains-append_left, Contains-append_right, Contains-append_cases}
-use Rattle.simplex_types.specs.Certificates.{ArtifactFacts, NotarizeVote, NullifyVote, FinalizeVote}
 use Rattle.simplex_types.specs.declared.types.messages.Artifact.{Artifact}
 use Rattle.simplex_types.specs.declared.types.messages.Artifact.TheVariants as artifact
 use Rattle.simplex_types.specs.declared.types.messages.Proposal.{Proposal}
-use Rattle.simplex_types.specs.declared.types.messages.Subject.TheVariants as subject
 use Rattle.simplex_record.specs.Votes.{SignedVote, signed_vote, votes_of}
 use Rattle.simplex_batcher.specs.declared.votes.Vote.{Vote}
 use Rattle.simplex_laws.proofs.lists.Splits.{Contains-cases}
@@ -21,6 +19,7 @@ use Rattle.simplex_outbox.specs.Journals.{Journal, empty_journal, written_all, j
 use Rattle.simplex_outbox.specs.Leaving.{AllLeave}
 use Rattle.simplex_outbox.specs.Outboxes.{IsToldWhere, IsTold}
 use Rattle.simplex_outbox.specs.Outputs.{entries_in, stored_in, storing}
+use Rattle.simplex_outbox.specs.Stops.{vote_as}
 use Rattle.simplex_outbox.proofs.Behind.{votes_in-append, stored_in-append, stored_by}
 
 none_in : {X P : Type 0} (x : X) → Contains [] x → P
@@ -36,17 +35,11 @@ one_later y xs x (k, less, same) = (suc k, omega (arith, less), same)
 
 module _ {D G : Type 0} where
   -- the vote that an entry is, with its signature
-  to_vote : SignedVote D G → List (Vote D G)
-  to_vote signed = of signed.vote
-    where
-      of : ArtifactFacts D → List (Vote D G)
-      of (NotarizeVote p signer) = record { subject = subject.Notarize p; signer = signer; signature = signed.signature } ∷ []
-      of (NullifyVote round signer) = record { subject = subject.Nullify round; signer = signer; signature = signed.signature } ∷ []
-      of (FinalizeVote p signer) = record { subject = subject.Finalize p; signer = signer; signature = signed.signature } ∷ []
-      of _ = []
+  abbrev pub to_vote : SignedVote D G → List (Vote D G)
+  to_vote signed = vote_as signed.vote signed.signature
 
   -- fewer votes are among all
-  among_all : (test : SignedVote D G → Bool) (all : List (SignedVote D G)) (vote : Vote D G) → Contains (flat_map to_vote (filter test all)) vote → Contains (flat_map to_vote all) vote
+  pub among_all : (test : SignedVote D G → Bool) (all : List (SignedVote D G)) (vote : Vote D G) → Contains (flat_map to_vote (filter test all)) vote → Contains (flat_map to_vote all) vote
   among_all test [] vote has = has
   among_all test (signed ∷ rest) vote has =
       (elim (test signed) as (λ b. Contains (flat_map to_vote (cond b (signed ∷ filter test rest) (filter test rest))) vote → Contains (flat_map to_vote (signed ∷ rest)) vote) [
@@ -57,13 +50,12 @@ module _ {D G : Type 0} where
         | false ↦ λ has. Contains-append_right (to_vote signed) (flat_map to_vote rest) vote (among_all test rest vote has)
       ]) has
 
-  flat_append : (xs ys : List (SignedVote D G)) → flat_map to_vote (xs ++ ys) ≡ flat_map to_vote xs ++ flat_map to_vote ys
+  pub flat_append : (xs ys : List (SignedVote D G)) → flat_map to_vote (xs ++ ys) ≡ flat_map to_vote xs ++ flat_map to_vote ys
   flat_append [] ys = refl
   flat_append (x ∷ xs) ys = ap (λ vs. to_vote x ++ vs) (flat_append xs ys) ∙ sym (append_assoc (to_vote x) (flat_map to_vote xs) (flat_map to_vote ys))
 
 module _ {S D K G C : Type 0} where
   one_signed : (a : Artifact S D K G C) → option_to_list (vote_in a) ≡ flat_map to_vote (signed_vote a)
-  unfolding to_vote
   one_signed (artifact.Notarize v) = refl
   one_signed (artifact.Nullify v) = refl
   one_signed (artifact.Finalize v) = refl
@@ -72,7 +64,7 @@ module _ {S D K G C : Type 0} where
   one_signed (artifact.Finalization f) = refl
   one_signed (artifact.Certification round success) = refl
 
-  all_signed : (entries : List (Artifact S D K G C)) → votes_of_entries entries ≡ flat_map to_vote (votes_of entries)
+  pub all_signed : (entries : List (Artifact S D K G C)) → votes_of_entries entries ≡ flat_map to_vote (votes_of entries)
   all_signed [] = refl
   all_signed (e ∷ rest) =
       ap (λ vs. vs ++ votes_of_entries rest) (one_signed e) ∙ ap (λ vs. flat_map to_vote (signed_vote e) ++ vs) (all_signed rest)

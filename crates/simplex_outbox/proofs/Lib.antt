@@ -6,11 +6,15 @@ pub mod Finalizing
 pub mod Queued
 pub mod Working
 pub mod Leaving
+pub mod Stops
 pub mod Reaching
 pub mod Overgrown
 pub mod Going
 pub mod Journals
 pub mod Doing
 pub mod Kept
+pub mod TracedOutputs
+pub mod Signatures
+pub mod Resumes
 pub mod Begun
 pub mod Dropping

@@ -1,12 +1,12 @@
 -- For `Journaled::is_overgrown`.
 -- Where a record is not overgrown, it is short.
-use Rattle.std.proofs.Common.{◌≡◌, ◌≤◌, ◌<◌, ℕ, Bool, true, false, ◌&&◌, nat_lt, length, Some, ap, arith}
+use Rattle.std.proofs.Common.{◌≡◌, ◌≤◌, ◌<◌, ℕ, true, false, ◌&&◌, nat_lt, length, Some, ap, arith}
 use Rattle.std.proofs.lemmas.Bool.Decides.{nat_tests}
 use Rattle.std.specs.Option.{option_map_or}
 use Rattle.simplex_voter.specs.Facts.{StateFacts}
 use Rattle.simplex_outbox.specs.declared.journaled.Journaled.{Journaled}
 use Rattle.simplex_outbox.specs.Overgrown.{is_overgrown}
-use Rattle.simplex_outbox.specs.Reaching.{ReachesTo, IsShort, AreNear, is_far_below, lowest_left}
+use Rattle.simplex_outbox.specs.Reaching.{ReachesTo, IsShort, is_far_below, lowest_left}
 use Rattle.simplex_outbox.proofs.Reaching.{short_by, while_alive}
 
 pub passes : (a b : ℕ) → a < b → nat_lt a b ≡ true

@@ -1,5 +1,5 @@
 -- Which proposals are told as final, by what outputs tell and by what a member has done.
-use Rattle.std.specs.Prelude.{◌≡◌, ◌<◌, ℕ, max, nat_lt, List, [], ◌∷◌, ◌++◌, if◌then◌else◌}
+use Rattle.std.specs.Prelude.{◌≡◌, ◌<◌, ℕ, max, nat_lt, List, [], ◌∷◌, ◌++◌, Contains, if◌then◌else◌}
 use Rattle.simplex_types.specs.declared.types.messages.Proposal.{Proposal}
 use Rattle.simplex_types.specs.declared.types.messages.Subject.TheVariants.{Finalize}
 use Rattle.simplex_laws.specs.Traces.{TraceEvent, Accepts}
@@ -19,6 +19,10 @@ module _ {D : Type 0} where
   finals_by [] = []
   finals_by (Accepts (Finalize proposal) ∷ rest) = proposal ∷ finals_by rest
   finals_by (_ ∷ rest) = finals_by rest
+
+  -- the finalization of each of these proposals was accepted
+  abbrev pub WereAccepted : List (TraceEvent D) → List (Proposal D) → Type 0
+  WereAccepted all finals = (p : Proposal D) → Contains finals p → Contains all (Accepts (Finalize p))
 
   -- the views rise
   abbrev pub RiseByView : List (Proposal D) → Type 0

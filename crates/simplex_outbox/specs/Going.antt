@@ -2,16 +2,17 @@
 use Rattle.std.specs.Prelude.{◌≡◌, ◌⊎◌, ℕ, ◌≤◌, Bool, true, false, ◌||◌, List, [], ◌++◌, length, All, Option, is_none, IfSome}
 use Rattle.simplex_types.specs.declared.types.messages.Subject.{Subject}
 use Rattle.simplex_voter.specs.Facts.{Elect, StateFacts}
-use Rattle.simplex_member.specs.Lives.{MemberFacts}
+use Rattle.simplex_member.specs.Lives.{MemberFacts, SignedMember}
 use Rattle.simplex_member.specs.Pruning.{pruned_member}
 use Rattle.simplex_member.specs.declared.member.journal.Stored.{Stored}
 use Rattle.simplex_laws.specs.Traces.{TraceEvent}
-use Rattle.simplex_laws.specs.Living.{DoesMore}
+use Rattle.simplex_laws.specs.Living.{HasDone, DoesMore}
 use Rattle.simplex_laws.specs.LifeLaws.{NeverFalls, WhileAlive}
 use Rattle.simplex_outbox.specs.declared.journaled.Journaled.{Journaled}
 use Rattle.simplex_outbox.specs.declared.output.Output.{Output}
-use Rattle.simplex_outbox.specs.Finals.{finals_in, finals_by, TellsRising}
+use Rattle.simplex_outbox.specs.Finals.{finals_in, finals_by, WereAccepted, TellsRising}
 use Rattle.simplex_outbox.specs.Leaving.{AllLeave}
+use Rattle.simplex_outbox.specs.Stops.{votes_recorded, WereSigned, MayStopAfterEach}
 use Rattle.simplex_outbox.specs.Outboxes.{HasStayed, IsLawfulOutbox, QueuesMore}
 use Rattle.simplex_outbox.specs.Journals.{journal_of, IsRecordOf, IsBeginningOf}
 use Rattle.simplex_outbox.specs.Doing.{IsDoneOn}
@@ -59,6 +60,40 @@ module _ {S L D K G C : Type 0} (bytes_of : C → List ℕ) where
   abbrev pub IsWholeAlive : Journaled S L D K G C → Type 0
   IsWholeAlive member = member.failed ≡ false → IsWhole member
 
+module _ {S L D K G C : Type 0} (same : D → D → Bool) (elect : Elect L) (bytes_of : C → List ℕ) where
+  -- besides, in a lifetime that began when the member had done `earlier`, `all` is what it has done so far, as member `i`: it has signed
+  -- each vote of its record, and accepted each finalization that was reported or is queued to be; and until the engine fails, a host may
+  -- stop after each output that was given out or is queued
+  pub record IsTraced (term_length i : ℕ) (earlier : List (TraceEvent D)) (given : List (Output S D Stored K G C)) (all : List (TraceEvent D))
+      (member : Journaled S L D K G C) : Type 0 where
+    pub kept : IsKept bytes_of given member
+    pub done : HasDone same elect term_length i all member.member.facts
+    pub signed : WereSigned all (votes_recorded member.member.votes)
+    pub finals : WereAccepted all (finals_in (given ++ member.outbox.queue.items))
+    pub stops : member.failed ≡ false → MayStopAfterEach same elect bytes_of term_length i earlier all (given ++ member.outbox.queue.items)
+
+  -- it stays traced, with this done besides
+  abbrev pub StaysTraced : List (TraceEvent D) → Journaled S L D K G C → Journaled S L D K G C → Type 0
+  StaysTraced more old new =
+      (term_length i : ℕ) (earlier : List (TraceEvent D)) (given : List (Output S D Stored K G C)) (all : List (TraceEvent D))
+      → IsTraced term_length i earlier given all old
+      → IsTraced term_length i earlier given (all ++ more) new
+
+  -- it is traced at the beginning of a lifetime, of a member that has done all this and signed each vote of its record
+  abbrev pub BeginsTraced : SignedMember K L D G → Journaled S L D K G C → Type 0
+  BeginsTraced begun member =
+      (term_length i : ℕ) (all : List (TraceEvent D))
+      → HasDone same elect term_length i all begun.facts
+      → WereSigned all (votes_recorded begun.votes)
+      → IsTraced term_length i all [] all member
+
+  -- it stays traced once these outputs were given out
+  abbrev pub EmitsTraced : List (Output S D Stored K G C) → Journaled S L D K G C → Journaled S L D K G C → Type 0
+  EmitsTraced out old new =
+      (term_length i : ℕ) (earlier : List (TraceEvent D)) (given : List (Output S D Stored K G C)) (all : List (TraceEvent D))
+      → IsTraced term_length i earlier given all old
+      → IsTraced term_length i earlier (given ++ out) all new
+
 -- the terms are the same, and neither the current view nor the last finalized one falls
 pub record HasRisen {K L D : Type 0} (first last : StateFacts K L D) : Type 0 where
   pub terms : last.terms ≡ first.terms
@@ -73,6 +108,7 @@ module _ {S L D K G C : Type 0} (same : D → D → Bool) (elect : Elect L) (byt
     pub more : List (TraceEvent D)
     pub on_this : All (IsDoneOn taken) more
     pub done : DoesMore same elect old.member.facts more new.member.facts
+    pub traced : StaysTraced same elect bytes_of more old new
     pub told : TellsRising (finals_by more) old.outbox new.outbox
     pub queued : QueuesMore old.outbox new.outbox
     pub risen : WhileAlive HasRisen old.member.facts.life new.member.facts.life
@@ -88,3 +124,13 @@ module _ {L D K : Type 0} (same : D → D → Bool) (elect : Elect L) (taken : O
     pub more : List (TraceEvent D)
     pub on_this : All (IsDoneOn taken) more
     pub done : DoesMore same elect old more new
+
+module _ {S L D K G C : Type 0} (same : D → D → Bool) (elect : Elect L) (bytes_of : C → List ℕ) (taken : Option (Subject D)) where
+  -- besides, these are given out, and it stays traced by what it has done so
+  pub record EmitsOn (out : List (Output S D Stored K G C)) (old new : Journaled S L D K G C) : Type 0 where
+    pub more : List (TraceEvent D)
+    pub on_this : All (IsDoneOn taken) more
+    pub done : DoesMore same elect old.member.facts more new.member.facts
+    pub traced : (term_length i : ℕ) (earlier : List (TraceEvent D)) (given : List (Output S D Stored K G C)) (all : List (TraceEvent D))
+        → IsTraced same elect bytes_of term_length i earlier given all old
+        → IsTraced same elect bytes_of term_length i earlier (given ++ out) (all ++ more) new

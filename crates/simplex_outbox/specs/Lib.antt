@@ -5,6 +5,9 @@ pub mod Outboxes
 pub mod Journals
 pub mod Doing
 pub mod Leaving
+pub mod Stops
+pub mod Signatures
+pub mod Resumes
 pub mod Going
 pub mod Reaching
 pub mod Overgrown

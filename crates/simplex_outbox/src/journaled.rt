@@ -4,7 +4,7 @@
 //! just what the member accepts as final is told, at rising views.
 #![tactic(auto, using(crate::proofs::Going::stays))]
 
-ghost use Rattle.std.specs.Prelude.{◌≡◌, ◌++◌, ◌∷◌, [], true, false, All, Some, None, IfOk, IfSome, OnOk, OnErr, IsNone, IsTrue, ◌↔◌, option_to_list};
+ghost use Rattle.std.specs.Prelude.{◌≡◌, ◌++◌, ◌∷◌, [], true, false, All, Contains, Some, None, IfOk, IfSome, OnOk, OnErr, IsNone, IsTrue, ◌↔◌, option_to_list};
 ghost use Rattle.std.specs.Option.{option_copied};
 ghost use Rattle.simplex_types.specs.Certificates.{certificate_facts};
 ghost use Rattle.simplex_types.specs.Encoding.{certificate_subject};
@@ -15,6 +15,7 @@ ghost use Rattle.simplex_outbox.specs.Handing.{hands_in};
 ghost use Rattle.simplex_outbox.specs.Doing.{IsDoneOn, final_by};
 ghost use Rattle.simplex_outbox.specs.Finals.{finals_by};
 ghost use Rattle.simplex_outbox.specs.declared.output.Output.TheVariants as output;
+ghost use Rattle.simplex_outbox.specs.Resumes.{EachResumeContinues};
 
 mod reach;
 
@@ -59,10 +60,12 @@ impl<S: Scheme<D>, L: Elector<S>, D: Digest> Journaled<S, L, D> {
     ghost use Rattle.simplex_member.specs.Pruning.{pruned_member};
     ghost use Rattle.simplex_outbox.specs.Outputs.{AreBehind};
     ghost use Rattle.simplex_outbox.specs.Outboxes.{HasRoom, IsRepeated, QueuesNoWork};
-    ghost use Rattle.simplex_outbox.specs.Finals.{finals_in, RiseByView, EndsAt, TellsNoMore};
+    ghost use Rattle.simplex_outbox.specs.Finals.{finals_in, WereAccepted, RiseByView, EndsAt, TellsNoMore};
     ghost use Rattle.simplex_outbox.specs.Journals.{journal_of, IsRecordOf, BeginsWith};
-    ghost use Rattle.simplex_outbox.specs.Going.{IsKept, IsWhole, StoresRecord, GoesOn, TellsNothing, IsUnchanged, IsUnpruned, has_failed};
+    ghost use Rattle.simplex_outbox.specs.Going.{IsKept, IsTraced, BeginsTraced, EmitsTraced, IsWhole, StoresRecord, GoesOn, TellsNothing, IsUnchanged, IsUnpruned, has_failed};
     ghost use Rattle.simplex_outbox.specs.Leaving.{AllLeave};
+    ghost use Rattle.simplex_outbox.specs.Stops.{EachStopIsLawful};
+    ghost use Rattle.simplex_outbox.specs.Signatures.{AreSigned, IsSignedBy, StaysSigned, BeginsSigned, EmitsSigned};
     ghost use Rattle.simplex_outbox.specs.Refusing.{is_refused, says_nothing, IsLeftByCall};
 
     /// A life begins: the whole record is to be stored in place of all that is stored, before anything else. What is final already is
@@ -72,11 +75,15 @@ impl<S: Scheme<D>, L: Elector<S>, D: Digest> Journaled<S, L, D> {
     /// - `whole`: all of the record is queued.
     /// - `told`: no proposal is queued to be told as final.
     /// - `begins`: nothing else is queued.
+    /// - `traced`: it is traced by what the member has done before, where each vote of its record was signed by then (`IsTraced`).
+    /// - `signed`: the votes that are stored are signed under the member's key, where those of its record are (`IsSignedBy`).
     pub fn begin(
         alloc: Global,
         member: LawfulMember<S, L, D>,
     ) -> Result<Journaled<S, L, D>, AllocError>
         ensures kept { IfOk result (IsKept S.certificate_bytes []) }
+        ensures traced { IfOk result (BeginsTraced D.eq L.elect S.certificate_bytes member) }
+        ensures signed { IfOk result (BeginsSigned S.IsSignature member) }
         ensures whole { IfOk result (λ j. IsWhole S.certificate_bytes j) }
         ensures told { IfOk result TellsNothing }
         ensures member { IfOk result (λ j. j.member ≡ member) }
@@ -102,9 +109,11 @@ impl<S: Scheme<D>, L: Elector<S>, D: Digest> Journaled<S, L, D> {
     /// - `answered`: as of `LawfulMember::call`.
     /// - `refused`: a call that is refused, and not for want of memory, changes nothing.
     /// - `dropped`: what a call leaves that was of no use.
+    /// - `signed`: the votes that are stored stay signed under the member's key.
     pub fn call(&mut self, call: Call<S, D>) -> Reply<S, D>
         ensures goes_on { (taken : _) → All (IsDoneOn taken) (certificates_in call) → finals_by (certificates_in call) ≡ []
             → GoesOn D.eq L.elect S.certificate_bytes taken self.old self.new }
+        ensures signed { StaysSigned S.IsSignature self.old self.new }
         ensures quiet { certificates_in call ≡ [] → GoesOn D.eq L.elect S.certificate_bytes None self.old self.new }
         ensures answered { IsCall D.eq L.elect self.old.member.facts (asked S.certificate_bytes call)
             (told S.certificate_bytes result) self.new.member.facts }
@@ -122,6 +131,7 @@ impl<S: Scheme<D>, L: Elector<S>, D: Digest> Journaled<S, L, D> {
     ///   above all that were told.
     /// - `answered`, `refused`: as of `call`.
     /// - `no_work`: no work is queued.
+    /// - `signed`: the votes that are stored stay signed under the member's key.
     pub fn hand_in(
         &mut self,
         certificate: Certificate<S, D>,
@@ -129,6 +139,7 @@ impl<S: Scheme<D>, L: Elector<S>, D: Digest> Journaled<S, L, D> {
     ) -> Result<Reply<S, D>, AllocError>
         ensures goes_on { GoesOn D.eq L.elect S.certificate_bytes
             (Some (certificate_subject (certificate_facts S.certificate_bytes certificate))) self.old self.new }
+        ensures signed { StaysSigned S.IsSignature self.old self.new }
         ensures answered { IfOk result (λ reply. IsCall D.eq L.elect self.old.member.facts
             (hands_in (certificate_facts S.certificate_bytes certificate) now) (told S.certificate_bytes reply) self.new.member.facts) }
         ensures refused { IfOk result (λ reply. IsTrue (is_refused (told S.certificate_bytes reply))
@@ -147,6 +158,7 @@ impl<S: Scheme<D>, L: Elector<S>, D: Digest> Journaled<S, L, D> {
         requires { HasRoom self.old.outbox }
         ensures goes_on { GoesOn D.eq L.elect S.certificate_bytes
             (Some (certificate_subject (certificate_facts S.certificate_bytes certificate))) self.old self.new }
+        ensures signed { StaysSigned S.IsSignature self.old self.new }
         ensures answered { IsCall D.eq L.elect self.old.member.facts
             (hands_in (certificate_facts S.certificate_bytes certificate) now) (told S.certificate_bytes result) self.new.member.facts }
         ensures refused { IsTrue (is_refused (told S.certificate_bytes result)) → self.new.member.facts ≡ self.old.member.facts }
@@ -162,8 +174,10 @@ impl<S: Scheme<D>, L: Elector<S>, D: Digest> Journaled<S, L, D> {
     ///
     /// - `whole`, `holds`: all of the record is queued, or was; so a journal that carries it out holds the record.
     /// - `no_work`: as of `hand_in`.
+    /// - `signed`: the votes that are stored stay signed under the member's key.
     pub fn store(&mut self) -> Result<(), AllocError>
         ensures goes_on { GoesOn D.eq L.elect S.certificate_bytes None self.old self.new }
+        ensures signed { StaysSigned S.IsSignature self.old self.new }
         ensures whole { OnOk result (IsWhole S.certificate_bytes self.new) }
         ensures holds { OnOk result (StoresRecord S.certificate_bytes self.new) }
         ensures member { self.new.member ≡ self.old.member }
@@ -189,8 +203,10 @@ impl<S: Scheme<D>, L: Elector<S>, D: Digest> Journaled<S, L, D> {
     /// - `pruned`: the record is pruned, as by `Member::prune_record`, and nothing else has changed of the member.
     /// - `unpruned`: without memory nothing has changed, or it is so pruned and has failed: what is stored is no longer the record.
     /// - `no_work`: as of `hand_in`.
+    /// - `signed`: the votes that are stored stay signed under the member's key.
     pub fn prune_record(&mut self) -> Result<(), AllocError>
         ensures goes_on { GoesOn D.eq L.elect S.certificate_bytes None self.old self.new }
+        ensures signed { StaysSigned S.IsSignature self.old self.new }
         ensures waiting { self.new.member.facts.outstanding_work ≡ self.old.member.facts.outstanding_work }
         ensures whole { OnOk result (IsWhole S.certificate_bytes self.new) }
         ensures pruned { OnOk result (self.new.member.facts ≡ pruned_member self.old.member.facts) }
@@ -205,6 +221,7 @@ impl<S: Scheme<D>, L: Elector<S>, D: Digest> Journaled<S, L, D> {
     fn replace(&mut self) -> Result<(), AllocError>
         requires { StoresRecord S.certificate_bytes self.old }
         ensures goes_on { GoesOn D.eq L.elect S.certificate_bytes None self.old self.new }
+        ensures signed { StaysSigned S.IsSignature self.old self.new }
         ensures whole { OnOk result (IsWhole S.certificate_bytes self.new) }
         ensures pruned { self.new.member.facts ≡ pruned_member self.old.member.facts }
         ensures failed { OnErr result (self.new.failed ≡ true) }
@@ -226,8 +243,11 @@ impl<S: Scheme<D>, L: Elector<S>, D: Digest> Journaled<S, L, D> {
     }
 
     /// Queues other work, behind all that is queued. Without memory nothing has changed.
+    ///
+    /// - `signed`: the votes that are stored stay signed under the member's key.
     pub fn push(&mut self, work: Work<S, D>) -> Result<(), AllocError>
         ensures goes_on { GoesOn D.eq L.elect S.certificate_bytes None self.old self.new }
+        ensures signed { StaysSigned S.IsSignature self.old self.new }
         ensures member { self.new.member ≡ self.old.member }
         ensures queued { OnOk result (self.new.outbox.queue.items ≡ self.old.outbox.queue.items ++ output.Work work ∷ []) }
         ensures unchanged { OnErr result (IsUnchanged self.old self.new) }
@@ -236,8 +256,11 @@ impl<S: Scheme<D>, L: Elector<S>, D: Digest> Journaled<S, L, D> {
     }
 
     /// Queues the newest vote to nullify that is stored once more, where it is one of the view. Answers whether it is.
+    ///
+    /// - `signed`: the votes that are stored stay signed under the member's key.
     pub fn repeat(&mut self, view: View) -> Result<bool, AllocError>
         ensures goes_on { GoesOn D.eq L.elect S.certificate_bytes None self.old self.new }
+        ensures signed { StaysSigned S.IsSignature self.old self.new }
         ensures member { self.new.member ≡ self.old.member }
         ensures repeated { IfOk result (λ sent. IsRepeated view self.old.outbox.repeat sent self.old.outbox self.new.outbox) }
         ensures unchanged { OnErr result (IsUnchanged self.old self.new) }
@@ -250,9 +273,12 @@ impl<S: Scheme<D>, L: Elector<S>, D: Digest> Journaled<S, L, D> {
     /// - `kept`: what is answered is given out.
     /// - `told`: no other proposal is queued to be told as final.
     /// - `front`: it was queued in front.
+    /// - `traced`, `signed`: it stays traced, and the votes that are stored stay signed under the member's key.
     pub fn next(&mut self) -> Option<Output<S, D, Stored>>
         ensures kept { (given : _) → IsKept S.certificate_bytes given self.old
             → IsKept S.certificate_bytes (given ++ option_to_list result) self.new }
+        ensures traced { EmitsTraced D.eq L.elect S.certificate_bytes (option_to_list result) self.old self.new }
+        ensures signed { EmitsSigned S.IsSignature (option_to_list result) self.old self.new }
         ensures told { TellsNoMore (option_to_list result) self.old.outbox self.new.outbox }
         ensures front { self.old.outbox.queue.items ≡ option_to_list result ++ self.new.outbox.queue.items }
         ensures none { IsNone result → self.new.outbox.queue.items ≡ [] }
@@ -270,8 +296,11 @@ impl<S: Scheme<D>, L: Elector<S>, D: Digest> Journaled<S, L, D> {
     }
 
     /// Nothing more is given out.
+    ///
+    /// - `signed`: the votes that are stored stay signed under the member's key.
     pub fn fail(&mut self)
         ensures goes_on { GoesOn D.eq L.elect S.certificate_bytes None self.old self.new }
+        ensures signed { StaysSigned S.IsSignature self.old self.new }
         ensures failed { self.new ≡ record self.old { failed = true } }
     {
         self.failed = true;
@@ -315,6 +344,10 @@ impl<S: Scheme<D>, L: Elector<S>, D: Digest> Journaled<S, L, D> {
     ///   the record.
     /// - `leaving`: until it fails, each vote that is stored was given out or is queued, but those of the record that the life began
     ///   with, which the first output stores.
+    /// - `stops`: until it fails, a host may stop after each output that was given out or is queued. The journal is then the record of a
+    ///   member that this one was at some moment of this lifetime, and that member had signed each vote among these outputs.
+    /// - `finals`: of each proposal that it reported as final, its member accepted the finalization.
+    /// - `signed`: each vote that it gave out is its member's, with a signature on the vote's own subject under the member's key.
     /// - `rising`: the views of the proposals rise that it told as final.
     /// - `last`: the last of them, of those that it told and those that are queued, is of the member's last finalized view.
     /// - `lawful`: what its member has done keeps the voting rules, over all its lives.
@@ -326,6 +359,13 @@ impl<S: Scheme<D>, L: Elector<S>, D: Digest> Journaled<S, L, D> {
             → IsRecordOf S.certificate_bytes self.now.member (journal_of (given ++ self.now.outbox.queue.items)) }
         ensures leaving { (given : _) → IsKept S.certificate_bytes given self.now → self.now.failed ≡ false
             → AllLeave (given ++ self.now.outbox.queue.items) }
+        ensures stops { (term_length i : _) (earlier given all : _) → IsTraced D.eq L.elect S.certificate_bytes term_length i earlier given all self.now
+            → self.now.failed ≡ false
+            → EachStopIsLawful D.eq L.elect S.certificate_bytes term_length i earlier all (given ++ self.now.outbox.queue.items) }
+        ensures finals { (term_length i : _) (earlier given all : _) → IsTraced D.eq L.elect S.certificate_bytes term_length i earlier given all self.now
+            → WereAccepted all (finals_in given) }
+        ensures signed { (i key given vote : _) → IsSignedBy S.IsSignature i key given self.now → AreBehind [] given → Contains given (output.Vote vote)
+            → (vote.signer ≡ i) × S.IsSignature key vote.subject vote.signature }
         ensures rising { (given : _) → IsKept S.certificate_bytes given self.now → RiseByView (finals_in given) }
         ensures last { (given : _) → IsKept S.certificate_bytes given self.now → IfSome self.now.member.facts.life (λ x.
             EndsAt x.finalized (finals_in (given ++ self.now.outbox.queue.items))) }
@@ -338,6 +378,18 @@ impl<S: Scheme<D>, L: Elector<S>, D: Digest> Journaled<S, L, D> {
         let _record = self.member.record();
     }
 }
+
+/// A host may stop between any two outputs, and resume from its journal. It does nothing: its contract is the law.
+///
+/// The host carried outputs out in order and stopped after one of them, as `Journaled::keeps_the_laws`, clause `stops`, allows. A
+/// member is then resumed from the journal that these outputs have written.
+///
+/// - That member is the same member of the network, and has done what it had done by then.
+/// - It has signed each vote that the host carried out, and each vote of its record.
+/// - Its next lifetime may begin: `traced` and `signed` of `Journaled::begin` ask for no more.
+pub fn stops_are_resumed<S: Scheme<D>, L: Elector<S>, D: Digest>()
+    ensures { EachResumeContinues D.eq L.elect S.IsSignature S.certificate_bytes S.me L.terms }
+{}
 
 /// The last finalized view of a member that has not failed.
 fn last_finalized<S: Scheme<D>, L: Elector<S>, D: Digest>(member: &LawfulMember<S, L, D>) -> View

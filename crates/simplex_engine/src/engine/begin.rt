@@ -1,13 +1,14 @@
 //! How an engine begins: a first life at a floor, or another from what was stored.
 #![tactic(auto)]
 
-ghost use Rattle.std.specs.Prelude.{◌≡◌, ℕ, List, Option, [], ◌∷◌, IfOk, IfErr, IfSome, length, reverse};
+ghost use Rattle.std.specs.Prelude.{◌≡◌, ◌==◌, ℕ, List, Option, [], ◌∷◌, Err, IfOk, IfErr, IfSome, length, reverse};
 ghost use Rattle.simplex_resolver.specs.RecordCalls.{calls_of};
 ghost use Rattle.simplex_resolver.specs.Steps.{Replayed};
 ghost use Rattle.simplex_resolver.specs.Told.{HasBeenTold};
 ghost use Rattle.simplex_record.specs.Entries.{entries_of};
 ghost use Rattle.simplex_engine.specs.Beginning.{with_a_retry, IsPlanOf, IsCompanyOf, HasBegunWith, IsNotReplayed};
-ghost use Rattle.simplex_outbox.specs.Going.{IsKept, IsWhole, TellsNothing};
+ghost use Rattle.simplex_record.specs.Votes.{votes_of};
+ghost use Rattle.simplex_outbox.specs.Going.{IsKept, IsWhole, TellsNothing, BeginsTraced};
 ghost use Rattle.simplex_outbox.specs.Journals.{BeginsWith};
 
 use super::Engine;
@@ -30,6 +31,8 @@ use std::fmt;
 /// Why no engine begins.
 #[derive(Clone, Copy, PartialEq, Eq, Debug)]
 pub enum StartError {
+    /// `timeout_retry` is 0: pass a millisecond at least.
+    RetryZero,
     /// The floor or what was stored is refused.
     Resume(ResumeError),
     /// The resolver refuses the record.
@@ -39,6 +42,7 @@ pub enum StartError {
 impl fmt::Display for StartError {
     fn fmt<W: fmt::Write>(&self, f: &mut fmt::Formatter<W>) -> fmt::Result {
         match self {
+            StartError::RetryZero => write!(f, "RetryZero"),
             StartError::Resume(error) => write!(f, "{error}"),
             StartError::Replay(error) => write!(f, "{error}"),
         }
@@ -77,6 +81,7 @@ impl<S: Assembly<D>, L: Elector<S>, D: Digest> Engine<S, L, D> {
     ghost use Rattle.simplex_member.specs.Start.{started_member};
     ghost use Rattle.simplex_laws.specs.Living.{HasBegun, HasGoneOn};
     ghost use Rattle.simplex_engine.specs.Beginning.{IsMemberError, IsNotBegun};
+    ghost use Rattle.simplex_engine.specs.declared.engine.begin.StartError.TheVariants.{RetryZero};
     ghost use Rattle.simplex_engine.specs.Bounds.{HoldsNoneAhead};
     ghost use Rattle.simplex_engine.specs.Causes.{at_hand};
     ghost use Rattle.simplex_engine.specs.Heights.{AsksForTheHeard};
@@ -85,18 +90,20 @@ impl<S: Assembly<D>, L: Elector<S>, D: Digest> Engine<S, L, D> {
     /// The engine of a member that begins at a floor, where nothing was stored.
     ///
     /// The elector's members are the scheme's participants.
-    /// - `started`: its member is the one that `LawfulMember::start` makes.
+    /// - `started`, `votes`: its member is the one that `LawfulMember::start` makes, with no vote in its record.
     /// - `begins`: it has accepted the floor's finalization, if there is one, and done nothing else.
+    /// - `traced`: it is traced by what the member has done before (`IsTraced`).
     /// - `kept`, `whole`, `queued`, `told`, `bounded`, `duties`: nothing was given out, the whole record stands to be stored in place of
     ///   all that is and nothing else is queued, no proposal to be told as final, and the member waits for nothing.
     /// - `begun`: no vote is held, and certificates are made by the number of the scheme's participants; the resolver was told of the
     ///   record, and what it has open is asked for at once, of all participants but this member; no input was of no use.
     /// - `nothing`: no work is queued or planned, no proposal is kept, and each fetch is one that the resolver wants.
     /// - `heights`: no certificate is asked for of a view above the first one of the next term and above those of all entries.
-    /// - `refused`: why there is none.
+    /// - `no_retry`, `refused`: `RetryZero` is returned just where `timeout_retry` is 0; why else there is none.
     ///
     /// # Errors
     ///
+    /// `RetryZero` where `start.settings.timeout_retry` is 0: a vote to nullify would be repeated at once, and `poll` would not return.
     /// `OutOfMemory`, those of `LawfulMember::start`, and those of `LawfulResolver::start` on the record.
     pub fn start(
         alloc: Global,
@@ -105,6 +112,7 @@ impl<S: Assembly<D>, L: Elector<S>, D: Digest> Engine<S, L, D> {
     ) -> Result<Engine<S, L, D>, StartError>
         requires { L.members start.settings.elector ≡ length (S.participants start.settings.scheme) }
         ensures kept { IfOk result (λ engine. IsKept S.certificate_bytes [] engine.core) }
+        ensures traced { IfOk result (λ engine. BeginsTraced D.eq L.elect S.certificate_bytes engine.core.member engine.core) }
         ensures whole { IfOk result (λ engine. IsWhole S.certificate_bytes engine.core) }
         ensures queued { IfOk result (λ engine. BeginsWith S.certificate_bytes engine.core.member engine.core.outbox.queue.items) }
         ensures told { IfOk result (λ engine. TellsNothing engine.core) }
@@ -115,8 +123,10 @@ impl<S: Assembly<D>, L: Elector<S>, D: Digest> Engine<S, L, D> {
         ensures started { IfOk result (λ engine. engine.core.member.facts ≡ started_member D.eq L.elect
             (set_up S.me S.participants L.terms L.elects_early start.settings)
             (floor_facts S.certificate_bytes start.floor) start.now) }
+        ensures votes { IfOk result (λ engine. engine.core.member.votes ≡ []) }
         ensures begins { IfOk result (λ engine. HasBegun D.eq L.elect S.me L.terms start engine.core.member.facts) }
-        ensures refused { IfErr result (IsNotBegun
+        ensures no_retry { start.settings.timeout_retry ≡ 0 → result ≡ Err RetryZero }
+        ensures refused { IfErr result (IsNotBegun start.settings.timeout_retry
             (IsMemberError (recover_error D.eq (set_up S.me S.participants L.terms L.elects_early start.settings)
             (floor_facts S.certificate_bytes start.floor) start.now []))
             (λ m. m ≡ started_member D.eq L.elect (set_up S.me S.participants L.terms L.elects_early start.settings)
@@ -124,6 +134,9 @@ impl<S: Assembly<D>, L: Elector<S>, D: Digest> Engine<S, L, D> {
         ensures nothing { IfOk result (λ engine. at_hand engine ≡ []) }
         ensures heights { IfOk result AsksForTheHeard }
     {
+        if has_no_retry(&start) {
+            return Err(StartError::RetryZero);
+        }
         let company = company_of(alloc, &start)?;
         match LawfulMember::start(alloc, start) {
             Ok(member) => begin(alloc, member, company, options),
@@ -134,14 +147,14 @@ impl<S: Assembly<D>, L: Elector<S>, D: Digest> Engine<S, L, D> {
     /// The engine of a member that goes on from what was stored, also at a later floor.
     ///
     /// The elector's members are the scheme's participants.
-    /// - `resumed`: its member is the one that `LawfulMember::resume` makes.
+    /// - `resumed`, `votes`: its member is the one that `LawfulMember::resume` makes, with the votes of the entries.
     /// - `goes_on`: in terms of the same length and with the key of the same member or none, what was done before stays done,
     ///   and the floor's finalization is accepted too.
-    /// - `kept`, `whole`, `queued`, `told`, `bounded`, `duties`, `begun`, `nothing`, `heights`, `refused`: as of `start`.
+    /// - `kept`, `traced`, `whole`, `queued`, `told`, `bounded`, `duties`, `begun`, `nothing`, `heights`, `no_retry`, `refused`: as of `start`.
     ///
     /// # Errors
     ///
-    /// `OutOfMemory`, those of `LawfulMember::resume`, and those of `LawfulResolver::start` on the record.
+    /// `RetryZero` as of `start`, before what was stored is read. `OutOfMemory`, those of `LawfulMember::resume`, and those of `LawfulResolver::start` on the record.
     pub fn resume(
         alloc: Global,
         start: Start<S, L, D>,
@@ -151,6 +164,7 @@ impl<S: Assembly<D>, L: Elector<S>, D: Digest> Engine<S, L, D> {
     ) -> Result<Engine<S, L, D>, StartError>
         requires { L.members start.settings.elector ≡ length (S.participants start.settings.scheme) }
         ensures kept { IfOk result (λ engine. IsKept S.certificate_bytes [] engine.core) }
+        ensures traced { IfOk result (λ engine. BeginsTraced D.eq L.elect S.certificate_bytes engine.core.member engine.core) }
         ensures whole { IfOk result (λ engine. IsWhole S.certificate_bytes engine.core) }
         ensures queued { IfOk result (λ engine. BeginsWith S.certificate_bytes engine.core.member engine.core.outbox.queue.items) }
         ensures told { IfOk result (λ engine. TellsNothing engine.core) }
@@ -161,9 +175,11 @@ impl<S: Assembly<D>, L: Elector<S>, D: Digest> Engine<S, L, D> {
         ensures resumed { IfOk result (λ engine. IsResumed D.eq L.elect stored
             (entries_of S.certificate_bytes entries.items)
             (start_facts S.me S.participants L.terms L.elects_early S.certificate_bytes start) engine.core.member.facts) }
+        ensures votes { IfOk result (λ engine. engine.core.member.votes ≡ votes_of entries.items) }
         ensures goes_on { IfOk result (λ engine. HasGoneOn D.eq L.elect S.me L.terms stored
             (entries_of S.certificate_bytes entries.items) start engine.core.member.facts) }
-        ensures refused { IfErr result (IsNotBegun
+        ensures no_retry { start.settings.timeout_retry ≡ 0 → result ≡ Err RetryZero }
+        ensures refused { IfErr result (IsNotBegun start.settings.timeout_retry
             (IsNotResumed D.eq L.elect stored (entries_of S.certificate_bytes entries.items)
             (start_facts S.me S.participants L.terms L.elects_early S.certificate_bytes start))
             (IsResumed D.eq L.elect stored (entries_of S.certificate_bytes entries.items)
@@ -171,12 +187,22 @@ impl<S: Assembly<D>, L: Elector<S>, D: Digest> Engine<S, L, D> {
         ensures nothing { IfOk result (λ engine. at_hand engine ≡ []) }
         ensures heights { IfOk result AsksForTheHeard }
     {
+        if has_no_retry(&start) {
+            return Err(StartError::RetryZero);
+        }
         let company = company_of(alloc, &start)?;
         match LawfulMember::resume(alloc, start, stored, entries) {
             Ok(member) => begin(alloc, member, company, options),
             Err(refusal) => Err(StartError::Resume(refusal.error)),
         }
     }
+}
+
+/// Returns whether a vote to nullify would be repeated after no time: `poll` would ask the member for it without end.
+fn has_no_retry<S: Scheme<D>, L: Elector<S>, D: Digest>(start: &Start<S, L, D>) -> bool
+    ensures { result ≡ (start.entry.now.settings.timeout_retry == 0) }
+{
+    start.settings.timeout_retry == 0
 }
 
 /// What an engine has beside its member, by its settings.
@@ -206,6 +232,7 @@ fn begin<S: Assembly<D>, L: Elector<S>, D: Digest>(
     options: Options,
 ) -> Result<Engine<S, L, D>, StartError>
     ensures kept { IfOk result (λ engine. IsKept S.certificate_bytes [] engine.core) }
+    ensures traced { IfOk result (λ engine. BeginsTraced D.eq L.elect S.certificate_bytes engine.core.member engine.core) }
     ensures whole { IfOk result (λ engine. IsWhole S.certificate_bytes engine.core) }
     ensures told { IfOk result (λ engine. TellsNothing engine.core) }
     ensures member { IfOk result (λ engine. engine.core.member ≡ member) }

@@ -9,7 +9,8 @@ use Rattle.simplex_outbox.proofs.Finals.{tells_still}
 use Rattle.simplex_engine.proofs.Alone.{forgets_nothing}
 use Rattle.simplex_engine.proofs.Building.{come_beside, early_anyway, near_same}
 use Rattle.simplex_engine.proofs.Bounds.{bounded_same, bounded_admitted}
-use Rattle.simplex_outbox.proofs.Going.{does_nothing_more, where_ok}
+use Rattle.simplex_outbox.proofs.Going.{stays, gives_then, gives_none, gives_later, does_nothing_more, where_ok}
+use Rattle.simplex_outbox.specs.Going.{EmitsTraced}
 use Rattle.simplex_engine.proofs.Tells.{tells_given, still_told, works_given}
 use Rattle.simplex_plan.proofs.Matters.{among_last}
 use Rattle.simplex_plan.proofs.PlannedWork.{among_further, among_still}
@@ -139,3 +140,20 @@ returns-in-None-clause-heights g c =
     on_ok c.poll_after_work.result (returns-in-None-clause-comes g c)
     (λ comes term_length i all done. no_higher g.D.PartialEq.eq g.met.D.Digest.equal_is_same g.met.D.Digest.same_is_equal g.L.Elector.elect g.D.Digest.bytes g.S.CertificateScheme.certificate_bytes
     c.args.now term_length i all done (forgets_no_lack _ _ _ c.poll_after_work.new.self.core.member.facts) comes)
+
+pub returns-then-has_failed-clause-traced : goal.returns-then-has_failed-clause-traced
+returns-then-has_failed-clause-traced g c = gives_none (stays c.args.self.now.core)
+
+pub returns-in-Some-clause-traced : goal.returns-in-Some-clause-traced
+returns-in-Some-clause-traced g c =
+    let old = c.args.self.now.core in
+    gives_then {a = old} {b = old} c.next.new.self (c.in-Some.output ∷ []) (stays old)
+    (subst (λ out. EmitsTraced g.D.PartialEq.eq g.L.Elector.elect g.S.CertificateScheme.certificate_bytes (option_to_list out) old c.next.new.self) c.in-Some.is c.next.ensures.traced)
+    c.next.ensures.same.0
+
+pub returns-in-None-clause-traced : goal.returns-in-None-clause-traced
+returns-in-None-clause-traced g c =
+    let old = c.args.self.now.core in
+    gives_later {a = old} {b = c.next.new.self} {c = c.poll_after_work.new.self.core} (given_out c.poll_after_work.result)
+    (subst (λ out. EmitsTraced g.D.PartialEq.eq g.L.Elector.elect g.S.CertificateScheme.certificate_bytes (option_to_list out) old c.next.new.self) c.in-None.is c.next.ensures.traced)
+    c.next.ensures.same.0 c.poll_after_work.ensures.traced

@@ -10,7 +10,7 @@ use Rattle.simplex_engine.specs.Quiet.{HasNothingNew}
 use Rattle.simplex_engine.proofs.Backing.{takes_nothing}
 use Rattle.simplex_engine.proofs.Alone.{forgets_as}
 use Rattle.simplex_engine.proofs.Bounds.{bounded_still, bounded_further, bounded_same}
-use Rattle.simplex_outbox.proofs.Going.{goes_further, gives_nothing, does_more, tells_no_other, tells_no_other_then}
+use Rattle.simplex_outbox.proofs.Going.{gives_then, gives_none, goes_further, gives_nothing, does_more, tells_no_other, tells_no_other_then}
 use Rattle.simplex_engine.proofs.Tells.{tells_given, all_left, works_given}
 use Rattle.simplex_outbox.specs.Outputs.{work_in}
 use Rattle.simplex_plan.specs.Blocks.{builds_from}
@@ -131,3 +131,9 @@ returns-in-Ok-clause-comes g c =
     (λ kind view un. subst (λ m. option_map_or (λ x. holds repair.resolver.open_fetches x kind view) m.facts.life true ≡ false) c.next.ensures.same.0 un)
     (risen_facts (ap (λ m. m.facts) c.next.ensures.same.0)) (comes_still (ap (λ m. m.facts) c.next.ensures.same.0) refl (λ kind view. refl)
     (hand_given c.work.new.self (record (c.work.new.self) { core = c.next.new.self }) (option_to_list c.next.result) c.next.ensures.front refl))
+
+pub returns-in-Ok-clause-traced : goal.returns-in-Ok-clause-traced
+returns-in-Ok-clause-traced g c = gives_then c.next.new.self (option_to_list c.next.result) c.work.ensures.alone.goes_on c.next.ensures.traced c.next.ensures.same.0
+
+pub returns-in-Err-clause-traced : goal.returns-in-Err-clause-traced
+returns-in-Err-clause-traced g c = gives_none (goes_further c.work.ensures.alone.goes_on c.fail.ensures.goes_on)

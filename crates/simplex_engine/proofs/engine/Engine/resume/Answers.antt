@@ -1,5 +1,5 @@
 -- That the engine's member is the one that was resumed.
-use Rattle.std.proofs.Common.{sym, subst, ap, ◌∙◌, refl, inr, Ok}
+use Rattle.std.proofs.Common.{◌≡◌, sym, subst, ap, ◌∙◌, refl, inr, Ok}
 use Rattle.simplex_record.specs.Entries.{entries_of}
 use Rattle.simplex_record.specs.Start.{start_facts}
 use Rattle.simplex_member.specs.Journal.{IsResumed}
@@ -7,9 +7,11 @@ use Rattle.simplex_laws.specs.Living.{HasGoneOn}
 use Rattle.simplex_engine.proofs.Bounds.{bounded_empty}
 use Rattle.simplex_outbox.proofs.Going.{where_ok}
 use Rattle.simplex_engine.proofs.Tells.{restart_waits, tells_none}
-use Rattle.simplex_engine.proofs.Beginning.{not_begun}
+use Rattle.std.proofs.lemmas.Bool.{eqb-true}
+use Rattle.simplex_engine.proofs.Beginning.{has_retry, not_begun}
 use Rattle.simplex_engine.proofs.Causes.{both_ok, nothing_held}
 use Rattle.simplex_engine.proofs.heights.Engines.{heights_begun}
+use Rattle.simplex_record.specs.Votes.{votes_of}
 use Rattle.simplex_engine.proofs.engine.Engine.resume.Goals as goal
 
 pub returns-in-Ok-clause-resumed : goal.returns-in-Ok-clause-resumed
@@ -32,7 +34,7 @@ returns-in-Ok-clause-bounded g c =
     (λ engine begun. bounded_empty g.S.CertificateScheme.participants engine.core engine.batcher begun.votes)
 
 pub returns-in-Ok-clause-refused : goal.returns-in-Ok-clause-refused
-returns-in-Ok-clause-refused g c = not_begun c.begin.result _ _ c.in-Ok.member.facts c.in-Ok.ensures.resumed c.begin.ensures.refused
+returns-in-Ok-clause-refused g c = not_begun c.begin.result _ _ _ c.in-Ok.member.facts c.in-Ok.ensures.resumed c.begin.ensures.refused
 
 pub returns-in-Err-clause-refused : goal.returns-in-Err-clause-refused
 returns-in-Err-clause-refused g c = inr c.in-Err.ensures.refused
@@ -51,3 +53,21 @@ pub returns-in-Ok-clause-heights : goal.returns-in-Ok-clause-heights
 returns-in-Ok-clause-heights g c =
     where_ok c.begin.result (c.begin.ensures.begun _ _ _ c.in_ok-company.ensures)
     (λ engine begun. heights_begun g.D.Digest.bytes g.S.CertificateScheme.participants _ _ _ _ engine begun)
+
+pub returns-in-Ok-clause-votes : goal.returns-in-Ok-clause-votes
+returns-in-Ok-clause-votes g c = where_ok c.begin.result c.begin.ensures.member (λ engine is. subst (λ m. m.votes ≡ votes_of c.args.entries.items) (sym is) c.in-Ok.ensures.votes)
+
+pub returns-then-has_no_retry-clause-no_retry : goal.returns-then-has_no_retry-clause-no_retry
+returns-then-has_no_retry-clause-no_retry g c none = refl
+
+pub returns-then-has_no_retry-clause-refused : goal.returns-then-has_no_retry-clause-refused
+returns-then-has_no_retry-clause-refused g c = eqb-true c.args.start.settings.timeout_retry 0 (sym c.has_no_retry.ensures ∙ c.if-has_no_retry.true)
+
+pub returns-in_err-company-clause-no_retry : goal.returns-in_err-company-clause-no_retry
+returns-in_err-company-clause-no_retry g c = has_retry _ c.args.start.settings.timeout_retry (sym c.has_no_retry.ensures ∙ c.if-has_no_retry.false)
+
+pub returns-in-Ok-clause-no_retry : goal.returns-in-Ok-clause-no_retry
+returns-in-Ok-clause-no_retry g c = has_retry c.begin.result c.args.start.settings.timeout_retry (sym c.has_no_retry.ensures ∙ c.if-has_no_retry.false)
+
+pub returns-in-Err-clause-no_retry : goal.returns-in-Err-clause-no_retry
+returns-in-Err-clause-no_retry g c = has_retry _ c.args.start.settings.timeout_retry (sym c.has_no_retry.ensures ∙ c.if-has_no_retry.false)

@@ -1,6 +1,7 @@
 -- That the engine begins with its company.
-use Rattle.std.proofs.Common.{ap, refl, subst}
+use Rattle.std.proofs.Common.{ap, refl, sym, subst}
 use Rattle.std.proofs.lemmas.Result.{err_from_is_err_and}
+use Rattle.simplex_outbox.specs.Going.{BeginsTraced}
 use Rattle.simplex_engine.specs.Beginning.{with_a_retry, IsPlanOf}
 use Rattle.simplex_engine.proofs.Beginning.{begun_with}
 use Rattle.simplex_engine.proofs.engine.begin.begin.Goals as goal
@@ -17,3 +18,8 @@ pub returns-in_err-core-clause-refused : goal.returns-in_err-core-clause-refused
 returns-in_err-core-clause-refused g c =
     let p = err_from_is_err_and c.from_residual-in_err-core.result c.from_residual-in_err-core.ensures.1 in
     rw (p.1, p.2) refl
+
+pub returns-clause-traced : goal.returns-clause-traced
+returns-clause-traced g c =
+    subst (λ m. BeginsTraced g.D.PartialEq.eq g.L.Elector.elect g.S.CertificateScheme.certificate_bytes m c.in_ok-core.core)
+    (sym c.in_ok-core.ensures.member) c.in_ok-core.ensures.traced

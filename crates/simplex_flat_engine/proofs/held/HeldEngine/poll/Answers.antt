@@ -12,6 +12,7 @@ returns c =
           record {
             given = asked.given;
             told = asked.told;
+            traced = asked.traced;
             does = asked.does;
             votes = asked.votes;
             held = asked.held;

@@ -1,5 +1,5 @@
 -- How the contract of `poll_engine` follows where the engine gives something out, where it has nothing more to do, and where it fails.
-use Rattle.std.proofs.Common.{List, [], ap, inl, inr, refl, sym, subst, ◌∙◌}
+use Rattle.std.proofs.Common.{List, [], None, ap, inl, inr, refl, sym, subst, ◌∙◌}
 use Rattle.std.specs.Prelude.{◌++◌, IsOk, option_to_list}
 use Rattle.std.proofs.lemmas.Bool.{false≢true}
 use Rattle.simplex_codec.specs.Digests.{bytes_in_digest}
@@ -9,11 +9,11 @@ use Rattle.simplex_outbox.specs.Outputs.{work_in}
 use Rattle.simplex_engine.specs.Causes.{forgettable, held_by, Comes}
 use Rattle.simplex_engine.specs.Duties.{work_ahead, HasToldAll}
 use Rattle.simplex_outbox.specs.Finals.{TellsNoMore}
-use Rattle.simplex_outbox.specs.Going.{IsKept}
+use Rattle.simplex_outbox.specs.Going.{EmitsOn, IsKept}
 use Rattle.simplex_flat.specs.Numbers.{fault_status}
 use Rattle.simplex_flat.specs.Serving.{host_leader, same_host_payload}
 use Rattle.simplex_flat_engine.specs.Outputs.{HostOutput}
-use Rattle.simplex_flat_engine.proofs.Given.{all_given, comes_given, has_told, same_error, tells_no_more, works_given}
+use Rattle.simplex_flat_engine.proofs.Given.{all_given, comes_given, has_told, same_error, tells_no_more, traced_given, works_given}
 use Rattle.simplex_flat_engine.proofs.held.HeldEngine.poll_engine.Goals as goal
 
 pub returns-in-Ok-Some : goal.returns-in-Ok-Some
@@ -28,6 +28,8 @@ returns-in-Ok-Some c =
               (rw rest.0 given) c.give_out.ensures.given;
           told = tells_no_more c.in-Ok-Some.output c.args.self.now.stored c.give_out.result c.args.self.now c.give_out.new.self
               (rw rest.0 (rw c.in-Ok-Some.field-0-is at c.in-Ok-Some.ensures.told)) c.give_out.ensures.given;
+          traced = traced_given c.in-Ok-Some.output c.args.self.now.stored c.give_out.result c.args.self.now c.give_out.new.self
+              (rw rest.0 (rw c.in-Ok-Some.field-0-is at c.in-Ok-Some.ensures.traced)) c.give_out.ensures.given;
           does = rw rest.0 c.in-Ok-Some.ensures.does;
           votes = rw rest.0 c.in-Ok-Some.ensures.votes;
           held = rw rest.0 c.in-Ok-Some.ensures.held;
@@ -65,6 +67,8 @@ returns-in-Ok-None c =
               (sym c.requires.last) (given before (all going));
           told = λ alive. subst (λ last. TellsNoMore (option_to_list last) c.args.self.now.engine.core.outbox c.poll.new.self.core.outbox)
               (sym c.requires.last) (rw none at c.in-Ok-None.ensures.told);
+          traced = λ alive. subst (λ last. EmitsOn same_host_payload host_leader certificate_bytes None (option_to_list last) c.args.self.now.engine.core c.poll.new.self.core)
+              (sym c.requires.last) (rw none at c.in-Ok-None.ensures.traced);
           does = c.in-Ok-None.ensures.does;
           votes = c.in-Ok-None.ensures.votes;
           held = c.in-Ok-None.ensures.held;
@@ -114,6 +118,8 @@ returns-in-Err c =
               (sym c.requires.last) (c.in-Err.ensures.given before (all going));
           told = λ alive. subst (λ last. TellsNoMore (option_to_list last) c.args.self.now.engine.core.outbox c.poll.new.self.core.outbox)
               (sym c.requires.last) c.in-Err.ensures.told;
+          traced = λ alive. subst (λ last. EmitsOn same_host_payload host_leader certificate_bytes None (option_to_list last) c.args.self.now.engine.core c.poll.new.self.core)
+              (sym c.requires.last) c.in-Err.ensures.traced;
           does = c.in-Err.ensures.does;
           votes = c.in-Err.ensures.votes;
           held = c.in-Err.ensures.held;

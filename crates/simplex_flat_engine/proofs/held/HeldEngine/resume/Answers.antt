@@ -23,11 +23,13 @@ returns-in-Ok-resume-clause-resumed c =
       whole = c.in-Ok.ensures.whole;
       resumed = rw c.new.ensures.engine c.in-Ok-resume.ensures.resumed;
       goes_on = rw c.new.ensures.engine c.in-Ok-resume.ensures.goes_on;
+      votes = rw c.new.ensures.engine c.in-Ok-resume.ensures.votes;
       begun_by = rw c.new.ensures.engine
           (subst (λ options. HasBegunWith bytes_in_digest host_keys (host_keys from.start.settings.scheme) (host_signer from.start.settings.scheme)
           (host_terms from.start.settings.elector).term_length (with_a_retry options) c.in-Ok-resume.engine) c.options_in-options.ensures c.in-Ok-resume.ensures.begun);
       nothing = record {
         kept = λ _. rw c.new.ensures.engine c.in-Ok-resume.ensures.kept;
+        traced = rw c.new.ensures.engine c.in-Ok-resume.ensures.traced;
         whole = rw c.new.ensures.engine c.in-Ok-resume.ensures.whole;
         queued = rw c.new.ensures.engine c.in-Ok-resume.ensures.queued;
         told = rw c.new.ensures.engine c.in-Ok-resume.ensures.told;

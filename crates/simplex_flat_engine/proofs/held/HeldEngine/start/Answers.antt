@@ -13,12 +13,14 @@ returns-in-Ok-start-clause-begun c = record {
   start = c.in-Ok.start;
   by = c.in-Ok.ensures.made;
   facts = rw c.new.ensures.engine c.in-Ok-start.ensures.started;
+  votes = rw c.new.ensures.engine c.in-Ok-start.ensures.votes;
   begins = rw c.new.ensures.engine c.in-Ok-start.ensures.begins;
   begun_by = rw c.new.ensures.engine
       (subst (λ options. HasBegunWith bytes_in_digest host_keys (host_keys c.in-Ok.start.settings.scheme) (host_signer c.in-Ok.start.settings.scheme)
       (host_terms c.in-Ok.start.settings.elector).term_length (with_a_retry options) c.in-Ok-start.engine) c.options_in.ensures c.in-Ok-start.ensures.begun);
   nothing = record {
     kept = λ _. rw c.new.ensures.engine c.in-Ok-start.ensures.kept;
+    traced = rw c.new.ensures.engine c.in-Ok-start.ensures.traced;
     whole = rw c.new.ensures.engine c.in-Ok-start.ensures.whole;
     queued = rw c.new.ensures.engine c.in-Ok-start.ensures.queued;
     told = rw c.new.ensures.engine c.in-Ok-start.ensures.told;

@@ -1,5 +1,5 @@
 use Rattle.std.proofs.Common.{◌≡◌, ◌-◌, ◌^◌, ap, sym, subst, ◌∙◌, [], ◌∷◌, ◌++◌, length, arith}
-use Rattle.std.specs.Prelude.{IfSome}
+use Rattle.std.specs.Prelude.{Contains, IfSome}
 use Rattle.simplex_outbox.specs.declared.output.Output.TheVariants as output
 use Rattle.simplex_outbox.specs.Finals.{finals_in}
 use Rattle.simplex_outbox.specs.Outboxes.{IsReplaced}
@@ -9,6 +9,14 @@ use Rattle.simplex_outbox.specs.Reaching.{lowest_of}
 use Rattle.simplex_outbox.proofs.Journals.{copied_votes}
 use Rattle.simplex_outbox.proofs.Kept.{counted}
 use Rattle.simplex_outbox.proofs.Reaching.{reaches_whole}
+use Rattle.simplex_outbox.specs.Stops.{MayStopAfterEach}
+use Rattle.simplex_outbox.proofs.Stops.{stops_begun}
+use Rattle.std.proofs.lemmas.List.{append-nil}
+use Rattle.simplex_outbox.specs.Entries.{votes_of_entries}
+use Rattle.simplex_outbox.specs.Outputs.{stored_in}
+use Rattle.simplex_outbox.specs.Stops.{votes_recorded}
+use Rattle.simplex_outbox.specs.Signatures.{AreSigned}
+use Rattle.simplex_outbox.proofs.Leaving.{all_signed}
 use Rattle.simplex_outbox.proofs.journaled.Journaled.begin.Goals as goal
 
 pub returns-clause-kept : goal.returns-clause-kept
@@ -44,4 +52,27 @@ returns-clause-begins g c =
           ∙ ap (λ beside. output.Replace is.0 beside ∷ []) c.stored.ensures;
       entries = is.1.0 ∙ c.record.ensures.entries;
       votes = copied_votes bytes_of c.record.result.now is.0.items is.1 ∙ c.record.ensures.votes;
+    }
+
+pub returns-clause-traced : goal.returns-clause-traced
+returns-clause-traced g c = λ term_length i all done signed.
+    let bytes_of = g.S.CertificateScheme.certificate_bytes in
+    let begins = returns-clause-begins g c in
+    record {
+      kept = returns-clause-kept g c;
+      done = done;
+      signed = signed;
+      finals = λ p has. absurd (omega (arith, (subst (λ ps. Contains ps p) (returns-clause-told g c) has).1));
+      stops = λ lives. subst (MayStopAfterEach g.D.PartialEq.eq g.L.Elector.elect bytes_of term_length i all all) (sym begins.outs_are)
+          (stops_begun g.D.PartialEq.eq g.L.Elector.elect bytes_of term_length i all begins.copies c.args.member done signed begins.entries begins.votes);
+    }
+
+pub returns-clause-signed : goal.returns-clause-signed
+returns-clause-signed g c i key signs recorded =
+    let begins = returns-clause-begins g c in
+    record {
+      signs = signs;
+      recorded = recorded;
+      stored = subst (AreSigned g.S.Scheme.IsSignature i key)
+          (sym (ap (λ outs. votes_of_entries (stored_in outs)) begins.outs_are ∙ ap votes_of_entries (append-nil begins.copies.items) ∙ all_signed begins.copies.items ∙ ap votes_recorded begins.votes)) recorded;
     }

@@ -1,10 +1,16 @@
-use Rattle.std.proofs.Common.{◌≡◌, ℕ, List, Option, Some, None, ◌++◌, subst}
-use Rattle.std.specs.Prelude.{IfSome}
+use Rattle.std.proofs.Common.{◌≡◌, ℕ, List, Option, Some, None, [], ◌++◌, subst, sym, ap, ◌∙◌}
+use Rattle.std.specs.Prelude.{Contains, IfSome}
 use Rattle.simplex_types.specs.declared.types.messages.Proposal.{Proposal}
 use Rattle.simplex_voter.specs.Facts.{StateFacts}
 use Rattle.simplex_outbox.specs.Finals.{finals_in, EndsAt}
+use Rattle.simplex_outbox.proofs.Finals.{finalized_in-append}
 use Rattle.simplex_outbox.specs.Journals.{journal_of}
 use Rattle.simplex_outbox.proofs.Journals.{is_record}
+use Rattle.simplex_outbox.proofs.Behind.{stored_in-append, votes_in-append}
+use Rattle.std.proofs.lemmas.List.Elements.{Contains-append_left}
+use Rattle.simplex_outbox.specs.Entries.{votes_of_entries}
+use Rattle.simplex_outbox.specs.Outputs.{stored_in}
+use Rattle.simplex_outbox.proofs.Stops.{lawful_stops, left_stored}
 use Rattle.simplex_outbox.proofs.journaled.Journaled.keeps_the_laws.Goals as goal
 
 -- the last that was told is of the last finalized view
@@ -25,3 +31,20 @@ returns-clause-last g c given kept =
 
 pub returns-clause-leaving : goal.returns-clause-leaving
 returns-clause-leaving g c given kept lives = kept.leaving lives
+
+-- a host may stop anywhere
+pub returns-clause-stops : goal.returns-clause-stops
+returns-clause-stops g c term_length i earlier given all is lives =
+    let it = c.args.self.now in
+    lawful_stops g.D.PartialEq.eq g.L.Elector.elect g.S.CertificateScheme.certificate_bytes term_length i earlier all (given ++ it.outbox.queue.items) is.kept.lawful.behind (is.stops lives)
+
+pub returns-clause-finals : goal.returns-clause-finals
+returns-clause-finals g c term_length i earlier given all is p has =
+    let queue = c.args.self.now.outbox.queue.items in
+    is.finals p (subst (λ ps. Contains ps p) (sym (finalized_in-append given queue)) (Contains-append_left (finals_in given) (finals_in queue) p has))
+
+pub returns-clause-signed : goal.returns-clause-signed
+returns-clause-signed g c i key given vote is behind has =
+    let it = c.args.self.now in
+    is.stored vote (subst (λ votes. Contains votes vote) (sym (ap votes_of_entries (stored_in-append given it.outbox.queue.items) ∙ votes_in-append (stored_in given) (stored_in it.outbox.queue.items)))
+    (Contains-append_left (votes_of_entries (stored_in given)) (votes_of_entries (stored_in it.outbox.queue.items)) vote (left_stored [] given behind vote has)))

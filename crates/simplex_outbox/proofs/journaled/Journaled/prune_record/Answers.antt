@@ -25,3 +25,6 @@ returns-clause-waiting g c =
 
 pub returns-clause-no_work : goal.returns-clause-no_work
 returns-clause-no_work g c = c.replace.ensures.no_work ∙ c.store.ensures.no_work
+
+pub returns-clause-signed : goal.returns-clause-signed
+returns-clause-signed g c i key given is = c.replace.ensures.signed i key given (c.store.ensures.signed i key given is)
