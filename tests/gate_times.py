@@ -204,7 +204,8 @@ def main():
     taken = [it for _, it in reference.taken]
     times = Times(found, reference, table.get("reference", statistics.median(taken)))
     print(*times.lines(), sep="\n")
-    print(f"reference: {min(taken):.1f} to {max(taken):.1f} s, {len(taken)} times; the stored table has {table.get('reference', 0):.1f}")
+    stored_one = table.get("reference", 0)
+    print(f"reference: {min(taken):.1f} to {max(taken):.1f} s, median {statistics.median(taken):.2f}, {len(taken)} times; the stored table has {stored_one:.2f}")
     if given.write:
         write(times, statistics.median(taken))
     is_steady = max(taken) < UNSTEADY * min(taken)
