@@ -240,7 +240,7 @@ static void engine(void) {
         }
         if (it.kind == SIMPLEX_VOTE) {
             uint8_t text[64];
-            struct simplex_text wanted = simplex_subject(SIMPLEX_NOTARIZE, &it.subject.proposal);
+            struct simplex_text wanted = simplex_subject(it.subject.kind, &it.subject.proposal);
             IS(stored.entries && it.subject.kind == SIMPLEX_NOTARIZATION && it.subject.member == 0 && read_out(at, 0, text) == 57);
             IS(wanted.count == 57 && !memcmp(text, wanted.bytes, 57) && ++order == 1);
         }

@@ -83,7 +83,8 @@ static void say_work(const struct simplex_reply *r) {
         printf(" %" PRIu64, number_of(r->proposal.payload));
         break;
     default:
-        printf("resolve %" PRIu64 " %" PRIu64 " %s %" PRIu32, r->waiting, r->lacking, r->has == 2 ? "nullification" : "notarization", r->member);
+        printf("resolve %" PRIu64 " %" PRIu64 " %s %" PRIu32, r->waiting, r->lacking,
+               r->reason == SIMPLEX_NULLIFICATION ? "nullification" : "notarization", r->member);
     }
 }
 

@@ -49,7 +49,7 @@ extern "C" {
 #endif
 
 /* What simplex_version answers for this header: test it once, before anything else. */
-#define SIMPLEX_VERSION 3u
+#define SIMPLEX_VERSION 4u
 
 /* No member. */
 #define SIMPLEX_NOBODY UINT32_MAX
@@ -160,8 +160,9 @@ enum simplex_reply_kind {
     SIMPLEX_REPLY_ADDED = 2,                  /* flag: it is new; member: a leader that equivocated, or SIMPLEX_NOBODY */
     SIMPLEX_REPLY_ADDED_NULLIFICATION = 3,    /* flag: it is new */
     SIMPLEX_REPLY_REQUEST = 4,                /* has 1: build; 2: build as a handoff; context, member: the leader */
-    SIMPLEX_REPLY_WORK = 5,                   /* has 1: verify proposal in context, member: the leader; 2, 3: ask member for the
-                                                 nullification, the notarization of view lacking, for the proposal of view waiting */
+    SIMPLEX_REPLY_WORK = 5,                   /* has 1: verify proposal in context, member: the leader; 2: ask member for the
+                                                 certificate of view lacking, for the proposal of view waiting; reason: its
+                                                 simplex_certificate_kind, a notarization or a nullification */
     SIMPLEX_REPLY_CANDIDATES = 6,             /* count: items of SIMPLEX_PROPOSALS; fetches: items of SIMPLEX_FETCHES */
     SIMPLEX_REPLY_CERTIFIED = 7,              /* flag: the verdict; has 1: the notarization of proposal, bytes */
     SIMPLEX_REPLY_NOTARIZE = 8,               /* has 1: a vote for proposal; member signs the bytes */
@@ -200,17 +201,15 @@ enum simplex_abandoned_reason {
     SIMPLEX_INELIGIBLE_AT_RECORDING = 6
 };
 
-/* Which certificate it is. */
+/* Which certificate it is, and which vote. Votes of a kind make the certificate of the same number, and 0 is none of either. */
 enum simplex_certificate_kind { SIMPLEX_NOTARIZATION = 1, SIMPLEX_NULLIFICATION = 2, SIMPLEX_FINALIZATION = 3 };
+enum simplex_vote_kind { SIMPLEX_NOTARIZE = 1, SIMPLEX_NULLIFY = 2, SIMPLEX_FINALIZE = 3 };
 
 /* Which items of the last reply are read. */
 enum simplex_items { SIMPLEX_PROPOSALS = 1, SIMPLEX_FETCHES = 2, SIMPLEX_DROPPED = 3 };
 
 /* Which bytes are read: those of the last reply, or those that simplex_member_entries or simplex_member_certificate showed last. */
 enum simplex_bytes { SIMPLEX_OF_REPLY = 0, SIMPLEX_SHOWN = 1 };
-
-/* Which vote a text is of. */
-enum simplex_subject_kind { SIMPLEX_NOTARIZE = 0, SIMPLEX_NULLIFY = 1, SIMPLEX_FINALIZE = 2 };
 
 /* How a journal ends behind its whole entries. */
 enum simplex_ending {
@@ -389,9 +388,9 @@ SIMPLEX_SIZE(struct simplex_scan, 24);
 
 /* What a resolver is told. */
 enum simplex_told_kind {
-    SIMPLEX_TOLD_NOTARIZATION = 1, /* a certificate that the member newly added */
-    SIMPLEX_TOLD_NULLIFICATION = 2,
-    SIMPLEX_TOLD_FINALIZATION = 3,
+    SIMPLEX_TOLD_NOTARIZATION = SIMPLEX_NOTARIZATION, /* a certificate that the member newly added */
+    SIMPLEX_TOLD_NULLIFICATION = SIMPLEX_NULLIFICATION,
+    SIMPLEX_TOLD_FINALIZATION = SIMPLEX_FINALIZATION,
     SIMPLEX_TOLD_VERDICT = 4       /* on the notarization of proposal, as simplex_member_call answers SIMPLEX_CERTIFIED */
 };
 
@@ -414,12 +413,12 @@ SIMPLEX_SIZE(struct simplex_effects, 24);
 /* What is to be done with fetches. */
 enum simplex_effect_kind {
     SIMPLEX_FETCH = 1,     /* fetch a nullification that covers view; cause: the view that called for it; reason: a simplex_fetch_reason */
-    SIMPLEX_SETTLED = 2,   /* nothing is left to ask for at the views view to end; reason: a simplex_settled_kind */
+    SIMPLEX_SETTLED = 2,   /* nothing is left to ask for at the views view to end; reason: a simplex_certificate_kind,
+                              a notarization or a nullification */
     SIMPLEX_FINALIZED = 3, /* each ask at or below view is settled */
     SIMPLEX_RAISED = 4     /* each fetch at or below view ends */
 };
 enum simplex_fetch_reason { SIMPLEX_MISSING_NULLIFICATION = 0, SIMPLEX_CERTIFICATION_FAILED = 1 };
-enum simplex_settled_kind { SIMPLEX_NULLIFICATIONS = 0, SIMPLEX_NOTARIZATIONS = 1 };
 
 struct simplex_effect {
     uint32_t status; /* SIMPLEX_OK */
@@ -492,14 +491,18 @@ enum simplex_output_kind {
 };
 
 /* What is fetched: the view's notarization, a nullification that covers it, or whatever certificate decides it. */
-enum simplex_fetch_kind { SIMPLEX_FETCH_NOTARIZATION = 1, SIMPLEX_FETCH_NULLIFICATION = 2, SIMPLEX_FETCH_DECISION = 3 };
+enum simplex_fetch_kind {
+    SIMPLEX_FETCH_NOTARIZATION = SIMPLEX_NOTARIZATION,
+    SIMPLEX_FETCH_NULLIFICATION = SIMPLEX_NULLIFICATION,
+    SIMPLEX_FETCH_DECISION = 4
+};
 
 /* Which bytes of an engine are read: the first or the second of the last output, or those that were shown last. */
 enum simplex_engine_bytes { SIMPLEX_OF_OUTPUT = 0, SIMPLEX_OTHER_OF_OUTPUT = 1, SIMPLEX_SHOWN_OF_ENGINE = 2 };
 
 /* What a vote or a certificate is on. */
 struct simplex_subject {
-    uint32_t kind;   /* a simplex_certificate_kind: which certificate such votes make */
+    uint32_t kind;   /* of a vote its simplex_vote_kind, of a certificate its simplex_certificate_kind */
     uint32_t member; /* who signed, sent or leads; SIMPLEX_NOBODY where there is none */
     struct simplex_proposal proposal; /* of a nullification the round alone */
 };
@@ -697,7 +700,7 @@ uint32_t simplex_member_restart(simplex_member *at, const struct simplex_restart
 /* Lets a member go; nothing where the handle is null. It must not be used again. */
 void simplex_member_free(simplex_member *at);
 
-/* The text that a vote signs, a simplex_subject_kind: what other members' votes are verified on. A nullify reads the round alone. */
+/* The text that a vote signs, a simplex_vote_kind: what other members' votes are verified on. A nullify reads the round alone. */
 struct simplex_text simplex_subject(uint32_t kind, const struct simplex_proposal *proposal);
 
 /* How many bytes of a journal are whole frames, and how it ends behind them. */

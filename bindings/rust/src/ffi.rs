@@ -4,7 +4,12 @@ use std::ffi::c_char;
 use std::marker::PhantomData;
 
 /// What `simplex_version` answers for the structs below.
-pub(crate) const VERSION: u32 = 3;
+pub(crate) const VERSION: u32 = 4;
+
+/// The kinds of certificates. Votes of a kind make the certificate of the same number.
+pub(crate) const NOTARIZATION: u32 = 1;
+pub(crate) const NULLIFICATION: u32 = 2;
+pub(crate) const FINALIZATION: u32 = 3;
 
 /// No member.
 pub(crate) const NOBODY: u32 = u32::MAX;

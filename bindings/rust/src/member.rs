@@ -326,20 +326,15 @@ impl Member {
     /// What is to be verified next.
     pub fn try_verify(&mut self) -> Answer<Verify> {
         let reply = self.plain(kind::TRY_VERIFY)?;
-        let kind = match reply.has {
-            0 => return Ok(Verify::Wait),
-            1 => {
-                let context = Context::of(&reply.context, reply.member);
-                return Ok(Verify::Ready(context, Proposal::of(&reply.proposal)));
-            }
-            2 => Lacking::Nullification,
-            _ => Lacking::Notarization,
-        };
-        Ok(Verify::Resolve {
-            proposal: View::new(reply.waiting),
-            view: View::new(reply.lacking),
-            kind,
-            target: Participant::new(reply.member),
+        Ok(match reply.has {
+            0 => Verify::Wait,
+            1 => Verify::Ready(Context::of(&reply.context, reply.member), Proposal::of(&reply.proposal)),
+            _ => Verify::Resolve {
+                proposal: View::new(reply.waiting),
+                view: View::new(reply.lacking),
+                kind: Lacking::of(reply.reason),
+                target: Participant::new(reply.member),
+            },
         })
     }
 

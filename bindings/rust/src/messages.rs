@@ -84,7 +84,7 @@ impl Subject {
     /// ```
     pub fn encode(&self) -> Vec<u8> {
         let (kind, proposal) = self.flat();
-        let text = ffi::simplex_subject(kind - 1, &proposal);
+        let text = ffi::simplex_subject(kind, &proposal);
         assert_eq!(text.status, 0, "there is memory for a text of 57 bytes");
         text.bytes[..text.count as usize].to_vec()
     }
@@ -124,15 +124,15 @@ impl Subject {
         }
     }
 
-    /// The number of the certificate that votes on it make, and what it is on; of a round the round alone.
+    /// The number of votes on it, which is that of the certificate that they make, and what it is on; of a round the round alone.
     pub(crate) fn flat(&self) -> (u32, ffi::Proposal) {
         match self {
-            Subject::Notarize(proposal) => (1, proposal.flat()),
-            Subject::Finalize(proposal) => (3, proposal.flat()),
+            Subject::Notarize(proposal) => (ffi::NOTARIZATION, proposal.flat()),
+            Subject::Finalize(proposal) => (ffi::FINALIZATION, proposal.flat()),
             Subject::Nullify(round) => {
                 let round = round.flat();
                 (
-                    2,
+                    ffi::NULLIFICATION,
                     ffi::Proposal {
                         round,
                         ..Default::default()
@@ -145,8 +145,8 @@ impl Subject {
     /// The subject of numbers of the library, which knows no other kind.
     pub(crate) fn of(kind: u32, proposal: &ffi::Proposal) -> Subject {
         match kind {
-            1 => Subject::Notarize(Proposal::of(proposal)),
-            2 => Subject::Nullify(Round::of(&proposal.round)),
+            ffi::NOTARIZATION => Subject::Notarize(Proposal::of(proposal)),
+            ffi::NULLIFICATION => Subject::Nullify(Round::of(&proposal.round)),
             _ => Subject::Finalize(Proposal::of(proposal)),
         }
     }
@@ -308,9 +308,9 @@ impl CertificateKind {
     /// Its number.
     pub(crate) fn number(self) -> u32 {
         match self {
-            CertificateKind::Notarization => 1,
-            CertificateKind::Nullification => 2,
-            CertificateKind::Finalization => 3,
+            CertificateKind::Notarization => ffi::NOTARIZATION,
+            CertificateKind::Nullification => ffi::NULLIFICATION,
+            CertificateKind::Finalization => ffi::FINALIZATION,
         }
     }
 }
@@ -411,6 +411,16 @@ pub enum Lacking {
     Nullification,
     /// A notarization of its parent.
     Notarization,
+}
+
+impl Lacking {
+    /// The one of a number of the library, which knows no other.
+    pub(crate) fn of(kind: u32) -> Lacking {
+        match kind {
+            ffi::NULLIFICATION => Lacking::Nullification,
+            _ => Lacking::Notarization,
+        }
+    }
 }
 
 /// What is to be verified.

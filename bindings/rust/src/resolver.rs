@@ -108,10 +108,7 @@ impl Resolver {
                 },
             },
             2 => Effect::Settled {
-                kind: match effect.reason {
-                    0 => Lacking::Nullification,
-                    _ => Lacking::Notarization,
-                },
+                kind: Lacking::of(effect.reason),
                 start: view,
                 end: View::new(effect.end),
             },

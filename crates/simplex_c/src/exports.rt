@@ -29,9 +29,9 @@ use std::alloc::Global;
 /// The number that rises when a struct, a number or a function here changes its meaning.
 #[unsafe(no_mangle)]
 pub extern "C" fn simplex_version() -> u32
-    ensures { result ≡ 3 }
+    ensures { result ≡ 4 }
 {
-    3
+    4
 }
 
 /// Begins a member that never voted, and writes its handle. 0, or why there is none; then nothing is written.

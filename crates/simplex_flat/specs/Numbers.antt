@@ -1,5 +1,7 @@
 -- The numbers of kinds, reasons and flags.
-use Rattle.std.specs.Prelude.{ℕ, Bool, true, false, Option, Some, None}
+use Rattle.std.specs.Prelude.{◌≡◌, ◌⊎◌, ◌<◌, ◌≤◌, ℕ, Bool, true, false, Option, Some, None}
+use Rattle.simplex_types.specs.declared.reasons.Kind.{Kind}
+use Rattle.simplex_types.specs.declared.reasons.Kind.TheVariants as lacking
 use Rattle.simplex_types.specs.declared.reasons.TimeoutReason.{TimeoutReason}
 use Rattle.simplex_types.specs.declared.reasons.TimeoutReason.TheVariants as reason
 use Rattle.simplex_types.specs.declared.reasons.HandoffAbandonedReason.{HandoffAbandonedReason}
@@ -9,6 +11,10 @@ use Rattle.simplex_types.specs.declared.types.fault.Fault.TheVariants as fault
 use Rattle.simplex_host.specs.declared.scheme.HostKey.{HostKey}
 use Rattle.simplex_flat.specs.declared.call_kind.CallKind.{CallKind}
 use Rattle.simplex_flat.specs.declared.call_kind.CallKind.TheVariants as kind
+use Rattle.simplex_flat.specs.declared.kinds.CertificateKind.{CertificateKind}
+use Rattle.simplex_flat.specs.declared.kinds.CertificateKind.TheVariants as certificate
+use Rattle.simplex_flat.specs.declared.kinds.VoteKind.{VoteKind}
+use Rattle.simplex_flat.specs.declared.kinds.VoteKind.TheVariants as vote
 
 -- the number of a kind of calls
 abbrev pub kind_number : CallKind → ℕ
@@ -37,6 +43,31 @@ kind_number kind.GetBestCertificate = 21
 kind_number kind.TriggerTimeout = 22
 kind_number kind.NextTimeout = 23
 kind_number kind.Prune = 24
+
+-- the number of a certificate's kind
+abbrev pub certificate_number : CertificateKind → ℕ
+certificate_number certificate.Notarization = 1
+certificate_number certificate.Nullification = 2
+certificate_number certificate.Finalization = 3
+
+-- the number of a vote's kind: that of the certificate which such votes make
+abbrev pub vote_number : VoteKind → ℕ
+vote_number vote.Notarize = certificate_number certificate.Notarization
+vote_number vote.Nullify = certificate_number certificate.Nullification
+vote_number vote.Finalize = certificate_number certificate.Finalization
+
+-- the number of a certificate that is lacking
+abbrev pub lacking_number : Kind → ℕ
+lacking_number lacking.Nullification = certificate_number certificate.Nullification
+lacking_number lacking.Notarization = certificate_number certificate.Notarization
+
+-- a number is that of a kind of votes and of certificates
+abbrev pub IsKind : ℕ → Type 0
+IsKind kind = (0 < kind) × (kind < 4)
+
+-- a number is that of no kind
+abbrev pub IsNoKind : ℕ → Type 0
+IsNoKind kind = (kind ≡ 0) ⊎ (4 ≤ kind)
 
 -- the number of a reason for a timeout
 abbrev pub reason_number : TimeoutReason → ℕ

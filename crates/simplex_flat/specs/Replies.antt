@@ -2,7 +2,6 @@
 use Rattle.std.specs.Prelude.{◌≡◌, ℕ, Bool, length, Option, Some, None}
 use Rattle.simplex_types.specs.Certificates.{ArtifactFacts, NotarizeVote, NullifyVote, FinalizeVote, CertificateFacts, Notarized, Nullified, Finalized, ProposalFacts}
 use Rattle.simplex_types.specs.declared.types.messages.Context.{Context}
-use Rattle.simplex_types.specs.declared.reasons.Kind.TheVariants as lacking
 use Rattle.simplex_types.specs.declared.reasons.HandoffAbandonedReason.{HandoffAbandonedReason}
 use Rattle.simplex_voter.specs.declared.voter.propose.ProposalRequest.{ProposalRequest}
 use Rattle.simplex_voter.specs.declared.voter.propose.ProposalRequest.TheVariants.{Prepare, Propose}
@@ -15,7 +14,8 @@ use Rattle.simplex_member.specs.Calls.{Told, Added, AddedNullification, Judged, 
 use Rattle.simplex_flat.specs.declared.flat.FlatContext.{FlatContext}
 use Rattle.simplex_flat.specs.declared.flat.FlatReply.{FlatReply}
 use Rattle.simplex_flat.specs.Calls.{IsFlatProposal, flat_round}
-use Rattle.simplex_flat.specs.Numbers.{abandoned_number, fault_status, flag_number, member_number, reason_number}
+use Rattle.simplex_flat.specs.declared.kinds.CertificateKind.TheVariants as kind
+use Rattle.simplex_flat.specs.Numbers.{abandoned_number, certificate_number, fault_status, flag_number, lacking_number, member_number, reason_number}
 
 -- the call is answered, by an answer of this kind
 abbrev pub HasAnswer : ℕ → FlatReply → Type 0
@@ -33,12 +33,12 @@ HasRequest None f = f.has ≡ 0
 HasRequest (Some (Propose c)) f = (f.has ≡ 1) × (f.member ≡ c.leader.0) × IsContext f.context c
 HasRequest (Some (Prepare c)) f = (f.has ≡ 2) × (f.member ≡ c.leader.0) × IsContext f.context c
 
--- what is to be verified: 1 for a proposal, 2 where a nullification is lacking, 3 where it is a notarization
+-- what is to be verified: 1 for a proposal, 2 where a certificate of its ancestry is lacking, of this kind
 abbrev pub HasWork : Verify (BytesDigest 32) HostKey → FlatReply → Type 0
 HasWork Wait f = f.has ≡ 0
 HasWork (Ready c q) f = (f.has ≡ 1) × (f.member ≡ c.leader.0) × IsContext f.context c × IsFlatProposal f.proposal q
-HasWork (Resolve waiting view lacking.Nullification leader) f = (f.has ≡ 2) × (f.member ≡ leader.0) × (f.waiting ≡ waiting) × (f.lacking ≡ view)
-HasWork (Resolve waiting view lacking.Notarization leader) f = (f.has ≡ 3) × (f.member ≡ leader.0) × (f.waiting ≡ waiting) × (f.lacking ≡ view)
+HasWork (Resolve waiting view kind leader) f =
+    (f.has ≡ 2) × (f.reason ≡ lacking_number kind) × (f.member ≡ leader.0) × (f.waiting ≡ waiting) × (f.lacking ≡ view)
 
 -- the notarization of a verdict's view, if it is there
 abbrev pub HasNotarization : Option (ProposalFacts (BytesDigest 32)) → FlatReply → Type 0
@@ -64,12 +64,12 @@ HasFinalize None f = f.has ≡ 0
 HasFinalize (Some (FinalizeVote q signer)) f = (f.has ≡ 1) × (f.member ≡ signer) × IsFlatProposal f.proposal q
 HasFinalize _ f = ⊥
 
--- a certificate: 1 for a notarization, 2 for a nullification, 3 for a finalization
+-- a certificate, by the number of its kind
 abbrev pub HasCertificate : Option (CertificateFacts (BytesDigest 32)) → FlatReply → Type 0
 HasCertificate None f = f.has ≡ 0
-HasCertificate (Some (Notarized c)) f = (f.has ≡ 1) × IsFlatProposal f.proposal c.proposal
-HasCertificate (Some (Nullified c)) f = (f.has ≡ 2) × (c.round ≡ flat_round f.proposal.round)
-HasCertificate (Some (Finalized c)) f = (f.has ≡ 3) × IsFlatProposal f.proposal c.proposal
+HasCertificate (Some (Notarized c)) f = (f.has ≡ certificate_number kind.Notarization) × IsFlatProposal f.proposal c.proposal
+HasCertificate (Some (Nullified c)) f = (f.has ≡ certificate_number kind.Nullification) × (c.round ≡ flat_round f.proposal.round)
+HasCertificate (Some (Finalized c)) f = (f.has ≡ certificate_number kind.Finalization) × IsFlatProposal f.proposal c.proposal
 
 -- why a handoff has to be given up, if it has
 abbrev pub HasReason : Option HandoffAbandonedReason → FlatReply → Type 0

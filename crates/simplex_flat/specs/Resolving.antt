@@ -6,7 +6,6 @@ use Rattle.std.specs.List.{flat_map}
 use Rattle.simplex_types.specs.Certificates.{CertificateFacts, ProposalFacts, Notarized, Nullified, Finalized}
 use Rattle.simplex_types.specs.declared.reasons.FetchReason.{FetchReason}
 use Rattle.simplex_types.specs.declared.reasons.FetchReason.TheVariants as why
-use Rattle.simplex_types.specs.declared.reasons.Kind.{Kind}
 use Rattle.simplex_types.specs.declared.reasons.Kind.TheVariants as lacking
 use Rattle.simplex_types.specs.declared.types.fault.Fault.{Fault}
 use Rattle.simplex_codec.specs.declared.digest.BytesDigest.{BytesDigest}
@@ -36,7 +35,7 @@ use Rattle.simplex_flat.specs.declared.resolving.NotReplayed.{NotReplayed}
 use Rattle.simplex_flat.specs.declared.resolving.NotReplayed.TheVariants as not_replayed
 use Rattle.simplex_flat.specs.Calls.{IsFlatProposal, flat_round}
 use Rattle.simplex_flat.specs.Journals.{HostArtifact, IsNotRead, framed}
-use Rattle.simplex_flat.specs.Numbers.{fault_status, flag_number}
+use Rattle.simplex_flat.specs.Numbers.{fault_status, flag_number, lacking_number}
 
 -- a resolver that was told the entries whose frames these bytes are, and then that its replay has ended; nothing is to be read yet
 pub record IsBegunFrom (term_length : ℕ) (journal : List ℕ) (held : HeldResolver) : Type 0 where
@@ -148,10 +147,6 @@ IsHeard old f bytes r new =
 abbrev pub why_number : FetchReason → ℕ
 why_number why.MissingNullification = 0
 why_number why.CertificationFailed = 1
-
-abbrev pub lacking_number : Kind → ℕ
-lacking_number lacking.Nullification = 0
-lacking_number lacking.Notarization = 1
 
 -- an effect is of these numbers
 abbrev pub IsEffect : Effect → FlatEffect → Type 0

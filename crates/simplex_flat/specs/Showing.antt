@@ -1,5 +1,5 @@
 -- What a member shows beside its replies.
-use Rattle.std.specs.Prelude.{◌≡◌, ◌⊎◌, ◌<◌, ◌≤◌, slice_get, ℕ, zero, suc, List, [], ◌++◌, Option, Some, None, MatchOption, is_some, option_map, length, take, drop}
+use Rattle.std.specs.Prelude.{◌≡◌, ◌⊎◌, ◌≤◌, slice_get, ℕ, zero, suc, List, [], ◌++◌, Option, Some, None, MatchOption, is_some, option_map, length, take, drop}
 use Rattle.std.specs.List.{All}
 use Rattle.std.specs.Option.{IsSome}
 use Rattle.simplex_types.specs.Certificates.{CertificateFacts, Notarized, Nullified, Finalized}
@@ -32,7 +32,9 @@ use Rattle.simplex_flat.specs.declared.shown.FlatText.{FlatText}
 use Rattle.simplex_flat.specs.declared.shown.FlatView.{FlatView}
 use Rattle.simplex_flat.specs.Calls.{IsFlatProposal, flat_round}
 use Rattle.simplex_flat.specs.Journals.{FitsFrame, HasTooLong, HostArtifact, framed}
-use Rattle.simplex_flat.specs.Numbers.{flag_number, index_number}
+use Rattle.simplex_flat.specs.declared.kinds.CertificateKind.TheVariants as certificate
+use Rattle.simplex_flat.specs.declared.kinds.VoteKind.TheVariants as vote
+use Rattle.simplex_flat.specs.Numbers.{IsKind, IsNoKind, certificate_number, flag_number, index_number, vote_number}
 use Rattle.simplex_flat.specs.Opening.{IsFlatStored}
 use Rattle.simplex_flat.specs.Serving.{HostReply, IsFetchAt, IsProposalAt, dropped_in, fetches_in, proposals_in, reply_bytes}
 
@@ -118,17 +120,13 @@ certificate_of_kind _ x view = None
 -- what a certificate is of, with its bytes
 abbrev pub HasFound : Option (CertificateFacts (BytesDigest 32)) → FlatFound → List ℕ → Type 0
 HasFound None r shown = (r.has ≡ 0) × (shown ≡ [])
-HasFound (Some (Notarized c)) r shown = (r.has ≡ 1) × IsFlatProposal r.proposal c.proposal × (shown ≡ c.bytes)
-HasFound (Some (Nullified c)) r shown = (r.has ≡ 2) × (c.round ≡ flat_round r.proposal.round) × (shown ≡ c.bytes)
-HasFound (Some (Finalized c)) r shown = (r.has ≡ 3) × IsFlatProposal r.proposal c.proposal × (shown ≡ c.bytes)
+HasFound (Some (Notarized c)) r shown = (r.has ≡ certificate_number certificate.Notarization) × IsFlatProposal r.proposal c.proposal × (shown ≡ c.bytes)
+HasFound (Some (Nullified c)) r shown = (r.has ≡ certificate_number certificate.Nullification) × (c.round ≡ flat_round r.proposal.round) × (shown ≡ c.bytes)
+HasFound (Some (Finalized c)) r shown = (r.has ≡ certificate_number certificate.Finalization) × IsFlatProposal r.proposal c.proposal × (shown ≡ c.bytes)
 
 -- a certificate is found, and its bytes are written behind others
 abbrev pub ShowsCertificate : Option (CertificateFacts (BytesDigest 32)) → FlatFound → List ℕ → List ℕ → Type 0
 ShowsCertificate found r before after = (bytes : List ℕ) × HasFound found r bytes × (after ≡ before ++ bytes) × (r.bytes ≡ length bytes)
-
--- a kind of certificates
-abbrev pub IsKind : ℕ → Type 0
-IsKind kind = (0 < kind) × (kind < 4)
 
 -- none is shown, for this status
 abbrev pub IsUnfound : ℕ → FlatFound → List ℕ → Type 0
@@ -181,13 +179,12 @@ HasText bytes r = (r.status ≡ 1) ⊎ ((r.status ≡ 0) × (r.count ≡ length 
 
 -- what a vote of a kind is on
 abbrev pub IsSubject : ℕ → FlatProposal → Subject (BytesDigest 32) → Type 0
-IsSubject zero f (subject.Notarize q) = IsFlatProposal f q
-IsSubject (suc zero) f (subject.Nullify round) = round ≡ flat_round f.round
-IsSubject (suc (suc zero)) f (subject.Finalize q) = IsFlatProposal f q
-IsSubject _ _ _ = ⊥
+IsSubject kind f (subject.Notarize q) = (kind ≡ vote_number vote.Notarize) × IsFlatProposal f q
+IsSubject kind f (subject.Nullify round) = (kind ≡ vote_number vote.Nullify) × (round ≡ flat_round f.round)
+IsSubject kind f (subject.Finalize q) = (kind ≡ vote_number vote.Finalize) × IsFlatProposal f q
 
 -- what a vote of a kind signs; nothing, where no vote has the kind
 abbrev pub IsText : ℕ → FlatProposal → FlatText → Type 0
 IsText kind f r =
-    ((r.status ≡ 6) × (3 ≤ kind))
+    ((r.status ≡ 6) × IsNoKind kind)
     ⊎ ((s : Subject (BytesDigest 32)) × IsSubject kind f s × HasText (subject_bytes bytes_in_digest s) r)

@@ -7,6 +7,7 @@ pub mod call_kind;
 pub mod flat;
 pub mod held;
 pub mod journal;
+pub mod kinds;
 pub mod moving;
 pub mod numbers;
 pub mod opening;

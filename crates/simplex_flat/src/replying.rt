@@ -10,12 +10,12 @@ ghost use Rattle.simplex_flat.specs.Calls.{IsFlatProposal, flat_round};
 ghost use Rattle.simplex_flat.specs.Replies.{HasAnswer, HasCertificate, HasFinalize, HasNotarize, HasNullify, HasRequest, HasWork, IsContext, Tells};
 
 use crate::flat::{FlatContext, FlatProposal, FlatReply, FlatRound};
+use crate::kinds::{CertificateKind, number_of_certificate, number_of_lacking};
 use crate::numbers::{
     number_of_abandoned, number_of_fault, number_of_flag, number_of_member, number_of_reason,
 };
 use simplex_host::scheme::{HostDigest, HostKey, HostScheme};
 use simplex_member::member::Reply;
-use simplex_types::reasons::Kind;
 use simplex_types::types::{Certificate, Context, Finalize, Notarize, Nullify, Proposal, Round};
 use simplex_voter::voter::{ProposalRequest, Verify};
 
@@ -200,10 +200,8 @@ fn flat_work(work: &Verify<HostDigest, HostKey>) -> FlatReply
             kind,
             target: HostKey(leader),
         } => FlatReply {
-            has: match kind {
-                Kind::Nullification => 2,
-                Kind::Notarization => 3,
-            },
+            has: 2,
+            reason: number_of_lacking(*kind),
             member: *leader,
             waiting: proposal.get(),
             lacking: view.get(),
@@ -267,12 +265,12 @@ fn flat_certificate(certificate: &Option<Certificate<HostScheme, HostDigest>>) -
 {
     match certificate {
         Some(Certificate::Notarization(it)) => FlatReply {
-            has: 1,
+            has: number_of_certificate(CertificateKind::Notarization),
             proposal: flat_proposal(&it.proposal),
             ..answered(11)
         },
         Some(Certificate::Nullification(it)) => FlatReply {
-            has: 2,
+            has: number_of_certificate(CertificateKind::Nullification),
             proposal: FlatProposal {
                 round: flat_round(it.round),
                 parent: 0,
@@ -281,7 +279,7 @@ fn flat_certificate(certificate: &Option<Certificate<HostScheme, HostDigest>>) -
             ..answered(11)
         },
         Some(Certificate::Finalization(it)) => FlatReply {
-            has: 3,
+            has: number_of_certificate(CertificateKind::Finalization),
             proposal: flat_proposal(&it.proposal),
             ..answered(11)
         },

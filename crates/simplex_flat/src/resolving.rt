@@ -12,6 +12,7 @@ ghost use Rattle.simplex_flat.specs.Showing.{IsChunk};
 
 use crate::asking::{finalization_of, notarization_of, nullification_of};
 use crate::journal::{NotRead, read_entries};
+use crate::kinds::{CertificateKind, certificate_kind_of, number_of_lacking};
 use crate::numbers::{flag_of, number_of_fault, number_of_flag};
 use crate::resolved::{
     FlatEffect, FlatEffects, FlatOutstanding, FlatServed, FlatSettled, FlatTold,
@@ -283,12 +284,20 @@ fn certificate_in(
     ensures kind { IfOk result (λ found. IfSome found (λ _. (0 < flat.now.kind) × (flat.now.kind < 4))) }
     ensures wanting { OnErr result ((0 < flat.now.kind) × (flat.now.kind < 4)) }
 {
-    Ok(match flat.kind {
-        1 => Some(Certificate::Notarization(notarization_of(alloc, &flat.proposal, bytes)?)),
-        2 => Some(Certificate::Nullification(nullification_of(alloc, flat.proposal.round, bytes)?)),
-        3 => Some(Certificate::Finalization(finalization_of(alloc, &flat.proposal, bytes)?)),
-        _ => None,
-    })
+    let Some(kind) = certificate_kind_of(flat.kind) else {
+        return Ok(None);
+    };
+    Ok(Some(match kind {
+        CertificateKind::Notarization => {
+            Certificate::Notarization(notarization_of(alloc, &flat.proposal, bytes)?)
+        }
+        CertificateKind::Nullification => {
+            Certificate::Nullification(nullification_of(alloc, flat.proposal.round, bytes)?)
+        }
+        CertificateKind::Finalization => {
+            Certificate::Finalization(finalization_of(alloc, &flat.proposal, bytes)?)
+        }
+    }))
 }
 
 pub(crate) fn no_effects(status: u32) -> FlatEffects
@@ -337,10 +346,7 @@ fn flat_effect(effect: Effect) -> FlatEffect
         },
         Effect::Settled { kind, start, end } => FlatEffect {
             kind: 2,
-            reason: match kind {
-                Kind::Nullification => 0,
-                Kind::Notarization => 1,
-            },
+            reason: number_of_lacking(kind),
             view: start.get(),
             end: end.get(),
             ..no_effect()

@@ -2,8 +2,8 @@
 
 ghost use Rattle.std.specs.Prelude.{◌≡◌, ◌≤◌, ◌++◌, true, IfOk, IfSome, OnOk, OnErr, MatchOption, length, take, drop};
 ghost use Rattle.std.specs.Option.{IsSome, option_copied};
-ghost use Rattle.simplex_flat.specs.Numbers.{index_number};
-ghost use Rattle.simplex_flat.specs.Showing.{HasAnsweredIn, HasForwardable, IsChunk, IsViewIn, IsKind, IsSubject, IsText, IsViewOf, ShowsCertificate, certificate_of_kind};
+ghost use Rattle.simplex_flat.specs.Numbers.{IsNoKind, certificate_number, index_number};
+ghost use Rattle.simplex_flat.specs.Showing.{HasAnsweredIn, HasForwardable, IsChunk, IsViewIn, IsSubject, IsText, IsViewOf, ShowsCertificate, certificate_of_kind};
 ghost use Rattle.simplex_voter.specs.Refusals.{is_started};
 ghost use Rattle.simplex_voter.specs.Serving.{forwardable_of};
 
@@ -11,6 +11,9 @@ use crate::asking::{proposal_of, round_in};
 use crate::flat::{FlatFetch, FlatProposal, FlatRound};
 use crate::held::Held;
 use crate::journal::write_entries;
+use crate::kinds::{
+    CertificateKind, VoteKind, certificate_kind_of, number_of_certificate, vote_kind_of,
+};
 use crate::numbers::number_of_flag;
 use crate::replying::{flat_proposal, flat_round};
 use crate::shown::{
@@ -154,9 +157,9 @@ pub fn certificate_in(
     ensures bytes { result.bytes ≡ length shown.new.items }
 {
     shown.clear();
-    if kind == 0 || kind > 3 {
+    let Some(kind) = certificate_kind_of(kind) else {
         return unfound(6);
-    }
+    };
     let Some(state) = state else {
         return unfound(2);
     };
@@ -238,37 +241,37 @@ pub(crate) fn no_view() -> FlatView {
 /// The bytes of a view's certificate are written behind those of `out`.
 fn show_certificate(
     state: &HostState,
-    kind: u32,
+    kind: CertificateKind,
     view: View,
     out: &mut BytesMut,
 ) -> Result<FlatFound, AllocError>
-    requires { IsKind kind }
-    ensures found { IfOk result (λ r. (r.status ≡ 0) × ShowsCertificate (certificate_of_kind kind state.now view) r out.old.items out.new.items) }
-    ensures wanting { OnErr result (IsSome (certificate_of_kind kind state.now view)) }
+    ensures found { IfOk result (λ r. (r.status ≡ 0)
+        × ShowsCertificate (certificate_of_kind (certificate_number kind) state.now view) r out.old.items out.new.items) }
+    ensures wanting { OnErr result (IsSome (certificate_of_kind (certificate_number kind) state.now view)) }
 {
     match kind {
-        1 => match state.notarization(view) {
+        CertificateKind::Notarization => match state.notarization(view) {
             Some(it) => show(
                 out,
-                1,
+                kind,
                 flat_proposal(&it.proposal),
                 it.certificate.bytes.as_slice(),
             ),
             None => Ok(unfound(0)),
         },
-        2 => match state.nullification(view) {
+        CertificateKind::Nullification => match state.nullification(view) {
             Some(it) => show(
                 out,
-                2,
+                kind,
                 of_round(flat_round(it.round)),
                 it.certificate.bytes.as_slice(),
             ),
             None => Ok(unfound(0)),
         },
-        _ => match state.finalization(view) {
+        CertificateKind::Finalization => match state.finalization(view) {
             Some(it) => show(
                 out,
-                3,
+                kind,
                 flat_proposal(&it.proposal),
                 it.certificate.bytes.as_slice(),
             ),
@@ -280,17 +283,17 @@ fn show_certificate(
 /// Bytes are written behind those of `out`.
 fn show(
     out: &mut BytesMut,
-    has: u32,
+    kind: CertificateKind,
     proposal: FlatProposal,
     bytes: &[u8],
 ) -> Result<FlatFound, AllocError>
-    ensures found { IfOk result (λ r. (r.status ≡ 0) × (r.has ≡ has) × (r.proposal ≡ proposal) × (r.bytes ≡ length bytes.now)) }
+    ensures found { IfOk result (λ r. (r.status ≡ 0) × (r.has ≡ certificate_number kind) × (r.proposal ≡ proposal) × (r.bytes ≡ length bytes.now)) }
     ensures written { OnOk result (out.new.items ≡ out.old.items ++ bytes.now) }
 {
     out.put_slice(bytes)?;
     Ok(FlatFound {
         status: 0,
-        has,
+        has: number_of_certificate(kind),
         bytes: bytes.len() as u64,
         proposal,
     })
@@ -414,7 +417,7 @@ fn front_of(bytes: &[u8]) -> &[u8]
     }
 }
 
-/// What a vote signs: 0 one to notarize, 1 one to nullify, whose round alone counts, 2 one to finalize.
+/// What a vote of a kind signs; of one to nullify the round alone counts.
 pub fn subject_text(alloc: Global, kind: u32, proposal: &FlatProposal) -> FlatText
     ensures { IsText kind proposal.now result }
 {
@@ -429,14 +432,13 @@ pub fn subject_text(alloc: Global, kind: u32, proposal: &FlatProposal) -> FlatTe
 
 /// What a vote of a kind is on; none where no vote has the kind.
 fn subject_of(kind: u32, proposal: &FlatProposal) -> Option<Subject<HostDigest>>
-    ensures { MatchOption result (3 ≤ kind) (IsSubject kind proposal.now) }
+    ensures { MatchOption result (IsNoKind kind) (IsSubject kind proposal.now) }
 {
-    match kind {
-        0 => Some(Subject::Notarize(proposal_of(proposal))),
-        1 => Some(Subject::Nullify(round_in(proposal.round))),
-        2 => Some(Subject::Finalize(proposal_of(proposal))),
-        _ => None,
-    }
+    Some(match vote_kind_of(kind)? {
+        VoteKind::Notarize => Subject::Notarize(proposal_of(proposal)),
+        VoteKind::Nullify => Subject::Nullify(round_in(proposal.round)),
+        VoteKind::Finalize => Subject::Finalize(proposal_of(proposal)),
+    })
 }
 
 /// The text of a vote.

@@ -15,7 +15,9 @@ use Rattle.simplex_engine.specs.declared.input.Input.{Input}
 use Rattle.simplex_engine.specs.declared.input.Input.TheVariants as input
 use Rattle.simplex_batcher.specs.declared.votes.Vote.{Vote}
 use Rattle.simplex_flat.specs.Calls.{IsFlatProposal, flat_round}
-use Rattle.simplex_flat.specs.Numbers.{flag_number, reason_number}
+use Rattle.simplex_flat.specs.declared.kinds.CertificateKind.TheVariants as kind
+use Rattle.simplex_flat.specs.declared.kinds.VoteKind.TheVariants as vote
+use Rattle.simplex_flat.specs.Numbers.{certificate_number, flag_number, reason_number, vote_number}
 use Rattle.simplex_flat.specs.Replies.{IsContext}
 use Rattle.simplex_flat_engine.specs.declared.told.FlatInput.{FlatInput}
 use Rattle.simplex_flat_engine.specs.declared.told.FlatSubject.{FlatSubject}
@@ -37,11 +39,11 @@ HasKind f = (0 < f.kind) × (f.kind < 4)
 abbrev pub IsNoKind : FlatSubject → Type 0
 IsNoKind f = (f.kind ≡ 0) ⊎ (4 ≤ f.kind)
 
--- what a vote is on: 1 to notarize, 2 to nullify, 3 to finalize
+-- what a vote is on, by the number of its kind
 abbrev pub IsOn : FlatSubject → Subject (BytesDigest 32) → Type 0
-IsOn f (subject.Notarize q) = (f.kind ≡ 1) × IsFlatProposal f.proposal q
-IsOn f (subject.Nullify round) = (f.kind ≡ 2) × (round ≡ flat_round f.proposal.round)
-IsOn f (subject.Finalize q) = (f.kind ≡ 3) × IsFlatProposal f.proposal q
+IsOn f (subject.Notarize q) = (f.kind ≡ vote_number vote.Notarize) × IsFlatProposal f.proposal q
+IsOn f (subject.Nullify round) = (f.kind ≡ vote_number vote.Nullify) × (round ≡ flat_round f.proposal.round)
+IsOn f (subject.Finalize q) = (f.kind ≡ vote_number vote.Finalize) × IsFlatProposal f.proposal q
 
 -- a vote on this of this member, under a signature of these bytes with its key
 pub record IsVote (f : FlatSubject) (bytes : List ℕ) (v : HostVote) : Type 0 where
@@ -53,11 +55,11 @@ pub record IsVote (f : FlatSubject) (bytes : List ℕ) (v : HostVote) : Type 0 w
 -- a certificate on this, of these bytes
 abbrev pub IsCertificate : FlatSubject → List ℕ → HostCertified → Type 0
 IsCertificate f bytes (certificate.Notarization it) =
-    (f.kind ≡ 1) × IsFlatProposal f.proposal it.proposal × (certificate_bytes it.certificate ≡ bytes)
+    (f.kind ≡ certificate_number kind.Notarization) × IsFlatProposal f.proposal it.proposal × (certificate_bytes it.certificate ≡ bytes)
 IsCertificate f bytes (certificate.Nullification it) =
-    (f.kind ≡ 2) × (it.round ≡ flat_round f.proposal.round) × (certificate_bytes it.certificate ≡ bytes)
+    (f.kind ≡ certificate_number kind.Nullification) × (it.round ≡ flat_round f.proposal.round) × (certificate_bytes it.certificate ≡ bytes)
 IsCertificate f bytes (certificate.Finalization it) =
-    (f.kind ≡ 3) × IsFlatProposal f.proposal it.proposal × (certificate_bytes it.certificate ≡ bytes)
+    (f.kind ≡ certificate_number kind.Finalization) × IsFlatProposal f.proposal it.proposal × (certificate_bytes it.certificate ≡ bytes)
 
 -- the input that a flat one stands for, with these bytes
 abbrev pub IsToldAs : FlatInput → List ℕ → HostInput → Type 0

@@ -18,7 +18,8 @@ use Rattle.simplex_outbox.specs.declared.output.Output.TheVariants as output
 use Rattle.simplex_outbox.specs.declared.output.Work.{Work}
 use Rattle.simplex_outbox.specs.declared.output.Work.TheVariants as work
 use Rattle.simplex_flat.specs.Calls.{IsFlatProposal, flat_round}
-use Rattle.simplex_flat.specs.Numbers.{index_number}
+use Rattle.simplex_flat.specs.declared.kinds.CertificateKind.TheVariants as kind
+use Rattle.simplex_flat.specs.Numbers.{certificate_number, index_number}
 use Rattle.simplex_flat.specs.Replies.{IsContext}
 use Rattle.simplex_flat_engine.specs.declared.told.FlatOutput.{FlatOutput}
 use Rattle.simplex_flat_engine.specs.declared.told.FlatSubject.{FlatSubject}
@@ -41,15 +42,15 @@ IsVoteOf f v = IsOn f v.subject × (f.member ≡ v.signer)
 
 -- a certificate is on this
 abbrev pub IsOf : FlatSubject → HostCertified → Type 0
-IsOf f (certificate.Notarization it) = (f.kind ≡ 1) × IsFlatProposal f.proposal it.proposal
-IsOf f (certificate.Nullification it) = (f.kind ≡ 2) × (it.round ≡ flat_round f.proposal.round)
-IsOf f (certificate.Finalization it) = (f.kind ≡ 3) × IsFlatProposal f.proposal it.proposal
+IsOf f (certificate.Notarization it) = (f.kind ≡ certificate_number kind.Notarization) × IsFlatProposal f.proposal it.proposal
+IsOf f (certificate.Nullification it) = (f.kind ≡ certificate_number kind.Nullification) × (it.round ≡ flat_round f.proposal.round)
+IsOf f (certificate.Finalization it) = (f.kind ≡ certificate_number kind.Finalization) × IsFlatProposal f.proposal it.proposal
 
--- the number of what is fetched
+-- the number of what is fetched: that of the certificate, or a number of its own
 abbrev pub fetch_number : FetchKind → ℕ
-fetch_number fetch.Notarization = 1
-fetch_number fetch.Nullification = 2
-fetch_number fetch.Decision = 3
+fetch_number fetch.Notarization = certificate_number kind.Notarization
+fetch_number fetch.Nullification = certificate_number kind.Nullification
+fetch_number fetch.Decision = 4
 
 -- what is fetched, of whom
 pub record IsFetch (ask : Ask) (f : FlatOutput) : Type 0 where

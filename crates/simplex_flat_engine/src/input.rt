@@ -13,6 +13,7 @@ use simplex_flat::asking::{
     finalization_of, notarization_of, nullification_of, proposal_of, round_in,
 };
 use simplex_flat::flat::FlatContext;
+use simplex_flat::kinds::{CertificateKind, VoteKind, certificate_kind_of, vote_kind_of};
 use simplex_flat::numbers::{flag_of, reason_of};
 use simplex_host::scheme::{HostDigest, HostKey, HostScheme, Order};
 use simplex_types::reasons::TimeoutReason;
@@ -111,12 +112,20 @@ fn certificate_of(
     ensures wanting { OnErr result (HasKind flat.now) }
     ensures made { IfOk result (λ made. MatchOption made (IsNoKind flat.now) (λ it. HasKind flat.now × IsCertificate flat.now bytes.now it)) }
 {
-    Ok(match flat.kind {
-        1 => Some(Certificate::Notarization(notarization_of(alloc, &flat.proposal, bytes)?)),
-        2 => Some(Certificate::Nullification(nullification_of(alloc, flat.proposal.round, bytes)?)),
-        3 => Some(Certificate::Finalization(finalization_of(alloc, &flat.proposal, bytes)?)),
-        _ => None,
-    })
+    let Some(kind) = certificate_kind_of(flat.kind) else {
+        return Ok(None);
+    };
+    Ok(Some(match kind {
+        CertificateKind::Notarization => {
+            Certificate::Notarization(notarization_of(alloc, &flat.proposal, bytes)?)
+        }
+        CertificateKind::Nullification => {
+            Certificate::Nullification(nullification_of(alloc, flat.proposal.round, bytes)?)
+        }
+        CertificateKind::Finalization => {
+            Certificate::Finalization(finalization_of(alloc, &flat.proposal, bytes)?)
+        }
+    }))
 }
 
 /// A context, and who leads it.
@@ -135,10 +144,9 @@ fn context_of(flat: &FlatContext, leader: u32) -> Context<HostDigest, HostKey>
 fn subject_of(flat: &FlatSubject) -> Option<Subject<HostDigest>>
     ensures { MatchOption result (IsNoKind flat.now) (λ subject. HasKind flat.now × IsOn flat.now subject) }
 {
-    match flat.kind {
-        1 => Some(Subject::Notarize(proposal_of(&flat.proposal))),
-        2 => Some(Subject::Nullify(round_in(flat.proposal.round))),
-        3 => Some(Subject::Finalize(proposal_of(&flat.proposal))),
-        _ => None,
-    }
+    Some(match vote_kind_of(flat.kind)? {
+        VoteKind::Notarize => Subject::Notarize(proposal_of(&flat.proposal)),
+        VoteKind::Nullify => Subject::Nullify(round_in(flat.proposal.round)),
+        VoteKind::Finalize => Subject::Finalize(proposal_of(&flat.proposal)),
+    })
 }

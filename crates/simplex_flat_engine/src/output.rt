@@ -3,7 +3,7 @@
 ghost use Rattle.std.specs.Prelude.{◌≡◌};
 ghost use Rattle.simplex_outbox.specs.declared.output.Work.TheVariants.{Fetch};
 ghost use Rattle.simplex_flat.specs.Calls.{IsFlatProposal};
-ghost use Rattle.simplex_flat.specs.Numbers.{index_number};
+ghost use Rattle.simplex_flat.specs.Numbers.{certificate_number, index_number};
 ghost use Rattle.simplex_flat.specs.Replies.{IsContext};
 ghost use Rattle.simplex_flat_engine.specs.Inputs.{IsOn};
 ghost use Rattle.simplex_flat_engine.specs.Outputs.{HasOutputOf, IsOf, IsWork, certified_bytes, fetch_number, other_signature, first_bytes_in};
@@ -13,6 +13,7 @@ use simplex_batcher::votes::Vote;
 use simplex_engine::engine::Engine;
 use simplex_fetches::fetches::{Ask, FetchKind};
 use simplex_flat::flat::{FlatContext, FlatProposal, FlatRound};
+use simplex_flat::kinds::{CertificateKind, number_of_certificate};
 use simplex_flat::replying::{flat_context, flat_proposal, flat_round};
 use simplex_flat::shown::FlatStored;
 use simplex_host::elector::HostElector;
@@ -32,6 +33,9 @@ pub type HostVote = Vote<HostDigest, Order>;
 
 /// What is to be carried out of the host, and is neither stored, nor a vote, nor final.
 pub type HostWork = Work<HostScheme, HostDigest>;
+
+/// The number of a fetch of whatever certificate decides a view: none of a certificate's kind.
+const FETCH_DECISION: u32 = 4;
 
 /// A proposal with nothing in it.
 const NO_PROPOSAL: FlatProposal = FlatProposal {
@@ -193,9 +197,15 @@ fn flat_vote(vote: &HostVote) -> FlatSubject
 {
     let member = vote.signer.get();
     match &vote.subject {
-        Subject::Notarize(proposal) => subject_on(1, member, flat_proposal(proposal)),
-        Subject::Nullify(round) => subject_on(2, member, of_round(flat_round(*round))),
-        Subject::Finalize(proposal) => subject_on(3, member, flat_proposal(proposal)),
+        Subject::Notarize(proposal) => {
+            subject_on(CertificateKind::Notarization, member, flat_proposal(proposal))
+        }
+        Subject::Nullify(round) => {
+            subject_on(CertificateKind::Nullification, member, of_round(flat_round(*round)))
+        }
+        Subject::Finalize(proposal) => {
+            subject_on(CertificateKind::Finalization, member, flat_proposal(proposal))
+        }
     }
 }
 
@@ -204,17 +214,23 @@ fn flat_certificate(certificate: &Certificate<HostScheme, HostDigest>) -> FlatSu
     ensures { IsOf result certificate.now }
 {
     match certificate {
-        Certificate::Notarization(it) => subject_on(1, u32::MAX, flat_proposal(&it.proposal)),
-        Certificate::Nullification(it) => subject_on(2, u32::MAX, of_round(flat_round(it.round))),
-        Certificate::Finalization(it) => subject_on(3, u32::MAX, flat_proposal(&it.proposal)),
+        Certificate::Notarization(it) => {
+            subject_on(CertificateKind::Notarization, u32::MAX, flat_proposal(&it.proposal))
+        }
+        Certificate::Nullification(it) => {
+            subject_on(CertificateKind::Nullification, u32::MAX, of_round(flat_round(it.round)))
+        }
+        Certificate::Finalization(it) => {
+            subject_on(CertificateKind::Finalization, u32::MAX, flat_proposal(&it.proposal))
+        }
     }
 }
 
-fn subject_on(kind: u32, member: u32, proposal: FlatProposal) -> FlatSubject
-    ensures { (result.kind ≡ kind) × (result.member ≡ member) × (result.proposal ≡ proposal) }
+fn subject_on(kind: CertificateKind, member: u32, proposal: FlatProposal) -> FlatSubject
+    ensures { (result.kind ≡ certificate_number kind) × (result.member ≡ member) × (result.proposal ≡ proposal) }
 {
     FlatSubject {
-        kind,
+        kind: number_of_certificate(kind),
         member,
         proposal,
     }
@@ -235,9 +251,9 @@ pub(crate) fn number_of_fetch(kind: FetchKind) -> u32
     ensures { result ≡ fetch_number kind }
 {
     match kind {
-        FetchKind::Notarization => 1,
-        FetchKind::Nullification => 2,
-        FetchKind::Decision => 3,
+        FetchKind::Notarization => number_of_certificate(CertificateKind::Notarization),
+        FetchKind::Nullification => number_of_certificate(CertificateKind::Nullification),
+        FetchKind::Decision => FETCH_DECISION,
     }
 }
 

@@ -162,8 +162,8 @@ impl FetchKind {
     /// The kind of a number of the library, which knows no other.
     fn of(number: u32) -> FetchKind {
         match number {
-            1 => FetchKind::Notarization,
-            2 => FetchKind::Nullification,
+            ffi::NOTARIZATION => FetchKind::Notarization,
+            ffi::NULLIFICATION => FetchKind::Nullification,
             _ => FetchKind::Decision,
         }
     }

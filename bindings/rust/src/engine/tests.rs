@@ -53,6 +53,24 @@ impl Drawn {
     }
 }
 
+#[test]
+fn the_kinds_of_votes_are_those_of_subjects_and_0_is_none() {
+    let proposal = Proposal::default();
+    for subject in [
+        Subject::Notarize(proposal),
+        Subject::Nullify(proposal.round),
+        Subject::Finalize(proposal),
+    ] {
+        let (kind, flat) = subject.flat();
+        let text = ffi::simplex_subject(kind, &flat);
+        let read = Subject::decode(&text.bytes[..text.count as usize]).map(|it| it.0);
+        assert_eq!((text.status, read), (0, Some(subject)));
+    }
+    for kind in [0, 4, u32::MAX] {
+        assert_eq!(ffi::simplex_subject(kind, &proposal.flat()).status, 6);
+    }
+}
+
 /// Whether the numbers are those of an input, as the header has them.
 fn is_input(it: &ffi::Input) -> bool {
     let has_subject = matches!(it.kind, 2 | 3);
