@@ -5,7 +5,7 @@ A wrong body is a must-fail edit, made in a copy of the repository and built by 
 come first, then random ones. A law of one member's votes is mostly what breaks first; with `--agreement` random networks go on
 besides, with these laws left alone, until the members disagree. Bodies that do too little keep all laws, and leave a network stuck
 that is driven on. Bodies that go wrong where memory is refused are found by `tests/memory.py`. A body that gives up as if out of memory
-wherever its contract allows it is no must-fail edit (`tests/allowed`): the scripts of `tests/scripts` find it.
+wherever its contract allows it is no must-fail edit (`tests/swept`): the scripts of `tests/scripts` find it.
 
     tests/wrong_bodies.py                              all of those below; half a minute each
     tests/wrong_bodies.py --least                      the four that the gate tries

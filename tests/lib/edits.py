@@ -11,8 +11,9 @@ from lib.program import ROOT
 
 TRIED_BY_THE_KIT = "crates/{crate}/must-fail"
 TRIED_IN_BATCHES = "tests/must-fail/{crate}"
-# Bodies that do too little, but no more than a refusal of memory may cost: contracts allow them, and the rows find them.
-ALLOWED = "tests/allowed/{crate}"
+# Wrong bodies that no must-fail edit shows, and that the sweeps find: a contract allows them, since memory may be refused at any time, or
+# it refuses them only by names that its proof cites.
+SWEPT = "tests/swept/{crate}"
 
 
 class NotMade(Exception):
@@ -73,7 +74,7 @@ def all_edits():
 def named(title):
     """The edit of a title `CRATE/NAME`, in whichever place it is."""
     crate, name = title.split("/")
-    places = [ROOT / place.format(crate=crate) / f"{name}.edit" for place in (TRIED_BY_THE_KIT, TRIED_IN_BATCHES, ALLOWED)]
+    places = [ROOT / place.format(crate=crate) / f"{name}.edit" for place in (TRIED_BY_THE_KIT, TRIED_IN_BATCHES, SWEPT)]
     found = [path for path in places if path.is_file()]
     if len(found) != 1:
         raise NotMade(f"{title} is in {len(found)} places, where an edit is in one")
