@@ -198,13 +198,25 @@ fn flat_vote(vote: &HostVote) -> FlatSubject
     let member = vote.signer.get();
     match &vote.subject {
         Subject::Notarize(proposal) => {
-            subject_on(CertificateKind::Notarization, member, flat_proposal(proposal))
+            subject_on(
+                CertificateKind::Notarization,
+                member,
+                flat_proposal(proposal),
+            )
         }
         Subject::Nullify(round) => {
-            subject_on(CertificateKind::Nullification, member, of_round(flat_round(*round)))
+            subject_on(
+                CertificateKind::Nullification,
+                member,
+                of_round(flat_round(*round)),
+            )
         }
         Subject::Finalize(proposal) => {
-            subject_on(CertificateKind::Finalization, member, flat_proposal(proposal))
+            subject_on(
+                CertificateKind::Finalization,
+                member,
+                flat_proposal(proposal),
+            )
         }
     }
 }
@@ -215,13 +227,25 @@ fn flat_certificate(certificate: &Certificate<HostScheme, HostDigest>) -> FlatSu
 {
     match certificate {
         Certificate::Notarization(it) => {
-            subject_on(CertificateKind::Notarization, u32::MAX, flat_proposal(&it.proposal))
+            subject_on(
+                CertificateKind::Notarization,
+                u32::MAX,
+                flat_proposal(&it.proposal),
+            )
         }
         Certificate::Nullification(it) => {
-            subject_on(CertificateKind::Nullification, u32::MAX, of_round(flat_round(it.round)))
+            subject_on(
+                CertificateKind::Nullification,
+                u32::MAX,
+                of_round(flat_round(it.round)),
+            )
         }
         Certificate::Finalization(it) => {
-            subject_on(CertificateKind::Finalization, u32::MAX, flat_proposal(&it.proposal))
+            subject_on(
+                CertificateKind::Finalization,
+                u32::MAX,
+                flat_proposal(&it.proposal),
+            )
         }
     }
 }
