@@ -1,8 +1,8 @@
 """Many must-fail edits in few checks.
 
 A function is proved from the contracts of those that it calls, and the edit of a body leaves contracts alone. So edits of different
-functions go into one copy of a crate, and one check of just these functions refuses each on a line of its own. In each batch one
-function that no edit turns is asked for too, and must be proved: a copy that can't be read refuses all, and shows nothing.
+functions go into one copy of a crate, and one check of just these functions refuses each on a line of its own. In each batch a few
+functions that no edit turns are asked for too, and one must be proved: a copy that can't be read refuses all, and shows nothing.
 
 What a check proves is kept for the crate's next batch, in a folder that the caller gives."""
 
@@ -25,6 +25,7 @@ PROOF_ERROR = re.compile(r"^(?:\./)?proofs/(\S+?)/[A-Za-z]+\.antt:\d+:\d+: error
 OF_A_NAME = re.compile(r"has no field|is not in scope|has no `|was not admitted")
 OF_A_CALL = re.compile(r"^(?:no proof|not proved): it calls `[^`]*`, which is not proved$")
 MOST_NAMES = 12
+WITNESSES = 4
 
 
 def kit():
@@ -94,18 +95,19 @@ def in_batches(trials, folder):
 
 
 def untouched(trials, folder):
-    """A short function with a contract that no trial turns and that calls none that one turns, from one of their files where there is one."""
+    """A few short functions with a contract that no trial turns and that call none that one turns: of each file the shortest, those of the
+    turned files first."""
     taken = {asked for trial in trials for asked in trial.asked}
     calls = re.compile(rf"\b(?:{'|'.join(sorted({asked_name(it).rpartition('::')[2] for it in taken}))})\b")
     turned_files = {turn.file for trial in trials for turn in trial.edit.turns}
     sources = sorted(str(path.relative_to(folder)) for path in (folder / "src").rglob("*.rt"))
+    found = []
     for file in sorted(sources, key=lambda it: it not in turned_files):
         text = (folder / file).read_text()
         own = [(it, text[it.start:it.end]) for it in functions(file, text) if not it.trait and it not in taken]
         whole = [(len(body), it) for it, body in own if "ensures" in body and not calls.search(body)]
-        if whole:
-            return min(whole)[1]
-    return None
+        found += [min(whole)[1]] if whole else []
+    return found[:WITNESSES]
 
 
 class Checked(NamedTuple):
@@ -181,10 +183,10 @@ def tried(rt, crate, trials, texts, kept):
     """The verdicts on a batch. Where the check of all together says nothing, each edit is tried alone, so that one that can't be read
     hides no other."""
     folder = Path(crate.folder)
-    witness = untouched(trials, folder)
+    witnesses = untouched(trials, folder)
     asked = [it for trial in trials for it in trial.asked]
-    check = checked(rt, crate, texts, [*asked, *([witness] if witness else [])], kept)
-    if check.is_whole() and (not witness or check.line_of(witness)[1] == "proved"):
+    check = checked(rt, crate, texts, [*asked, *witnesses], kept)
+    if check.is_whole() and (not witnesses or any(check.line_of(it)[1] == "proved" for it in witnesses)):
         return [verdict_of(trial, check, crate.name) for trial in trials]
     if len(trials) == 1:
         return [Verdict(trials[0].edit, "unread", first_words(check.text))]

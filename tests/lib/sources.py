@@ -7,7 +7,7 @@ from pathlib import Path
 from typing import NamedTuple
 
 FUNCTION = re.compile(r"^( *)(?:pub(?:\([^)]*\))? )?(?:unsafe |const |extern \"C\" )*fn (\w+)", re.MULTILINE)
-IMPL = re.compile(r"^impl\b(.*)", re.MULTILINE)
+BLOCK = re.compile(r"^(?:pub(?:\([^)]*\))? )?(?:unsafe )?(impl|trait)\b(.*)", re.MULTILINE)
 
 
 class Function(NamedTuple):
@@ -42,25 +42,31 @@ def module_of(path):
 
 
 def owner_at(text, start):
-    """The type and the trait that the `impl` round a place is of; no trait is ""."""
-    found = list(IMPL.finditer(text, 0, start))
-    if not found:
-        return "", ""
-    head = found[-1].group(1)
+    """The type and the trait that the `impl` round a place is of; no trait is "". None within a trait's own declaration."""
+    found = list(BLOCK.finditer(text, 0, start))
+    if not found or found[-1].group(1) == "trait":
+        return None
+    head = found[-1].group(2)
     while (shorter := re.sub(r"<[^<>]*>", "", head)) != head:
         head = shorter
     words = re.findall(r"\w+", head)
-    return (words[words.index("for") + 1], words[0]) if "for" in words else (words[0], "")
+    if "for" not in words:
+        return words[0], ""
+    at = words.index("for")
+    return words[at + 1], words[at - 1]
 
 
 def functions(path, text):
-    """The functions of a source, in order."""
+    """The functions of a source, in order, but for those that a trait declares."""
     module, found = module_of(path), list(FUNCTION.finditer(text))
     for at, here in enumerate(found):
         indent, name = here.groups()
         close = re.compile(rf"^{indent}(?:\}}|\{{\}})$", re.MULTILINE).search(text, here.end())
         following = next((it.start() for it in found[at + 1:] if len(it[1]) <= len(indent)), len(text))
-        owner, trait = owner_at(text, here.start()) if indent else ("", "")
+        owned = owner_at(text, here.start()) if indent else ("", "")
+        if not owned:
+            continue
+        owner, trait = owned
         yield Function(module, owner, trait, name, here.start(), min(close.end(), following) if close else following)
 
 
