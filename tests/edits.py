@@ -1,13 +1,13 @@
 #!/usr/bin/env python3
 """Tries the must-fail edits of the repository: each is a wrong body, and the contract of a function that it turns has to refuse it.
 
-`rt ci` tries those of `crates/NAME/must-fail`, which it reads itself. This script tries all, those of `tests/must-fail/NAME` too, many
-in one check (`lib/batches.py`), over the libraries that `rt ci` or `rt lib` left. Where a library is not built, it is proved first.
+`rt ci` tries those of `crates/NAME/must-fail`, which it reads itself. This script tries them and those of `tests/must-fail/NAME`, many in
+one check (`lib/batches.py`), over the libraries that `rt ci` or `rt lib` left. Where a library is not built, it is proved first.
 
     tests/edits.py                         all edits
     tests/edits.py simplex_round ..        those of some crates
     tests/edits.py --only verdict          those whose name holds a word
-    tests/edits.py --gate FILE             looks besides at what `rt ci` printed, in a file, of the edits that it tried
+    tests/edits.py --gate FILE             those that `rt ci` does not try, and what it printed, in a file, of those that it tried
 
 It ends with status 1 where an edit is proved, can't be made or read, is refused only since a proof cites a name that it takes away, or
 where one of those that the gate itself must try is missing."""
@@ -145,7 +145,9 @@ def main():
     os.chdir(ROOT)
     rt = batches.kit()
     crates = {crate.name: crate for crate in rt.rtlib.crates_below(str(ROOT))}
-    chosen = [it for it in edits.all_edits() if given.only in it.title and (not given.crates or it.crate in given.crates)]
+    every = edits.edits_in(edits.TRIED_IN_BATCHES) if given.gate else edits.all_edits()
+    by_the_kit = edits.edits_in(edits.TRIED_BY_THE_KIT) if given.gate else []
+    chosen = [it for it in every if given.only in it.title and (not given.crates or it.crate in given.crates)]
     if not chosen:
         print("no such edits")
         return 1
@@ -156,8 +158,8 @@ def main():
     faults = faults_of(found)
     faults += missing_from_the_gate(given.gate.read_text() if given.gate else None)
     if not given.only and not given.crates:
-        faults += lacking({"edits": len(found)}, LEAST)
-    print(f"must-fail edits: {len(found)}, {len(faults)} not as asked")
+        faults += lacking({"edits": len(found) + len(by_the_kit)}, LEAST)
+    print(f"must-fail edits: {len(found)} in batches, {len(by_the_kit)} by the kit, {len(faults)} not as asked")
     print("".join(f"  {fault}\n" for fault in faults), end="")
     return 1 if faults else 0
 
