@@ -1,6 +1,6 @@
 -- Entries whose values stand in boxes.
 use Rattle.std.proofs.Common.{◌≡◌, ℕ, ◌+◌, ◌-◌, ◌<◌, ◌≤◌, suc, List, [], ◌∷◌, ◌++◌, length, get_or, take, drop, set, true, refl, ap, sym, ◌∙◌, arith, zero, Some, slice_get, length-append}
-use Rattle.std.specs.Prelude.{Box}
+use Rattle.std.specs.Prelude.{Box, map as map_list}
 use Rattle.std.specs.List.{insert, remove}
 use Rattle.std.proofs.lemmas.List.{get_or-map, map-set, take-map, drop-map}
 use Rattle.std.specs.Box.{with_value}
@@ -44,6 +44,14 @@ module _ {V A : Type 0} where
 
   pub same_length : (es : List (ℕ × Box V A)) → length es ≡ length (unboxed es)
   same_length es = sym (length-unboxed es)
+
+  pub counted : (m : map.FinMap nat_cmp V) (es : List (ℕ × Box V A)) → unboxed es ≡ map.entries m → length es ≡ map.len m
+  counted m es same = same_length es ∙ ap length same ∙ sym (map.len-entries m)
+
+  -- the first of one entry is the only one
+  pub only_unboxed : (m : map.FinMap nat_cmp V) (es rest : List (ℕ × Box V A)) (e : ℕ × Box V A) → unboxed es ≡ map.entries m → map.len m ≡ 1 → es ≡ e ∷ rest → map.values m ≡ e.1.value ∷ []
+  only_unboxed m es [] e same one is = ap (map_list (λ (x : ℕ × V). x.1)) (sym same ∙ ap unboxed is)
+  only_unboxed m es (f ∷ rest) e same one is = absurd (omega (arith, counted m es same, ap length is, one))
 
   -- where a view's place may be, by the first entry and by the last one
   module _ (m : map.FinMap nat_cmp V) (es : List (ℕ × Box V A)) (same : unboxed es ≡ map.entries m) (i : ℕ) (e : ℕ × Box V A) (within : i < length es) (read : e ≡ get_or es i e) where

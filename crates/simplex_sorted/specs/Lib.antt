@@ -2,3 +2,4 @@ pub mod Tracked
 pub mod Rows
 pub mod ByTerm
 pub mod Runs
+pub mod TermLists

@@ -1,6 +1,6 @@
 //! A list cut into rows, so that an insert moves entries of one row, and one entry of each row after it.
 
-ghost use Rattle.std.specs.Prelude.{◌≡◌, suc, ◌+◌, ◌-◌, ◌^◌, ◌<◌, ◌≤◌, [], ◌++◌, drop, length, slice_index_or, slice_set, IfSome, IsSome, IfErr, OnOk, OnErr, ◌↔◌, IsTrue, IsFalse};
+ghost use Rattle.std.specs.Prelude.{◌≡◌, suc, ◌+◌, ◌-◌, ◌^◌, ◌<◌, ◌≤◌, [], ◌∷◌, ◌++◌, drop, length, slice_index_or, slice_set, IfOk, IfSome, IsSome, IfErr, MatchOption, OnOk, OnErr, ◌↔◌, IsTrue, IsFalse};
 ghost use Rattle.std.specs.List.{insert, remove};
 ghost use Rattle.std.specs.VecDeque.{deque_len, deque_capacity};
 ghost use Rattle.simplex_sorted.specs.Rows.{row_size, row_entries, AreFullButLast, HasRoomAt, IsFull, EndsShort};
@@ -49,6 +49,17 @@ impl<T> Rows<T> {
             first: VecDeque::new(alloc),
             rest: VecDeque::new(alloc),
         }
+    }
+
+    /// An empty list with room for one entry.
+    pub(super) fn with_room(alloc: Global) -> Result<Self, AllocError>
+        ensures { IfOk result (λ rows. rows ≡ []) }
+    {
+        Ok(Rows {
+            count: 0,
+            first: VecDeque::with_capacity(alloc, 1)?,
+            rest: VecDeque::new(alloc),
+        })
     }
 
     pub(super) fn len(&self) -> usize
@@ -139,19 +150,23 @@ impl<T> Index<usize> for Rows<T> {
 }
 
 impl<T: Drop> Rows<T> {
+    /// Takes the first entry, where there is one.
+    pub(super) fn pop_front(&mut self) -> Option<T>
+        ensures { MatchOption result ((self.old ≡ []) × (self.new ≡ [])) (λ entry. self.old ≡ entry ∷ self.new) }
+    {
+        if self.first.is_empty() {
+            self.first = self.rest.pop_front()?;
+        }
+        let entry = self.first.pop_front()?;
+        self.count -= 1;
+        Some(entry)
+    }
+
     /// Removes the first entry, where there is one.
     pub(super) fn drop_front(&mut self)
         ensures { self.new ≡ drop 1 self.old }
     {
-        if self.first.is_empty() {
-            let Some(row) = self.rest.pop_front() else {
-                return;
-            };
-            self.first = row;
-        }
-        if self.first.pop_front().is_some() {
-            self.count -= 1;
-        }
+        let _removed = self.pop_front();
     }
 
     /// Removes the entry at a place.

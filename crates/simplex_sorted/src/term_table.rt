@@ -1,10 +1,10 @@
-//! Values at views, seen by their terms.
+//! Values at views, in a list for each term.
 
-ghost use Rattle.std.specs.Prelude.{◌≡◌, ◌≤◌, ◌<◌, ◌-◌, ◌+◌, ◌^◌, min, IfOk, IfErr, OnErr, Some, None, is_some, option_map, MatchOption, if◌then◌else◌, ◌==◌};
+ghost use Rattle.std.specs.Prelude.{◌≡◌, ◌≤◌, ◌<◌, ◌-◌, ◌+◌, ◌^◌, min, IfOk, IfErr, OnErr, Some, None, is_some, option_map, MatchOption, if◌then◌else◌};
 ghost use Rattle.std.specs.Option.{option_copied};
 ghost use Rattle.std.specs.FinMap as map;
 ghost use Rattle.simplex_sorted.specs.Tracked.{after_insert, at_or_above};
-ghost use Rattle.simplex_types.specs.Terms.{term_start, next_term_start};
+ghost use Rattle.simplex_types.specs.Terms.{next_term_start};
 ghost use Rattle.simplex_sorted.specs.ByTerm.{covering, covering_below, not_ended, has_covering, Gapless, IsFirstUncovered};
 ghost use Rattle.simplex_sorted.specs.Runs.{AreIn};
 
@@ -18,17 +18,21 @@ use std::marker::Model;
 #[derive(Drop)]
 pub(super) struct TermTable<V> {
     term_length: TermLength,
-    by_view: Tracked<V>,
+    // the views of each term that has some, by the term's first view
+    terms: Tracked<Tracked<V>>,
 }
 
 impl<V> Model for TermTable<V> {
     ghost use Rattle.simplex_sorted.specs.ByTerm.{ByTermFacts, by_term_code};
+    ghost use Rattle.simplex_sorted.specs.TermLists.{joined, AreByTerm};
 
     ghost Value = { ByTermFacts V };
 
     ghost coded = { by_term_code V.code };
 
-    ghost view = { λ t. record { term_length = t.term_length; by_view = t.by_view } };
+    ghost view = { λ t. record { term_length = t.term_length; by_view = joined t.terms } };
+
+    ghost invariant = { λ t. AreByTerm t.term_length t.terms };
 }
 
 impl<V> TermTable<V> {
@@ -37,43 +41,24 @@ impl<V> TermTable<V> {
     {
         TermTable {
             term_length,
-            by_view: Tracked::new(alloc),
+            terms: Tracked::new(alloc),
         }
-    }
-
-    /// Whether two views stand in one term.
-    fn stand_together(&self, view: View, other: View) -> bool
-        ensures { result ≡ (term_start self.now.term_length view == term_start self.now.term_length other) }
-    {
-        view.term_start(self.term_length) == other.term_start(self.term_length)
     }
 
     /// The entry of the highest view that covers a view.
     pub(super) fn covering(&self, view: View) -> Option<(View, &V)>
         ensures { option_map (λ entry. (entry.0, entry.1.now)) result ≡ covering self.now view }
     {
-        let Some(entry) = self.by_view.last_at(view) else {
-            return None;
-        };
-        if self.stand_together(entry.0, view) {
-            Some(entry)
-        } else {
-            None
-        }
+        let start = view.term_start(self.term_length);
+        self.terms.get(start)?.last_at(view)
     }
 
     /// The entry of the highest view below a view in its term.
     pub(super) fn covering_below(&self, view: View) -> Option<(View, &V)>
         ensures { option_map (λ entry. (entry.0, entry.1.now)) result ≡ covering_below self.now view }
     {
-        let Some(entry) = self.by_view.last_below(view) else {
-            return None;
-        };
-        if self.stand_together(entry.0, view) {
-            Some(entry)
-        } else {
-            None
-        }
+        let start = view.term_start(self.term_length);
+        self.terms.get(start)?.last_below(view)
     }
 
     /// Whether a view is covered.
@@ -127,7 +112,8 @@ impl<V> TermTable<V> {
     pub(super) fn get(&self, view: View) -> Option<&V>
         ensures { option_copied result ≡ map.get self.now.by_view view }
     {
-        self.by_view.get(view)
+        let start = view.term_start(self.term_length);
+        self.terms.get(start)?.get(view)
     }
 
     /// The first view strictly between two others that no view covers.
@@ -160,7 +146,17 @@ impl<V: Drop> TermTable<V> {
         ensures refused_only_new { OnErr result (map.get self.old.by_view view ≡ None) }
         ensures after { self.new ≡ record self.old { by_view = after_insert self.old.by_view view value result } }
     {
-        self.by_view.insert(view, value)
+        let start = view.term_start(self.term_length);
+        if let Some(term) = self.terms.get_mut(start) {
+            return term.insert(view, value);
+        }
+        let term = Tracked::of_one(self.terms.allocator(), view, value)?;
+        match self.terms.insert(start, term) {
+            Ok(_) => Ok(None),
+            Err(refused) => Err(AllocFailed {
+                value: refused.value.into_only(),
+            }),
+        }
     }
 
     /// Removes the terms that end at or below a view.
@@ -172,13 +168,21 @@ impl<V: Drop> TermTable<V> {
             return;
         }
         let end = view.get() / views * views;
-        self.by_view.drop_up_to(View::new(end));
+        self.terms.drop_up_to(View::new(end));
     }
 
     /// Removes the entries below a view.
     pub(super) fn drop_below(&mut self, view: View)
         ensures { self.new ≡ record self.old { by_view = at_or_above self.old.by_view view } }
     {
-        self.by_view.drop_below(view);
+        let start = view.term_start(self.term_length);
+        self.terms.drop_below(start);
+        let Some(term) = self.terms.get_mut(start) else {
+            return;
+        };
+        term.drop_below(view);
+        if term.is_empty() {
+            self.terms.remove(start);
+        }
     }
 }

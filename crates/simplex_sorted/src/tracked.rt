@@ -1,6 +1,6 @@
 //! Values at the views that are tracked, in rows sorted by view.
 
-ghost use Rattle.std.specs.Prelude.{◌≡◌, ◌+◌, ◌-◌, ◌^◌, ◌<◌, ◌≤◌, IfOk, IfErr, IfSome, OnErr, Some, None, is_some, option_map, nat_lt, drop, if◌then◌else◌};
+ghost use Rattle.std.specs.Prelude.{◌≡◌, ◌+◌, ◌-◌, ◌^◌, ◌<◌, ◌≤◌, IfOk, IfErr, IfSome, OnErr, Some, None, [], ◌∷◌, ◌==◌, is_some, option_map, nat_lt, drop, if◌then◌else◌};
 ghost use Rattle.std.specs.Option.{option_copied};
 ghost use Rattle.std.specs.FinMap as map;
 ghost use Rattle.std.specs.Ordering.{nat_cmp};
@@ -47,6 +47,17 @@ impl<V> Tracked<V> {
         Tracked {
             entries: Rows::new(alloc),
         }
+    }
+
+    pub(super) fn allocator(&self) -> Global {
+        self.entries.allocator()
+    }
+
+    /// Whether no view is tracked.
+    pub(super) fn is_empty(&self) -> bool
+        ensures { result ≡ (map.len self.now == 0) }
+    {
+        self.len() == 0
     }
 
     /// How many views are tracked.
@@ -271,6 +282,30 @@ impl<V: Drop> Tracked<V> {
     {
         let end = self.end_of(view);
         drop_first(&mut self.entries, end);
+    }
+
+    /// A map of one view, with room for no more: most are never given more.
+    pub(super) fn of_one(alloc: Global, view: View, value: V) -> Result<Self, AllocFailed<V>>
+        ensures made { IfOk result (λ made. made ≡ map.insert map.empty view value) }
+        ensures refused { IfErr result (λ refused. refused.value ≡ value) }
+    {
+        let Ok(entries) = Rows::with_room(alloc) else {
+            return Err(AllocFailed { value });
+        };
+        let mut made = Tracked { entries };
+        made.insert(view, value)?;
+        Ok(made)
+    }
+
+    /// The value of a map of one view.
+    pub(super) fn into_only(mut self) -> V
+        requires { map.len self ≡ 1 }
+        ensures { map.values self ≡ result ∷ [] }
+    {
+        let Some((_, boxed)) = self.entries.pop_front() else {
+            unreachable!()
+        };
+        Box::into_inner(boxed)
     }
 
     /// Removes the entry of a view, where there is one.

@@ -1,25 +1,24 @@
--- How the contract of `covering_below` follows: the last entry below the view is in its term just where both stand in one.
-use Rattle.std.proofs.Common.{eqb, ltb, ◌&&◌, ap, sym, ◌∙◌}
+-- How the contract of `covering_below` follows: the views below a view that cover it are those of its term below it.
+use Rattle.std.proofs.Common.{◌≡◌, ◌&&◌, ltb, Some, None, ap, sym, ◌∙◌}
+use Rattle.std.specs.Option.{option_copied}
+use Rattle.std.specs.FinMap as map
 use Rattle.simplex_types.specs.Terms.{term_start, covers}
-use Rattle.simplex_sorted.proofs.Terms.{some_together, none_together, none_at_all, below_covers, below_low}
+use Rattle.simplex_sorted.specs.Tracked.{last_entry}
+use Rattle.simplex_sorted.proofs.TermLists.{part_of, no_part, last_none}
+use Rattle.simplex_sorted.proofs.Terms.{below_covers}
 use Rattle.simplex_sorted.proofs.term_table.TermTable.covering_below.Goals as goal
 
-pub returns-in_default : goal.returns-in_default
-returns-in_default g c =
+pub returns-in_err-get : goal.returns-in_err-get
+returns-in_err-get g c =
     let length = c.self.inside.term_length in
     let v = c.args.view in
-    rw (← c.self.view_is) (none_at_all length v c.self.inside.by_view (λ u. ltb u v && covers length u v) (λ key. ltb key v) (below_low v) (below_covers length v) (sym c.in_default.ensures))
+    let found : map.get c.self.inside.terms (term_start length v) ≡ None = rw c.term_start-start.ensures at (sym c.get.ensures ∙ ap option_copied c.in_err-get.was) in
+    rw (← c.self.view_is, c.from_residual.ensures) (last_none ∙ ap last_entry (no_part length _ c.self.invariant (λ u. ltb u v && covers length u v) (λ key. ltb key v) v (below_covers length v) found))
 
-pub returns-then-stand_together : goal.returns-then-stand_together
-returns-then-stand_together g c =
+pub returns : goal.returns
+returns g c =
     let length = c.self.inside.term_length in
     let v = c.args.view in
-    let together = ap (λ x. eqb (term_start x.term_length c.in-Some.entry.0) (term_start x.term_length v)) c.self.view_is ∙ sym c.stand_together.ensures ∙ c.if-stand_together.true in
-    rw (← c.self.view_is) (some_together length v c.self.inside.by_view (λ u. ltb u v && covers length u v) (λ key. ltb key v) (below_low v) (below_covers length v) _ (sym c.in-Some.ensures) together)
-
-pub returns-else-stand_together : goal.returns-else-stand_together
-returns-else-stand_together g c =
-    let length = c.self.inside.term_length in
-    let v = c.args.view in
-    let apart = ap (λ x. eqb (term_start x.term_length c.in-Some.entry.0) (term_start x.term_length v)) c.self.view_is ∙ sym c.stand_together.ensures ∙ c.if-stand_together.false in
-    rw (← c.self.view_is) (none_together length v c.self.inside.by_view (λ u. ltb u v && covers length u v) (λ key. ltb key v) (below_low v) (below_covers length v) _ (sym c.in-Some.ensures) apart)
+    let views = c.in_ok-get.field-0.now in
+    let found : map.get c.self.inside.terms (term_start length v) ≡ Some views = rw c.term_start-start.ensures at (sym c.get.ensures ∙ ap option_copied c.in_ok-get.was) in
+    rw (← c.self.view_is) (c.last_below.ensures ∙ ap last_entry (part_of length _ c.self.invariant (λ u. ltb u v && covers length u v) (λ key. ltb key v) v (below_covers length v) views found))
