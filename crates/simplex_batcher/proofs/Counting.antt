@@ -9,7 +9,8 @@ use Rattle.simplex_batcher.specs.declared.batcher.Counted.TheVariants.{Refused, 
 use Rattle.simplex_batcher.specs.declared.batcher.poll.Ballot.{Ballot}
 use Rattle.simplex_batcher.specs.declared.votes.Vote.{Vote}
 use Rattle.simplex_batcher.specs.Polls.{ballot_of, HoldsTheSame}
-use Rattle.simplex_batcher.specs.Counting.{cast_by, IsAdded, IsCountedIn, ShowsBoth}
+use Rattle.simplex_batcher.specs.Counting.{cast_by, contradicted, is_pair, IsAdded, IsCountedIn, IsMarked, ShowsBoth}
+use Rattle.std.specs.Option.{option_map}
 
 pub if_ok_on : {X E : Type 0} (r : Result X E) {P Q : X → Type 0} → ((x : X) → P x → Q x) → IfOk r P → IfOk r Q
 if_ok_on (Ok x) on h = on x h
@@ -39,6 +40,9 @@ module _ {D G : Type 0} where
     held = λ m. h.held m ∙ ap (λ b. cond (eqb m vote.signer) (Some (cast_by vote)) b) (kept m);
   }
 
+  pub marked : (old mid : List (Option (Ballot D G))) → HoldsTheSame old mid → (member : ℕ) (new : List (Option (Ballot D G))) → IsMarked mid member new → IsMarked old member new
+  marked old mid kept member new h = λ m. h m ∙ ap (λ b. cond (eqb m member) (option_map contradicted b) b) (kept m)
+
   -- a first vote is added
   pub put_adds : (slots : List (Option (Ballot D G))) (vote : Vote D G) (i : ℕ) → i ≡ vote.signer → vote.signer < length slots → ballot_of slots vote.signer ≡ None → IsAdded slots vote (set slots i (Some (cast_by vote)))
   put_adds slots vote i e within none =
@@ -59,19 +63,20 @@ module _ {S D K G C : Type 0} (same : D → D → Bool) (IsMadeOf : Subject D �
   -- what was held before is what counts
   pub counted_since : (old mid : List (Option (Ballot D G))) → HoldsTheSame old mid → (vote : Vote D G) (new : List (Option (Ballot D G))) (r : Counted S D K G C) → IsCountedIn same IsMadeOf members mid vote new r → IsCountedIn same IsMadeOf members old vote new r
   counted_since old mid kept vote new Refused h = h
-  counted_since old mid kept vote new Known h = ((h.0.0, (sym (kept h.0.0.signer) ∙ h.0.1.0, h.0.1.1, h.0.1.2)), λ m. h.1 m ∙ kept m)
-  counted_since old mid kept vote new (Equivocated first second) h = ((sym (kept first.signer) ∙ h.0.0, h.0.1, h.0.2, h.0.3), λ m. h.1 m ∙ kept m)
+  counted_since old mid kept vote new Known h = ((h.0.0, sym (kept vote.signer) ∙ h.0.1, h.0.2), λ m. h.1 m ∙ kept m)
+  counted_since old mid kept vote new (Equivocated first second) h = ((sym (kept first.signer) ∙ h.0.0, h.0.1, h.0.2, h.0.3), marked old mid kept vote.signer new h.1)
   counted_since old mid kept vote new Taken h = (added old mid kept vote new h.0, h.1)
   counted_since old mid kept vote new (Certified made) h = (added old mid kept vote new h.0, h.1, h.2)
 
-  -- a further vote of a member
-  pub counted_again : (slots : List (Option (Ballot D G))) (ballot : Ballot D G) (vote : Vote D G) (r : Counted S D K G C) → ballot_of slots vote.signer ≡ Some ballot → ShowsBoth ballot vote r → IsCountedIn same IsMadeOf members slots vote slots r
-  counted_again slots ballot vote Refused held h = h
-  counted_again slots ballot vote Known held h = ((record { subject = ballot.subject; signer = vote.signer; signature = ballot.signature }, (held, refl, h)), λ m. refl)
-  counted_again slots ballot vote (Equivocated first second) held h =
-      ((ap (ballot_of slots) h.1 ∙ held ∙ ap Some (sym h.0), h.1, (λ e. h.2 (sym (ap (λ b. b.subject) h.0) ∙ e)), h.3), λ m. refl)
-  counted_again slots ballot vote Taken held h = absurd h
-  counted_again slots ballot vote (Certified made) held h = absurd h
+  -- a further vote of a member: a mark where a pair is returned, and else nothing
+  pub counted_again : (slots new : List (Option (Ballot D G))) (ballot : Ballot D G) (vote : Vote D G) (r : Counted S D K G C) → ballot_of slots vote.signer ≡ Some ballot
+      → ShowsBoth ballot vote r → (is_pair r ≡ true → IsMarked slots vote.signer new) → (is_pair r ≡ false → new ≡ slots) → IsCountedIn same IsMadeOf members slots vote new r
+  counted_again slots new ballot vote Refused held h marked left = h
+  counted_again slots new ballot vote Known held h marked left = ((ballot, held, h), λ m. ap (λ s. ballot_of s m) (left refl))
+  counted_again slots new ballot vote (Equivocated first second) held h marked left =
+      ((ap (ballot_of slots) h.1 ∙ held ∙ ap Some (sym h.0), h.1, (λ e. h.2 (sym (ap (λ b. b.subject) h.0) ∙ e)), h.3), marked refl)
+  counted_again slots new ballot vote Taken held h marked left = absurd h
+  counted_again slots new ballot vote (Certified made) held h marked left = absurd h
 
   -- the same by equal lists
   pub counted_as : {E : Type 0} (r : Result (Counted S D K G C) E) (vote : Vote D G) (old old' new new' : List (Option (Ballot D G))) → old ≡ old' → new ≡ new' → IfOk r (IsCountedIn same IsMadeOf members old' vote new') → IfOk r (IsCountedIn same IsMadeOf members old vote new)

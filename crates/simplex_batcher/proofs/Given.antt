@@ -2,7 +2,7 @@
 use Rattle.std.proofs.Common.{◌≡◌, ◌≢◌, ◌⊎◌, ℕ, Bool, true, false, cond, eqb, List, [], ◌∷◌, ◌++◌, Option, Some, None, Result, Ok, Err, refl, ap, sym, ◌∙◌, subst, inl, inr, leb}
 use Rattle.std.specs.Prelude.{Contains, IfOk, OnErr}
 use Rattle.std.specs.FinMap as map
-use Rattle.std.specs.Option.{option_map_or}
+use Rattle.std.specs.Option.{option_map, option_map_or}
 use Rattle.std.specs.Ordering.{nat_cmp}
 use Rattle.std.proofs.lemmas.Bool.{eq-eqb, eqb-true, false≢true}
 use Rattle.simplex_sorted.proofs.Maps.{get-kept}
@@ -15,7 +15,7 @@ use Rattle.simplex_batcher.specs.declared.batcher.Counted.TheVariants.{Refused, 
 use Rattle.simplex_batcher.specs.declared.batcher.poll.Ballot.{Ballot}
 use Rattle.simplex_batcher.specs.declared.votes.Vote.{Vote}
 use Rattle.simplex_batcher.specs.Polls.{ballot_of, slots_at}
-use Rattle.simplex_batcher.specs.Counting.{cast_by, IsAdded, IsCountedIn}
+use Rattle.simplex_batcher.specs.Counting.{cast_by, contradicted, IsAdded, IsCountedIn, IsMarked}
 use Rattle.simplex_batcher.specs.Batching.{Kind, Notarizes, Nullifies, Finalizes, kind_of, held, AreGiven, HoldsNothing, HoldsAllTheSame, KeepsOthers, IsForgotten, IsCounted, IsCountedAmong}
 use Rattle.simplex_batcher.proofs.Contains.{contains_left, contains_seam}
 
@@ -48,9 +48,14 @@ module _ {D G : Type 0} where
   abbrev pub vote_by : ℕ → Ballot D G → Vote D G
   vote_by member ballot = record { subject = ballot.subject; signer = member; signature = ballot.signature }
 
-  -- it was held before, or is this one
+  -- it was held before, contradicted or not, or is this one
   abbrev pub IsOldOr : List (Option (Ballot D G)) → Vote D G → ℕ → Ballot D G → Type 0
-  IsOldOr old vote member ballot = (ballot_of old member ≡ Some ballot) ⊎ (vote_by member ballot ≡ vote)
+  IsOldOr old vote member ballot =
+      ((was : Ballot D G) × (ballot_of old member ≡ Some was) × (vote_by member was ≡ vote_by member ballot)) ⊎ (vote_by member ballot ≡ vote)
+
+  -- nothing has changed
+  was_held : (old : List (Option (Ballot D G))) (vote : Vote D G) (member : ℕ) (ballot : Ballot D G) → ballot_of old member ≡ Some ballot → IsOldOr old vote member ballot
+  was_held old vote member ballot is = inl (ballot, is, refl)
 
   some_is : (x y : Ballot D G) → Some x ≡ Some y → x ≡ y
   some_is x y same = ap (λ o. option_map_or (λ b. b) o x) same
@@ -60,13 +65,30 @@ module _ {D G : Type 0} where
       let here = some_is ballot (cast_by vote) (sym is ∙ added.held member ∙ ap (λ t. cond t (Some (cast_by vote)) (ballot_of old member)) e) in
       inr (ap (vote_by member) here ∙ ap (λ m. vote_by m (cast_by vote)) (eqb-true member vote.signer e))
   added_by old new vote added member ballot is false e =
-      inl (sym (added.held member ∙ ap (λ t. cond t (Some (cast_by vote)) (ballot_of old member)) e) ∙ is)
+      was_held old vote member ballot (sym (added.held member ∙ ap (λ t. cond t (Some (cast_by vote)) (ballot_of old member)) e) ∙ is)
+
+  -- a mark leaves the vote
+  unmarked : (old : List (Option (Ballot D G))) (vote : Vote D G) (member : ℕ) (ballot : Ballot D G) (held : Option (Ballot D G)) → ballot_of old member ≡ held
+      → option_map contradicted held ≡ Some ballot → IsOldOr old vote member ballot
+  unmarked old vote member ballot None at is = absurd (none_is is)
+    where
+      none_is : None ≡ Some ballot → ⊥
+      none_is e = cc
+  unmarked old vote member ballot (Some was) at is = inl (was, at, ap (vote_by member) (some_is (contradicted was) ballot is))
+
+  marked_by : (old new : List (Option (Ballot D G))) (vote : Vote D G) → IsMarked old vote.signer new → (member : ℕ) (ballot : Ballot D G) → ballot_of new member ≡ Some ballot
+      → (t : Bool) → eqb member vote.signer ≡ t → IsOldOr old vote member ballot
+  marked_by old new vote marked member ballot is true e =
+      unmarked old vote member ballot (ballot_of old member) refl
+      (sym (marked member ∙ ap (λ t. cond t (option_map contradicted (ballot_of old member)) (ballot_of old member)) e) ∙ is)
+  marked_by old new vote marked member ballot is false e =
+      was_held old vote member ballot (sym (marked member ∙ ap (λ t. cond t (option_map contradicted (ballot_of old member)) (ballot_of old member)) e) ∙ is)
 
 module _ {S D K G C : Type 0} (same : D → D → Bool) (IsMadeOf : Subject D → List (ℕ × G) → C → Type 0) (members : ℕ) where
   pub counted_by : (old new : List (Option (Ballot D G))) (vote : Vote D G) (r : Counted S D K G C) → IsCountedIn same IsMadeOf members old vote new r → (member : ℕ) (ballot : Ballot D G) → ballot_of new member ≡ Some ballot → IsOldOr old vote member ballot
   counted_by old new vote Refused h member ballot is = absurd h
-  counted_by old new vote Known h member ballot is = inl (sym (h.1 member) ∙ is)
-  counted_by old new vote (Equivocated first second) h member ballot is = inl (sym (h.1 member) ∙ is)
+  counted_by old new vote Known h member ballot is = was_held old vote member ballot (sym (h.1 member) ∙ is)
+  counted_by old new vote (Equivocated first second) h member ballot is = marked_by old new vote h.1 member ballot is (eqb member vote.signer) refl
   counted_by old new vote Taken h member ballot is = added_by old new vote h.0 member ballot is (eqb member vote.signer) refl
   counted_by old new vote (Certified made) h member ballot is = added_by old new vote h.0 member ballot is (eqb member vote.signer) refl
 
@@ -82,7 +104,8 @@ module _ {S D K G C : Type 0} (given : List (Vote D G)) (old new : Batcher S D K
     there kind view member ballot same is = contains_left given (vote ∷ []) (vote_by member ballot) (are kind view member ballot (ap (λ slots. ballot_of slots member) (sym same) ∙ is))
 
     either : (member : ℕ) (ballot : Ballot D G) → IsOldOr (held old (kind_of vote.subject) (subject_view vote.subject)) vote member ballot → Contains (given ++ vote ∷ []) (vote_by member ballot)
-    either member ballot (inl is) = contains_left given (vote ∷ []) (vote_by member ballot) (are (kind_of vote.subject) (subject_view vote.subject) member ballot is)
+    either member ballot (inl (was, is, same)) =
+        subst (Contains (given ++ vote ∷ [])) same (contains_left given (vote ∷ []) (vote_by member was) (are (kind_of vote.subject) (subject_view vote.subject) member was is))
     either member ballot (inr is) = subst (Contains (given ++ vote ∷ [])) (sym is) (contains_seam given vote [])
 
     pub among_given : AreGiven (given ++ vote ∷ []) new

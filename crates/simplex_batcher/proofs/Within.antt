@@ -23,7 +23,7 @@ module _ {S D K G C : Type 0} (Holds : ℕ → ℕ → Type 0) (old new : Batche
     there kind view member ballot same is = each kind view member ballot (ap (λ slots. ballot_of slots member) (sym same) ∙ is)
 
     either : (member : ℕ) (ballot : Ballot D G) → IsOldOr (held old (kind_of vote.subject) (subject_view vote.subject)) vote member ballot → Holds (subject_view vote.subject) member
-    either member ballot (inl is) = each (kind_of vote.subject) (subject_view vote.subject) member ballot is
+    either member ballot (inl (was, is, same)) = each (kind_of vote.subject) (subject_view vote.subject) member was is
     either member ballot (inr is) = subst (Holds (subject_view vote.subject)) (ap (λ v. v.signer) (sym is)) this
 
     each_or_this : EachVote Holds new

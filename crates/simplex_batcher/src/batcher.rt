@@ -27,9 +27,11 @@ use std::alloc::{AllocError, Global};
 pub enum Counted<S: CertificateScheme, D> {
     /// Its view is not admitted, or its signer is no member. Nothing has changed.
     Refused,
-    /// Its signer voted for the same before. Nothing has changed.
+    /// Its signer voted for the same before, or a pair of votes that contradict each other was returned of its signer, of this kind and
+    /// view. Nothing has changed.
     Known,
-    /// Its signer voted for something else of this kind in this view before: that vote, and this one. Nothing has changed.
+    /// Its signer voted for something else of this kind in this view before: that vote, and this one. Such a pair is returned once of a
+    /// signer, kind and view; the first vote stays held.
     Equivocated(Vote<D, S::Signature>, Vote<D, S::Signature>),
     /// It was taken. The votes for the same are fewer than a quorum, or were one before.
     Taken,

@@ -4,7 +4,7 @@ ghost use Rattle.std.specs.Prelude.{◌≡◌, ◌≢◌, ◌≤◌, ◌<◌, �
 ghost use Rattle.std.specs.Option.{option_copied};
 ghost use Rattle.simplex_batcher.specs.Polls.{ballot_of, is_on, signature_on, signatures_on, signed_by, HoldsTheSame};
 ghost use Rattle.simplex_assembly.specs.Quorums.{quorum_of};
-ghost use Rattle.simplex_batcher.specs.Counting.{certificate_of, IsCountedIn, ShowsBoth};
+ghost use Rattle.simplex_batcher.specs.Counting.{certificate_of, is_pair, IsCountedIn, IsMarked, ShowsBoth};
 
 use super::Counted;
 use crate::votes::{Vote, is_same_subject};
@@ -20,6 +20,8 @@ use std::alloc::{AllocError, Global};
 pub struct Ballot<D, G> {
     pub subject: Subject<D>,
     pub signature: G,
+    /// A vote of the member that contradicts this one was returned with it.
+    pub is_contradicted: bool,
 }
 
 /// Makes room for the member's vote.
@@ -165,7 +167,8 @@ fn wrap<S: CertificateScheme, D: Digest>(
     }
 }
 
-/// What a further vote of a member comes to, whose first one is the ballot.
+/// What a further vote of a member comes to, whose first one is the ballot. One pair is evidence enough: a member that signs ever more
+/// votes, or whose two votes are passed on again and again, would else fill a log.
 fn count_again<S: CertificateScheme, D: Digest>(
     alloc: Global,
     ballot: &Ballot<D, S::Signature>,
@@ -173,7 +176,7 @@ fn count_again<S: CertificateScheme, D: Digest>(
 ) -> Result<Counted<S, D>, AllocError>
     ensures { IfOk result (ShowsBoth ballot.now vote) }
 {
-    if is_same_subject(&ballot.subject, &vote.subject) {
+    if ballot.is_contradicted || is_same_subject(&ballot.subject, &vote.subject) {
         return Ok(Counted::Known);
     }
     let first = Vote {
@@ -203,6 +206,7 @@ fn take<S: Assembly<D>, D: Digest>(
     slots[member] = Some(Ballot {
         subject,
         signature: vote.signature,
+        is_contradicted: false,
     });
     match certificate_on(alloc, scheme, members, slots, &subject) {
         Ok(None) => Ok(Counted::Taken),
@@ -210,6 +214,24 @@ fn take<S: Assembly<D>, D: Digest>(
         Err(refused) => {
             slots[member] = None;
             Err(refused)
+        }
+    }
+}
+
+/// Whether two votes that contradict each other are returned.
+fn is_pair<S: CertificateScheme, D: Digest>(counted: &Counted<S, D>) -> bool
+    ensures { result ≡ is_pair counted.now }
+{
+    matches!(counted, Counted::Equivocated(_, _))
+}
+
+/// Notes that a vote which contradicts the member's was returned.
+fn mark_contradicted<D: Copy, G: Drop>(slots: &mut Vec<Option<Ballot<D, G>>>, member: usize)
+    ensures { IsMarked slots.old.items member slots.new.items }
+{
+    if let Some(slot) = slots.get_mut(member) {
+        if let Some(ballot) = slot {
+            ballot.is_contradicted = true;
         }
     }
 }
@@ -228,8 +250,12 @@ pub(super) fn count<S: Assembly<D>, D: Digest>(
 {
     let member = vote.signer.get() as usize;
     make_room(slots, member)?;
-    if let Some(ballot) = find(slots, member) {
-        return count_again(alloc, ballot, vote);
+    let Some(ballot) = find(slots, member) else {
+        return take(alloc, scheme, members, slots, vote);
+    };
+    let counted = count_again(alloc, ballot, vote)?;
+    if is_pair(&counted) {
+        mark_contradicted(slots, member);
     }
-    take(alloc, scheme, members, slots, vote)
+    Ok(counted)
 }
