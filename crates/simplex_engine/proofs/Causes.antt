@@ -520,7 +520,7 @@ module _ {S D K G C : Type 0} (same : D → D → Bool) (IsMadeOf : Subject D �
       slots : List (Option (Ballot D G))
       slots = held old (kind_of vote.subject) (subject_view vote.subject)
 
-      shown : ballot_of slots first.signer ≡ Some (record { subject = first.subject; signature = first.signature }) → first.signer ≡ vote.signer
+      shown : ballot_of slots first.signer ≡ Some (record { subject = first.subject; signature = first.signature; is_contradicted = false }) → first.signer ≡ vote.signer
           → Duty (work.Equivocated first vote) ∷ [] ≡ evidence old vote
       shown is_held signed =
           ap (λ (it : Vote D G). Duty (work.Equivocated it vote) ∷ []) (ap (λ signer. record { subject = first.subject; signer = signer; signature = first.signature }) signed)

@@ -9,6 +9,7 @@ use Rattle.simplex_voter.specs.Refusals.{is_started, takes_round}
 use Rattle.simplex_voter.specs.Serving.{leader_of, notarization_of, nullification_of, finalization_of}
 use Rattle.simplex_voter.specs.Windows.{admits_vote, is_me}
 use Rattle.simplex_member.specs.Lives.{MemberFacts}
+use Rattle.simplex_member.specs.OutstandingWork.{is_offered}
 use Rattle.simplex_engine.specs.declared.engine.Engine.{Engine}
 use Rattle.simplex_engine.specs.declared.input.Input.{Input}
 use Rattle.simplex_engine.specs.declared.input.Input.TheVariants as input
@@ -44,11 +45,12 @@ module _ {K L D : Type 0} where
   is_so test m = option_map_or test m.life false
 
 module _ {S L D K G C : Type 0} where
-  -- a proposal, a vote or a certificate; what the application or the network says is always admitted
+  -- a proposal, a vote or a certificate; a verdict on a proposal that was offered and has none; all else is always admitted
   abbrev pub is_input_admitted : (C → List ℕ) → MemberFacts K L D → Input S D K G C → Bool
   is_input_admitted bytes_of m (input.Proposal from proposal) = is_so (λ x. admits_proposal x from proposal.round) m
   is_input_admitted bytes_of m (input.Vote vote) = is_so (λ x. admits_votes x (subject_round vote.subject)) m
   is_input_admitted bytes_of m (input.Certificate certificate) = is_so (λ x. admits x (certificate_facts bytes_of certificate)) m
+  is_input_admitted bytes_of m (input.Certified view success) = is_offered m.outstanding_work view
   is_input_admitted bytes_of m _ = true
 
   -- one more input was of no use

@@ -1,6 +1,6 @@
-//! The engine of a member: it is told what came in, and hands out all that follows, in the order in which it is carried out.
+//! The engine of a member: it receives inputs, and returns outputs in the order in which the host carries them out.
 //!
-//! It holds no network, clock, disk or key but its scheme. Moments are milliseconds that are handed in, and do not fall.
+//! It holds no network, clock or disk, and no key but the scheme's. Moments are milliseconds; they do not go back.
 #![tactic(auto, using(simplex_outbox::proofs::Going::stays, simplex_outbox::proofs::Going::goes_further, crate::proofs::Backing::takes_nothing, crate::proofs::Backing::takes_no_more, crate::proofs::Backing::takes_anyway))]
 
 ghost use Rattle.std.specs.Prelude.{◌≡◌, ◌++◌, [], length, None, Err, if◌then◌else◌, IfOk, IfErr, IfSome, OnOk, OnErr, IsNone, IsFalse, IsTrue, true, false};
@@ -29,11 +29,11 @@ use simplex_types::types::{Artifact, CertificateScheme, Digest, Elector, Fault, 
 use simplex_voter::voter::State;
 use std::alloc::Global;
 
-/// A member, its votes' batcher, its resolver and its open fetches, and what is to be carried out.
+/// A member, the batcher of its votes, its resolver and outstanding fetches, and what the host is to carry out.
 ///
-/// `IsKept` of `core` says what was given out so far, in order: `start` and `resume` begin the list, `poll` adds what it answers,
-/// and `keeps_the_laws` says what holds of the whole. After an error it has failed: nothing more is given out, and another life
-/// begins from what was stored.
+/// `IsKept` of `core` says which outputs were returned so far: `start` and `resume` begin the list, `poll` appends what it returns, and
+/// `keeps_the_laws` says what holds of the whole list. After an error the engine has failed and returns no further output; resume another
+/// one from what was stored.
 #[derive(Drop)]
 pub struct Engine<S: CertificateScheme, L: Elector<S>, D: Digest> {
     alloc: Global,
@@ -76,48 +76,38 @@ impl<S: Assembly<D>, L: Elector<S>, D: Digest> Engine<S, L, D> {
     ghost use Rattle.simplex_outbox.specs.Outputs.{work_in};
     ghost use Rattle.simplex_engine.specs.Duties.{work_ahead, KeepsTelling, HasToldAll, AllIsGivenOut};
 
-    /// Tells what came in. Answers whether it was of use: what is not is dropped, and changes nothing.
+    /// Takes an input at a moment in milliseconds, and returns whether it was of use. One that was not is ignored and counted.
     ///
-    /// A proposal is dropped where it is of another member than its view's leader, of this member itself, or of a round that takes
-    /// no votes; one of a view that comes soon is kept until then. A vote is dropped where its round takes none, and where its
-    /// signer voted before. A certificate is dropped where one of its kind and view is held. What the application verified or built
-    /// is dropped where it was not asked for; a verdict is taken where its view is notarized and has none.
+    /// Ignored are: a proposal that does not come from its view's leader, that is this member's own, or whose view takes no votes (one of
+    /// the next eight views is stored until its view is entered); a vote whose view takes no votes, or whose signer voted before in that
+    /// kind and view; a certificate of a kind and view that has one; a verification or a block that was not asked for; a verdict on a
+    /// proposal that was not offered, or that has its verdict.
     ///
-    /// - `goes_on`: no certificate is accepted but the one that is handed in, or one on what the vote that is handed in is on; a
-    ///   finalization that is accepted is told, where its view is above all that were told.
-    /// - `votes`, `held`: of each member it holds votes alone that were handed in; but by a vote, none is lost and none comes.
-    /// - `backed`: a certificate that a vote completes is backed by votes of n - f different members on just that, each handed in.
-    /// - `dropped`: what was of no use changed nothing of the member, and no vote was taken; a reason to give a view up or a
-    ///   verdict leaves its moment all the same, and after the verdict none is waited for.
-    /// - `unadmitted`: a proposal, a vote or a certificate that is not admitted is of no use, and changes nothing but how many
-    ///   inputs were; a proposal of this epoch is kept whose view is one of the eight after the current one, while fewer than eight
-    ///   are.
-    /// - `acted`: one that is admitted is acted on: the member is asked what it stands for, or the vote is counted, and what follows
-    ///   from that is of use exactly where the answer has anything.
-    /// - `duties`: what the application is to be told of stays told: each proposal that is being verified, each that was offered for
-    ///   certification and has no verdict, and the block of each view whose request to build is open, was given out, is queued to
-    ///   be, or is planned, but a block that a member alone builds once it enters the view. No work that is queued or planned is
-    ///   lost. Where no block is to be built above the first view of the next term, none comes to be; where the views that it has
-    ///   come to are the member's, they stay so, and no proposal is lost that came early, until its view is entered. The options
-    ///   stay, whether there are other members, and whom fetches are asked of and after how long again.
-    /// - `comes`: and nothing comes of nothing. The member is asked what came in, or what an engine asks of its own accord: for its
-    ///   votes, certificates, work and timeout, but not that a proposal is valid, for a verdict or with a block. Work that is queued
-    ///   or planned, fetches that the resolver does not want and proposals that are kept come of those before, of what came in, and
-    ///   of the member's answers; what is asked of a peer, of an open fetch, is not followed. That views may be forgotten is told by
-    ///   `poll` alone. Each certificate that was asked for, or that an answer says is lacking, is asked for still, or is to be once it
-    ///   may no longer be on its way; but of a view up to the last finalized one, and what the resolver ends by what it is told,
-    ///   which is just what the member's answers say: each certificate that is new, and each verdict.
-    /// - `heights`: where no certificate is asked for, or to be asked for, of a view above the first one of the next term and above
-    ///   those of all entries of the record, none comes to be, whatever the member has done so far.
-    /// - `ignored`: what is of no use is counted, and nothing else.
-    /// - `bounded`: where each vote that is held was a member's, and of no view above those whose votes are taken, each still is.
-    /// - `failed`, `error`, `refused`: after an error it has failed; one that had failed answers `Failed`, and nothing changes; any
-    ///   other answers `OutOfMemory`.
+    /// - `goes_on`: the member accepts no certificate but the one that is passed, or one on what the passed vote is on. A finalization
+    ///   that it accepts is queued to be reported where its view is above all that were reported.
+    /// - `votes`, `held`: the votes that are held were all passed in; an input that is no vote changes none of them.
+    /// - `backed`: votes of n - f different members, each passed in, back a certificate that a vote completes.
+    /// - `dropped`: an ignored input changes nothing of the member and of the votes, but for two: the reason of a timeout, and a verdict,
+    ///   leave their moment, and a verdict closes its offer.
+    /// - `unadmitted`: an input that is not admitted (`is_input_admitted`) is ignored, and changes only how many inputs were; an early
+    ///   proposal is stored while fewer than eight are.
+    /// - `acted`: of an admitted input the member receives the call that it stands for, or the vote is counted.
+    /// - `duties`: work for the application is not lost: a proposal to verify or certify, and the block of an open request, was returned,
+    ///   is queued or is planned, but for a block that a lone member builds once it enters the view. No early proposal is lost before its
+    ///   view is entered. The options and the other members stay.
+    /// - `comes`: every call of the member, every piece of work, every fetch that the resolver does not want and every early proposal is
+    ///   caused by this input, by what was there before, or by a reply of the member. A certificate that a reply named as missing stays
+    ///   asked for, until its view is final or the resolver ends it.
+    /// - `heights`: no fetch appears of a view above both the next term's first and those of all entries of the record.
+    /// - `ignored`: exactly the ignored inputs are counted.
+    /// - `bounded`: the votes that are held stay those of members, and of no view above those whose votes are taken.
+    /// - `failed`, `error`, `refused`: after an error the engine has failed; an engine that had failed returns `Failed` and is unchanged.
     ///
     /// # Errors
     ///
-    /// `OutOfMemory` where memory is lacking, which fails the engine; `Failed` where it had failed before. A call that would take
-    /// 2^64 steps, or whose resolver refuses what the member accepted, fails the engine too: it answers as for want of memory.
+    /// - `OutOfMemory`: the engine has failed. So it is for a call that would take 2^64 steps, or whose resolver refuses what the member
+    ///   accepted.
+    /// - `Failed`: it had failed before.
     pub fn handle(&mut self, input: Input<S, D>, now: u64) -> Result<bool, Fault>
         ensures goes_on { GoesOn D.eq L.elect S.certificate_bytes (subject_in S.certificate_bytes input) self.old.core self.new.core }
         ensures votes { TakesVotes (votes_of_input input) self.old.batcher self.new.batcher }
@@ -153,40 +143,31 @@ impl<S: Assembly<D>, L: Elector<S>, D: Digest> Engine<S, L, D> {
         }
     }
 
-    /// What is to be carried out next, at a moment in milliseconds; none where nothing is until another input, or until the
-    /// moment that `wake` tells.
+    /// Returns the next output to carry out, at a moment in milliseconds. `None`: there is none before another input, or before the moment
+    /// that `wake` returns.
     ///
-    /// - `given`: what is answered is given out.
-    /// - `does`, `told`: no certificate is accepted, and no other proposal is queued to be told as final.
-    /// - `traced`: what is returned is given out, and stays traced by what the member has done so (`IsTraced`).
-    /// - `held`: just the votes are forgotten that are of views below the lowest one that is kept, or none is.
-    /// - `votes`, `bounded`, `failed`, `error`, `refused`: as of `handle`.
-    /// - `ignored`, `constants`: no input is counted as of no use; what stays by `handle` stays.
-    /// - `none`: where nothing is answered, all of the record was given out to be stored; in the last finalized view and above, the
-    ///   member has cast each vote that its rule allows, and has handed out each certificate; and it was asked last for work of the
-    ///   application, and had none.
-    /// - `duties`: as of `handle`, with what is answered given out.
-    /// - `waiting`: so where nothing is answered, each of these proposals and blocks was given out, but where a member alone waits.
-    /// - `works`: no work is lost: what is queued or planned is given out, or is so still.
-    /// - `comes`: as of `handle`, where nothing came in: what is given out to be verified, certified, built or sent was asked for by
-    ///   an answer of the member; the member votes to nullify once its timeout has come; and of the proposals that came early it is
-    ///   handed those of their views' leaders. Views may be forgotten below the lowest one that the member keeps then. Of what is
-    ///   asked for that alone is let go besides which the state holds.
-    /// - `heights`: as of `handle`; so, by `lacking`, the open fetches are of views between the last finalized one and these.
-    /// - `idle`: where nothing is answered, nothing is to be done at the moment: no step is queued, the timeout was asked for, and
-    ///   no fetch is due.
-    /// - `ahead`: and each block that is to be built is of a view above the current one, or of that and was asked for: one of a view
-    ///   below was given up.
-    /// - `near`, `seen`: where no block is to be built above the first view of the next term, none comes to be; where the views that
-    ///   it has come to are the member's, they stay so.
-    /// - `early`: then no proposal is lost that came early, until its view is entered.
-    /// - `short`: and the record has no more entries than the options say, or by a pruning no more views of it go than stay: no entry
-    ///   lies further below the lowest view that is left than the current view lies above that.
-    /// - `lowest`: where nothing is answered, no vote is held of a view below the lowest one that is kept.
-    /// - `lacking`: and just what is lacking is asked for: each open fetch is of a view above the last finalized one, and of a
-    ///   certificate that the state does not hold; and of each such view that the resolver has open, a nullification is asked for.
-    /// - `admitted`: so each vote that is held is a member's, and of a view whose votes are taken: at most three of each member a
-    ///   view.
+    /// - `given`, `traced`: the returned output is appended to the list of outputs, which stays traced by what the member has done.
+    /// - `does`, `told`: the member accepts no certificate, and nothing more is queued to be reported as final.
+    /// - `held`, `lowest`: only votes of views below the lowest retained one are forgotten; after `None` none of those is left.
+    /// - `votes`, `bounded`, `failed`, `error`, `refused`, `ignored`, `constants`: as of `handle`; no input is counted.
+    /// - `duties`, `works`: as of `handle`; work that was queued or planned was returned, or is still queued or planned.
+    /// - `comes`: as of `handle`, without an input. The member votes to nullify only after its timeout, and receives early proposals of
+    ///   their views' leaders.
+    /// - `heights`: as of `handle`.
+    /// - `near`, `seen`, `early`: no block is asked for above the next term's first view; the views that the plan knows stay the member's;
+    ///   no early proposal is lost before its view is entered.
+    ///
+    /// After `None`:
+    ///
+    /// - `none`: the whole record was returned to be stored. From the last finalized view on the member has cast each vote that its rule
+    ///   allows, and each certificate was returned. Asked last, it had no work for the application.
+    /// - `idle`: no step is queued, the timeout was asked for, and no fetch is due.
+    /// - `waiting`: each proposal to verify or certify and each block to build was returned, but where a lone member waits for the view.
+    /// - `ahead`: each block to build is of the current view, and was asked for, or of a later one.
+    /// - `short`: the record has at most `long_record` entries, or a pruning would drop no more of its views than it leaves.
+    /// - `lacking`: each fetch is of a view above the last finalized one and of a certificate that the state does not hold. Of each such
+    ///   view that the resolver has open, the nullification is asked for.
+    /// - `admitted`: each vote that is held is a member's and of a view that takes votes: at most three of a member in a view.
     ///
     /// # Errors
     ///
@@ -233,7 +214,7 @@ impl<S: Assembly<D>, L: Elector<S>, D: Digest> Engine<S, L, D> {
         }
     }
 
-    /// What is to be carried out next once all steps are taken.
+    /// Returns the next output once all steps are taken.
     fn poll_after_work(&mut self, now: u64) -> Result<Option<Output<S, D, Stored>>, Fault>
         ensures given { HasGivenOut S.certificate_bytes (given_out result) self.old.core self.new.core }
         ensures does { DoesMoreOn D.eq L.elect None self.old.core.member.facts self.new.core.member.facts }
@@ -272,42 +253,42 @@ impl<S: Assembly<D>, L: Elector<S>, D: Digest> Engine<S, L, D> {
         }
     }
 
-    /// Whether it has failed, or its member has.
+    /// Returns whether the engine or its member has failed.
     pub fn has_failed(&self) -> bool
         ensures { result ≡ has_failed self.now.core }
     {
         self.core.has_failed()
     }
 
-    /// The moment in milliseconds at which `poll` is to be called where nothing comes before.
+    /// Returns the moment, in milliseconds, at which to call `poll` if no input comes before.
     pub fn wake(&self) -> u64
         ensures { IsWake self.now.plan.repair.fetches.wanted.items self.now.plan.timeout result }
     {
         self.plan.wake()
     }
 
-    /// How many inputs were of no use.
+    /// Returns how many inputs were ignored.
     pub fn ignored(&self) -> u64
         ensures { result ≡ self.now.plan.ignored }
     {
         self.plan.ignored()
     }
 
-    /// The fetches that are open.
+    /// Returns the outstanding fetches.
     pub fn fetches(&self) -> &Fetches
         ensures { result.now ≡ self.now.plan.repair.fetches }
     {
         self.plan.fetches()
     }
 
-    /// The resolver, whose state serves peers that lag behind.
+    /// Returns the resolver, whose state serves peers that lag.
     pub fn resolver(&self) -> &LawfulResolver
         ensures { result.now ≡ self.now.plan.repair.resolver }
     {
         self.plan.resolver()
     }
 
-    /// The member's state, which tells views, leaders and certificates, while it has not failed: it has a floor then.
+    /// Returns the member's state, with its views, leaders and certificates; `None` once the member has failed.
     pub fn state(&self) -> Option<&State<S, L, D>>
         ensures life { option_copied result ≡ self.now.core.member.facts.life }
         ensures started { IfSome result (λ state. (state.now.failed ≡ false) × (is_started state.now ≡ true)) }
@@ -315,7 +296,7 @@ impl<S: Assembly<D>, L: Elector<S>, D: Digest> Engine<S, L, D> {
         self.core.state()
     }
 
-    /// The record, oldest entry first.
+    /// Returns the record, oldest entry first.
     pub fn record(&self) -> &[Artifact<S, D>]
         ensures entries { entries_of S.certificate_bytes result.now ≡ self.now.core.member.facts.entries }
         ensures votes { votes_of result.now ≡ self.now.core.member.votes }
@@ -323,21 +304,21 @@ impl<S: Assembly<D>, L: Elector<S>, D: Digest> Engine<S, L, D> {
         self.core.record()
     }
 
-    /// The laws of all that it gave out, and of all that its member has done. It does nothing: its contract is the laws.
+    /// Does nothing: its contract is the laws of all outputs so far, and of all that the member has done.
     ///
-    /// - `behind`: each vote stands behind an output that stores it, with its very signature.
-    /// - `stored`: until it fails, where all of the record is queued or was given out, a journal that carries out what was given
-    ///   out and what is queued holds the record, and beside it what a journal stores.
-    /// - `leaving`: until it fails, each vote that is stored was given out or is queued, but those of the record that the life began
-    ///   with, which the first output stores.
-    /// - `stops`: until it fails, a host may stop after each output that was given out: the journal is then the record of a member that
-    ///   the engine's member was, which had signed each vote among these outputs (`stops_are_resumed`).
-    /// - `finals`: of each proposal that it reported as final, its member accepted the finalization.
-    /// - `rising`: the views of the proposals rise that it told as final.
-    /// - `last`: the last of them, of those that it told and those that are queued, is of the member's last finalized view.
-    /// - `lawful`: what its member has done keeps the voting rules, over all its lives.
+    /// - `behind`: a vote comes after an output that stores it, with that signature.
+    /// - `stored`: until the engine fails, a journal that carries out what was returned and what is queued holds the record, and what a
+    ///   journal stores beside it.
+    /// - `leaving`: until it fails, each vote in that journal was returned or is queued, but for those of the record that the lifetime
+    ///   began with, which the first output stores.
+    /// - `stops`: until it fails, a host may stop after any output. Its journal is then the record of a member that the engine's member
+    ///   was, and that member had signed each vote among these outputs (`stops_are_resumed`).
+    /// - `finals`: the member accepted the finalization of each proposal that was reported as final.
+    /// - `rising`: the views of these proposals rise.
+    /// - `last`: the last of them, returned or queued, is of the member's last finalized view.
+    /// - `lawful`: the member keeps the voting rules over all its lifetimes.
     /// - `ran`: a network of `agreement` may have it as member `i`.
-    /// - `once`: its record holds each entry once: of each view at most seven.
+    /// - `once`: the record holds each entry once: at most seven of a view.
     pub fn keeps_the_laws(&self)
         ensures behind { (given : _) → IsKept S.certificate_bytes given self.now.core → AreBehind [] given }
         ensures stored { (given : _) → IsKept S.certificate_bytes given self.now.core → self.now.core.failed ≡ false

@@ -1,24 +1,25 @@
-//! What an engine is told.
+//! The inputs of an engine.
 
 use simplex_batcher::votes::Vote;
 use simplex_types::reasons::TimeoutReason;
 use simplex_types::types::{Certificate, CertificateScheme, Context, Participant, Proposal, View};
 
-/// What an engine is told, one by one. That a moment has come is told by polling.
+/// One input. Time is no input: the moment is passed with each call, and a timeout comes from `poll`.
 #[derive(Drop)]
 pub enum Input<S: CertificateScheme, D> {
-    /// A proposal that this member sent, under its signature.
+    /// A proposal, and the member that sent it, whose signature the host has verified.
     Proposal(Participant, Proposal<D>),
-    /// A vote whose signature is good: also each of this member's own, once it was carried out.
+    /// A vote whose signature the host has verified; also each of the engine's own, once the host has sent it.
     Vote(Vote<D, S::Signature>),
-    /// A certificate that is good.
+    /// A certificate that the host has verified.
     Certificate(Certificate<S, D>),
-    /// Whether the application found the view's proposal valid, which it was asked to verify.
+    /// Whether the application found the view's proposal valid, after `Work::Verify`.
     Verified(View, bool),
-    /// What the application built in a context that it was asked to build in.
+    /// The payload that the application built in the context of a `Work::Build`.
     Built(Context<D, S::PublicKey>, D),
-    /// Whether the application certified the view's notarized proposal, which it was asked to certify.
+    /// Whether the application certified the view's notarized proposal. It is ignored where the member did not offer the proposal in this
+    /// lifetime, or has its verdict.
     Certified(View, bool),
-    /// The view times out for a reason that the engine doesn't see by itself.
+    /// The view times out for a reason that the engine can't see by itself.
     GivenUp(View, TimeoutReason),
 }

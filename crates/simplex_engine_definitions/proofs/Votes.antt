@@ -26,7 +26,7 @@ rounds = refl
 
 -- members 0 and 3 voted for one proposal of view 3, member 1 for another, member 2 for none so far
 abbrev vote : ℕ → ℕ → Option (Ballot ℕ ℕ)
-vote payload signature = Some (record { subject = Notarize (proposal 3 2 payload); signature = signature })
+vote payload signature = Some (record { subject = Notarize (proposal 3 2 payload); signature = signature; is_contradicted = false })
 
 abbrev votes : List (Option (Ballot ℕ ℕ))
 votes = vote 7 100 ∷ vote 8 101 ∷ None ∷ vote 7 103 ∷ []

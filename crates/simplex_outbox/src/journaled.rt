@@ -57,6 +57,7 @@ impl<S: Scheme<D>, L: Elector<S>, D: Digest> Journaled<S, L, D> {
     ghost use Rattle.simplex_laws.specs.Living.{OfAllDone, MayBeDoneBy};
     ghost use Rattle.simplex_laws.specs.RecordsOnce.{HoldsEachEntryOnce};
     ghost use Rattle.simplex_member.specs.Journal.{stored_of};
+    ghost use Rattle.simplex_member.specs.OutstandingWork.{is_offered};
     ghost use Rattle.simplex_member.specs.Pruning.{pruned_member};
     ghost use Rattle.simplex_outbox.specs.Outputs.{AreBehind};
     ghost use Rattle.simplex_outbox.specs.Outboxes.{HasRoom, IsRepeated, QueuesNoWork};
@@ -319,6 +320,14 @@ impl<S: Scheme<D>, L: Elector<S>, D: Digest> Journaled<S, L, D> {
         ensures started { IfSome result (λ state. (state.now.failed ≡ false) × (is_started state.now ≡ true)) }
     {
         self.member.state()
+    }
+
+    /// Returns whether the member offered the view's proposal for certification and has received no verdict on it; false once it has
+    /// failed.
+    pub fn awaits_verdict(&self, view: View) -> bool
+        ensures { result ≡ is_offered self.now.member.facts.outstanding_work view }
+    {
+        self.member.awaits_verdict(view)
     }
 
     /// The record, oldest entry first.

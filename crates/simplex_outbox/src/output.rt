@@ -1,43 +1,44 @@
-//! What an engine is to carry out.
+//! The outputs of an engine, which its host carries out.
 
 use simplex_batcher::votes::Vote;
 use simplex_fetches::fetches::Ask;
 use simplex_types::types::{Artifact, Certificate, CertificateScheme, Context, Proposal, View};
 
-/// What is to be carried out, in the order in which it is handed out. `J` is what a journal stores beside its entries.
+/// One output. Carry outputs out in the order in which they are returned. `J` is what a journal stores beside its entries.
 #[derive(Drop)]
 pub enum Output<S: CertificateScheme, D, J> {
-    /// To be stored behind all that is stored, before anything behind it is carried out.
+    /// Append these entries to the journal and sync it, before you carry out the next output.
     Store(Vec<Artifact<S, D>>),
-    /// To be stored in place of all that is stored, in one step with what is stored beside it.
+    /// Store these entries in place of all that is stored, in one step with what is stored beside them.
     Replace(Vec<Artifact<S, D>>, J),
-    /// This member's vote, to be sent to all members.
+    /// Send this vote of the member to all members.
     Vote(Vote<D, S::Signature>),
-    /// A proposal that is final, and all below it: rising, each view once. Its finalization was accepted.
+    /// This proposal and all its ancestors are final. Ancestors are not reported: follow parent links to the last block that you delivered.
     Finalized(Proposal<D>),
-    /// Anything else: nothing of it has to be stored before.
+    /// Anything else.
     Work(Work<S, D>),
 }
 
-/// What is to be carried out and is neither stored, nor a vote, nor final.
+/// Work for the network and the application.
 #[derive(Drop)]
 pub enum Work<S: CertificateScheme, D> {
-    /// A certificate, to be sent to all others.
+    /// Send this certificate to all other members.
     Broadcast(Certificate<S, D>),
-    /// A proposal that the application is to verify in its context.
+    /// Let the application verify this proposal in its context.
     Verify(Context<D, S::PublicKey>, Proposal<D>),
-    /// What the application is to build on.
+    /// Let the application build a block in this context.
     Build(Context<D, S::PublicKey>),
-    /// What is built in the view is of no use any more.
+    /// Stop building in this view: the block is not needed any more.
     StopBuilding(View),
-    /// A notarized proposal, on which the application is to give a verdict.
+    /// Let the application give its verdict on this notarized proposal.
     Certify(Proposal<D>),
-    /// What is to be asked of a peer.
+    /// Ask a peer for a certificate.
     Fetch(Ask),
-    /// Two votes of one member that contradict each other.
+    /// Two votes of one member that contradict each other. It is returned once of a member, kind and view, as long as the view's votes are
+    /// held.
     Equivocated(Vote<D, S::Signature>, Vote<D, S::Signature>),
     /// The leader of the view, by its key, signed two proposals, which certificates show.
     ProposedTwice(View, S::PublicKey),
-    /// The views below may be forgotten.
+    /// Drop what the host stores of the views below this one.
     Forget(View),
 }

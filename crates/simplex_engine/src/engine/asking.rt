@@ -28,24 +28,24 @@ impl<S: Assembly<D>, L: Elector<S>, D: Digest> Engine<S, L, D> {
     ghost use Rattle.simplex_plan.specs.PlannedWork.{AreAmong, KeepsPlanned, KeepsPlannedThen, PlansAnswerThen};
     ghost use Rattle.simplex_engine.specs.Views.{HasComeTo};
 
-    /// Asks for work of the application. Whether there is none.
-    pub(super) fn has_no_work(&mut self, now: u64) -> Result<bool, Fault>
+    /// Asks the member for work of the application. Returns whether there is none.
+    pub(super) fn ask_for_work(&mut self, now: u64) -> Result<bool, Fault>
         ensures alone { GoesOnAlone D.eq L.elect S.certificate_bytes self.old self.new }
         ensures nothing { IfOk result (λ nothing. IsTrue nothing
             → AnswerNothing D.eq L.elect self.old.core.member.facts for_work self.new.core.member.facts) }
         ensures duties { OnOk result (KeepsDuties self.old self.new) }
         ensures comes { OnOk result (ComesAlone D.eq L.elect D.bytes S.certificate_bytes now self.old self.new) }
     {
-        let mut has_none = self.asks_nothing(Task::Verify, now)?;
-        has_none &= self.asks_nothing(Task::Propose, now)?;
-        has_none &= self.asks_nothing(Task::Candidates, now)?;
+        let mut has_none = self.ask_for(Task::Verify, now)?;
+        has_none &= self.ask_for(Task::Propose, now)?;
+        has_none &= self.ask_for(Task::Candidates, now)?;
         Ok(has_none)
     }
 
-    /// Plans to ask for the votes and the certificates of the lowest view where one is due. Whether none is.
+    /// Plans to ask for the votes and the certificates of the lowest view where one is due. Returns whether none is.
     ///
-    /// The views from the last finalized one on are gone over, so it comes last, once all else is done.
-    pub(super) fn has_nothing_due(&mut self) -> Result<bool, Fault>
+    /// It goes through the views from the last finalized one on, so it comes last, once all else is done.
+    pub(super) fn plan_due_votes(&mut self) -> Result<bool, Fault>
         ensures core { self.new.core ≡ self.old.core }
         ensures batcher { self.new.batcher ≡ self.old.batcher }
         ensures nothing { IfOk result (λ nothing. IsTrue nothing
@@ -74,8 +74,8 @@ impl<S: Assembly<D>, L: Elector<S>, D: Digest> Engine<S, L, D> {
         }
     }
 
-    /// Asks for work, and follows the answer. Whether there is nothing new.
-    fn asks_nothing(&mut self, task: Task<D>, now: u64) -> Result<bool, Fault>
+    /// Asks for work, and follows the reply. Returns whether that has nothing new.
+    fn ask_for(&mut self, task: Task<D>, now: u64) -> Result<bool, Fault>
         ensures alone { GoesOnAlone D.eq L.elect S.certificate_bytes self.old self.new }
         ensures nothing { IfOk result (λ nothing. IsTrue nothing
             → AnswersNothing D.eq L.elect self.old.core.member.facts (call_of task now) self.new.core.member.facts) }

@@ -87,24 +87,25 @@ impl<S: Assembly<D>, L: Elector<S>, D: Digest> Engine<S, L, D> {
     ghost use Rattle.simplex_engine.specs.Heights.{AsksForTheHeard};
     ghost use Rattle.simplex_engine.specs.Duties.{HasToldAll};
 
-    /// The engine of a member that begins at a floor, where nothing was stored.
+    /// Begins the engine of a member that never voted, at a floor. A member that voted must `resume`, or it could vote twice in a view.
     ///
     /// The elector's members are the scheme's participants.
+    ///
     /// - `started`, `votes`: its member is the one that `LawfulMember::start` makes, with no vote in its record.
-    /// - `begins`: it has accepted the floor's finalization, if there is one, and done nothing else.
-    /// - `traced`: it is traced by what the member has done before (`IsTraced`).
-    /// - `kept`, `whole`, `queued`, `told`, `bounded`, `duties`: nothing was given out, the whole record stands to be stored in place of
-    ///   all that is and nothing else is queued, no proposal to be told as final, and the member waits for nothing.
-    /// - `begun`: no vote is held, and certificates are made by the number of the scheme's participants; the resolver was told of the
-    ///   record, and what it has open is asked for at once, of all participants but this member; no input was of no use.
-    /// - `nothing`: no work is queued or planned, no proposal is kept, and each fetch is one that the resolver wants.
-    /// - `heights`: no certificate is asked for of a view above the first one of the next term and above those of all entries.
-    /// - `no_retry`, `refused`: `RetryZero` is returned just where `timeout_retry` is 0; why else there is none.
+    /// - `begins`: the member has accepted the floor's finalization, if there is one, and done nothing else.
+    /// - `traced`: the empty list of outputs is traced by what the member did before (`IsTraced`).
+    /// - `kept`, `whole`, `queued`, `told`, `bounded`, `duties`: no output was returned. The whole record is queued, in place of all that is
+    ///   stored, and nothing else is; nothing is to be reported as final, and the member waits for nothing.
+    /// - `begun`: no vote is held; certificates are made by the number of the scheme's participants; the resolver has received the record,
+    ///   and its outstanding fetches are due at once, from all participants but this member; no input was ignored.
+    /// - `nothing`: no work is queued or planned, no early proposal is stored, and each fetch is one that the resolver wants.
+    /// - `heights`: no fetch is of a view above both the next term's first and those of all entries.
+    /// - `no_retry`, `refused`: `RetryZero` exactly where `timeout_retry` is 0; the other errors as below.
     ///
     /// # Errors
     ///
-    /// `RetryZero` where `start.settings.timeout_retry` is 0: a vote to nullify would be repeated at once, and `poll` would not return.
-    /// `OutOfMemory`, those of `LawfulMember::start`, and those of `LawfulResolver::start` on the record.
+    /// - `RetryZero`: `start.settings.timeout_retry` is 0. A vote to nullify would be repeated at once, and `poll` would not return.
+    /// - `OutOfMemory`, and those of `LawfulMember::start` and, on the record, of `LawfulResolver::start`.
     pub fn start(
         alloc: Global,
         start: Start<S, L, D>,
@@ -144,17 +145,19 @@ impl<S: Assembly<D>, L: Elector<S>, D: Digest> Engine<S, L, D> {
         }
     }
 
-    /// The engine of a member that goes on from what was stored, also at a later floor.
+    /// Resumes the engine of a member from what was stored, also at a later floor.
     ///
     /// The elector's members are the scheme's participants.
+    ///
     /// - `resumed`, `votes`: its member is the one that `LawfulMember::resume` makes, with the votes of the entries.
-    /// - `goes_on`: in terms of the same length and with the key of the same member or none, what was done before stays done,
-    ///   and the floor's finalization is accepted too.
+    /// - `goes_on`: in terms of the same length, and with the key of the same member or none, the member has done what it had done before,
+    ///   and has accepted the floor's finalization.
     /// - `kept`, `traced`, `whole`, `queued`, `told`, `bounded`, `duties`, `begun`, `nothing`, `heights`, `no_retry`, `refused`: as of `start`.
     ///
     /// # Errors
     ///
-    /// `RetryZero` as of `start`, before what was stored is read. `OutOfMemory`, those of `LawfulMember::resume`, and those of `LawfulResolver::start` on the record.
+    /// - `RetryZero`: as of `start`, before the entries are read.
+    /// - `OutOfMemory`, and those of `LawfulMember::resume` and, on the record, of `LawfulResolver::start`.
     pub fn resume(
         alloc: Global,
         start: Start<S, L, D>,

@@ -6,7 +6,8 @@ ghost use Rattle.std.specs.List.{list_any};
 ghost use Rattle.std.specs.Option.{option_map_or};
 ghost use Rattle.simplex_engine.specs.Acting.{verification_of};
 ghost use Rattle.simplex_engine.specs.Admitting.{admits_proposal, is_of_epoch};
-ghost use Rattle.simplex_plan.specs.declared.task.Task.TheVariants.{Proposed, SetProposal};
+ghost use Rattle.simplex_member.specs.OutstandingWork.{is_offered};
+ghost use Rattle.simplex_plan.specs.declared.task.Task.TheVariants.{Certified, Proposed, SetProposal};
 
 use super::Engine;
 use super::counting::takes_votes;
@@ -50,7 +51,7 @@ impl<S: Assembly<D>, L: Elector<S>, D: Digest> Engine<S, L, D> {
             Input::Certificate(certificate) => self.accept(&certificate, now),
             Input::Verified(view, is_valid) => self.ask(verification(view, is_valid), now),
             Input::Built(context, payload) => self.build(&context, payload, now),
-            Input::Certified(view, is_success) => self.ask(Task::Certified(view, is_success), now),
+            Input::Certified(view, is_success) => self.judge(view, is_success, now),
             Input::GivenUp(view, reason) => self.ask(Task::GiveUp(view, reason), now),
         }
     }
@@ -130,6 +131,23 @@ impl<S: Assembly<D>, L: Elector<S>, D: Digest> Engine<S, L, D> {
             return Ok(false);
         }
         self.ask(Task::Proposed(context.round.view, payload), now)
+    }
+
+    /// The application's verdict on a proposal, where the member offered it and has no verdict yet. Any other verdict is ignored: the
+    /// member would take it on whatever proposal of the view is notarized, also one on a parent that is not certified.
+    fn judge(&mut self, view: View, is_success: bool, now: u64) -> Result<bool, Fault>
+        ensures goes_on { GoesOn D.eq L.elect S.certificate_bytes None self.old.core self.new.core }
+        ensures batcher { self.new.batcher ≡ self.old.batcher }
+        ensures unadmitted { IsFalse (is_offered self.old.core.member.facts.outstanding_work view) → (result ≡ Ok false) × (self.new ≡ self.old) }
+        ensures acted { IsTrue (is_offered self.old.core.member.facts.outstanding_work view) → IfOk result
+            (HasDoneTask D.eq L.elect (Certified view is_success) now self.old.core.member.facts self.new.core.member.facts) }
+        ensures duties { OnOk result (KeepsDuties self.old self.new) }
+        ensures comes { OnOk result (ComesWith D.eq L.elect D.bytes S.certificate_bytes now (Message (Certified view is_success) ∷ []) self.old self.new) }
+    {
+        if !self.core.awaits_verdict(view) {
+            return Ok(false);
+        }
+        self.ask(Task::Certified(view, is_success), now)
     }
 }
 

@@ -84,7 +84,7 @@ impl<S: Assembly<D>, L: Elector<S>, D: Digest> Engine<S, L, D> {
     {
         for _ in 0..u64::MAX {
             self.run_all(now)?;
-            if self.is_short()? {
+            if self.store_and_measure()? {
                 return Ok(());
             }
             self.prune_record(now)?;
@@ -92,8 +92,8 @@ impl<S: Assembly<D>, L: Elector<S>, D: Digest> Engine<S, L, D> {
         Err(Fault::Failed)
     }
 
-    /// Queues what the record has grown by. Whether the record is short.
-    fn is_short(&mut self) -> Result<bool, Fault>
+    /// Queues the new entries of the record to be stored. Returns whether the record is short.
+    fn store_and_measure(&mut self) -> Result<bool, Fault>
         ensures alone { GoesOnAlone D.eq L.elect S.certificate_bytes self.old self.new }
         ensures member { self.new.core.member ≡ self.old.core.member }
         ensures plan { self.new.plan ≡ self.old.plan }
@@ -118,7 +118,7 @@ impl<S: Assembly<D>, L: Elector<S>, D: Digest> Engine<S, L, D> {
         ensures duties { OnOk result (KeepsDuties self.old self.new) }
         ensures comes { OnOk result ((now : ℕ) → ComesForgetting D.eq L.elect D.bytes S.certificate_bytes now self.old self.new) }
     {
-        self.let_go()?;
+        self.drop_unretained()?;
         self.core.store()?;
         Ok(())
     }
@@ -133,15 +133,15 @@ impl<S: Assembly<D>, L: Elector<S>, D: Digest> Engine<S, L, D> {
         ensures comes { OnOk result (ComesAlone D.eq L.elect D.bytes S.certificate_bytes now self.old self.new) }
     {
         for _ in 0..u64::MAX {
-            if self.is_settled(now)? {
+            if self.run_and_ask(now)? {
                 return Ok(());
             }
         }
         Err(Fault::Failed)
     }
 
-    /// Takes steps until none is due, and asks for all that may be. Whether there is nothing new, and nothing follows.
-    fn is_settled(&mut self, now: u64) -> Result<bool, Fault>
+    /// Takes steps until none is due, then asks once for work, blocks and votes. Returns whether nothing new came of it.
+    fn run_and_ask(&mut self, now: u64) -> Result<bool, Fault>
         ensures alone { GoesOnAlone D.eq L.elect S.certificate_bytes self.old self.new }
         ensures quiet { IfOk result (λ settled. IsTrue settled → HasNothingNew D.eq L.elect self.new.core.member.facts) }
         ensures idle { IfOk result (λ settled. IsTrue settled → IsIdle now self.new.plan) }
@@ -150,7 +150,7 @@ impl<S: Assembly<D>, L: Elector<S>, D: Digest> Engine<S, L, D> {
         ensures comes { OnOk result (ComesAlone D.eq L.elect D.bytes S.certificate_bytes now self.old self.new) }
     {
         self.run(now)?;
-        if !self.has_no_work(now)? {
+        if !self.ask_for_work(now)? {
             return Ok(false);
         }
         if !self.plan.is_idle(now) {
@@ -159,7 +159,7 @@ impl<S: Assembly<D>, L: Elector<S>, D: Digest> Engine<S, L, D> {
         if !self.builds_ahead() {
             return Ok(false);
         }
-        self.has_nothing_due()
+        self.plan_due_votes()
     }
 
     /// Whether no block is to be built of a view below the current one.
@@ -234,7 +234,7 @@ impl<S: Assembly<D>, L: Elector<S>, D: Digest> Engine<S, L, D> {
     }
 
     /// Lets go what is held of views that are not kept: votes here and elsewhere; and fetches of what is not lacking.
-    fn let_go(&mut self) -> Result<(), Fault>
+    fn drop_unretained(&mut self) -> Result<(), Fault>
         ensures alone { GoesOnForgetting D.eq L.elect S.certificate_bytes self.old self.new }
         ensures member { self.new.core.member ≡ self.old.core.member }
         ensures idle { (now : ℕ) → IsIdle now self.old.plan → IsIdle now self.new.plan }
@@ -245,9 +245,9 @@ impl<S: Assembly<D>, L: Elector<S>, D: Digest> Engine<S, L, D> {
         ensures comes { OnOk result ((now : ℕ) → ComesForgetting D.eq L.elect D.bytes S.certificate_bytes now self.old self.new) }
     {
         let lowest = self.lowest_kept()?;
-        self.tell_forgotten(lowest)?;
+        self.report_forgotten(lowest)?;
         self.batcher.forget(lowest);
-        self.let_fetches_go()
+        self.drop_final_fetches()
     }
 
     /// From which view on what is held is kept. A member that has failed since found no memory.
@@ -262,7 +262,7 @@ impl<S: Assembly<D>, L: Elector<S>, D: Digest> Engine<S, L, D> {
     }
 
     /// Closes the fetches of what the member's state does not lack.
-    fn let_fetches_go(&mut self) -> Result<(), Fault>
+    fn drop_final_fetches(&mut self) -> Result<(), Fault>
         ensures core { self.new.core ≡ self.old.core }
         ensures batcher { self.new.batcher ≡ self.old.batcher }
         ensures idle { (now : ℕ) → IsIdle now self.old.plan → IsIdle now self.new.plan }
@@ -280,7 +280,7 @@ impl<S: Assembly<D>, L: Elector<S>, D: Digest> Engine<S, L, D> {
     }
 
     /// Others are told that the views below may be forgotten, where more may than before.
-    fn tell_forgotten(&mut self, lowest: View) -> Result<(), Fault>
+    fn report_forgotten(&mut self, lowest: View) -> Result<(), Fault>
         ensures alone { GoesOnAlone D.eq L.elect S.certificate_bytes self.old self.new }
         ensures member { self.new.core.member ≡ self.old.core.member }
         ensures plan { self.new.plan ≡ self.old.plan }

@@ -7,7 +7,7 @@ ghost use Rattle.simplex_voter.specs.Refusals.{is_started};
 
 use super::living::LawfulMember;
 use simplex_member::member::{Member, NotResumed, Start, Stored};
-use simplex_types::types::{Artifact, Digest, Elector, Scheme};
+use simplex_types::types::{Artifact, Digest, Elector, Scheme, View};
 use simplex_voter::voter::State;
 use std::alloc::Global;
 
@@ -16,6 +16,7 @@ impl<S: Scheme<D>, L: Elector<S>, D: Digest> LawfulMember<S, L, D> {
     ghost use Rattle.simplex_record.specs.Votes.{votes_of};
     ghost use Rattle.simplex_member.specs.Journal.{stored_of, votes_since, IsResumed, IsNotResumed};
     ghost use Rattle.simplex_laws.specs.Living.{HasGoneOn};
+    ghost use Rattle.simplex_member.specs.OutstandingWork.{is_offered};
 
     /// The state, while the member has not failed: it has a floor, and has not failed either.
     pub fn state(&self) -> Option<&State<S, L, D>>
@@ -23,6 +24,14 @@ impl<S: Scheme<D>, L: Elector<S>, D: Digest> LawfulMember<S, L, D> {
         ensures started { IfSome result (λ state. (state.now.failed ≡ false) × (is_started state.now ≡ true)) }
     {
         self.member.state()
+    }
+
+    /// Returns whether the member offered the view's proposal for certification and has received no verdict on it; false once it has
+    /// failed.
+    pub fn awaits_verdict(&self, view: View) -> bool
+        ensures { result ≡ is_offered self.now.facts.outstanding_work view }
+    {
+        self.member.awaits_verdict(view)
     }
 
     /// The record, oldest entry first.

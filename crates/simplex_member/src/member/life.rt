@@ -7,7 +7,7 @@ use super::calls::{Call, Reply};
 use super::outstanding_work::OutstandingWork;
 use super::restart::keep_finalization;
 use simplex_record::record::{RecoverError, Start, begin, retention_of};
-use simplex_types::types::{Artifact, CertificateScheme, Digest, Elector, Scheme, ViewDelta};
+use simplex_types::types::{Artifact, CertificateScheme, Digest, Elector, Scheme, View, ViewDelta};
 use simplex_voter::voter::State;
 use std::alloc::Global;
 use std::marker::Model;
@@ -75,6 +75,7 @@ impl<S: CertificateScheme, L: Elector<S>, D: Digest> Member<S, L, D> {
     ghost use Rattle.simplex_record.specs.Votes.{votes_of};
     ghost use Rattle.simplex_member.specs.Calls.{told, asked};
     ghost use Rattle.simplex_member.specs.Lives.{IsCall, HasGrown};
+    ghost use Rattle.simplex_member.specs.OutstandingWork.{is_offered};
     ghost use Rattle.simplex_member.specs.Signed.{IsSignedReply, signed_reply};
     ghost use Rattle.simplex_member.specs.MethodContracts.{is_reply_to, IfAnswered, IfRefused, IsAnswered, UnchangedButLife};
     ghost use Rattle.simplex_record.specs.Recovery.{recover_error};
@@ -124,6 +125,14 @@ impl<S: CertificateScheme, L: Elector<S>, D: Digest> Member<S, L, D> {
             return None;
         }
         Some(&self.state)
+    }
+
+    /// Returns whether the member offered the view's proposal for certification and has received no verdict on it; false once it has
+    /// failed.
+    pub fn awaits_verdict(&self, view: View) -> bool
+        ensures { result ≡ is_offered self.now.facts.outstanding_work view }
+    {
+        !self.failed && self.outstanding_work.is_offered(view)
     }
 
     /// The record, oldest entry first; also of a member that has failed.

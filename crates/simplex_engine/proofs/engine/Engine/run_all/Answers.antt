@@ -7,17 +7,17 @@ use Rattle.simplex_engine.specs.Causes.{at_hand}
 use Rattle.simplex_engine.proofs.Causes.{comes_on, comes_still}
 use Rattle.simplex_engine.proofs.engine.Engine.run_all.Goals as goal
 
-pub returns-in_err-is_settled-clause-alone : goal.returns-in_err-is_settled-clause-alone
-returns-in_err-is_settled-clause-alone g c = alone_further c.loop.invariant.alone c.is_settled.ensures.alone
+pub returns-in_err-run_and_ask-clause-alone : goal.returns-in_err-run_and_ask-clause-alone
+returns-in_err-run_and_ask-clause-alone g c = alone_further c.loop.invariant.alone c.run_and_ask.ensures.alone
 
 pub returns-then-branch : goal.returns-then-branch
 returns-then-branch g c = record {
-  alone = alone_further c.loop.invariant.alone c.is_settled.ensures.alone;
-  quiet = c.in_ok-is_settled.ensures.quiet c.if-branch.true;
-  idle = c.in_ok-is_settled.ensures.idle c.if-branch.true;
-  ahead = c.in_ok-is_settled.ensures.ahead c.if-branch.true;
-  duties = tells_further c.loop.invariant.duties c.in_ok-is_settled.ensures.duties;
-  comes = comes_on c.loop.invariant.comes c.in_ok-is_settled.ensures.duties.risen c.in_ok-is_settled.ensures.comes;
+  alone = alone_further c.loop.invariant.alone c.run_and_ask.ensures.alone;
+  quiet = c.in_ok-run_and_ask.ensures.quiet c.if-branch.true;
+  idle = c.in_ok-run_and_ask.ensures.idle c.if-branch.true;
+  ahead = c.in_ok-run_and_ask.ensures.ahead c.if-branch.true;
+  duties = tells_further c.loop.invariant.duties c.in_ok-run_and_ask.ensures.duties;
+  comes = comes_on c.loop.invariant.comes c.in_ok-run_and_ask.ensures.duties.risen c.in_ok-run_and_ask.ensures.comes;
 }
 
 pub loop-init : goal.loop-init
@@ -25,9 +25,9 @@ loop-init g c = record { alone = alone_still c.args.self.now; duties = tells_sti
 
 pub loop-preserved : goal.loop-preserved
 loop-preserved g c = record {
-  alone = alone_further c.loop.invariant.alone c.is_settled.ensures.alone;
-  duties = tells_further c.loop.invariant.duties c.in_ok-is_settled.ensures.duties;
-  comes = comes_on c.loop.invariant.comes c.in_ok-is_settled.ensures.duties.risen c.in_ok-is_settled.ensures.comes;
+  alone = alone_further c.loop.invariant.alone c.run_and_ask.ensures.alone;
+  duties = tells_further c.loop.invariant.duties c.in_ok-run_and_ask.ensures.duties;
+  comes = comes_on c.loop.invariant.comes c.in_ok-run_and_ask.ensures.duties.risen c.in_ok-run_and_ask.ensures.comes;
 }
 
 pub returns : goal.returns

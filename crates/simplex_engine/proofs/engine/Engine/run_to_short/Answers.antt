@@ -14,25 +14,25 @@ use Rattle.simplex_engine.proofs.engine.Engine.run_to_short.Goals as goal
 pub returns-in_err-run_all-clause-alone : goal.returns-in_err-run_all-clause-alone
 returns-in_err-run_all-clause-alone g c = alone_further c.loop.invariant.alone c.run_all.ensures.alone
 
-pub returns-in_err-is_short-clause-alone : goal.returns-in_err-is_short-clause-alone
-returns-in_err-is_short-clause-alone g c = alone_further c.loop.invariant.alone (alone_further c.run_all.ensures.alone c.is_short.ensures.alone)
+pub returns-in_err-store_and_measure-clause-alone : goal.returns-in_err-store_and_measure-clause-alone
+returns-in_err-store_and_measure-clause-alone g c = alone_further c.loop.invariant.alone (alone_further c.run_all.ensures.alone c.store_and_measure.ensures.alone)
 
 pub returns-in_err-prune_record-clause-alone : goal.returns-in_err-prune_record-clause-alone
 returns-in_err-prune_record-clause-alone g c =
-    alone_further c.loop.invariant.alone (alone_further c.run_all.ensures.alone (alone_further c.is_short.ensures.alone c.prune_record.ensures.alone))
+    alone_further c.loop.invariant.alone (alone_further c.run_all.ensures.alone (alone_further c.store_and_measure.ensures.alone c.prune_record.ensures.alone))
 
 pub returns-then-branch : goal.returns-then-branch
 returns-then-branch g c =
-    let is = c.is_short.ensures in
+    let is = c.store_and_measure.ensures in
     record {
       alone = alone_further c.loop.invariant.alone (alone_further c.run_all.ensures.alone is.alone);
       quiet = subst (λ m. HasNothingNew g.D.PartialEq.eq g.L.Elector.elect m.facts) (sym is.member) c.in_ok-run_all.ensures.quiet;
       idle = subst (IsIdle c.args.now) (sym is.plan) c.in_ok-run_all.ensures.idle;
-      ahead = subst (BuildsAhead c.is_short.new.self.core) (sym is.plan) (ahead_still c.run_all.new.self (record (c.run_all.new.self) { core = c.is_short.new.self.core }) is.member refl c.in_ok-run_all.ensures.ahead);
-      short = λ given kept. c.in_ok-is_short.ensures.short given (c.run_all.ensures.alone.goes_on.kept given (c.loop.invariant.alone.goes_on.kept given kept)) c.if-branch.true;
-      duties = tells_further c.loop.invariant.duties (tells_further c.in_ok-run_all.ensures.duties c.in_ok-is_short.ensures.duties);
-      comes = comes_on (comes_on c.loop.invariant.comes c.in_ok-run_all.ensures.duties.risen c.in_ok-run_all.ensures.comes) c.in_ok-is_short.ensures.duties.risen
-          (c.in_ok-is_short.ensures.comes c.args.now);
+      ahead = subst (BuildsAhead c.store_and_measure.new.self.core) (sym is.plan) (ahead_still c.run_all.new.self (record (c.run_all.new.self) { core = c.store_and_measure.new.self.core }) is.member refl c.in_ok-run_all.ensures.ahead);
+      short = λ given kept. c.in_ok-store_and_measure.ensures.short given (c.run_all.ensures.alone.goes_on.kept given (c.loop.invariant.alone.goes_on.kept given kept)) c.if-branch.true;
+      duties = tells_further c.loop.invariant.duties (tells_further c.in_ok-run_all.ensures.duties c.in_ok-store_and_measure.ensures.duties);
+      comes = comes_on (comes_on c.loop.invariant.comes c.in_ok-run_all.ensures.duties.risen c.in_ok-run_all.ensures.comes) c.in_ok-store_and_measure.ensures.duties.risen
+          (c.in_ok-store_and_measure.ensures.comes c.args.now);
     }
 
 pub loop-init : goal.loop-init
@@ -40,12 +40,12 @@ loop-init g c = record { alone = alone_still c.args.self.now; duties = tells_sti
 
 pub loop-preserved : goal.loop-preserved
 loop-preserved g c = record {
-  alone = alone_further c.loop.invariant.alone (alone_further c.run_all.ensures.alone (alone_further c.is_short.ensures.alone c.prune_record.ensures.alone));
+  alone = alone_further c.loop.invariant.alone (alone_further c.run_all.ensures.alone (alone_further c.store_and_measure.ensures.alone c.prune_record.ensures.alone));
   duties = tells_further c.loop.invariant.duties
-      (tells_further c.in_ok-run_all.ensures.duties (tells_further c.in_ok-is_short.ensures.duties c.in_ok-prune_record.ensures.duties));
+      (tells_further c.in_ok-run_all.ensures.duties (tells_further c.in_ok-store_and_measure.ensures.duties c.in_ok-prune_record.ensures.duties));
   comes = comes_on
-      (comes_on (comes_on c.loop.invariant.comes c.in_ok-run_all.ensures.duties.risen c.in_ok-run_all.ensures.comes) c.in_ok-is_short.ensures.duties.risen
-      (c.in_ok-is_short.ensures.comes c.args.now)) c.in_ok-prune_record.ensures.duties.risen c.in_ok-prune_record.ensures.comes;
+      (comes_on (comes_on c.loop.invariant.comes c.in_ok-run_all.ensures.duties.risen c.in_ok-run_all.ensures.comes) c.in_ok-store_and_measure.ensures.duties.risen
+      (c.in_ok-store_and_measure.ensures.comes c.args.now)) c.in_ok-prune_record.ensures.duties.risen c.in_ok-prune_record.ensures.comes;
 }
 
 pub returns : goal.returns

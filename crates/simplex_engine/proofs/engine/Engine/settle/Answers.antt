@@ -13,49 +13,49 @@ use Rattle.std.specs.Option.{option_map_or}
 use Rattle.simplex_engine.specs.Causes.{forgettable, held_by, Comes}
 use Rattle.simplex_engine.proofs.engine.Engine.settle.Goals as goal
 
-pub returns-in_err-let_go-clause-alone : goal.returns-in_err-let_go-clause-alone
-returns-in_err-let_go-clause-alone g c = c.let_go.ensures.alone
+pub returns-in_err-drop_unretained-clause-alone : goal.returns-in_err-drop_unretained-clause-alone
+returns-in_err-drop_unretained-clause-alone g c = c.drop_unretained.ensures.alone
 
-pub returns-in_err-let_go-clause-member : goal.returns-in_err-let_go-clause-member
-returns-in_err-let_go-clause-member g c = c.let_go.ensures.member
+pub returns-in_err-drop_unretained-clause-member : goal.returns-in_err-drop_unretained-clause-member
+returns-in_err-drop_unretained-clause-member g c = c.drop_unretained.ensures.member
 
-pub returns-in_err-let_go-clause-idle : goal.returns-in_err-let_go-clause-idle
-returns-in_err-let_go-clause-idle g c = c.let_go.ensures.idle
+pub returns-in_err-drop_unretained-clause-idle : goal.returns-in_err-drop_unretained-clause-idle
+returns-in_err-drop_unretained-clause-idle g c = c.drop_unretained.ensures.idle
 
 pub returns-in_err-store-clause-alone : goal.returns-in_err-store-clause-alone
-returns-in_err-store-clause-alone g c = forgets_then c.let_go.ensures.alone c.store.ensures.goes_on c.store.ensures.member refl
+returns-in_err-store-clause-alone g c = forgets_then c.drop_unretained.ensures.alone c.store.ensures.goes_on c.store.ensures.member refl
 
 pub returns-in_err-store-clause-member : goal.returns-in_err-store-clause-member
-returns-in_err-store-clause-member g c = c.store.ensures.member ∙ c.let_go.ensures.member
+returns-in_err-store-clause-member g c = c.store.ensures.member ∙ c.drop_unretained.ensures.member
 
 pub returns-in_err-store-clause-idle : goal.returns-in_err-store-clause-idle
-returns-in_err-store-clause-idle g c = c.let_go.ensures.idle
+returns-in_err-store-clause-idle g c = c.drop_unretained.ensures.idle
 
-pub returns-in_err-let_go-clause-builds : goal.returns-in_err-let_go-clause-builds
-returns-in_err-let_go-clause-builds g c = c.let_go.ensures.builds
+pub returns-in_err-drop_unretained-clause-builds : goal.returns-in_err-drop_unretained-clause-builds
+returns-in_err-drop_unretained-clause-builds g c = c.drop_unretained.ensures.builds
 
 pub returns-in_err-store-clause-builds : goal.returns-in_err-store-clause-builds
-returns-in_err-store-clause-builds g c = c.let_go.ensures.builds
+returns-in_err-store-clause-builds g c = c.drop_unretained.ensures.builds
 
 pub returns : goal.returns
 returns g c =
-    let repair = c.let_go.new.self.plan.repair in
+    let repair = c.drop_unretained.new.self.plan.repair in
     record {
-      alone = forgets_then c.let_go.ensures.alone c.store.ensures.goes_on c.store.ensures.member refl;
-      member = c.store.ensures.member ∙ c.let_go.ensures.member;
-      idle = c.let_go.ensures.idle;
-      builds = c.let_go.ensures.builds;
+      alone = forgets_then c.drop_unretained.ensures.alone c.store.ensures.goes_on c.store.ensures.member refl;
+      member = c.store.ensures.member ∙ c.drop_unretained.ensures.member;
+      idle = c.drop_unretained.ensures.idle;
+      builds = c.drop_unretained.ensures.builds;
       whole = c.in_ok-store.ensures.whole;
-      lowest = subst (λ m. IfSome m.facts.life (λ x. HoldsFrom (min_active x) c.let_go.new.self.batcher)) (sym c.store.ensures.member) c.in_ok-let_go.ensures.lowest;
+      lowest = subst (λ m. IfSome m.facts.life (λ x. HoldsFrom (min_active x) c.drop_unretained.new.self.batcher)) (sym c.store.ensures.member) c.in_ok-drop_unretained.ensures.lowest;
       lacking = subst (λ m. IfSome m.facts.life (λ x. AsksForTheLacking repair.resolver.open_fetches x repair.fetches.wanted.items)) (sym c.store.ensures.member)
-          c.in_ok-let_go.ensures.lacking;
-      duties = tells_further c.in_ok-let_go.ensures.duties
-          (tells_beside c.let_go.new.self (record (c.let_go.new.self) { core = c.store.new.self }) (ap (λ m. m.facts.outstanding_work) c.store.ensures.member)
+          c.in_ok-drop_unretained.ensures.lacking;
+      duties = tells_further c.in_ok-drop_unretained.ensures.duties
+          (tells_beside c.drop_unretained.new.self (record (c.drop_unretained.new.self) { core = c.store.new.self }) (ap (λ m. m.facts.outstanding_work) c.store.ensures.member)
           (ap (λ m. m.facts.life) c.store.ensures.member)
           c.store.ensures.goes_on refl);
-      comes = λ now. comes_then (subst (λ came. Comes g.D.PartialEq.eq g.L.Elector.elect g.D.Digest.bytes g.S.CertificateScheme.certificate_bytes now came [] (held_by c.let_go.new.self) c.args.self.now c.let_go.new.self)
-          (ap (λ m. forgettable m.facts) (sym c.store.ensures.member)) (c.in_ok-let_go.ensures.comes now))
+      comes = λ now. comes_then (subst (λ came. Comes g.D.PartialEq.eq g.L.Elector.elect g.D.Digest.bytes g.S.CertificateScheme.certificate_bytes now came [] (held_by c.drop_unretained.new.self) c.args.self.now c.drop_unretained.new.self)
+          (ap (λ m. forgettable m.facts) (sym c.store.ensures.member)) (c.in_ok-drop_unretained.ensures.comes now))
           (λ kind view un. subst (λ m. option_map_or (λ x. holds repair.resolver.open_fetches x kind view) m.facts.life true ≡ false) c.store.ensures.member un)
           (risen_facts (ap (λ m. m.facts) c.store.ensures.member)) (comes_still (ap (λ m. m.facts) c.store.ensures.member) refl (λ kind view. refl)
-          (hand_alone c.let_go.new.self (record (c.let_go.new.self) { core = c.store.new.self }) c.store.ensures.no_work (among_still (planned_matters c.let_go.new.self.plan))));
+          (hand_alone c.drop_unretained.new.self (record (c.drop_unretained.new.self) { core = c.store.new.self }) c.store.ensures.no_work (among_still (planned_matters c.drop_unretained.new.self.plan))));
     }

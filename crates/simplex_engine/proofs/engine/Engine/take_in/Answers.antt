@@ -48,11 +48,9 @@ returns-in-Built g c =
 
 pub returns-in-Certified : goal.returns-in-Certified
 returns-in-Certified g c =
-    let asked = task.Certified c.in-Certified.view c.in-Certified.is_success in
     taken_alone g.D.PartialEq.eq g.L.Elector.elect g.D.Digest.bytes g.S.CertificateScheme.certificate_bytes g.S.Assembly.IsMadeOf g.S.CertificateScheme.participants c.args.now
-    c.args.input (input.Certified c.in-Certified.view c.in-Certified.is_success) c.args.self.now c.ask-in-Certified.new.self c.ask-in-Certified.result c.in-Certified.is c.ask-in-Certified.ensures.goes_on c.ask-in-Certified.ensures.batcher tt c.ask-in-Certified.ensures.duties
-    (on_ok c.ask-in-Certified.result c.ask-in-Certified.ensures.comes (λ comes. comes (Message asked ∷ []) (λ kind view. refl) (inl (asked, refl, among_more (Message asked ∷ []) (at_hand c.args.self.now)))))
-    (λ no. absurd (false≢true (sym no))) (λ _. c.ask-in-Certified.ensures.acted)
+    c.args.input (input.Certified c.in-Certified.view c.in-Certified.is_success) c.args.self.now c.judge.new.self c.judge.result c.in-Certified.is c.judge.ensures.goes_on c.judge.ensures.batcher tt c.judge.ensures.duties c.judge.ensures.comes
+    (λ no. let turned = c.judge.ensures.unadmitted no in subst (λ r. IfOk r (λ u. IsFalse u × IsTurnedAway (input.Certified c.in-Certified.view c.in-Certified.is_success) c.args.self.now c.judge.new.self)) (sym turned.0) (refl, turned.1)) c.judge.ensures.acted
 
 pub returns-in-GivenUp : goal.returns-in-GivenUp
 returns-in-GivenUp g c =

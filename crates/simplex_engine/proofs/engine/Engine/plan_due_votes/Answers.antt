@@ -7,7 +7,7 @@ use Rattle.simplex_plan.proofs.Matters.{planned_alone}
 use Rattle.simplex_engine.proofs.Causes.{fails}
 use Rattle.simplex_plan.specs.Asking.{never}
 use Rattle.simplex_plan.proofs.StillAsking.{as_watched, asks_behind, asks_where_same}
-use Rattle.simplex_engine.proofs.engine.Engine.has_nothing_due.Goals as goal
+use Rattle.simplex_engine.proofs.engine.Engine.plan_due_votes.Goals as goal
 
 pub returns-in_ok-touch-in-Some-clause-planned : goal.returns-in_ok-touch-in-Some-clause-planned
 returns-in_ok-touch-in-Some-clause-planned g c = has_planned c.in_ok-touch-in-Some.ensures

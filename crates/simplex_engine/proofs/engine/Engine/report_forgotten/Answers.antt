@@ -7,7 +7,7 @@ use Rattle.simplex_plan.specs.Matters.{of_work}
 use Rattle.simplex_plan.proofs.Matters.{among_last}
 use Rattle.simplex_engine.specs.Causes.{at_hand}
 use Rattle.simplex_engine.proofs.Causes.{comes_still, hand_pushed}
-use Rattle.simplex_engine.proofs.engine.Engine.tell_forgotten.Goals as goal
+use Rattle.simplex_engine.proofs.engine.Engine.report_forgotten.Goals as goal
 
 pub returns-then-le : goal.returns-then-le
 returns-then-le g c = record { alone = alone_still c.args.self.now; member = refl; plan = refl; duties = tells_still c.args.self.now; comes = λ now. comes_still refl refl (λ kind view. refl) (among_last (of_work (work.Forget c.args.lowest)) (at_hand c.args.self.now)) }

@@ -6,7 +6,7 @@ use Rattle.simplex_engine.proofs.Tells.{tells_beside}
 use Rattle.simplex_plan.specs.Matters.{planned_matters}
 use Rattle.simplex_plan.proofs.PlannedWork.{among_still}
 use Rattle.simplex_engine.proofs.Causes.{comes_still, hand_alone}
-use Rattle.simplex_engine.proofs.engine.Engine.is_short.Goals as goal
+use Rattle.simplex_engine.proofs.engine.Engine.store_and_measure.Goals as goal
 
 is_not : (b : Bool) → not b ≡ true → b ≡ false
 is_not false is = refl

@@ -8,7 +8,7 @@ use Rattle.std.specs.Prelude.{nat_le, OnOk}
 use Rattle.simplex_fetches.specs.Wanted.{holds}
 use Rattle.simplex_plan.specs.Asking.{KeepsAsking}
 use Rattle.simplex_plan.proofs.StillAsking.{lets_go_asks}
-use Rattle.simplex_engine.proofs.engine.Engine.let_fetches_go.Goals as goal
+use Rattle.simplex_engine.proofs.engine.Engine.drop_final_fetches.Goals as goal
 
 pub returns-in-Some-clause-planned : goal.returns-in-Some-clause-planned
 returns-in-Some-clause-planned g c = plans_let_go _ _ c.args.self.now.plan c.let_go.new.self c.let_go.result c.let_go.ensures.same c.let_go.ensures.kept c.let_go.ensures.refused

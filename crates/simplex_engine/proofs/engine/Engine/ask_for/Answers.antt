@@ -10,7 +10,7 @@ use Rattle.simplex_engine.proofs.Tells.{tells_called}
 use Rattle.simplex_outbox.specs.Outputs.{work_in}
 use Rattle.simplex_plan.specs.Matters.{given_by}
 use Rattle.simplex_engine.proofs.Causes.{comes_called, hand_asked}
-use Rattle.simplex_engine.proofs.engine.Engine.asks_nothing.Goals as goal
+use Rattle.simplex_engine.proofs.engine.Engine.ask_for.Goals as goal
 
 pub returns-in_err-follow-clause-alone : goal.returns-in_err-follow-clause-alone
 returns-in_err-follow-clause-alone g c =

@@ -13,42 +13,42 @@ use Rattle.simplex_engine.proofs.Tells.{tells_further, tells_planned}
 use Rattle.simplex_outbox.specs.Outputs.{work_in}
 use Rattle.simplex_engine.proofs.Causes.{comes_on, comes_same, hand_alone, risen_facts}
 use Rattle.simplex_plan.proofs.StillAsking.{asks_over}
-use Rattle.simplex_engine.proofs.engine.Engine.is_settled.Goals as goal
+use Rattle.simplex_engine.proofs.engine.Engine.run_and_ask.Goals as goal
 
 pub returns-in_err-run-clause-alone : goal.returns-in_err-run-clause-alone
 returns-in_err-run-clause-alone g c = c.run.ensures.alone
 
-pub returns-in_err-has_no_work-clause-alone : goal.returns-in_err-has_no_work-clause-alone
-returns-in_err-has_no_work-clause-alone g c = alone_further c.run.ensures.alone c.has_no_work.ensures.alone
+pub returns-in_err-ask_for_work-clause-alone : goal.returns-in_err-ask_for_work-clause-alone
+returns-in_err-ask_for_work-clause-alone g c = alone_further c.run.ensures.alone c.ask_for_work.ensures.alone
 
 pub returns-then-not-branch : goal.returns-then-not-branch
 returns-then-not-branch g c = record {
-  alone = alone_further c.run.ensures.alone c.has_no_work.ensures.alone;
+  alone = alone_further c.run.ensures.alone c.ask_for_work.ensures.alone;
   quiet = λ is. absurd (false≢true is);
   idle = λ is. absurd (false≢true is);
   ahead = λ is. absurd (false≢true is);
-  duties = tells_further c.in_ok-run.ensures.duties c.in_ok-has_no_work.ensures.duties;
-  comes = comes_on c.in_ok-run.ensures.comes c.in_ok-has_no_work.ensures.duties.risen c.in_ok-has_no_work.ensures.comes;
+  duties = tells_further c.in_ok-run.ensures.duties c.in_ok-ask_for_work.ensures.duties;
+  comes = comes_on c.in_ok-run.ensures.comes c.in_ok-ask_for_work.ensures.duties.risen c.in_ok-ask_for_work.ensures.comes;
 }
 
 pub returns-then-not-is_idle : goal.returns-then-not-is_idle
 returns-then-not-is_idle g c = record {
-  alone = alone_further c.run.ensures.alone c.has_no_work.ensures.alone;
+  alone = alone_further c.run.ensures.alone c.ask_for_work.ensures.alone;
   quiet = λ is. absurd (false≢true is);
   idle = λ is. absurd (false≢true is);
   ahead = λ is. absurd (false≢true is);
-  duties = tells_further c.in_ok-run.ensures.duties c.in_ok-has_no_work.ensures.duties;
-  comes = comes_on c.in_ok-run.ensures.comes c.in_ok-has_no_work.ensures.duties.risen c.in_ok-has_no_work.ensures.comes;
+  duties = tells_further c.in_ok-run.ensures.duties c.in_ok-ask_for_work.ensures.duties;
+  comes = comes_on c.in_ok-run.ensures.comes c.in_ok-ask_for_work.ensures.duties.risen c.in_ok-ask_for_work.ensures.comes;
 }
 
 pub returns-then-not-builds_ahead : goal.returns-then-not-builds_ahead
 returns-then-not-builds_ahead g c = record {
-  alone = alone_further c.run.ensures.alone c.has_no_work.ensures.alone;
+  alone = alone_further c.run.ensures.alone c.ask_for_work.ensures.alone;
   quiet = λ is. absurd (false≢true is);
   idle = λ is. absurd (false≢true is);
   ahead = λ is. absurd (false≢true is);
-  duties = tells_further c.in_ok-run.ensures.duties c.in_ok-has_no_work.ensures.duties;
-  comes = comes_on c.in_ok-run.ensures.comes c.in_ok-has_no_work.ensures.duties.risen c.in_ok-has_no_work.ensures.comes;
+  duties = tells_further c.in_ok-run.ensures.duties c.in_ok-ask_for_work.ensures.duties;
+  comes = comes_on c.in_ok-run.ensures.comes c.in_ok-ask_for_work.ensures.duties.risen c.in_ok-ask_for_work.ensures.comes;
 }
 
 pub returns : goal.returns
@@ -56,24 +56,24 @@ returns g c =
     let same = g.D.PartialEq.eq in
     let elect = g.L.Elector.elect in
     let before = c.run.new.self.core.member.facts in
-    let asked = c.has_no_work.new.self in
-    let left = c.has_nothing_due.new.self in
-    let is = c.has_nothing_due.ensures in
+    let asked = c.ask_for_work.new.self in
+    let left = c.plan_due_votes.new.self in
+    let is = c.plan_due_votes.ensures in
     record {
-      alone = alone_further c.run.ensures.alone (alone_further c.has_no_work.ensures.alone
+      alone = alone_further c.run.ensures.alone (alone_further c.ask_for_work.ensures.alone
           (alone_with asked left (subst (GoesOn same elect g.S.CertificateScheme.certificate_bytes None asked.core) (sym is.core) (stays asked.core)) is.batcher));
-      quiet = IfOk-weaker c.has_nothing_due.result _ _ (λ nothing holds none. record {
+      quiet = IfOk-weaker c.plan_due_votes.result _ _ (λ nothing holds none. record {
         before = before;
-        asked = subst (λ core. AnswerNothing same elect before for_work core.member.facts) (sym is.core) (c.in_ok-has_no_work.ensures.nothing c.if-not-branch.false);
+        asked = subst (λ core. AnswerNothing same elect before for_work core.member.facts) (sym is.core) (c.in_ok-ask_for_work.ensures.nothing c.if-not-branch.false);
         own = (holds none).0;
       }) is.nothing;
-      idle = IfOk-weaker c.has_nothing_due.result _ _ (λ nothing holds none. subst (IsIdle c.args.now) (sym (holds none).1) (c.is_idle.ensures.0 c.if-not-is_idle.false)) is.nothing;
-      ahead = IfOk-weaker c.has_nothing_due.result _ _ (λ nothing holds none. subst (BuildsAhead left.core) (sym (holds none).1)
+      idle = IfOk-weaker c.plan_due_votes.result _ _ (λ nothing holds none. subst (IsIdle c.args.now) (sym (holds none).1) (c.is_idle.ensures.0 c.if-not-is_idle.false)) is.nothing;
+      ahead = IfOk-weaker c.plan_due_votes.result _ _ (λ nothing holds none. subst (BuildsAhead left.core) (sym (holds none).1)
           (subst (λ core. BuildsAhead core asked.plan) (sym is.core) (c.builds_ahead.ensures c.if-not-builds_ahead.false))) is.nothing;
-      duties = on_ok c.has_nothing_due.result is.planned
-          (λ planned. tells_further c.in_ok-run.ensures.duties (tells_further c.in_ok-has_no_work.ensures.duties (tells_planned asked left is.core planned)));
-      comes = on_ok_both c.has_nothing_due.result is.matters is.asks
-          (λ matters asks. comes_on (comes_on c.in_ok-run.ensures.comes c.in_ok-has_no_work.ensures.duties.risen c.in_ok-has_no_work.ensures.comes)
+      duties = on_ok c.plan_due_votes.result is.planned
+          (λ planned. tells_further c.in_ok-run.ensures.duties (tells_further c.in_ok-ask_for_work.ensures.duties (tells_planned asked left is.core planned)));
+      comes = on_ok_both c.plan_due_votes.result is.matters is.asks
+          (λ matters asks. comes_on (comes_on c.in_ok-run.ensures.comes c.in_ok-ask_for_work.ensures.duties.risen c.in_ok-ask_for_work.ensures.comes)
           (risen_facts (ap (λ core. core.member.facts) is.core))
           (comes_same (ap (λ core. core.member.facts) is.core) (hand_alone asked left (ap (λ core. work_in core.outbox.queue.items) is.core) matters) (asks_over _ asks)));
     }

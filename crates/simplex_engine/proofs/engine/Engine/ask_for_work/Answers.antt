@@ -6,22 +6,22 @@ use Rattle.simplex_engine.proofs.Tells.{tells_further}
 use Rattle.simplex_plan.specs.declared.task.Task.TheVariants as task
 use Rattle.simplex_plan.proofs.Matters.{among_none}
 use Rattle.simplex_engine.proofs.Causes.{comes_on}
-use Rattle.simplex_engine.proofs.engine.Engine.has_no_work.Goals as goal
+use Rattle.simplex_engine.proofs.engine.Engine.ask_for_work.Goals as goal
 
 pub returns-in_err-has_none-2-clause-alone : goal.returns-in_err-has_none-2-clause-alone
-returns-in_err-has_none-2-clause-alone g c = alone_further c.asks_nothing.ensures.alone c.asks_nothing-2.ensures.alone
+returns-in_err-has_none-2-clause-alone g c = alone_further c.ask_for.ensures.alone c.ask_for-2.ensures.alone
 
 pub returns-in_err-has_none-3-clause-alone : goal.returns-in_err-has_none-3-clause-alone
-returns-in_err-has_none-3-clause-alone g c = alone_further c.asks_nothing.ensures.alone (alone_further c.asks_nothing-2.ensures.alone c.asks_nothing-3.ensures.alone)
+returns-in_err-has_none-3-clause-alone g c = alone_further c.ask_for.ensures.alone (alone_further c.ask_for-2.ensures.alone c.ask_for-3.ensures.alone)
 
 pub returns-clause-alone : goal.returns-clause-alone
-returns-clause-alone g c = alone_further c.asks_nothing.ensures.alone (alone_further c.asks_nothing-2.ensures.alone c.asks_nothing-3.ensures.alone)
+returns-clause-alone g c = alone_further c.ask_for.ensures.alone (alone_further c.ask_for-2.ensures.alone c.ask_for-3.ensures.alone)
 
 pub returns-clause-nothing : goal.returns-clause-nothing
 returns-clause-nothing g c = λ is.
     let i3 = and_parts _ _ is in
     let i2 = and_parts _ _ i3.0 in
-    (c.asks_nothing.new.self.core.member.facts, c.in_ok-has_none.ensures.nothing i2.0, (c.asks_nothing-2.new.self.core.member.facts, c.in_ok-has_none-2.ensures.nothing i2.1, (c.asks_nothing-3.new.self.core.member.facts, c.in_ok-has_none-3.ensures.nothing i3.1, refl)))
+    (c.ask_for.new.self.core.member.facts, c.in_ok-has_none.ensures.nothing i2.0, (c.ask_for-2.new.self.core.member.facts, c.in_ok-has_none-2.ensures.nothing i2.1, (c.ask_for-3.new.self.core.member.facts, c.in_ok-has_none-3.ensures.nothing i3.1, refl)))
 
 pub returns-clause-duties : goal.returns-clause-duties
 returns-clause-duties g c = tells_further c.in_ok-has_none.ensures.duties (tells_further c.in_ok-has_none-2.ensures.duties c.in_ok-has_none-3.ensures.duties)

@@ -1,0 +1,35 @@
+-- That a verdict is passed on just where the member offered the proposal.
+use Rattle.std.proofs.Common.{true, false, refl, sym, subst, ◌∙◌, inl, [], ◌∷◌}
+use Rattle.std.proofs.lemmas.Bool.{false≢true}
+use Rattle.simplex_outbox.proofs.Going.{stays}
+use Rattle.simplex_engine.proofs.Tells.{tells_still}
+use Rattle.simplex_plan.specs.declared.task.Task.TheVariants as task
+use Rattle.simplex_plan.specs.Matters.{Message}
+use Rattle.simplex_plan.proofs.Matters.{among_last}
+use Rattle.simplex_plan.proofs.PlannedWork.{among_more}
+use Rattle.simplex_plan.proofs.Planning.{on_ok}
+use Rattle.simplex_engine.specs.Causes.{at_hand}
+use Rattle.simplex_engine.proofs.Causes.{comes_still}
+use Rattle.simplex_engine.proofs.engine.Engine.judge.Goals as goal
+
+pub returns-then-not-awaits_verdict : goal.returns-then-not-awaits_verdict
+returns-then-not-awaits_verdict g c = record {
+  goes_on = stays c.args.self.now.core;
+  batcher = refl;
+  unadmitted = λ _. (refl, refl);
+  acted = λ is. absurd (false≢true (sym c.if-not-awaits_verdict.true ∙ c.awaits_verdict.ensures ∙ is));
+  duties = tells_still c.args.self.now;
+  comes = comes_still refl refl (λ kind view. refl) (among_last (Message (task.Certified c.args.view c.args.is_success) ∷ []) (at_hand c.args.self.now));
+}
+
+pub returns : goal.returns
+returns g c =
+    let asked = task.Certified c.args.view c.args.is_success in
+    record {
+      goes_on = c.ask.ensures.goes_on;
+      batcher = c.ask.ensures.batcher;
+      unadmitted = λ no. absurd (false≢true (sym no ∙ sym c.awaits_verdict.ensures ∙ c.if-not-awaits_verdict.false));
+      acted = λ _. c.ask.ensures.acted;
+      duties = c.ask.ensures.duties;
+      comes = on_ok c.ask.result c.ask.ensures.comes (λ comes. comes (Message asked ∷ []) (λ kind view. refl) (inl (asked, refl, among_more (Message asked ∷ []) (at_hand c.args.self.now))));
+    }
