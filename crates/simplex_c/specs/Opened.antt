@@ -62,7 +62,7 @@ abbrev pub IsBegunStatus : FlatSettings → List ℕ → List ℕ → FlatOption
 IsBegunStatus f leaders bytes options now status old new =
     ((status ≡ 0) × IsSomeAnd new.held (IsEngineBegun f leaders bytes options now))
     ⊎ ((status ≡ 1) × (new ≡ old))
-    ⊎ ((e : NotBegun) × IsEngineNotBegun f leaders bytes now e × (status ≡ not_begun_number e) × (new ≡ old))
+    ⊎ ((e : NotBegun) × IsEngineNotBegun f leaders bytes options now e × (status ≡ not_begun_number e) × (new ≡ old))
 
 -- the handle of the engine that goes on was written; or there was no memory for it, or the resume is refused, and nothing was
 abbrev pub IsGoingOnStatus : FlatSettings → List ℕ → List ℕ → FlatOptions → ℕ → FlatStored → List ℕ → ℕ → EngineHandle → EngineHandle
@@ -70,4 +70,4 @@ abbrev pub IsGoingOnStatus : FlatSettings → List ℕ → List ℕ → FlatOpti
 IsGoingOnStatus f leaders bytes options now beside journal status old new =
     ((status ≡ 0) × IsSomeAnd new.held (IsEngineResumed f leaders bytes options now beside journal))
     ⊎ ((status ≡ 1) × (new ≡ old))
-    ⊎ ((e : NotBegun) × IsEngineNotResumed f leaders bytes now beside journal e × (status ≡ not_begun_number e) × (new ≡ old))
+    ⊎ ((e : NotBegun) × IsEngineNotResumed f leaders bytes options now beside journal e × (status ≡ not_begun_number e) × (new ≡ old))

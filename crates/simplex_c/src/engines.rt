@@ -35,7 +35,8 @@ pub extern "C" fn simplex_engine_start(
     now: u64,
     out: &mut EngineHandle,
 ) -> u32
-    ensures { IsBegunStatus settings.now leaders.now certificate.now options.now now result out.old out.new }
+    ensures begun { IsBegunStatus settings.now leaders.now certificate.now options.now now result out.old out.new }
+    ensures no_retry { options.now.retry ≡ 0 → result ≡ 33 }
 {
     match HeldEngine::start(alloc, settings, leaders, certificate, options, now) {
         Ok(held) => out.write(alloc, held),
@@ -56,7 +57,8 @@ pub extern "C" fn simplex_engine_resume(
     journal: &[u8],
     out: &mut EngineHandle,
 ) -> u32
-    ensures { IsGoingOnStatus settings.now leaders.now certificate.now options.now now stored.now journal.now result out.old out.new }
+    ensures resumed { IsGoingOnStatus settings.now leaders.now certificate.now options.now now stored.now journal.now result out.old out.new }
+    ensures no_retry { options.now.retry ≡ 0 → result ≡ 33 }
 {
     match HeldEngine::resume(
         alloc,

@@ -15,6 +15,7 @@ use Rattle.simplex_flat.specs.declared.shown.FlatStored.{FlatStored}
 use Rattle.simplex_flat.specs.Opening.{IsNotResumedBy}
 use Rattle.simplex_flat.specs.Settings.{HostStart, IsStart}
 use Rattle.simplex_flat_engine.specs.declared.begin.NotBegun.TheVariants as not_begun
+use Rattle.simplex_flat_engine.specs.declared.told.FlatOptions.{FlatOptions}
 use Rattle.simplex_flat_engine.specs.Beginning.{IsEngineNotBegun, IsEngineNotResumed, IsStartRefused, IsResumeRefused, not_begun_of}
 
 -- no rule of a list is broken
@@ -49,13 +50,13 @@ is_retry_zero (start_error.Resume (resume.Recover e)) same = absurd (cc)
 is_retry_zero (start_error.Replay e) same = absurd (cc)
 
 -- what refuses a member refuses its engine
-pub member_refused : (f : FlatSettings) (leaders bytes : List ℕ) (now : ℕ) (beside : FlatStored) (journal : List ℕ) (e : NotResumed)
-    → IsNotResumedBy f leaders bytes now beside journal e → IsEngineNotResumed f leaders bytes now beside journal (not_begun.Member e)
-member_refused f leaders bytes now beside journal (not_resumed.Settings e) is = is
-member_refused f leaders bytes now beside journal not_resumed.NoFlag is = is
-member_refused f leaders bytes now beside journal (not_resumed.Journal e) is = is
-member_refused f leaders bytes now beside journal not_resumed.EntriesLost is = inl is
-member_refused f leaders bytes now beside journal (not_resumed.Recover e) is = record {
+pub member_refused : (f : FlatSettings) (leaders bytes : List ℕ) (options : FlatOptions) (now : ℕ) (beside : FlatStored) (journal : List ℕ) (e : NotResumed)
+    → IsNotResumedBy f leaders bytes now beside journal e → IsEngineNotResumed f leaders bytes options now beside journal (not_begun.Member e)
+member_refused f leaders bytes options now beside journal (not_resumed.Settings e) is = is
+member_refused f leaders bytes options now beside journal not_resumed.NoFlag is = is
+member_refused f leaders bytes options now beside journal (not_resumed.Journal e) is = is
+member_refused f leaders bytes options now beside journal not_resumed.EntriesLost is = inl is
+member_refused f leaders bytes options now beside journal (not_resumed.Recover e) is = record {
   start = is.start;
   stored = is.stored;
   entries = is.entries;
@@ -66,19 +67,19 @@ member_refused f leaders bytes now beside journal (not_resumed.Recover e) is = r
 }
 
 -- and an engine may be refused for what was read
-pub engine_refused : (f : FlatSettings) (leaders bytes : List ℕ) (now : ℕ) (beside : FlatStored) (journal : List ℕ) (e : StartError)
-    → IsResumeRefused f leaders bytes now beside journal (not_begun_of e) → IsEngineNotResumed f leaders bytes now beside journal (not_begun_of e)
-engine_refused f leaders bytes now beside journal start_error.RetryZero read =
+pub engine_refused : (f : FlatSettings) (leaders bytes : List ℕ) (options : FlatOptions) (now : ℕ) (beside : FlatStored) (journal : List ℕ) (e : StartError)
+    → IsResumeRefused f leaders bytes now beside journal (not_begun_of e) → IsEngineNotResumed f leaders bytes options now beside journal (not_begun_of e)
+engine_refused f leaders bytes options now beside journal start_error.RetryZero read =
     absurd (has_retry f leaders bytes now read.start read.from.started (subst (IsNotBegun read.start.settings.timeout_retry _ _) (is_retry_zero read.error read.is_of) read.refused))
-engine_refused f leaders bytes now beside journal (start_error.Resume resume.EntriesLost) read = inr read
-engine_refused f leaders bytes now beside journal (start_error.Resume (resume.Recover e)) read = read
-engine_refused f leaders bytes now beside journal (start_error.Replay e) read = read
+engine_refused f leaders bytes options now beside journal (start_error.Resume resume.EntriesLost) read = inr read
+engine_refused f leaders bytes options now beside journal (start_error.Resume (resume.Recover e)) read = read
+engine_refused f leaders bytes options now beside journal (start_error.Replay e) read = read
 
 -- or for what it begins with
-pub start_refused : (f : FlatSettings) (leaders bytes : List ℕ) (now : ℕ) (e : StartError)
-    → IsStartRefused f leaders bytes now (not_begun_of e) → IsEngineNotBegun f leaders bytes now (not_begun_of e)
-start_refused f leaders bytes now start_error.RetryZero is =
+pub start_refused : (f : FlatSettings) (leaders bytes : List ℕ) (options : FlatOptions) (now : ℕ) (e : StartError)
+    → IsStartRefused f leaders bytes now (not_begun_of e) → IsEngineNotBegun f leaders bytes options now (not_begun_of e)
+start_refused f leaders bytes options now start_error.RetryZero is =
     absurd (has_retry f leaders bytes now is.start is.by (subst (IsNotBegun is.start.settings.timeout_retry _ _) (is_retry_zero is.error is.is_of) is.refused))
-start_refused f leaders bytes now (start_error.Resume resume.EntriesLost) is = is
-start_refused f leaders bytes now (start_error.Resume (resume.Recover e)) is = is
-start_refused f leaders bytes now (start_error.Replay e) is = is
+start_refused f leaders bytes options now (start_error.Resume resume.EntriesLost) is = is
+start_refused f leaders bytes options now (start_error.Resume (resume.Recover e)) is = is
+start_refused f leaders bytes options now (start_error.Replay e) is = is

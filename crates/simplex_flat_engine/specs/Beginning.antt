@@ -1,5 +1,5 @@
 -- How an engine behind a handle begins.
-use Rattle.std.specs.Prelude.{◌≡◌, ◌⊎◌, ◌≤◌, ℕ, List, [], length}
+use Rattle.std.specs.Prelude.{◌≡◌, ◌≢◌, ◌⊎◌, ◌≤◌, ℕ, List, [], length}
 use Rattle.simplex_host.specs.Electing.{host_terms}
 use Rattle.simplex_codec.specs.Digests.{bytes_in_digest}
 use Rattle.simplex_host.specs.Host.{certificate_bytes, host_keys, host_signer}
@@ -65,8 +65,10 @@ HasBegunBy start options held =
     HasBegunWith bytes_in_digest host_keys (host_keys start.settings.scheme) (host_signer start.settings.scheme)
     (host_terms start.settings.elector).term_length (with_a_retry (options_of options)) held.engine
 
--- an engine begins by these settings, with this table, floor and moment: its member is the one that they begin
+-- an engine begins by these settings, with this table, floor and moment: its member is the one that they begin, and a fetch is asked again
+-- after a millisecond at least
 pub record IsEngineBegun (f : FlatSettings) (leaders bytes : List ℕ) (options : FlatOptions) (now : ℕ) (held : HeldEngine) : Type 0 where
+  pub retry : options.retry ≢ 0
   pub start : HostStart
   pub by : IsStart f leaders bytes now start
   pub facts : held.engine.core.member.facts ≡ begun start
@@ -90,14 +92,17 @@ pub record IsStartRefused (f : FlatSettings) (leaders bytes : List ℕ) (now : �
   pub is_of : e ≡ not_begun_of error
   pub refused : IsNotBegun start.settings.timeout_retry (IsMemberError (begin_error start)) (λ m. m ≡ begun start) error
 
--- why none begins: by its settings; or by what they begin, or for want of memory
-abbrev pub IsEngineNotBegun : FlatSettings → List ℕ → List ℕ → ℕ → NotBegun → Type 0
-IsEngineNotBegun f leaders bytes now (not_begun.Member (not_resumed.Settings e)) = IsNoStart f leaders bytes e
-IsEngineNotBegun f leaders bytes now e = IsStartRefused f leaders bytes now e
+-- why none begins: by its options or settings; or by what they begin, or out of memory
+abbrev pub IsEngineNotBegun : FlatSettings → List ℕ → List ℕ → FlatOptions → ℕ → NotBegun → Type 0
+IsEngineNotBegun f leaders bytes options now not_begun.FetchRetryZero = options.retry ≡ 0
+IsEngineNotBegun f leaders bytes options now (not_begun.Member (not_resumed.Settings e)) = IsNoStart f leaders bytes e
+IsEngineNotBegun f leaders bytes options now e = IsStartRefused f leaders bytes now e
 
--- an engine goes on from the bytes of a journal, which has all entries that were counted
+-- an engine goes on from the bytes of a journal, which has all entries that were counted, and a fetch is asked again after a millisecond at
+-- least
 pub record IsEngineResumed (f : FlatSettings) (leaders bytes : List ℕ) (options : FlatOptions) (now : ℕ) (beside : FlatStored) (journal : List ℕ)
     (held : HeldEngine) : Type 0 where
+  pub retry : options.retry ≢ 0
   pub start : HostStart
   pub stored : Stored
   pub entries : List HostArtifact
@@ -121,18 +126,20 @@ pub record IsResumeRefused (f : FlatSettings) (leaders bytes : List ℕ) (now : 
   pub refused : IsNotBegun start.settings.timeout_retry (IsNotResumed same_host_payload host_leader stored (entries_of certificate_bytes entries) (host_start start))
       (IsResumed same_host_payload host_leader stored (entries_of certificate_bytes entries) (host_start start)) error
 
--- why none goes on: by its settings or journal; or by what these are, or for want of memory
-abbrev pub IsEngineNotResumed : FlatSettings → List ℕ → List ℕ → ℕ → FlatStored → List ℕ → NotBegun → Type 0
-IsEngineNotResumed f leaders bytes now beside journal (not_begun.Member (not_resumed.Settings e)) = IsNoStart f leaders bytes e
-IsEngineNotResumed f leaders bytes now beside journal (not_begun.Member not_resumed.NoFlag) = 2 ≤ beside.is_pruned
-IsEngineNotResumed f leaders bytes now beside journal (not_begun.Member (not_resumed.Journal e)) =
+-- why none goes on: by its options, settings or journal; or by what these are, or out of memory
+abbrev pub IsEngineNotResumed : FlatSettings → List ℕ → List ℕ → FlatOptions → ℕ → FlatStored → List ℕ → NotBegun → Type 0
+IsEngineNotResumed f leaders bytes options now beside journal not_begun.FetchRetryZero = options.retry ≡ 0
+IsEngineNotResumed f leaders bytes options now beside journal (not_begun.Member (not_resumed.Settings e)) = IsNoStart f leaders bytes e
+IsEngineNotResumed f leaders bytes options now beside journal (not_begun.Member not_resumed.NoFlag) = 2 ≤ beside.is_pruned
+IsEngineNotResumed f leaders bytes options now beside journal (not_begun.Member (not_resumed.Journal e)) =
     IsNotResumedBy f leaders bytes now beside journal (not_resumed.Journal e)
-IsEngineNotResumed f leaders bytes now beside journal (not_begun.Member not_resumed.EntriesLost) =
+IsEngineNotResumed f leaders bytes options now beside journal (not_begun.Member not_resumed.EntriesLost) =
     IsNotResumedBy f leaders bytes now beside journal not_resumed.EntriesLost
     ⊎ IsResumeRefused f leaders bytes now beside journal (not_begun.Member not_resumed.EntriesLost)
-IsEngineNotResumed f leaders bytes now beside journal e = IsResumeRefused f leaders bytes now beside journal e
+IsEngineNotResumed f leaders bytes options now beside journal e = IsResumeRefused f leaders bytes now beside journal e
 
 -- the number of an error
 abbrev pub not_begun_number : NotBegun → ℕ
 not_begun_number (not_begun.Member e) = not_resumed_number e
 not_begun_number (not_begun.Resolver e) = not_replayed_number (not_replayed.Replay e)
+not_begun_number not_begun.FetchRetryZero = 33

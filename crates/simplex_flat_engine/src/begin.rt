@@ -1,6 +1,6 @@
 //! How an engine behind a handle begins: a first life at a floor, or another from the bytes of a journal.
 
-ghost use Rattle.std.specs.Prelude.{◌≡◌, IfOk, IfErr};
+ghost use Rattle.std.specs.Prelude.{◌≡◌, Err, IfOk, IfErr};
 ghost use Rattle.simplex_flat_engine.specs.Beginning.{not_begun_number, not_begun_of, options_of};
 
 use crate::held::HeldEngine;
@@ -25,12 +25,19 @@ pub enum NotBegun {
     Member(NotResumed),
     /// The resolver refuses the record.
     Resolver(ReplayError),
+    /// The options' `retry` is 0: a fetch would be asked again at once, of one peer after another.
+    FetchRetryZero,
 }
 
 impl HeldEngine {
     ghost use Rattle.simplex_flat_engine.specs.Beginning.{IsEngineBegun, IsEngineNotBegun, IsEngineNotResumed, IsEngineResumed};
+    ghost use Rattle.simplex_flat_engine.specs.declared.begin.NotBegun.TheVariants.{FetchRetryZero};
 
     /// An engine whose member never voted, by flat settings with a table of leaders and the bytes of the floor's certificate.
+    ///
+    /// # Errors
+    ///
+    /// `FetchRetryZero` just where the options' `retry` is 0, whatever the settings are; else why no member starts by the settings.
     pub fn start(
         alloc: Global,
         flat: &FlatSettings,
@@ -40,8 +47,12 @@ impl HeldEngine {
         now: u64,
     ) -> Result<HeldEngine, NotBegun>
         ensures begun { IfOk result (IsEngineBegun flat.now leaders.now certificate.now options.now now) }
-        ensures refused { IfErr result (IsEngineNotBegun flat.now leaders.now certificate.now now) }
+        ensures no_retry { options.now.retry ≡ 0 → result ≡ Err FetchRetryZero }
+        ensures refused { IfErr result (IsEngineNotBegun flat.now leaders.now certificate.now options.now now) }
     {
+        if options.retry == 0 {
+            return Err(NotBegun::FetchRetryZero);
+        }
         let start = match start_of(alloc, flat, leaders, certificate, now) {
             Ok(start) => start,
             Err(error) => return Err(NotBegun::Member(NotResumed::Settings(error))),
@@ -53,6 +64,11 @@ impl HeldEngine {
     }
 
     /// An engine that goes on from its journal: the bytes that its entries were as frames, and what was stored beside them last.
+    ///
+    /// # Errors
+    ///
+    /// `FetchRetryZero` just where the options' `retry` is 0, whatever else is passed; else why no member goes on from the journal, or
+    /// the resolver does not.
     pub fn resume(
         alloc: Global,
         flat: &FlatSettings,
@@ -64,8 +80,12 @@ impl HeldEngine {
         journal: &[u8],
     ) -> Result<HeldEngine, NotBegun>
         ensures resumed { IfOk result (IsEngineResumed flat.now leaders.now certificate.now options.now now stored.now journal.now) }
-        ensures refused { IfErr result (IsEngineNotResumed flat.now leaders.now certificate.now now stored.now journal.now) }
+        ensures no_retry { options.now.retry ≡ 0 → result ≡ Err FetchRetryZero }
+        ensures refused { IfErr result (IsEngineNotResumed flat.now leaders.now certificate.now options.now now stored.now journal.now) }
     {
+        if options.retry == 0 {
+            return Err(NotBegun::FetchRetryZero);
+        }
         let from = match going_on(alloc, flat, leaders, certificate, now, stored, journal) {
             Ok(from) => from,
             Err(error) => return Err(NotBegun::Member(error)),
@@ -111,5 +131,6 @@ pub fn number_of_not_begun(error: NotBegun) -> u32
     match error {
         NotBegun::Member(error) => number_of_not_resumed(error),
         NotBegun::Resolver(error) => number_of_not_replayed(NotReplayed::Replay(error)),
+        NotBegun::FetchRetryZero => 33,
     }
 }

@@ -10,12 +10,13 @@ use Rattle.simplex_flat_engine.proofs.held.HeldEngine.resume.Goals as goal
 
 pub returns-in-Err-clause-refused : goal.returns-in-Err-clause-refused
 returns-in-Err-clause-refused c =
-    member_refused c.args.flat.now c.args.leaders.now c.args.certificate.now c.args.now c.args.stored.now c.args.journal.now c.in-Err.error
+    member_refused c.args.flat.now c.args.leaders.now c.args.certificate.now c.args.options.now c.args.now c.args.stored.now c.args.journal.now c.in-Err.error
     c.in-Err.ensures.refused
 
 pub returns-in-Ok-resume-clause-resumed : goal.returns-in-Ok-resume-clause-resumed
 returns-in-Ok-resume-clause-resumed c =
     let from = c.in-Ok.from in record {
+      retry = c.if-options-eq0.false;
       start = from.start;
       stored = from.stored;
       entries = from.entries.items;
@@ -45,9 +46,9 @@ returns-in-Ok-resume-clause-resumed c =
 pub returns-in-Err-resume-clause-refused : goal.returns-in-Err-resume-clause-refused
 returns-in-Err-resume-clause-refused c =
     let from = c.in-Ok.from in
-    subst (IsEngineNotResumed c.args.flat.now c.args.leaders.now c.args.certificate.now c.args.now c.args.stored.now c.args.journal.now)
+    subst (IsEngineNotResumed c.args.flat.now c.args.leaders.now c.args.certificate.now c.args.options.now c.args.now c.args.stored.now c.args.journal.now)
     (sym c.not_begun.ensures)
-    (engine_refused c.args.flat.now c.args.leaders.now c.args.certificate.now c.args.now c.args.stored.now c.args.journal.now
+    (engine_refused c.args.flat.now c.args.leaders.now c.args.certificate.now c.args.options.now c.args.now c.args.stored.now c.args.journal.now
     c.in-Err-resume.error (record {
       start = from.start;
       stored = from.stored;

@@ -10,6 +10,7 @@ use Rattle.simplex_flat_engine.proofs.held.HeldEngine.start.Goals as goal
 
 pub returns-in-Ok-start-clause-begun : goal.returns-in-Ok-start-clause-begun
 returns-in-Ok-start-clause-begun c = record {
+  retry = c.if-options-eq0.false;
   start = c.in-Ok.start;
   by = c.in-Ok.ensures.made;
   facts = rw c.new.ensures.engine c.in-Ok-start.ensures.started;
@@ -35,8 +36,8 @@ returns-in-Ok-start-clause-begun c = record {
 
 pub returns-in-Err-start-clause-refused : goal.returns-in-Err-start-clause-refused
 returns-in-Err-start-clause-refused c =
-    subst (IsEngineNotBegun c.args.flat.now c.args.leaders.now c.args.certificate.now c.args.now) (sym c.not_begun.ensures)
-    (start_refused c.args.flat.now c.args.leaders.now c.args.certificate.now c.args.now c.in-Err-start.error (record {
+    subst (IsEngineNotBegun c.args.flat.now c.args.leaders.now c.args.certificate.now c.args.options.now c.args.now) (sym c.not_begun.ensures)
+    (start_refused c.args.flat.now c.args.leaders.now c.args.certificate.now c.args.options.now c.args.now c.in-Err-start.error (record {
       start = c.in-Ok.start;
       by = c.in-Ok.ensures.made;
       error = c.in-Err-start.error;
