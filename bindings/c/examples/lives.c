@@ -221,12 +221,15 @@ static void goes_on(const struct simplex_stored *stored, size_t len, simplex_eng
 /* An engine that leads its first view: a block is built, and its vote is ordered behind what stores it. Another goes on from its
  * journal. */
 static void engine(void) {
+    static const struct simplex_options at_once = {.retry = 0, .on_its_way = 25, .long_record = 2048};
     simplex_engine *at = 0, *next = 0;
     struct simplex_stored stored = {0};
     size_t len = 0, order = 0;
     IS(simplex_engine_start(&SETTINGS, LEADERS, 0, 0, 0, &OPTIONS, 0, &at) == SIMPLEX_NOTHING_LEADS && !at);
     IS(simplex_engine_start(&SETTINGS, LEADERS, 3, 0, 0, &OPTIONS, 0, &at) == SIMPLEX_OTHER_TABLE && !at);
     IS(simplex_engine_start(&SETTINGS, BEYOND, 4, 0, 0, &OPTIONS, 0, &at) == SIMPLEX_NO_SUCH_LEADER && !at);
+    IS(simplex_engine_start(&SETTINGS, LEADERS, 4, 0, 0, &at_once, 0, &at) == SIMPLEX_FETCH_RETRY_ZERO && !at);
+    IS(simplex_engine_resume(&SETTINGS, LEADERS, 4, 0, 0, &at_once, 0, &stored, 0, 0, &at) == SIMPLEX_FETCH_RETRY_ZERO && !at);
     IS(!simplex_engine_start(&SETTINGS, LEADERS, 4, 0, 0, &OPTIONS, 0, &at));
     tells_nothing(at);
     for (uint32_t first = 1;; first = 0) {

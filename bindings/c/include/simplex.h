@@ -5,35 +5,33 @@
  * Link libsimplex.a, which bindings/build makes (x86-64 Linux; it takes memory from malloc). docs/EMBEDDING.md has both loops and the
  * journal; bindings/rust is a Rust package over this header.
  *
- * WHAT IS PROVED, AND WHAT IS YOUR WORD
+ * WHAT IS PROVED, AND WHAT THE HOST MUST DO
  *
- *   Proved of the functions below                          | Your word
+ *   Proved of the functions below                          | The host must
  *   -------------------------------------------------------+--------------------------------------------------------------------
- *   a call asks the core for just what it says, by its     | a certificate is verified before it is handed in
- *   numbers, and the reply tells just what the core said   | proposals handed in come from their view's leader
- *   a member's call orders a vote exactly where its rule   | an ordered text is signed with the key of the member in the reply,
- *   allows, for just its own bytes, once it is recorded    | and nothing else is
- *   a resume goes on from just the entries in the bytes    | what the record has grown by is stored before a vote is sent; the
- *   that it is given; damaged or missing ones are refused  | bytes and numbers that were stored last come back
- *   an engine is told just the input of its numbers, and   | a vote is verified before it is handed in, and one's own comes back as
- *   an output tells just what it gave out; a vote stands   | an input; outputs are carried out in order, and none is left out
- *   behind an output that stores its entry; a certificate  |
- *   that votes complete is of n - f members on just that   |
- *   numbers that are none of a call change nothing         | moments do not fall within a life
- *   (that C calls as declared here is nobody's proof)      | a handle is one that was handed out and not let go; one call at a time
+ *   a call asks the core exactly what its numbers say, and | verify a certificate before it passes one, and pass proposals
+ *   the reply is exactly the core's                        | of their view's leader only
+ *   a member's call orders a vote exactly where its rule   | sign an ordered text with the key of the member in the reply, and
+ *   allows, for the vote's own bytes, once it is recorded  | nothing else
+ *   a resume continues from exactly the entries in the     | store the new entries of the record before it sends a vote, and
+ *   bytes; damaged or missing ones are refused             | read back the bytes and numbers that it stored last
+ *   an engine receives exactly the input of its numbers,   | verify a vote before it passes one, pass the engine's own votes
+ *   and an output is exactly the engine's; a vote comes    | back, and carry out every output, in order
+ *   after an output that stores its entry; a certificate   |
+ *   made of votes is of n - f members on just its subject  |
+ *   numbers that are none of a call change nothing         | pass moments that do not go back within a lifetime
+ *   (no proof covers how C calls what is declared here)    | use a handle until it frees it, one call at a time
  *
- * THREADS. There are no locks and no threads inside. A handle may go from thread to thread; one call of it at a time. Calls of two handles,
- * and functions with no handle, may run at once.
+ * THREADS. There are no locks and no threads inside. A handle may move between threads; make one call of it at a time. Calls of two
+ * handles, and functions without a handle, may run at once.
  *
- * MEMORY. Whatever is handed in is read or copied before the call returns. Whatever is handed out is copied out: no pointer into the
- * library's memory leaves it but the handle. A reply is kept behind the handle until the next simplex_member_call, and an output until the
- * next simplex_engine_poll, so that its bytes and items can be read whenever there is memory for them; none is lost for want of memory.
+ * MEMORY. The library reads or copies all arguments before a call returns, and copies all results out: no pointer into its memory leaves
+ * it but the handle. It stores a reply until the next simplex_member_call, and an output until the next simplex_engine_poll, so that the
+ * host can read their bytes and items whenever it has memory for them; none is lost where memory runs out.
  *
- * POINTERS. None may be null, but for a slice of length 0, whose pointer is not read, and for a handle: of a null handle each function
- * answers the status SIMPLEX_NO_HANDLE and does nothing. A handle that was let go is undefined, as memory that was freed is: it is the
- * address of what lies behind it, so that a call goes straight there, and to tell a dead one from a new one at the same address takes a
- * table of all handles with a lock, which the library has not. Set a handle to null where you let it go; the Rust package takes it from
- * you.
+ * POINTERS. None may be null, but for two: a slice of length 0, whose pointer is not read, and a handle. Given a null handle each function
+ * returns the status SIMPLEX_NO_HANDLE and does nothing. A freed handle is undefined, as freed memory is. A handle is an address, so that
+ * a call needs no lock and no table of handles. Set a handle to null where you free it; the Rust package takes it from you.
  */
 #ifndef SIMPLEX_H
 #define SIMPLEX_H
@@ -48,17 +46,17 @@ extern "C" {
 #define SIMPLEX_SIZE(type, size) _Static_assert(sizeof(type) == size, #type)
 #endif
 
-/* What simplex_version answers for this header: test it once, before anything else. */
+/* What simplex_version returns for this header: test it once, before anything else. */
 #define SIMPLEX_VERSION 4u
 
 /* No member. */
 #define SIMPLEX_NOBODY UINT32_MAX
 
-/* An engine behind its handle: a member with its resolver, a batcher of votes, the fetches that are open, and what is to be carried out.
- * Made by simplex_engine_start or simplex_engine_resume, let go by simplex_engine_free. */
+/* The handle of an engine: a member with its resolver, a batcher of votes, the outstanding fetches and the queued outputs.
+ * simplex_engine_start and simplex_engine_resume make one, simplex_engine_free frees it. */
 typedef struct simplex_engine simplex_engine;
 
-/* A member behind its handle. Made by simplex_member_start or simplex_member_resume, let go by simplex_member_free. */
+/* The handle of a member. simplex_member_start and simplex_member_resume make one, simplex_member_free frees it. */
 typedef struct simplex_member simplex_member;
 
 /* A peer resolver behind its handle: which certificates are kept, served and fetched. Made by simplex_resolver_start, let go by
@@ -68,7 +66,7 @@ typedef struct simplex_resolver simplex_resolver;
 /* What a call, a start, a resume or a restart ends in. Numbers are only ever added. */
 enum simplex_status {
     SIMPLEX_OK = 0,
-    /* Memory is wanting. After a call nothing has changed, or the member has failed and answers SIMPLEX_FAILED until a restart. */
+    /* Out of memory. After a call nothing has changed, or the member has failed and returns SIMPLEX_FAILED until a restart. */
     SIMPLEX_OUT_OF_MEMORY = 1,
     /* The member has failed: its record is left, to be restarted or resumed. */
     SIMPLEX_FAILED = 2,
@@ -79,7 +77,7 @@ enum simplex_status {
     SIMPLEX_NOT_ALLOWED = 5,
     /* A number of the call is none of a kind, a reason or a flag: no call was made. */
     SIMPLEX_NO_CALL = 6,
-    /* There was no memory for the certificate that is handed in: no call was made. */
+    /* There was no memory for the certificate that is passed: no call was made. */
     SIMPLEX_NOT_MADE = 7,
     /* Settings: no member, or a signer that is none; no view in a term, or no table of leaders; a flag that is neither 0 nor 1. */
     SIMPLEX_NO_SUCH_MEMBER = 8,
@@ -91,7 +89,7 @@ enum simplex_status {
     SIMPLEX_NO_ENTRY = 13,
     /* An entry is too long for a frame. */
     SIMPLEX_ENTRY_TOO_LONG = 14,
-    /* The handle is null: nothing was done, and nothing else in the answer has a meaning. */
+    /* The handle is null: nothing was done, and nothing else in the result has a meaning. */
     SIMPLEX_NO_HANDLE = 15,
     /* The first rule of an engine's settings that is broken. */
     SIMPLEX_NO_PARTICIPANTS = 20,
@@ -108,6 +106,8 @@ enum simplex_status {
     /* The table of leaders: an entry is no member's index; or it has another number of entries than there are members, and draws is 0. */
     SIMPLEX_NO_SUCH_LEADER = 31,
     SIMPLEX_OTHER_TABLE = 32,
+    /* The options' retry is 0: a fetch would be asked again at once. */
+    SIMPLEX_FETCH_RETRY_ZERO = 33,
     /* Why a record or a floor is refused. */
     SIMPLEX_OUT_OF_ORDER = 40,
     SIMPLEX_OTHER_EPOCH = 41,
@@ -139,7 +139,7 @@ enum simplex_call_kind {
     SIMPLEX_VERIFIED = 10,                    /* view: its proposal was found valid */
     SIMPLEX_VERIFICATION_FAILED = 11,         /* view, reason, moment */
     SIMPLEX_CERTIFY_CANDIDATES = 12,          /* what is to be certified next */
-    SIMPLEX_SET_CERTIFY_HANDLE = 13,          /* view, token: its certification goes on under the token */
+    SIMPLEX_SET_CERTIFY_HANDLE = 13,          /* view, token: its certification is under way, under the token */
     SIMPLEX_CERTIFIED = 14,                   /* view, success, moment: the verdict */
     SIMPLEX_CONSTRUCT_NOTARIZE = 15,          /* view */
     SIMPLEX_CONSTRUCT_NULLIFY = 16,           /* view, reason */
@@ -153,7 +153,7 @@ enum simplex_call_kind {
     SIMPLEX_PRUNE = 24
 };
 
-/* What a call is answered. Behind each, the fields of simplex_reply that it has; bytes and items wait behind the handle. */
+/* The replies. After each, the fields of simplex_reply that it has; its bytes and items stay until the next call. */
 enum simplex_reply_kind {
     SIMPLEX_REPLY_UNIT = 0,
     SIMPLEX_REPLY_FLAG = 1,                   /* flag: it is taken */
@@ -173,7 +173,7 @@ enum simplex_reply_kind {
     SIMPLEX_REPLY_VIEWS = 13,                 /* count: items of SIMPLEX_DROPPED */
     SIMPLEX_REPLY_RELEASED = 14,              /* flag: a request was open */
     SIMPLEX_REPLY_TRIGGERED = 15,             /* flag: the timeout counts from now on */
-    SIMPLEX_REPLY_ABANDONED = 16              /* has 1: the handoff has to be given up; reason: a simplex_abandoned_reason */
+    SIMPLEX_REPLY_ABANDONED = 16              /* has 1: the handoff must be abandoned; reason: a simplex_abandoned_reason */
 };
 
 /* Why a view times out. */
@@ -190,7 +190,7 @@ enum simplex_timeout_reason {
     SIMPLEX_FAILED_CERTIFICATION = 9
 };
 
-/* Why a handoff has to be given up. */
+/* Why a handoff must be abandoned. */
 enum simplex_abandoned_reason {
     SIMPLEX_VIEW_EXIT = 0,
     SIMPLEX_ANCESTRY_SUPERSEDED = 1,
@@ -211,11 +211,11 @@ enum simplex_items { SIMPLEX_PROPOSALS = 1, SIMPLEX_FETCHES = 2, SIMPLEX_DROPPED
 /* Which bytes are read: those of the last reply, or those that simplex_member_entries or simplex_member_certificate showed last. */
 enum simplex_bytes { SIMPLEX_OF_REPLY = 0, SIMPLEX_SHOWN = 1 };
 
-/* How a journal ends behind its whole entries. */
+/* How a journal ends after its whole entries. */
 enum simplex_ending {
     SIMPLEX_WHOLE = 0,
-    SIMPLEX_CUT = 1,   /* the bytes behind the whole entries end within one, as an append ends that was cut off. An entry that has all its
-                          bytes is never told so, whatever was changed in it, unless its length and its complement were changed alike */
+    SIMPLEX_CUT = 1,   /* the bytes after the whole entries end within one, as an append ends that was cut off. An entry that has all its
+                          bytes is never reported so, whatever was changed in it, unless its length and its complement changed alike */
     SIMPLEX_BROKEN = 2 /* bytes were changed */
 };
 
@@ -302,7 +302,7 @@ struct simplex_stored {
     uint64_t entries;         /* how many the record had: a journal of fewer is refused */
     uint64_t closed;          /* no drop takes one of the first so many */
     uint64_t retention;       /* the view_retention of the last life */
-    uint64_t least_retention; /* the least of all lives */
+    uint64_t least_retention; /* the least of all lifetimes */
     uint32_t is_pruned;       /* 1: the record was ever pruned */
     uint32_t reserved;
 };
@@ -330,7 +330,7 @@ struct simplex_view {
     uint32_t leader;             /* of the view, where it is tracked and its leader known; else SIMPLEX_NOBODY */
     uint32_t is_tracked;
     uint32_t admits_vote;        /* 1: a vote of the view may be taken into account */
-    uint32_t admits_certificate; /* 1: a certificate of the view may be handed in */
+    uint32_t admits_certificate; /* 1: a certificate of the view may be passed */
     uint32_t voted_nullify;      /* 1: this member voted to nullify the view */
     uint32_t has_notarization;
     uint32_t has_nullification;
@@ -379,19 +379,19 @@ struct simplex_text {
 SIMPLEX_SIZE(struct simplex_text, 72);
 
 struct simplex_scan {
-    uint64_t entries; /* how many whole frames stand in front */
+    uint64_t entries; /* how many whole frames the bytes begin with */
     uint64_t bytes;   /* how many bytes these are */
     uint32_t ending;  /* a simplex_ending */
     uint32_t reserved;
 };
 SIMPLEX_SIZE(struct simplex_scan, 24);
 
-/* What a resolver is told. */
+/* What a resolver receives. */
 enum simplex_told_kind {
     SIMPLEX_TOLD_NOTARIZATION = SIMPLEX_NOTARIZATION, /* a certificate that the member newly added */
     SIMPLEX_TOLD_NULLIFICATION = SIMPLEX_NULLIFICATION,
     SIMPLEX_TOLD_FINALIZATION = SIMPLEX_FINALIZATION,
-    SIMPLEX_TOLD_VERDICT = 4       /* on the notarization of proposal, as simplex_member_call answers SIMPLEX_CERTIFIED */
+    SIMPLEX_TOLD_VERDICT = 4       /* on the notarization of proposal, as simplex_member_call returns for SIMPLEX_CERTIFIED */
 };
 
 struct simplex_told {
@@ -403,7 +403,7 @@ SIMPLEX_SIZE(struct simplex_told, 64);
 
 struct simplex_effects {
     uint32_t status; /* SIMPLEX_OK, SIMPLEX_OUT_OF_MEMORY: it has failed, start another; SIMPLEX_FAILED, SIMPLEX_VIEW_TOO_LARGE;
-                        SIMPLEX_NOT_ALLOWED for view 0, SIMPLEX_NO_CALL, SIMPLEX_NOT_MADE: nothing was told */
+                        SIMPLEX_NOT_ALLOWED for view 0, SIMPLEX_NO_CALL, SIMPLEX_NOT_MADE: it received nothing */
     uint32_t reserved;
     uint64_t count;  /* how many effects there are */
     uint64_t fetches; /* how many fetches are open then */
@@ -456,38 +456,40 @@ struct simplex_served {
 };
 SIMPLEX_SIZE(struct simplex_served, 24);
 
-/* What an engine is told. Behind each, the fields of simplex_input that it reads; B is the bytes beside it. */
+/* The inputs of an engine. After each, the fields of simplex_input that it reads; B is the bytes beside it. */
 enum simplex_input_kind {
     SIMPLEX_TELL_PROPOSAL = 1,    /* subject: proposal, member who sent it */
-    SIMPLEX_TELL_VOTE = 2,        /* subject: kind, proposal, member who signed; B its signature. One of another epoch is dropped.
-                                     The engine's own come back so too, once they were carried out */
+    SIMPLEX_TELL_VOTE = 2,        /* subject: kind, proposal, member who signed; B its signature. One of another epoch is ignored.
+                                     Pass the engine's own votes too, once they were sent */
     SIMPLEX_TELL_CERTIFICATE = 3, /* subject: kind, proposal; B */
-    SIMPLEX_TELL_VERIFIED = 4,    /* view, success: the proposal that was to be verified is valid */
-    SIMPLEX_TELL_BUILT = 5,       /* context and subject.member, as it was asked to build; subject.proposal.payload: what was built */
-    SIMPLEX_TELL_CERTIFIED = 6,   /* view, success: the proposal that was to be certified may be built on */
-    SIMPLEX_TELL_GIVEN_UP = 7     /* view, reason: its leader nullified it, or is not heard of */
+    SIMPLEX_TELL_VERIFIED = 4,    /* view, success: the proposal of a SIMPLEX_VERIFY is valid */
+    SIMPLEX_TELL_BUILT = 5,       /* context and subject.member of a SIMPLEX_BUILD; subject.proposal.payload: the block's digest */
+    SIMPLEX_TELL_CERTIFIED = 6,   /* view, success: the proposal of a SIMPLEX_CERTIFY may be built on. A verdict on a view that
+                                     no SIMPLEX_CERTIFY named, or that has its verdict, is ignored */
+    SIMPLEX_TELL_GIVEN_UP = 7     /* view, reason: its leader nullified it, or is silent */
 };
 
-/* What an engine gives out, to be carried out in that order. Behind each, the fields of simplex_output that it has; B is the first bytes. */
+/* The outputs of an engine: carry them out in order. After each, the fields of simplex_output that it has; B is the first bytes. */
 enum simplex_output_kind {
     SIMPLEX_NOTHING = 0,        /* until another input, or the moment wake of simplex_engine_status */
-    SIMPLEX_STORE = 1,          /* append B to the journal, with stored beside it, and sync both before what is behind it is carried out */
-    SIMPLEX_REPLACE = 2,        /* the same in place of all that is stored, in one step. The first output of each life */
-    SIMPLEX_VOTE = 3,           /* subject: sign B with the key of its member, send the vote to all, and tell it to this engine too */
+    SIMPLEX_STORE = 1,          /* append B to the journal, with stored beside it, and sync both before the next output */
+    SIMPLEX_REPLACE = 2,        /* the same in place of all that is stored, in one step. The first output of each lifetime */
+    SIMPLEX_VOTE = 3,           /* subject: sign B with the key of its member, send the vote to all, and pass it to this engine too */
     SIMPLEX_BROADCAST = 4,      /* subject: send the certificate B to all others */
     SIMPLEX_VERIFY = 5,         /* context, subject.proposal; subject.member leads */
     SIMPLEX_BUILD = 6,          /* context; subject.member leads */
-    SIMPLEX_STOP_BUILDING = 7,  /* view: what is built there is of no use any more */
-    SIMPLEX_CERTIFY = 8,        /* subject.proposal: a verdict is wanted on it */
+    SIMPLEX_STOP_BUILDING = 7,  /* view: stop building there, the block is not needed any more */
+    SIMPLEX_CERTIFY = 8,        /* subject.proposal: give a verdict on it */
     SIMPLEX_ASK = 9,            /* fetch, view: ask member for it, or nobody where it is SIMPLEX_NOBODY */
-    SIMPLEX_FINAL = 10,         /* subject.proposal is final: this life accepted its finalization, of a view above all that it reported.
-                                   Its ancestors are final too and are not reported, and a life that ends may lose its last report.
-                                   So deliver a block after its ancestors, back to the last one that was delivered; after
+    SIMPLEX_FINAL = 10,         /* subject.proposal is final: this lifetime accepted its finalization, of a view above all that it
+                                   reported. Its ancestors are final too and are not reported, and a process that ends may lose its
+                                   last report. So deliver a block after its ancestors, back to the last delivered one; after
                                    simplex_engine_resume begin with the last finalization of the record: read view 0 with
                                    simplex_engine_view, and of its last_finalized the finalization with simplex_engine_certificate */
-    SIMPLEX_EQUIVOCATED = 11,   /* subject and B, other and the other bytes: two votes of one member that contradict each other */
+    SIMPLEX_EQUIVOCATED = 11,   /* subject and B, other and the other bytes: two votes of one member that contradict each other.
+                                   One pair is returned of a member, kind and view, until the view is forgotten */
     SIMPLEX_PROPOSED_TWICE = 12, /* view, member: its leader signed two proposals, which certificates show */
-    SIMPLEX_FORGET = 13         /* view: what is kept of those below it may go */
+    SIMPLEX_FORGET = 13         /* view: drop what you store of the views below it */
 };
 
 /* What is fetched: the view's notarization, a nullification that covers it, or whatever certificate decides it. */
@@ -497,7 +499,7 @@ enum simplex_fetch_kind {
     SIMPLEX_FETCH_DECISION = 4
 };
 
-/* Which bytes of an engine are read: the first or the second of the last output, or those that were shown last. */
+/* Which bytes of an engine to read: the first or the second of the last output, or those that were shown last. */
 enum simplex_engine_bytes { SIMPLEX_OF_OUTPUT = 0, SIMPLEX_OTHER_OF_OUTPUT = 1, SIMPLEX_SHOWN_OF_ENGINE = 2 };
 
 /* What a vote or a certificate is on. */
@@ -510,13 +512,13 @@ SIMPLEX_SIZE(struct simplex_subject, 64);
 
 /* How an engine is set up beside its member. Times are milliseconds. Usual ones are 250, 25 and 2048. */
 struct simplex_options {
-    uint64_t retry;       /* after how long a fetch is asked again, of the next member: 0 counts as 1 ms. The Rust package refuses 0 */
-    uint64_t on_its_way;  /* how long a certificate that is lacking may be on its way before it is asked for */
-    uint64_t long_record; /* the record is made short once it has more entries, and more of its views would go than stay */
+    uint64_t retry;       /* after how long a fetch asks again, the next member: 1 at least */
+    uint64_t on_its_way;  /* how long a missing certificate may be on its way before the engine asks for it */
+    uint64_t long_record; /* a record with more entries than this is compacted, once that drops more views than it leaves */
 };
 SIMPLEX_SIZE(struct simplex_options, 24);
 
-/* What an engine is told. The fields that its kind does not read may be anything, but reason and success: leave these 0. */
+/* An input. The fields that its kind does not read may be anything, but reason and success: leave these 0. */
 struct simplex_input {
     uint32_t kind;    /* a simplex_input_kind */
     uint32_t reason;  /* a simplex_timeout_reason */
@@ -529,8 +531,8 @@ struct simplex_input {
 SIMPLEX_SIZE(struct simplex_input, 144);
 
 struct simplex_taken {
-    uint32_t status; /* SIMPLEX_OK; SIMPLEX_NO_CALL where a number is none of an input, or a vote is told where certificates name leaders,
-                        and SIMPLEX_NOT_MADE where there is no memory for the bytes: nothing was told. SIMPLEX_OUT_OF_MEMORY to
+    uint32_t status; /* SIMPLEX_OK; SIMPLEX_NO_CALL where a number is none of an input, or a vote is passed where certificates name leaders,
+                        and SIMPLEX_NOT_MADE where there is no memory for the bytes: the engine received nothing. SIMPLEX_OUT_OF_MEMORY to
                         SIMPLEX_TIME_OVERFLOW: the engine has failed */
     uint32_t is_of_use; /* 0: it was dropped, and changed nothing */
 };
@@ -555,7 +557,7 @@ struct simplex_engine_status {
     uint32_t status;  /* SIMPLEX_OK or SIMPLEX_FAILED */
     uint32_t reserved;
     uint64_t wake;    /* poll at this moment where nothing comes before, in milliseconds */
-    uint64_t ignored; /* how many inputs were of no use */
+    uint64_t ignored; /* how many inputs were ignored */
     uint64_t fetches; /* how many fetches are open */
 };
 SIMPLEX_SIZE(struct simplex_engine_status, 32);
@@ -584,39 +586,40 @@ const char *simplex_build_info(void);
 
 /*
  * Begins an engine whose member never voted, by settings, a table of leaders (each term's leader in turn), the bytes of the floor's
- * certificate (none for genesis) and options, at a moment. One that did vote goes on by simplex_engine_resume, or could vote twice in a view.
+ * certificate (none for genesis) and options, at a moment. A member that voted must resume by simplex_engine_resume, or it could vote
+ * twice in a view.
  *
- * SIMPLEX_OK, and the handle stands in *out; else why there is none, and *out is as it was.
+ * Returns SIMPLEX_OK and writes the handle to *out; else the status says why there is none, and *out is as it was.
  */
 uint32_t simplex_engine_start(const struct simplex_settings *settings, const uint32_t *leaders, size_t leaders_len,
                               const uint8_t *certificate, size_t certificate_len, const struct simplex_options *options, uint64_t now,
                               simplex_engine **out);
 
-/* Makes an engine that goes on from its journal, as simplex_member_resume does, by whose statuses it is refused. Each takes the journal of
- * the other. */
+/* Resumes an engine from its journal, as simplex_member_resume does, and is refused by the same statuses. Each takes the journal of the
+ * other. */
 uint32_t simplex_engine_resume(const struct simplex_settings *settings, const uint32_t *leaders, size_t leaders_len,
                                const uint8_t *certificate, size_t certificate_len, const struct simplex_options *options, uint64_t now,
                                const struct simplex_stored *stored, const uint8_t *journal, size_t journal_len, simplex_engine **out);
 
 /*
- * Tells what came in, at a moment in milliseconds that does not fall. The bytes are a vote's signature, or a certificate: of one that the
+ * Passes an input, at a moment in milliseconds that does not go back. The bytes are a vote's signature, or a certificate: of one that the
  * engine made of votes, each signer by rising index, its index in four bytes, its signature's length in eight, big-endian, and the signature.
  *
- * An engine that has failed answers SIMPLEX_FAILED from then on: let it go, and resume another from what was stored.
+ * An engine that has failed returns SIMPLEX_FAILED from then on: free it, and resume another from what was stored.
  */
 struct simplex_taken simplex_engine_handle(simplex_engine *at, const struct simplex_input *input, const uint8_t *bytes, size_t bytes_len,
                                            uint64_t now);
 
-/* What is to be carried out next; poll until it is SIMPLEX_NOTHING. Its bytes wait until the next poll. */
+/* Returns the next output to carry out; poll until it is SIMPLEX_NOTHING. Its bytes stay until the next poll. */
 struct simplex_output simplex_engine_poll(simplex_engine *at, uint64_t now);
 
 /* A part of bytes, a simplex_engine_bytes, from the byte from on: at most 1024, and none where there are no more. */
 struct simplex_chunk simplex_engine_bytes(simplex_engine *at, uint32_t which, uint64_t from);
 
-/* What an engine knows of itself. */
+/* Returns what an engine knows of itself. */
 struct simplex_engine_status simplex_engine_status(simplex_engine *at);
 
-/* A fetch that is open, by its place among them. */
+/* Returns an outstanding fetch, by its place among them. */
 struct simplex_open simplex_engine_open(simplex_engine *at, uint64_t index);
 
 /* What its member knows, and what it knows of a view. */
@@ -625,27 +628,29 @@ struct simplex_view simplex_engine_view(simplex_engine *at, uint64_t view);
 /* Shows a view's certificate, as simplex_member_certificate does. */
 struct simplex_found simplex_engine_certificate(simplex_engine *at, uint32_t kind, uint64_t view);
 
-/* Shows what a peer is served that asks for a view, as simplex_resolver_produce does. */
+/* Shows what to serve to a peer that asks for a view, as simplex_resolver_produce does. */
 struct simplex_served simplex_engine_serve(simplex_engine *at, uint64_t view);
 
-/* Lets an engine go; nothing where the handle is null. It must not be used again. */
+/* Frees an engine; does nothing where the handle is null. The handle must not be used again. */
 void simplex_engine_free(simplex_engine *at);
 
 /*
  * Begins a member that never voted, by settings, a table of leaders (each term's leader in turn) and the bytes of the floor's certificate
- * (none for genesis), at a moment. One that did vote goes on by simplex_member_resume, or could vote twice in a view.
+ * (none for genesis), at a moment. A member that voted must resume by simplex_member_resume, or it could vote twice in a view.
  *
- * SIMPLEX_OK, and the handle stands in *out; else why there is none, and *out is as it was. Store simplex_member_entries(.., 0) and its
+ * Returns SIMPLEX_OK and writes the handle to *out; else the status says why there is none, and *out is as it was. Store
+ * simplex_member_entries(.., 0) and its
  * stored at once: with a finalized floor the record is not empty.
  */
 uint32_t simplex_member_start(const struct simplex_settings *settings, const uint32_t *leaders, size_t leaders_len,
                               const uint8_t *certificate, size_t certificate_len, uint64_t now, simplex_member **out);
 
 /*
- * Makes a member that goes on from its journal: the bytes that simplex_member_entries showed, one behind the other, with what was stored
- * beside them last. The settings are those of the life that begins, with the floor that was given last.
+ * Resumes a member from its journal: the bytes that simplex_member_entries showed, one after another, with what was stored beside them
+ * last. The settings are those of the lifetime that begins, with the floor that was passed last.
  *
- * SIMPLEX_OK, and the handle stands in *out; else why there is none, and *out is as it was: SIMPLEX_DAMAGED or SIMPLEX_NO_ENTRY where the
+ * Returns SIMPLEX_OK and writes the handle to *out; else the status says why there is none, and *out is as it was: SIMPLEX_DAMAGED or
+ * SIMPLEX_NO_ENTRY where the
  * bytes are no journal (simplex_scan tells where), SIMPLEX_ENTRIES_LOST where there are fewer entries than stored.entries or
  * stored.closed, and the errors of settings and records.
  */
@@ -654,7 +659,7 @@ uint32_t simplex_member_resume(const struct simplex_settings *settings, const ui
                                const uint8_t *journal, size_t journal_len, simplex_member **out);
 
 /*
- * Makes a call. The reply stays behind the handle until the next one. certificate is read by the first three kinds alone.
+ * Makes a call. The reply stays until the next one. Only the first three kinds read certificate.
  */
 struct simplex_reply simplex_member_call(simplex_member *at, const struct simplex_call *call, const uint8_t *certificate,
                                          size_t certificate_len);
@@ -672,15 +677,15 @@ struct simplex_item simplex_member_item(simplex_member *at, uint32_t which, uint
 struct simplex_found simplex_member_certificate(simplex_member *at, uint32_t kind, uint64_t view);
 
 /*
- * Shows what the record has behind its first count entries, as bytes to be appended to the journal, with what to store beside it. Also of
- * a member that has failed. The bytes are SIMPLEX_SHOWN.
+ * Shows the entries of the record after the first count, as bytes to append to the journal, with what to store beside it. Also of a
+ * member that has failed. The bytes are SIMPLEX_SHOWN.
  */
 struct simplex_entries simplex_member_entries(simplex_member *at, uint64_t count);
 
 /*
- * Prunes the record within the life, behind SIMPLEX_PRUNE: takes away what lies far below the last finalized view, as a restart that prunes
- * would, but for views that are tracked still. Shows all that is left, to be stored in place of the journal with its stored, in one step;
- * from then on simplex_member_entries counts from the shorter record. The life goes on as it is. Also of a member that has failed. The bytes
+ * Prunes the record within the lifetime, after SIMPLEX_PRUNE: drops what lies far below the last finalized view, as a restart that prunes
+ * would, but for views that are still tracked. Shows all that is left, to be stored in place of the journal with its stored, in one step;
+ * from then on simplex_member_entries counts from the shorter record. The lifetime continues. Also of a member that has failed. The bytes
  * are SIMPLEX_SHOWN. After SIMPLEX_OUT_OF_MEMORY and SIMPLEX_ENTRY_TOO_LONG the record is pruned and not shown: ask for
  * simplex_member_entries(.., 0).
  */
@@ -690,50 +695,50 @@ struct simplex_entries simplex_member_prune_record(simplex_member *at);
 struct simplex_view simplex_member_view(simplex_member *at, uint64_t view);
 
 /*
- * Ends the member's life, also one that has failed, and begins another from its record. SIMPLEX_OK; else why not: where settings or
+ * Ends the member's lifetime, also one that has failed, and begins another from its record. Returns SIMPLEX_OK; else why not: where settings or
  * SIMPLEX_RETENTION_GROWN are refused nothing has changed, and after each other error the record is cut as asked and the member has
  * failed. Store simplex_member_entries(.., 0) in place of the journal then, with its stored, in one step.
  */
 uint32_t simplex_member_restart(simplex_member *at, const struct simplex_restart *restart, const uint32_t *leaders, size_t leaders_len,
                                 const uint8_t *certificate, size_t certificate_len);
 
-/* Lets a member go; nothing where the handle is null. It must not be used again. */
+/* Frees a member; does nothing where the handle is null. The handle must not be used again. */
 void simplex_member_free(simplex_member *at);
 
-/* The text that a vote signs, a simplex_vote_kind: what other members' votes are verified on. A nullify reads the round alone. */
+/* Returns the text that a vote of a simplex_vote_kind signs: verify other members' votes on it. A nullify reads the round alone. */
 struct simplex_text simplex_subject(uint32_t kind, const struct simplex_proposal *proposal);
 
-/* How many bytes of a journal are whole frames, and how it ends behind them. */
+/* Returns how many bytes of a journal are whole frames, and how it ends after them. */
 struct simplex_scan simplex_scan(const uint8_t *journal, size_t journal_len);
 
 /*
  * Starts a resolver from a member's journal, the bytes that simplex_member_entries(.., 0) shows, with its first fetches open. term_length is
- * that of the member's settings. SIMPLEX_OK, and the handle stands in *out; else why there is none, and *out is as it was. After that its
- * open fetches are exactly the views that are wanted by what it was told.
+ * that of the member's settings. Returns SIMPLEX_OK and writes the handle to *out; else why there is none, and *out is as it was. From then
+ * on its outstanding fetches are exactly those of what it received.
  */
 uint32_t simplex_resolver_start(uint32_t term_length, const uint8_t *journal, size_t journal_len, simplex_resolver **out);
 
-/* Tells it of a certificate that the member newly added, or of a verdict. The effects stay behind the handle until it is told again. */
+/* Passes a certificate that the member newly added, or a verdict. The effects stay until the next one. */
 struct simplex_effects simplex_resolver_told(simplex_resolver *at, const struct simplex_told *told, const uint8_t *certificate,
                                              size_t certificate_len);
 
-/* An effect of what it was told last. */
+/* Returns an effect of what it received last. */
 struct simplex_effect simplex_resolver_effect(simplex_resolver *at, uint64_t index);
 
 /* What it knows of a view. */
 struct simplex_settled simplex_resolver_settled(simplex_resolver *at, uint64_t view);
 
-/* Shows what a peer is served for a view: the encoding of a certificate, a simplex_text of its kind (as simplex_subject has it) and behind it
- * the certificate's bytes. */
+/* Shows what to serve to a peer for a view: the encoding of a certificate, a simplex_text of its kind (as simplex_subject has it) and
+ * after it the certificate's bytes. */
 struct simplex_served simplex_resolver_produce(simplex_resolver *at, uint64_t view);
 
-/* Shows the views whose fetch is open, rising, in eight bytes each, big-endian. simplex_outstanding_views reads them. */
+/* Shows the views with an outstanding fetch, rising, in eight bytes each, big-endian. simplex_outstanding_views reads them. */
 struct simplex_outstanding simplex_resolver_outstanding(simplex_resolver *at);
 
 /* A part of what was served or shown last, from the byte from on: at most 1024, and none where there are no more. */
 struct simplex_chunk simplex_resolver_bytes(simplex_resolver *at, uint64_t from);
 
-/* The views whose fetch is open, rising: the first room of them stand in views then, and count in the answer is how many there are. */
+/* Writes the views with an outstanding fetch, rising, to views, at most room of them; count in the result is how many there are. */
 static inline struct simplex_outstanding simplex_outstanding_views(simplex_resolver *at, uint64_t *views, size_t room) {
     struct simplex_outstanding shown = simplex_resolver_outstanding(at);
     size_t most = shown.status ? 0 : shown.count < room ? (size_t)shown.count : room;

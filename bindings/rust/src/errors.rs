@@ -258,7 +258,7 @@ impl OpenError {
             11 => OpenError::EntriesLost,
             12 => OpenError::Damaged,
             13 => OpenError::NoEntry,
-            8..=32 => OpenError::Settings(settings_error(status)),
+            8..=33 => OpenError::Settings(settings_error(status)),
             40..=52 => OpenError::Recover(recover_error(status)),
             _ => unreachable!("status {status} of a start"),
         })
@@ -282,6 +282,7 @@ fn settings_error(status: u32) -> SettingsError {
         30 => SettingsError::OtherMembers,
         31 => SettingsError::NoSuchLeader,
         32 => SettingsError::OtherTable,
+        33 => SettingsError::FetchRetryZero,
         _ => unreachable!("status {status} of settings whose flags are typed"),
     }
 }

@@ -1,12 +1,47 @@
-//! The Simplex consensus protocol: an engine, and the member that is its decision core, proved in Rattle.
+//! A proved core of the Simplex consensus protocol.
 //!
-//! An [`Engine`] is told votes, certificates, proposals, answers of the application and moments, and hands out what is to be stored, signed,
-//! sent and done, in order. It holds no network, clock, disk or key: the host round it signs, verifies, stores and sends. Its loop stands
-//! there.
+//! An [`Engine`] decides what a member votes for, proposes, verifies, certifies and fetches. The host passes it what comes in
+//! ([`Engine::handle`]) and carries out what it returns, in order ([`Engine::poll`]): entries to store, texts to sign, votes and certificates
+//! to send, work for the application. The host keeps the network, the clock, the disk and the keys.
 //!
-//! A [`Member`] is its core, for hosts that write their own engine; `docs/EMBEDDING.md` of the repository has both loops. Each call of a
-//! [`Member`] answers a [`Result`] with a [`Refusal`]. A vote is an order, as [`Notarize`]: the text that the engine signs with the
-//! member's key, once it has stored what the record has grown by.
+//! A member alone, whose application finds each block good:
+//!
+//! ```
+//! use simplex_view_state::{Config, Digest, Engine, Epoch, Input, Moment, Options, Output, Participant, View};
+//!
+//! const MOST_OUTPUTS: usize = 100;                                      // of a turn
+//! let config = Config::new(1.try_into()?, Some(Participant::new(0)), Epoch::new(1), Digest::default());
+//! let mut now = Moment::from_millis(0);                                 // of a clock that does not fall
+//! let mut engine = Engine::start(&config, &Options::default(), now)?;   // or Engine::resume, with what was stored
+//! let (mut journal, mut finalized, mut inputs) = (Vec::new(), View::GENESIS, Vec::new());
+//! while finalized < View::new(3) {
+//!     for _ in 0..MOST_OUTPUTS {
+//!         let Some(output) = engine.poll(now)? else { break };
+//!         match output {
+//!             Output::Replace(entries) => journal = entries.bytes,      // with entries.stored, in one step
+//!             Output::Store(entries) => journal.extend(entries.bytes),  // and synced before the next output is carried out
+//!             Output::Vote(order) => {
+//!                 let signature = order.text.iter().rev().copied().collect(); // of your key
+//!                 inputs.push(Input::Vote(order.signed(signature)));    // which is sent to all others too
+//!             }
+//!             Output::Build(context) => inputs.push(Input::Built { context, payload: Digest::new([7; 32]) }),
+//!             Output::Verify(_, proposal) => inputs.push(Input::Verified { view: proposal.view(), is_valid: true }),
+//!             Output::Certify(proposal) => inputs.push(Input::Certified { view: proposal.view(), is_success: true }),
+//!             Output::Finalized(proposal) => finalized = proposal.view(), // deliver it after its ancestors: they are not reported
+//!             _ => {}                                                   // nobody to send to, or to ask
+//!         }
+//!     }
+//!     now = Moment::from_millis(now.as_millis() + 1);                   // clock.now()
+//!     for input in inputs.drain(..) {                                   // what came in; nothing where engine.wake() has come
+//!         engine.handle(input, now)?;
+//!     }
+//! }
+//! assert_eq!(engine.views().expect("it has not failed").last_finalized, finalized);
+//! # Ok::<(), Box<dyn std::error::Error>>(())
+//! ```
+//!
+//! A [`Member`] is the core in the engine, for hosts that write their own: each of its calls returns a [`Result`] with a [`Refusal`], and a
+//! vote is an order to sign a text once the new entries of the record are stored. `docs/EMBEDDING.md` of the repository has both loops.
 //!
 //! ```
 //! use simplex_view_state::{Config, Digest, Epoch, Member, Moment, Nullification, Participant, Round, TimeoutReason, View};
@@ -20,7 +55,7 @@
 //! let vote = member.construct_nullify(View::new(1), timeout.reason)?.expect("it has not voted there");
 //! assert_eq!(vote.round, Round { epoch, view: View::new(1) });
 //!
-//! // A certificate of three members' votes comes; the engine has verified it.
+//! // A certificate of three members' votes comes, and the host has verified it.
 //! let nullification = Nullification { round: vote.round, certificate: vec![1, 2, 3] };
 //! assert!(member.add_nullification(&nullification, timeout.moment)?);
 //! assert_eq!(member.views().expect("it has not failed").current, View::new(2));

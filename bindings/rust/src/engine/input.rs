@@ -1,46 +1,48 @@
-//! What an engine is told.
+//! The inputs of an engine.
 
 use crate::ffi;
 use crate::messages::{Certificate, Context, Proposal, Vote};
 use crate::numbers::{Digest, Participant, View};
 use crate::reasons::TimeoutReason;
 
-/// What an engine is told. That a moment has come is told by [`Engine::poll`](crate::Engine::poll).
+/// One input. Time is no input: [`Engine::poll`](crate::Engine::poll) takes the moment.
 #[derive(Clone, PartialEq, Eq, Debug)]
 pub enum Input {
-    /// A proposal, under its sender's signature. A leader's vote to notarize is its proposal too, and is told as both.
+    /// A proposal, and the member that sent it, whose signature the host has verified. A leader's vote to notarize is its proposal too:
+    /// pass it as both.
     Proposal {
         /// Who sent it.
         from: Participant,
         /// What it is.
         proposal: Proposal,
     },
-    /// A vote whose signature is good: also each of this member's own, once it was carried out. One of another epoch is dropped.
+    /// A vote whose signature the host has verified; also each of the engine's own, once it was sent. A vote of another epoch is ignored.
     Vote(Vote),
-    /// A certificate that is good.
+    /// A certificate that the host has verified.
     Certificate(Certificate),
-    /// What the application found of a proposal that it was to verify.
+    /// The result of an [`Output::Verify`](crate::Output::Verify).
     Verified {
         /// Its view.
         view: View,
         /// Whether it is valid.
         is_valid: bool,
     },
-    /// What the application built.
+    /// The result of an [`Output::Build`](crate::Output::Build).
     Built {
-        /// In what it was asked to build.
+        /// The context of the output.
         context: Context,
         /// The payload's digest.
         payload: Digest,
     },
-    /// The application's verdict on a notarized proposal.
+    /// The application's verdict on a notarized proposal. It is ignored where no [`Output::Certify`](crate::Output::Certify) of this lifetime
+    /// named the proposal, or the proposal has its verdict.
     Certified {
         /// Its view.
         view: View,
         /// Whether it may be built on.
         is_success: bool,
     },
-    /// The view times out for a reason that the engine doesn't see by itself: its leader nullifies it, or is not heard of.
+    /// The view times out for a reason that the engine can't see by itself: its leader nullifies it, or is silent.
     GivenUp {
         /// The view.
         view: View,

@@ -1,31 +1,31 @@
-//! What an engine is to carry out.
+//! The outputs of an engine, which the host carries out.
 
 use crate::ffi;
 use crate::journal::{Entries, Stored};
 use crate::messages::{Certificate, Context, Proposal, Subject, Vote};
 use crate::numbers::{Moment, Participant, View};
 
-/// What is to be carried out, in the order in which it is handed out.
+/// One output. Carry outputs out in the order in which [`Engine::poll`](crate::Engine::poll) returns them.
 #[derive(Clone, PartialEq, Eq, Debug)]
 pub enum Output {
-    /// To be appended to the journal, with what is stored beside it, and synced before anything behind it is carried out.
+    /// Append these bytes to the journal, store [`Entries::stored`] beside it, and sync, before you carry out the next output.
     Store(Entries),
-    /// To be stored in place of all that is stored, in one step, and synced before anything behind it is carried out. The first output of
-    /// every life is one.
+    /// Store these bytes in place of all that is stored, in one step, and sync, before you carry out the next output. The first output of
+    /// every lifetime is a `Replace`.
     Replace(Entries),
-    /// This member's vote: to be signed, sent to all, and told as an [`Input::Vote`](crate::Input::Vote).
+    /// Sign this vote of the member, send it to all, and pass it back as an [`Input::Vote`](crate::Input::Vote).
     Vote(Order),
-    /// A certificate, to be sent to all others.
+    /// Send this certificate to all other members.
     Broadcast(Certificate),
-    /// A proposal that the application is to verify in its context.
+    /// Let the application verify this proposal in its context, then pass [`Input::Verified`](crate::Input::Verified).
     Verify(Context, Proposal),
-    /// What the application is to build on.
+    /// Let the application build a block in this context, then pass [`Input::Built`](crate::Input::Built).
     Build(Context),
-    /// What is built in the view is of no use any more.
+    /// Stop building in this view: the block is not needed any more.
     StopBuilding(View),
-    /// A notarized proposal, on which the application is to give a verdict.
+    /// Let the application give its verdict on this notarized proposal, then pass [`Input::Certified`](crate::Input::Certified).
     Certify(Proposal),
-    /// What is to be asked of a peer.
+    /// Ask a peer for a certificate.
     Fetch(Fetch),
     /// A proposal whose finalization this lifetime accepted, of a view above all that it reported. Its ancestors are final too and are not
     /// reported, and a lifetime that ends may lose its last report.
@@ -34,17 +34,17 @@ pub enum Output {
     /// begin with the last finalization of the record: the [`certificate`](crate::Engine::certificate) of `views().last_finalized`.
     /// `bindings/rust/examples/engine/network.rs` does both (`deliver`, `begin`).
     Finalized(Proposal),
-    /// Two votes of one member that contradict each other.
+    /// Two votes of one member that contradict each other. The engine returns one pair of a member, kind and view, until it forgets the view.
     Equivocated(Vote, Vote),
     /// The leader of the view signed two proposals, which certificates show.
     ProposedTwice(View, Participant),
-    /// The views below may be forgotten.
+    /// Drop what the host stores of the views below this one.
     Forget(View),
 }
 
 /// An order to vote: the text that is to be signed with the signer's key.
 #[derive(Clone, PartialEq, Eq, Hash, Debug)]
-#[must_use = "a vote that is dropped is not ordered again, but for one to nullify"]
+#[must_use = "a vote that is dropped is not returned again, but for one to nullify"]
 pub struct Order {
     /// What the vote says.
     pub subject: Subject,
@@ -55,7 +55,7 @@ pub struct Order {
 }
 
 impl Order {
-    /// The vote, once it is signed.
+    /// Returns the vote, with this signature of the text.
     pub fn signed(&self, signature: Vec<u8>) -> Vote {
         Vote {
             subject: self.subject,
@@ -65,15 +65,15 @@ impl Order {
     }
 }
 
-/// What is to be asked of a peer, which answers by [`Engine::certificate`](crate::Engine::certificate) or
-/// [`Engine::serve`](crate::Engine::serve).
+/// A certificate to ask a peer for. The peer returns what its [`Engine::certificate`](crate::Engine::certificate) or
+/// [`Engine::serve`](crate::Engine::serve) has.
 #[derive(Clone, Copy, PartialEq, Eq, Hash, Debug)]
 pub struct Fetch {
-    /// What is asked for.
+    /// Which certificate.
     pub kind: FetchKind,
     /// Of which view.
     pub view: View,
-    /// Who is asked; none where there is no other member.
+    /// The member to ask; `None` where there is no other member.
     pub of: Option<Participant>,
 }
 

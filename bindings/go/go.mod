@@ -1,0 +1,3 @@
+module simplex
+
+go 1.19

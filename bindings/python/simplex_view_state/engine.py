@@ -1,0 +1,155 @@
+"""An engine."""
+
+from __future__ import annotations
+
+from dataclasses import dataclass
+from typing import List, Optional
+
+from ._library import ffi, lib
+from .errors import Status, require
+from .inputs import Input, flat_input
+from .messages import Certificate, FetchKind, Kind, Proposal, Round, Subject, member_of, proposal_of, subject_of
+from .outputs import Output, output_of
+from .settings import Config, Options, Stored
+
+
+@dataclass(frozen=True)
+class State:
+    """What an engine knows of itself. Poll at the moment `wake` if no input comes before."""
+
+    is_failed: bool
+    wake: int
+    ignored: int
+    fetches: int
+
+
+@dataclass(frozen=True)
+class OpenFetch:
+    """An outstanding fetch: how often it was asked for, and when it is asked for next."""
+
+    kind: FetchKind
+    view: int
+    count: int
+    moment: int
+
+
+@dataclass(frozen=True)
+class Views:
+    """What the member knows, and what it knows of a view."""
+
+    epoch: int
+    current: int
+    last_finalized: int
+    min_active: int
+    is_tracked: bool
+    admits_vote: bool
+    admits_certificate: bool
+    voted_nullify: bool
+    leader: Optional[int]
+    forwardable: Optional[Proposal]
+
+
+class Engine:
+    """An engine: a member with its resolver, a batcher of votes and the outstanding fetches. One thread calls it at a time.
+
+    `Engine.start` and `Engine.resume` make one. Python frees it with its last reference; `close` frees it at once, and calls after it raise
+    `Status.NO_HANDLE`."""
+
+    def __init__(self, at) -> None:
+        self._at = ffi.gc(at, lib.simplex_engine_free)
+
+    @staticmethod
+    def start(config: Config, options: Options, now: int) -> Engine:
+        """Begins an engine whose member never voted. A member that voted must resume, or it could vote twice in a view. Raises
+        `SimplexError` where the settings, the options or the floor are refused."""
+        return Engine(_begun(lib.simplex_engine_start, config, options, now))
+
+    @staticmethod
+    def resume(config: Config, options: Options, now: int, stored: Stored, journal: bytes) -> Engine:
+        """Resumes an engine from its journal and what was stored beside it last. Raises `SimplexError` where these or the settings are
+        refused."""
+        beside = ffi.new("struct simplex_stored *", stored.flat())
+        return Engine(_begun(lib.simplex_engine_resume, config, options, now, beside, journal, len(journal)))
+
+    def close(self) -> None:
+        """Frees the engine. Does nothing where it is closed."""
+        if self._at:
+            ffi.release(self._at)
+            self._at = ffi.NULL
+
+    def handle(self, given: Input, now: int) -> bool:
+        """Passes an input. Returns whether it was of use: an ignored one changes nothing. Raises `SimplexError`."""
+        flat, data = flat_input(given)
+        taken = lib.simplex_engine_handle(self._at, ffi.new("struct simplex_input *", flat), data, len(data), now)
+        require(taken.status)
+        return taken.is_of_use != 0
+
+    def poll(self, now: int) -> Optional[Output]:
+        """Returns the next output to carry out; None where there is none until another input or the moment `state().wake`. Raises
+        `SimplexError`."""
+        output = lib.simplex_engine_poll(self._at, now)
+        require(output.status)
+        return output_of(output, self._bytes)
+
+    def _bytes(self, which: int) -> bytes:
+        read = bytearray()
+        while True:
+            chunk = lib.simplex_engine_bytes(self._at, which, len(read))
+            require(chunk.status)
+            if not chunk.count:
+                return bytes(read)
+            read += ffi.buffer(chunk.bytes, chunk.count)
+
+    def state(self) -> State:
+        """Returns what the engine knows of itself."""
+        it = lib.simplex_engine_status(self._at)
+        if it.status != Status.FAILED:
+            require(it.status)
+        return State(it.status == Status.FAILED, it.wake, it.ignored, it.fetches)
+
+    def fetches(self) -> List[OpenFetch]:
+        """Returns the outstanding fetches."""
+        found: List[OpenFetch] = []
+        while True:
+            it = lib.simplex_engine_open(self._at, len(found))
+            require(it.status)
+            if not it.fetch:
+                return found
+            found.append(OpenFetch(FetchKind(it.fetch), it.view, it.count, it.moment))
+
+    def view(self, view: int) -> Views:
+        """Returns what the member knows, and what it knows of a view. Raises `SimplexError` once the engine has failed."""
+        it = lib.simplex_engine_view(self._at, view)
+        require(it.status)
+        flags = (it.is_tracked != 0, it.admits_vote != 0, it.admits_certificate != 0, it.voted_nullify != 0)
+        forwardable = proposal_of(it.forwardable) if it.has_forwardable else None
+        return Views(it.epoch, it.current, it.last_finalized, it.min_active, *flags, member_of(it.leader), forwardable)
+
+    def certificate(self, kind: Kind, view: int) -> Optional[Certificate]:
+        """Returns a view's certificate; None where the view is not tracked or has none."""
+        found = lib.simplex_engine_certificate(self._at, kind, view)
+        require(found.status)
+        return Certificate(subject_of(found.has, found.proposal), self._bytes(lib.SIMPLEX_SHOWN_OF_ENGINE)) if found.has else None
+
+    def serve(self, view: int) -> Optional[Certificate]:
+        """Returns the certificate to serve to a peer that asks for the view; None where there is none."""
+        served = lib.simplex_engine_serve(self._at, view)
+        require(served.status)
+        return _served_of(self._bytes(lib.SIMPLEX_SHOWN_OF_ENGINE)) if served.has else None
+
+
+def _begun(function, config: Config, options: Options, now: int, *journal):
+    certificate, table = config.certificate(), config.table()
+    at = ffi.new("simplex_engine **")
+    settings, flat = ffi.new("struct simplex_settings *", config.flat()), ffi.new("struct simplex_options *", options.flat())
+    require(function(settings, ffi.new("uint32_t[]", table), len(table), certificate, len(certificate), flat, now, *journal, at))
+    return at[0]
+
+
+def _served_of(served: bytes) -> Certificate:
+    """Reads the text of a certificate's votes and the certificate after it: 17 bytes of a nullification, else 57."""
+    kind = (Kind.NOTARIZATION, Kind.NULLIFICATION, Kind.FINALIZATION)[served[0]]
+    round_ = Round(int.from_bytes(served[1:9], "big"), int.from_bytes(served[9:17], "big"))
+    if kind == Kind.NULLIFICATION:
+        return Certificate(Subject(kind, Proposal(round_)), served[17:])
+    return Certificate(Subject(kind, Proposal(round_, int.from_bytes(served[17:25], "big"), served[25:57])), served[57:])

@@ -1,0 +1,153 @@
+"""Proposals, votes and certificates. Views, members and moments (milliseconds) are numbers."""
+
+from __future__ import annotations
+
+from dataclasses import dataclass, field
+from enum import IntEnum
+from typing import List, Optional, Tuple
+
+from ._library import ffi, lib
+from .errors import require
+
+DIGEST_SIZE = 32
+NO_DIGEST = bytes(DIGEST_SIZE)
+
+
+class Kind(IntEnum):
+    """What a vote says, and which certificate such votes make."""
+
+    NOTARIZATION = lib.SIMPLEX_NOTARIZATION
+    NULLIFICATION = lib.SIMPLEX_NULLIFICATION
+    FINALIZATION = lib.SIMPLEX_FINALIZATION
+
+
+class FetchKind(IntEnum):
+    """Which certificate is fetched: the view's notarization, a nullification that covers it, or whatever certificate decides it."""
+
+    NOTARIZATION = lib.SIMPLEX_FETCH_NOTARIZATION
+    NULLIFICATION = lib.SIMPLEX_FETCH_NULLIFICATION
+    DECISION = lib.SIMPLEX_FETCH_DECISION
+
+
+class TimeoutReason(IntEnum):
+    """Why a view times out."""
+
+    RETRY = lib.SIMPLEX_RETRY
+    INACTIVITY = lib.SIMPLEX_INACTIVITY
+    LEADER_NULLIFY = lib.SIMPLEX_LEADER_NULLIFY
+    LEADER_TIMEOUT = lib.SIMPLEX_LEADER_TIMEOUT
+    CERTIFICATION_TIMEOUT = lib.SIMPLEX_CERTIFICATION_TIMEOUT
+    STALL_TIMEOUT = lib.SIMPLEX_STALL_TIMEOUT
+    MISSING_PROPOSAL = lib.SIMPLEX_MISSING_PROPOSAL
+    IGNORED_PROPOSAL = lib.SIMPLEX_IGNORED_PROPOSAL
+    INVALID_PROPOSAL = lib.SIMPLEX_INVALID_PROPOSAL
+    FAILED_CERTIFICATION = lib.SIMPLEX_FAILED_CERTIFICATION
+
+
+@dataclass(frozen=True)
+class Round:
+    """A view of an epoch."""
+
+    epoch: int = 0
+    view: int = 0
+
+
+@dataclass(frozen=True)
+class Proposal:
+    """A block that a leader proposes: its round, the view of its parent, and its payload's digest of 32 bytes."""
+
+    round: Round = field(default_factory=Round)
+    parent: int = 0
+    payload: bytes = NO_DIGEST
+
+
+@dataclass(frozen=True)
+class Subject:
+    """What a vote or a certificate is on. Of a nullification only the proposal's round is read."""
+
+    kind: Kind
+    proposal: Proposal
+
+    def text(self) -> bytes:
+        """Returns the text that a vote on it signs."""
+        text = lib.simplex_subject(self.kind, ffi.new("struct simplex_proposal *", flat_proposal(self.proposal)))
+        require(text.status)
+        return bytes(ffi.buffer(text.bytes, text.count))
+
+
+@dataclass(frozen=True)
+class Vote:
+    """A member's vote, signed."""
+
+    subject: Subject
+    signer: int
+    signature: bytes
+
+
+@dataclass(frozen=True)
+class Certificate:
+    """A certificate of votes on a subject."""
+
+    subject: Subject
+    bytes: bytes
+
+    def signatures(self) -> Optional[List[Tuple[int, bytes]]]:
+        """Returns each signer, by rising index, and its signature, where the bytes are as an engine makes them of votes; else None."""
+        signatures: List[Tuple[int, bytes]] = []
+        rest = self.bytes
+        while rest:
+            signer, length = int.from_bytes(rest[:4], "big"), int.from_bytes(rest[4:12], "big")
+            if len(rest) < 12 + length or signatures and signatures[-1][0] >= signer:
+                return None
+            signatures.append((signer, rest[12:12 + length]))
+            rest = rest[12 + length:]
+        return signatures
+
+
+@dataclass(frozen=True)
+class Context:
+    """In what a block is built or verified."""
+
+    round: Round
+    leader: int
+    parent: int
+    parent_payload: bytes
+
+
+def digest(payload: bytes) -> bytes:
+    """A digest, whose length is tested."""
+    if len(payload) != DIGEST_SIZE:
+        raise ValueError(f"a digest has {DIGEST_SIZE} bytes, and not {len(payload)}")
+    return payload
+
+
+def flat_round(it: Round) -> dict:
+    return {"epoch": it.epoch, "view": it.view}
+
+
+def flat_proposal(it: Proposal) -> dict:
+    return {"round": flat_round(it.round), "parent": it.parent, "payload": list(digest(it.payload))}
+
+
+def flat_subject(it: Subject, member: int) -> dict:
+    return {"kind": it.kind, "member": member, "proposal": flat_proposal(it.proposal)}
+
+
+def round_of(it) -> Round:
+    return Round(it.epoch, it.view)
+
+
+def proposal_of(it) -> Proposal:
+    return Proposal(round_of(it.round), it.parent, bytes(ffi.buffer(it.payload)))
+
+
+def subject_of(kind: int, proposal) -> Subject:
+    return Subject(Kind(kind), proposal_of(proposal))
+
+
+def context_of(it, leader: int) -> Context:
+    return Context(round_of(it.round), leader, it.parent, bytes(ffi.buffer(it.payload)))
+
+
+def member_of(index: int) -> Optional[int]:
+    return None if index == lib.SIMPLEX_NOBODY else index

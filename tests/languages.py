@@ -1,0 +1,347 @@
+#!/usr/bin/env python3
+"""That the packages for C, C++, Go and Python drive an engine as the Rust package does, and that they install.
+
+Fixed scripts of inputs, drawn from numbers, are served by a host in each language (`engine_lines`): the replies are the same, byte for byte,
+and each kind of output is among them. A network of one engine and one of four, in one process, with a member that ends and resumes from its
+disk, prints the same text in C++, Go and Python. Each package's own tests and lints run; C++ runs under the sanitizers of addresses and of
+undefined behaviour. Each status of the header has a text. The shared library and the archive are installed in a folder, and a host is
+compiled against each by pkg-config, and by CMake.
+
+    tests/languages.py [--archive PATH] [--only WORD]     without an archive one is built, unproved, in some minutes
+    tests/languages.py --wrong                            each wrong body of a table, in a copy: a test has to fail
+
+It ends with status 1 where something is not as it has to be, or where less was tried than is asked for. What a machine lacks is said in one
+line (`bindings/setup` installs it) and left out; where nothing can be tried, it ends with status 77: skipped."""
+
+import argparse
+import os
+import re
+import shutil
+import subprocess
+import sys
+import tempfile
+import time
+from collections import Counter
+from concurrent.futures import ThreadPoolExecutor
+from pathlib import Path
+
+from bindings import ENGINES, GIVEN, cargo, engine_script
+from lib.floors import lacking
+from lib.program import ROOT
+
+SKIPPED = 77
+SEEDS = range(2)
+STRICT = ("-Wall", "-Wextra", "-Wpedantic", "-Werror")
+SANITIZED = ("-fsanitize=address,undefined", "-fno-sanitize-recover=all")
+NETWORK_LINES = 29
+# Ends with status 0 where an interpreter has its headers and its compiler.
+COMPILES = """import shutil, sys, sysconfig
+from pathlib import Path
+compiler, header = sysconfig.get_config_var("CC").split()[0], Path(sysconfig.get_path("include")) / "Python.h"
+sys.exit(not (shutil.which(compiler) and header.is_file()))"""
+# How long a command may take, in seconds.
+LONGEST = 300
+# The least of what each part does, where its tools are here.
+LEAST = {
+    "C": {"statuses": 43, "C: scripts": 10}, "C++": {"C++: tests": 6, "C++: scripts": 10, "C++: networks": 1},
+    "Go": {"Go: tests": 7, "Go: scripts": 10, "Go: networks": 1}, "Python": {"Python: tests": 7, "Python: scripts": 10, "Python: networks": 1},
+    "Rust": {"Rust: scripts": 10}, "packaging": {"hosts of an installed library": 3},
+}
+TOOLS = {"C": ("cc",), "C++": ("g++",), "Go": ("go", "gofmt", "cc"), "Python": ("cc",), "Rust": ("cargo", "cc"), "packaging": ("cc", "make", "pkg-config")}
+
+# A part, a file below `bindings`, what stands there, what is put in its place.
+WRONG_BODIES = (
+    ("C", "c/include/simplex_status.h", '    case SIMPLEX_DAMAGED: return "the journal is damaged or cut";\n', ""),
+    ("C", "c/examples/engine_lines.c", "*word == 'v'", "*word == 'c'"),
+    ("C++", "cpp/simplex_inline.hpp", "verdict(SIMPLEX_TELL_CERTIFIED", "verdict(SIMPLEX_TELL_VERIFIED"),
+    ("C++", "cpp/simplex.hpp", "{ simplex_engine_free(at); }", "{ (void)at; }"),
+    ("Go", "go/output.go", "return CertifyOutput{subject.Proposal}", "return FinalOutput{subject.Proposal}"),
+    ("Go", "go/settings.go", "it.is_pruned != 0}", "false}"),
+    ("Go", "go/engine.go", "all = append(all, bytesOf(chunk.bytes[:chunk.count])...)", "return bytesOf(chunk.bytes[:chunk.count])"),
+    ("Python", "python/simplex_view_state/messages.py", "signatures[-1][0] >= signer", "signatures[-1][0] > signer"),
+    ("Python", "python/simplex_view_state/outputs.py", "read(lib.SIMPLEX_OTHER_OF_OUTPUT)", "read(lib.SIMPLEX_OF_OUTPUT)"),
+    ("Python", "python/simplex_view_state/engine.py", "self._at = ffi.NULL", "pass"),
+    ("packaging", "packaging/exports.map", "global: simplex_*;", "global: simplex_member_*;"),
+    ("packaging", "packaging/simplex.pc.in", "-I${includedir}", "-I${libdir}"),
+    ("packaging", "packaging/simplex-config.cmake.in", "libsimplex.so.@VERSION@", "libsimplex.so.@RELEASE@"),
+)
+# The parts that a wrong body is compared with, where it is not C.
+BESIDE = {"C": ["Rust"], "packaging": []}
+
+
+class Trial:
+    """A folder of bindings with an archive: what was tried of it, and what is wrong."""
+
+    def __init__(self, bindings, archive, room):
+        self.bindings, self.archive, self.room = bindings, archive, room
+        self.include, self.seen, self.faults = bindings / "c/include", Counter(), []
+        self.hosts, self.networks = {}, {}
+
+    def run(self, what, *command, **given):
+        """Runs a command; returns what it writes, or None where it fails, which is a fault."""
+        try:
+            done = subprocess.run([str(it) for it in command], capture_output=True, text=True, timeout=LONGEST, **given)
+        except subprocess.TimeoutExpired:
+            self.faults.append(f"{what}: {command[0]} has not ended in {LONGEST} s")
+            return None
+        if done.returncode == 0:
+            return done.stdout + done.stderr
+        self.faults.append(f"{what}: {' '.join(str(it) for it in command[:2])} ended with {done.returncode}: {(done.stdout + done.stderr)[-1500:]}")
+        return None
+
+    def compiled(self, what, compiler, source, name, *flags):
+        """A program, or None where it does not compile."""
+        made = self.room / name
+        return made if self.run(what, *compiler, *STRICT, f"-I{self.include}", *flags, source, self.archive, "-o", made) is not None else None
+
+
+def try_c(it):
+    """The statuses' texts, and a host in C."""
+    body = re.search(r"enum simplex_status \{(.*?)\n\};", (it.include / "simplex.h").read_text(), re.DOTALL)[1]
+    numbers = {int(number): name for name, number in re.findall(r"^\s*(SIMPLEX_\w+) = (\d+)", body, re.MULTILINE)}
+    source = it.room / "statuses.c"
+    source.write_text('#include "simplex_status.h"\n#include <stdio.h>\n'
+                      "int main(void) { for (uint32_t i = 0; i < 100; i++) puts(simplex_status_text(i)); return 0; }\n")
+    asks = it.compiled("C", ("cc", "-std=c11"), source, "statuses")
+    texts = (it.run("C", asks) or "").splitlines() if asks else []
+    known = [(number, text) for number, text in enumerate(texts) if text != "an unknown status"]
+    it.seen["statuses"] += len(known)
+    if {number for number, _ in known} != set(numbers) or len({text for _, text in known}) != len(numbers):
+        it.faults.append(f"C: statuses without a text of their own: {sorted(set(numbers.values()) - {numbers.get(number) for number, _ in known})}")
+    host = it.compiled("C", ("cc", "-std=c11", "-O1"), it.bindings / "c/examples/engine_lines.c", "lines_c", *SANITIZED)
+    it.hosts |= {"C": [host]} if host else {}
+
+
+def try_cpp(it):
+    """The tests, a network and a host in C++."""
+    sources = {"tests": "cpp/tests/engines.cpp", "network": "cpp/examples/network.cpp", "lines": "cpp/examples/engine_lines.cpp"}
+
+    def made(name):
+        return it.compiled("C++", ("g++", "-std=c++17"), it.bindings / sources[name], f"{name}_cpp", f"-I{it.bindings / 'cpp'}", *SANITIZED)
+
+    with ThreadPoolExecutor(2) as pool:
+        tests, network, lines = pool.map(made, sources)
+    written = (it.run("C++", tests) or "") if tests else ""
+    it.seen["C++: tests"] += len(re.findall(r"^test ", written, re.MULTILINE))
+    it.networks |= {"C++": [network]} if network else {}
+    it.hosts |= {"C++": [lines]} if lines else {}
+
+
+def try_go(it):
+    """The lints, the tests, a network and a host in Go."""
+    package, made = it.bindings / "go", it.room / "go"
+    made.mkdir()
+    libraries = it.room / "go-lib"
+    libraries.mkdir()
+    shutil.copy(it.archive, libraries / "libsimplex.a")
+    given = {"cwd": package, "env": {**os.environ, "GOFLAGS": "-mod=mod", "GOPROXY": "off", "CGO_ENABLED": "1", "CGO_LDFLAGS": f"-L{libraries}"}}
+    if it.run("Go", "gofmt", "-l", ".", **given):
+        it.faults.append("Go: gofmt would change a file")
+    it.run("Go", "go", "vet", "./...", **given)
+    written = it.run("Go", "go", "test", "-count=1", "-v", ".", **given) or ""
+    it.seen["Go: tests"] += len(re.findall(r"^--- PASS", written, re.MULTILINE))
+    if it.run("Go", "go", "build", "-o", f"{made}/", "./examples/...", **given) is not None:
+        it.networks["Go"], it.hosts["Go"] = [made / "network"], [made / "engine_lines"]
+
+
+def pythons():
+    """The interpreters that may build the package: each with whether it has all that pip needs without a network."""
+    for path in dict.fromkeys((sys.executable, "/usr/bin/python3")):
+        def is_so(code):
+            return Path(path).exists() and subprocess.run([path, "-c", code], capture_output=True).returncode == 0
+        if is_so("import cffi, setuptools") and is_so(COMPILES):
+            yield path, is_so("import pip, wheel")
+
+
+def try_python(it):
+    """The package as pip installs it, or built in place where pip can't; its tests, a network and a host."""
+    path, has_pip = max(pythons(), key=lambda found: found[1])
+    package = it.room / "python-package"
+    shutil.copytree(it.bindings / "python", package)
+    given = {"cwd": package, "env": {**os.environ, "SIMPLEX_INCLUDE": str(it.include), "SIMPLEX_ARCHIVE": str(it.archive)}}
+    site = it.room / "site" if has_pip else package
+    pip = (path, "-m", "pip", "install", "--quiet", "--no-build-isolation", "--no-index", "--no-deps", "--target", site, ".")
+    if it.run("Python", *(pip if has_pip else (path, "setup.py", "--quiet", "build_ext", "--inplace")), **given) is None:
+        return
+    if not has_pip:
+        print("languages: not tried: `pip install`, since pip or wheel is missing (bindings/setup installs them)")
+    surroundings = {**os.environ, "PYTHONPATH": str(site), "PYTHONDONTWRITEBYTECODE": "1"}
+    written = it.run("Python", path, package / "tests/test_engine.py", env=surroundings) or ""
+    it.seen["Python: tests"] += int((re.search(r"Ran (\d+) tests", written) or [0, 0])[1])
+    with_site = ["env", f"PYTHONPATH={site}", path]
+    it.networks["Python"], it.hosts["Python"] = [*with_site, package / "examples/network.py"], [*with_site, package / "examples/engine_lines.py"]
+
+
+def try_rust(it):
+    """A host in Rust."""
+    target = it.room / "target"
+    try:
+        cargo(it.bindings / "rust", target, it.archive, "build", "--quiet", "--example", "engine_lines")
+    except subprocess.CalledProcessError as error:
+        it.faults.append(f"Rust: {error.stderr.decode()[-1500:]}")
+        return
+    it.hosts["Rust"] = [target / "debug/examples/engine_lines"]
+
+
+def try_packaging(it):
+    """Installs the library in a folder, and compiles hosts that find it there."""
+    stage = it.room / "stage"
+    if it.run("packaging", "make", "-s", "-C", it.bindings, "install", f"ARCHIVE={it.archive}", f"OUT={it.room / 'out'}", f"DESTDIR={stage}",
+              "PREFIX=/usr") is None:
+        return
+    libraries = stage / "usr/lib"
+    surroundings = {**os.environ, "PKG_CONFIG_LIBDIR": str(libraries / "pkgconfig"), "PKG_CONFIG_SYSROOT_DIR": str(stage)}
+    asked = it.run("packaging", "pkg-config", "--cflags", "--libs", "simplex", env=surroundings)
+    source = it.bindings / "c/examples/engine_lines.c"
+    for name, flag in (("static", ["-static"]), ("shared", [])) if asked else ():
+        made = it.room / f"installed_{name}"
+        if it.run("packaging", "cc", "-std=c11", *STRICT, source, *flag, *asked.split(), "-o", made) is not None:
+            add_installed(it, name, made, libraries)
+    if shutil.which("cmake"):
+        try_cmake(it, source, libraries)
+    else:
+        print("languages: not tried: CMake's files, since cmake is missing (bindings/setup installs it)")
+        it.seen["hosts of an installed library"] += 1
+
+
+def try_cmake(it, source, libraries):
+    """A host that CMake builds with the shared library."""
+    folder = it.room / "cmake"
+    folder.mkdir()
+    (folder / "CMakeLists.txt").write_text(
+        "cmake_minimum_required(VERSION 3.13)\nproject(host C)\nset(CMAKE_C_STANDARD 11)\nfind_package(simplex 0.1.0 REQUIRED)\n"
+        f"add_executable(installed_cmake {source})\ntarget_link_libraries(installed_cmake simplex::simplex)\n")
+    begun = it.run("packaging", "cmake", "-S", folder, "-B", folder / "out", f"-DCMAKE_PREFIX_PATH={libraries.parent}")
+    if begun is not None and it.run("packaging", "cmake", "--build", folder / "out") is not None:
+        add_installed(it, "cmake", folder / "out/installed_cmake", libraries)
+
+
+def add_installed(it, name, made, libraries):
+    """A host of the installed library, where it takes the library as it has to."""
+    it.seen["hosts of an installed library"] += 1
+    it.hosts[f"C, {name}"] = ["env", f"LD_LIBRARY_PATH={libraries}", made]
+    loads = "libsimplex.so" in (it.run("packaging", "readelf", "-d", made) or "")
+    if loads != (name != "static"):
+        it.faults.append(f"packaging: the host {name} {'loads' if loads else 'does not load'} the shared library")
+
+
+def compare_hosts(it, pool):
+    """Serves the scripts by each host; the replies are those of the first host."""
+    drawn = [(network, engine_script(network, 100 * place + seed)) for place, network in enumerate(ENGINES) for seed in SEEDS]
+
+    def served(host, network, lines):
+        text = "".join(f"{line}\n" for line in lines)
+        done = subprocess.run([*map(str, it.hosts[host][:-1]), str(it.hosts[host][-1]), *network], input=text, capture_output=True, text=True)
+        return done.stdout.splitlines() + [f"ended with {done.returncode}: {done.stderr[-500:]}"] * (done.returncode != 0)
+
+    first = "Rust" if "Rust" in it.hosts else "C"
+    for network, lines in drawn:
+        replies = dict(zip(it.hosts, pool.map(lambda host: served(host, network, lines), it.hosts)))
+        wanted = replies.get(first, [])
+        it.seen["replies"] += len(wanted)
+        it.seen.update(f"'{word}'" for word in (reply.split()[0] for reply in wanted) if word in GIVEN)
+        for host, found in replies.items():
+            it.seen[f"{host}: scripts"] += found == wanted and len(found) == len(lines)
+            if found != wanted:
+                line = next((place for place, pair in enumerate(zip(wanted, found)) if pair[0] != pair[1]), min(len(wanted), len(found)))
+                it.faults.append(f"{host}, {' '.join(network)}: {lines[min(line, len(lines) - 1)]!r}: {found[line:line + 1]}, and not {wanted[line:line + 1]}")
+
+
+def compare_networks(it, pool):
+    """Runs each language's network: all print the same."""
+    found = dict(zip(it.networks, pool.map(lambda name: it.run(name, "timeout", "60", *it.networks[name]), it.networks)))
+    texts = Counter(text for text in found.values() if text is not None)
+    usual = max(texts, key=texts.get, default="")
+    for name, text in found.items():
+        is_whole = text is not None and len(text.splitlines()) == NETWORK_LINES and "member 1 resumes from its disk" in text
+        it.seen[f"{name}: networks"] += is_whole and text == usual
+        if text is not None and (text != usual or not is_whole):
+            it.faults.append(f"{name}: its network prints other lines: {text[-300:]}")
+
+
+PARTS = {"C": try_c, "C++": try_cpp, "Go": try_go, "Python": try_python, "Rust": try_rust, "packaging": try_packaging}
+
+
+def ready_parts(only):
+    """The parts whose tools are here; what others lack is printed."""
+    for name in PARTS:
+        missing = [tool for tool in TOOLS[name] if not shutil.which(tool)] + (["python3-cffi, or its compiler,"] if name == "Python" and not [*pythons()] else [])
+        if only and name not in only:
+            continue
+        if missing:
+            installs = "" if name in ("C", "Rust") else " (bindings/setup installs it)"
+            print(f"languages: not tried: {name}, since {' and '.join(missing)} is missing{installs}")
+        else:
+            yield name
+
+
+def try_all(bindings, archive, room, parts, jobs):
+    """What was tried, and what is wrong."""
+    it = Trial(bindings, archive, room)
+    with ThreadPoolExecutor(jobs) as pool:
+        for _ in pool.map(lambda name: PARTS[name](it), parts):
+            pass
+        compare_hosts(it, pool)
+        compare_networks(it, pool)
+    least = {"replies": 10_000, **{f"'{kind}'": 1 for kind in GIVEN}}
+    for name in parts:
+        least |= LEAST[name]
+    it.faults += lacking(it.seen, least)
+    return it
+
+
+def misplaced():
+    """The wrong bodies whose text is not in its file."""
+    for _, file, old, _ in WRONG_BODIES:
+        if old not in (ROOT / "bindings" / file).read_text():
+            yield f"{file}: {old!r} is not there"
+
+
+def wrong_bodies(archive, room, only, jobs):
+    """The wrong bodies that no test finds."""
+    for place, (part, file, old, new) in enumerate(WRONG_BODIES):
+        if only and part not in only:
+            continue
+        folder = room / f"wrong-{place}"
+        shutil.copytree(ROOT / "bindings", folder / "bindings", ignore=shutil.ignore_patterns("target", "out", "*.a"))
+        changed = folder / "bindings" / file
+        changed.write_text(changed.read_text().replace(old, new))
+        begun = time.monotonic()
+        found = try_all(folder / "bindings", archive, folder, [part, *BESIDE.get(part, ["C"])], jobs).faults
+        print(f"{part}: {old.strip()!r} -> {new.strip()!r}: {found[0][:160] if found else 'NOT FOUND'} ({time.monotonic() - begun:.0f} s)", flush=True)
+        if not found:
+            yield f"{file}: {old!r} as {new!r} is not found"
+
+
+def main():
+    parser = argparse.ArgumentParser(description=__doc__, formatter_class=argparse.RawDescriptionHelpFormatter)
+    parser.add_argument("--archive", type=Path, help="the library, if it is built already")
+    parser.add_argument("--only", action="append", choices=list(PARTS), help="a part, and no other")
+    parser.add_argument("--jobs", type=int, default=2, help="how many parts go side by side")
+    parser.add_argument("--wrong", action="store_true", help="try the wrong bodies")
+    given = parser.parse_args()
+    installed = subprocess.run([ROOT / "bindings/setup"], capture_output=True, text=True)
+    if installed.returncode:
+        print(f"languages: Debian's packages can't be had: {(installed.stderr.strip() or installed.stdout.strip()).splitlines()[-1]}")
+    parts = [*ready_parts(given.only)]
+    if not parts:
+        sys.exit(SKIPPED)
+    start = time.monotonic()
+    with tempfile.TemporaryDirectory() as room:
+        room = Path(room)
+        archive = given.archive and given.archive.resolve() or room / "libsimplex.a"
+        if not given.archive:
+            subprocess.run([ROOT / "bindings/build", "--unproved", "--out", archive], check=True)
+        if given.wrong:
+            faults = [*misplaced(), *wrong_bodies(archive, room, given.only, given.jobs)]
+            said = "wrong bodies"
+        else:
+            it = try_all(ROOT / "bindings", archive, room, parts, given.jobs)
+            faults, said = [*it.faults, *misplaced()], ", ".join(f"{count} {what}" for what, count in it.seen.items() if not what.startswith("'"))
+    print(f"languages: {said}; {len(faults)} wrong; {time.monotonic() - start:.1f} s")
+    print("".join(f"  {fault}\n" for fault in faults), end="")
+    sys.exit(1 if faults else 0)
+
+
+if __name__ == "__main__":
+    main()
