@@ -1,20 +1,20 @@
-//! Blocks: by their digests, in memory and on the disk, until they are finalized and long passed.
+//! Blocks: by their digests, in memory and on the disk, until they are in the archive of final blocks.
 
 use crate::crypto::digest;
+use crate::segments::{HEAD as HEAD_OF_SEGMENT, Segments};
 use simplex_view_state::{Context, Digest, Proposal, View};
-use std::collections::BTreeMap;
-use std::collections::HashMap;
-use std::fs::{self, File, OpenOptions};
-use std::io::{self, Write};
+use std::collections::{BTreeMap, HashMap};
+use std::io;
 use std::path::{Path, PathBuf};
 use std::time::{SystemTime, UNIX_EPOCH};
+use tracing::info;
 
 /// A block's view, its parent's view and digest, and when it was built.
 const HEAD: usize = 8 + 8 + 32 + 8;
-/// How many views below the last one that was taken blocks are kept for peers that lag.
-const KEPT: u64 = 1000;
-/// Above how many bytes the file is written anew, where less than half of it is kept.
-const LONGEST_FILE: u64 = 64 << 20;
+/// How many views below the archive's last block blocks are kept: those that are not final are here alone.
+const KEPT: u64 = 64;
+/// How long a segment of blocks gets, in bytes.
+const SEGMENT: u64 = 16 << 20;
 
 /// A block.
 #[derive(Clone, Debug, PartialEq, Eq)]
@@ -88,74 +88,75 @@ impl Block {
     }
 }
 
-/// The blocks that a node has.
+/// The blocks of proposals that a node has: in memory, and on the disk before it votes for them.
 pub struct Blocks {
-    path: PathBuf,
-    file: File,
-    bytes: u64,
-    /// How many of the file's bytes are of blocks that are kept.
-    kept: u64,
+    segments: Segments,
+    /// The number of the next record.
+    next: u64,
+    /// The highest view in each segment, by the number of its first record.
+    highest: BTreeMap<u64, View>,
     by_payload: HashMap<Digest, Block>,
     by_view: BTreeMap<View, Vec<Digest>>,
-    is_dirty: bool,
-    syncs: bool,
+    bytes: usize,
 }
 
-/// The file of a folder's blocks.
+/// The folder of a node's blocks.
 pub fn path(folder: &Path) -> PathBuf {
     folder.join("blocks")
 }
 
 impl Blocks {
     /// Reads the blocks that a folder has. A last one that was cut off is left out.
-    pub fn open(folder: &Path, syncs: bool) -> io::Result<Blocks> {
-        let path = path(folder);
-        let stored = match fs::read(&path) {
-            Ok(bytes) => bytes,
-            Err(error) if error.kind() == io::ErrorKind::NotFound => Vec::new(),
-            Err(error) => return Err(error),
-        };
-        let file = OpenOptions::new().create(true).append(true).open(&path)?;
+    pub fn open(folder: &Path, genesis: [u8; 32], syncs: bool) -> io::Result<Blocks> {
+        let (segments, cut) = Segments::open(&path(folder), genesis, SEGMENT, syncs)?;
+        if cut > 0 {
+            info!(cut, "the last block was cut off");
+        }
+        let numbers: Vec<u64> = segments.lengths().keys().copied().collect();
         let mut blocks = Blocks {
-            path,
-            file,
-            bytes: 0,
-            kept: 0,
+            segments,
+            next: 0,
+            highest: BTreeMap::new(),
             by_payload: HashMap::new(),
             by_view: BTreeMap::new(),
-            is_dirty: false,
-            syncs,
+            bytes: 0,
         };
-        let mut rest = &stored[..];
-        while let Some((bytes, behind)) = split(rest) {
-            blocks.bytes += 4 + bytes.len() as u64;
-            if let Some(block) = Block::read(bytes.to_vec()) {
-                blocks.hold(block.payload(), block);
+        for number in numbers {
+            blocks.next = blocks.next.max(number);
+            for block in blocks.read(number)? {
+                blocks.next += 1;
+                blocks.hold(number, block);
             }
-            rest = behind;
         }
-        blocks.file.set_len(blocks.bytes)?;
         Ok(blocks)
     }
 
-    /// Keeps a block, and writes it to the file.
+    fn read(&self, segment: u64) -> io::Result<Vec<Block>> {
+        let mut found = Vec::new();
+        self.segments.each_from(segment, HEAD_OF_SEGMENT, |_, body| {
+            found.extend(Block::read(body.to_vec()));
+            Ok(true)
+        })?;
+        Ok(found)
+    }
+
+    /// Keeps a block, and writes it to the disk.
     pub fn keep(&mut self, block: Block) -> io::Result<()> {
-        let payload = block.payload();
-        if self.by_payload.contains_key(&payload) {
+        if self.by_payload.contains_key(&block.payload()) {
             return Ok(());
         }
-        let framed = framed(&block);
-        self.file.write_all(&framed)?;
-        self.bytes += framed.len() as u64;
-        self.is_dirty = true;
-        self.hold(payload, block);
+        let (segment, _) = self.segments.append(self.next, block.bytes())?;
+        self.next += 1;
+        self.hold(segment, block);
         Ok(())
     }
 
-    fn hold(&mut self, payload: Digest, block: Block) {
-        self.kept += length_of(&block);
-        self.by_view.entry(block.view).or_default().push(payload);
-        self.by_payload.insert(payload, block);
+    fn hold(&mut self, segment: u64, block: Block) {
+        let highest = self.highest.entry(segment).or_insert(block.view);
+        *highest = block.view.max(*highest);
+        self.bytes += block.bytes.len();
+        self.by_view.entry(block.view).or_default().push(block.payload());
+        self.by_payload.insert(block.payload(), block);
     }
 
     /// The block of a digest.
@@ -168,66 +169,40 @@ impl Blocks {
         self.by_view.contains_key(&view)
     }
 
+    /// How many bytes of blocks are in memory.
+    pub fn bytes(&self) -> usize {
+        self.bytes
+    }
+
     /// Waits until the disk has all blocks: before a vote for one leaves, since a block that was notarized and is lost everywhere stops the
     /// chain.
     pub fn sync(&mut self) -> io::Result<()> {
-        if std::mem::take(&mut self.is_dirty) && self.syncs {
-            self.file.sync_data()?;
-        }
-        Ok(())
+        self.segments.sync()
     }
 
-    /// Forgets the blocks that are long passed. The file is written anew where it has grown long.
-    pub fn forget(&mut self, taken: View) -> io::Result<()> {
-        let lowest = View::new(taken.get().saturating_sub(KEPT));
+    /// Forgets the blocks that are some views below one. Segments of which no block is left are removed.
+    pub fn forget(&mut self, archived: View) -> io::Result<()> {
+        let lowest = View::new(archived.get().saturating_sub(KEPT));
         let kept = self.by_view.split_off(&lowest);
         for payload in std::mem::replace(&mut self.by_view, kept).into_values().flatten() {
-            if let Some(block) = self.by_payload.remove(&payload) {
-                self.kept -= length_of(&block);
-            }
+            self.bytes -= self.by_payload.remove(&payload).map_or(0, |it| it.bytes.len());
         }
-        if self.bytes > LONGEST_FILE && self.bytes > 2 * self.kept {
-            self.rewrite()?;
+        let last = self.segments.lengths().last_key_value().map(|(number, _)| *number);
+        let is_over = |(number, highest): (&u64, &View)| (*highest < lowest && Some(*number) != last).then_some(*number);
+        let over: Vec<u64> = self.highest.iter().filter_map(is_over).collect();
+        for number in over {
+            self.highest.remove(&number);
+            self.segments.remove(number)?;
         }
         Ok(())
     }
-
-    fn rewrite(&mut self) -> io::Result<()> {
-        let fresh = self.path.with_extension("new");
-        let bytes: Vec<u8> = self.by_payload.values().flat_map(framed).collect();
-        let mut file = File::create(&fresh)?;
-        file.write_all(&bytes)?;
-        file.sync_all()?;
-        fs::rename(&fresh, &self.path)?;
-        // (or a power cut could bring the old file back, without the blocks that come now)
-        File::open(self.path.parent().unwrap_or(Path::new(".")))?.sync_all()?;
-        self.file = OpenOptions::new().append(true).open(&self.path)?;
-        self.bytes = bytes.len() as u64;
-        Ok(())
-    }
-}
-
-/// How many bytes a block has in the file.
-fn length_of(block: &Block) -> u64 {
-    4 + block.bytes.len() as u64
-}
-
-fn framed(block: &Block) -> Vec<u8> {
-    let mut framed = (block.bytes.len() as u32).to_be_bytes().to_vec();
-    framed.extend_from_slice(&block.bytes);
-    framed
-}
-
-fn split(bytes: &[u8]) -> Option<(&[u8], &[u8])> {
-    let (length, rest) = bytes.split_first_chunk::<4>()?;
-    rest.split_at_checked(u32::from_be_bytes(*length) as usize)
 }
 
 #[cfg(test)]
 mod tests {
     use super::*;
+    use crate::trace::scratch;
     use simplex_view_state::{Epoch, Participant, Round};
-    use std::os::unix::fs::MetadataExt;
 
     fn block(view: u64, bytes: usize) -> Block {
         let context = Context {
@@ -243,28 +218,33 @@ mod tests {
     }
 
     #[test]
-    fn a_long_file_of_blocks_that_are_kept_is_not_written_anew_at_each_view() {
-        let folder = std::env::temp_dir().join(format!("simplex-blocks-{}", std::process::id()));
-        fs::create_dir_all(&folder).expect("a folder");
-        let mut blocks = Blocks::open(&folder, false).expect("a file");
-        let file_now = || fs::metadata(path(&folder)).expect("a file").ino();
-        let (mut files, mut last) = (0, file_now());
-        for view in 1..=1500 {
+    fn blocks_that_are_passed_take_no_room_and_none_is_written_again() {
+        let folder = scratch("blocks-passed");
+        let mut blocks = Blocks::open(&folder, [0; 32], false).expect("a disk");
+        let mut names = std::collections::BTreeSet::new();
+        for view in 1..=1000 {
             blocks.keep(block(view, 96 << 10)).expect("a disk");
             blocks.forget(View::new(view)).expect("a disk");
-            files += u32::from(file_now() != last);
-            last = file_now();
+            names.extend(blocks.segments.lengths().keys().copied());
         }
-        assert_eq!(files, 0, "less than half of it could go");
-        for view in 1501..=2100 {
-            blocks.keep(block(view, 10)).expect("a disk");
-            blocks.forget(View::new(view)).expect("a disk");
-            files += u32::from(file_now() != last);
-            last = file_now();
-        }
-        assert!((1..=3).contains(&files), "{files}");
-        let again = Blocks::open(&folder, false).expect("a file");
-        assert!(again.has_of(View::new(2100)) && again.has_of(View::new(1101)) && !again.has_of(View::new(500)));
-        fs::remove_dir_all(&folder).expect("its own folder");
+        let on_disk: u64 = blocks.segments.lengths().values().sum();
+        assert!(on_disk < 2 * SEGMENT + ((KEPT + 2) * (97 << 10)), "{on_disk} bytes");
+        assert!(names.len() > 3, "each in its turn");
+        let again = Blocks::open(&folder, [0; 32], false).expect("a disk");
+        assert!(again.has_of(View::new(1000)) && again.has_of(View::new(1000 - KEPT)) && !again.has_of(View::new(500)));
+    }
+
+    #[test]
+    fn a_block_comes_once_and_is_there_after_a_restart() {
+        let folder = scratch("blocks-once");
+        let mut blocks = Blocks::open(&folder, [0; 32], true).expect("a disk");
+        let it = block(3, 10);
+        blocks.keep(it.clone()).expect("a disk");
+        let length = blocks.segments.lengths().clone();
+        blocks.keep(it.clone()).expect("a disk");
+        assert_eq!(blocks.segments.lengths(), &length);
+        blocks.sync().expect("a disk");
+        let again = Blocks::open(&folder, [0; 32], true).expect("a disk");
+        assert_eq!((again.get(&it.payload()), again.bytes()), (Some(&it), it.bytes().len()));
     }
 }

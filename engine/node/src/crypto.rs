@@ -1,7 +1,8 @@
 //! Keys, signatures and certificates: ed25519 and SHA-256 of OpenSSL.
 
+use crate::network_name::NetworkName;
 use crate::settings::{Outcome, Settings};
-use openssl::pkey::{Id, PKey, Private, Public};
+use openssl::pkey::{Id, PKey, PKeyRef, Private, Public};
 use openssl::sign::{Signer, Verifier};
 use simplex_view_state::{Certificate, Digest, Participant, Vote};
 use std::fs;
@@ -19,8 +20,9 @@ pub fn digest(bytes: &[u8]) -> Digest {
     Digest::new(openssl::sha::sha256(bytes))
 }
 
-/// The keys of all members, with the secret one of this node.
+/// The keys of all members, with the secret one of this node. All that is signed begins with the network's name.
 pub struct Keys {
+    network: NetworkName,
     /// Which member this node is.
     pub me: Participant,
     secret: PKey<Private>,
@@ -46,10 +48,22 @@ impl Keys {
             return Err(format!("{} is not the key of member {}", settings.key.display(), settings.index).into());
         }
         Ok(Keys {
+            network: settings.network.clone(),
             me: settings.me(),
             secret,
             public,
         })
+    }
+
+    /// This node's secret key.
+    pub(crate) fn secret(&self) -> &PKeyRef<Private> {
+        &self.secret
+    }
+
+    /// The member whose key this is; `None` where it is nobody's.
+    pub(crate) fn member_of(&self, key: &PKeyRef<Public>) -> Option<Participant> {
+        let index = self.public.iter().position(|it| it.public_eq(key))?;
+        Some(Participant::new(index as u32))
     }
 
     /// How many votes make a certificate: all members but a third of them, rounded down.
@@ -57,19 +71,20 @@ impl Keys {
         self.public.len() - (self.public.len() - 1) / 3
     }
 
-    /// This node's signature on a text.
+    /// This node's signature on a text, which is signed behind the network's name.
     pub fn sign(&self, text: &[u8]) -> Outcome<Signature> {
-        let signature = Signer::new_without_digest(&self.secret)?.sign_oneshot_to_vec(text)?;
+        let signature = Signer::new_without_digest(&self.secret)?.sign_oneshot_to_vec(&self.network.signed(text))?;
         Ok(signature.try_into().map_err(|_| "an ed25519 signature has 64 bytes")?)
     }
 
-    /// Whether a member signed a text.
+    /// Whether a member of this network signed a text.
     pub fn is_signed(&self, by: Participant, text: &[u8], signature: &[u8]) -> bool {
         let Some(key) = self.public.get(by.get() as usize) else {
             return false;
         };
         signature.len() == SIGNATURE
-            && Verifier::new_without_digest(key).is_ok_and(|mut it| it.verify_oneshot(signature, text).unwrap_or(false))
+            && Verifier::new_without_digest(key)
+                .is_ok_and(|mut it| it.verify_oneshot(signature, &self.network.signed(text)).unwrap_or(false))
     }
 
     /// Whether a vote is its signer's.
@@ -152,6 +167,7 @@ mod tests {
         let secret: Vec<_> = (0..count).map(|_| PKey::generate_ed25519().expect("a key")).collect();
         let public_of = |it: &PKey<Private>| PKey::public_key_from_raw_bytes(&it.raw_public_key().expect("32 bytes"), Id::ED25519);
         let keys_of = |(index, secret): (u32, &PKey<Private>)| Keys {
+            network: NetworkName::try_from("test".to_owned()).expect("a name"),
             me: Participant::new(index),
             secret: secret.clone(),
             public: Vec::new(),

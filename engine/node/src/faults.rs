@@ -31,6 +31,8 @@ pub struct Trial {
     pub fault: Option<Fault>,
     /// How long each frame that it sends is on its way, in milliseconds.
     pub delay_ms: u64,
+    /// How long the application takes to build, to verify and to judge each block, in milliseconds.
+    pub application_ms: u64,
     /// A file with the members whose links are cut, by index; while it is there, nothing is sent to them or taken from them.
     pub cut: Option<PathBuf>,
 }

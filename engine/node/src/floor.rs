@@ -5,18 +5,18 @@
 use crate::crypto::Keys;
 use crate::identity::Identity;
 use crate::journal;
-use crate::settings::{Outcome, Settings, genesis};
+use crate::settings::{Outcome, Settings};
 use simplex_view_state::{Certificate, CertificateKind, Config, Engine, Finalization, Floor, Moment, Options, Subject};
 use std::fs;
 
 const NAME: &[u8; 8] = b"simplexf";
-/// As a journal's: files of version 1 had no name.
-const VERSION: u8 = 2;
+/// From 3 on the votes of the certificate are signed behind the network's name.
+const VERSION: u8 = 3;
 
 /// Where a node begins: genesis, or the finalized proposal whose certificate the settings name.
 pub fn read(settings: &Settings, keys: &Keys) -> Outcome<Floor> {
     let Some(path) = &settings.floor else {
-        return Ok(Floor::Genesis(genesis(settings.protocol.epoch)));
+        return Ok(Floor::Genesis(Identity::of(settings)?.genesis()));
     };
     let bytes = fs::read(path).map_err(|error| format!("{}: {error}", path.display()))?;
     match parse(&bytes).map_err(|error| format!("{}: {error}", path.display()))? {
@@ -74,7 +74,7 @@ mod tests {
         let mut bytes = written(&Certificate::Finalization(it.clone()));
         assert_eq!(parse(&bytes), Ok(it));
         assert!(parse(&bytes[9..]).is_err_and(|error| error.contains("version 1")));
-        bytes[8] = 3;
-        assert!(parse(&bytes).is_err_and(|error| error.contains("has version 3")));
+        bytes[8] = 2;
+        assert!(parse(&bytes).is_err_and(|error| error.contains("has version 2")));
     }
 }

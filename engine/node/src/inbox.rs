@@ -3,6 +3,8 @@
 //! The thread takes from the peers in turn, one message of each. So a peer that floods fills its own queue, is read no further, and holds
 //! up no other: with one queue for all, its messages would stand before everybody's.
 
+use crate::application::worker::Answer;
+use crate::chain::Entry;
 use crate::message::Message;
 use simplex_view_state::Participant;
 use std::collections::VecDeque;
@@ -32,6 +34,12 @@ pub enum Put {
 pub enum Event {
     /// A message, verified as far as it can be without the member, and from whom.
     Message(Participant, Message),
+    /// What the application answered.
+    Answered(Answer),
+    /// These final blocks are in the archive.
+    Archived(Vec<Entry>),
+    /// A thread of the process can't go on, and so the process can't.
+    Failed(String),
     /// The process is to end.
     Stop,
 }

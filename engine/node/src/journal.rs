@@ -13,12 +13,9 @@ use std::io::{self, Write};
 use std::path::{Path, PathBuf};
 
 const NAME: &[u8; 8] = b"simplexj";
-/// From 2 on the certificates in the record are as the library makes them of votes: those of version 1 no peer would take. From 3 on a
-/// journal says whose it is.
-const VERSION: u8 = 3;
-/// The version before the identity.
-const NAMELESS: u8 = 2;
-/// How many bytes the letters and the version have, which is all that stands before the pieces of version 2.
+/// From 3 on a journal says whose it is. From 4 on that has the network's name, which all votes in the record are signed behind.
+const VERSION: u8 = 4;
+/// How many bytes the letters and the version have.
 const BEGIN: usize = 9;
 /// How many bytes stand before the first piece.
 pub(crate) const HEAD: usize = BEGIN + identity::SIZE + 32;
@@ -45,8 +42,8 @@ pub enum JournalError {
     NoJournal,
     /// A later or earlier version of this engine wrote it.
     OtherVersion(u8),
-    /// It is of version 2, which does not say whose it is.
-    Nameless,
+    /// Its votes are signed without the name of a network.
+    OfNoNetwork(u8),
     /// It is not this node's, or not of these settings.
     Other(Difference),
     /// Bytes are changed after so many whole ones. Votes may be among them, so this key must not vote again.
@@ -65,10 +62,10 @@ impl fmt::Display for JournalError {
                 f,
                 "the journal has version {it}, and this release reads {VERSION}: run the release that wrote it"
             ),
-            JournalError::Nameless => write!(
+            JournalError::OfNoNetwork(it) => write!(
                 f,
-                "the journal has version {NAMELESS}, which does not say whose it is: if this node wrote it, run `simplex-node adopt --config \
-                 FILE` once"
+                "the journal has version {it}, whose votes are signed without the name of a network, and count in none of this release: end \
+                 the epoch with the release that wrote it, and begin the next epoch with this one, in a folder of its own"
             ),
             JournalError::Other(difference) => difference.fmt(f),
             JournalError::Damaged(at) => write!(
@@ -102,22 +99,6 @@ pub fn read(folder: &Path, identity: &Identity) -> Result<Option<Kept>, JournalE
     }
 }
 
-/// Reads a folder's journal of version 2; `None` where there is none. One of another version is refused.
-pub fn read_nameless(folder: &Path) -> Result<Option<Kept>, JournalError> {
-    let Some(bytes) = read_file(&path(folder))? else { return Ok(None) };
-    match version_of(&bytes)? {
-        NAMELESS => pieces(&bytes, BEGIN).map(Some),
-        other => Err(JournalError::OtherVersion(other)),
-    }
-}
-
-/// Makes a folder's journal of version 2 one of this identity, in one step. Its pieces stay as they are, but for one that was cut off.
-pub fn adopt(folder: &Path, kept: &Kept, identity: &Identity) -> Result<(), JournalError> {
-    let bytes = fs::read(path(folder))?;
-    let whole = bytes.get(BEGIN..bytes.len() - kept.cut).ok_or(JournalError::NoJournal)?;
-    Ok(replace(folder, &[&head(identity)[..], whole].concat())?)
-}
-
 fn read_file(path: &Path) -> io::Result<Option<Vec<u8>>> {
     match fs::read(path) {
         Ok(bytes) => Ok(Some(bytes)),
@@ -130,7 +111,7 @@ fn read_file(path: &Path) -> io::Result<Option<Vec<u8>>> {
 pub fn parse(bytes: &[u8]) -> Result<Kept, JournalError> {
     match version_of(bytes)? {
         VERSION => {}
-        NAMELESS => return Err(JournalError::Nameless),
+        earlier @ ..VERSION => return Err(JournalError::OfNoNetwork(earlier)),
         other => return Err(JournalError::OtherVersion(other)),
     }
     identity_of(bytes)?;
@@ -150,7 +131,7 @@ fn identity_of(bytes: &[u8]) -> Result<Identity, JournalError> {
     if digest(named).bytes() != sum {
         return Err(JournalError::Damaged(BEGIN));
     }
-    Ok(Identity::from_bytes(identity))
+    Identity::from_bytes(identity).ok_or(JournalError::NoJournal)
 }
 
 fn head(identity: &Identity) -> Vec<u8> {
@@ -240,7 +221,7 @@ impl Journal {
         Ok(Journal {
             file: OpenOptions::new().append(true).open(path(folder))?,
             folder: folder.to_owned(),
-            identity: *identity,
+            identity: identity.clone(),
             bytes: bytes.len() as u64,
             entries: entries.stored.entries.get(),
             is_dirty: false,
@@ -295,11 +276,13 @@ impl Journal {
 #[cfg(test)]
 mod tests {
     use super::*;
+    use crate::network_name::NetworkName;
     use crate::trace::scratch;
     use simplex_view_state::{Config, Epoch, Member, Moment, TimeoutReason, View};
 
     fn identity() -> Identity {
         Identity {
+            network: NetworkName::try_from("test".to_owned()).expect("a name"),
             key: [8; 32],
             epoch: 1,
             term_length: 1,
@@ -356,19 +339,6 @@ mod tests {
     }
 
     #[test]
-    fn a_journal_without_a_name_keeps_its_pieces_once_it_is_adopted() {
-        let folder = scratch("nameless");
-        let bytes = voted(&folder);
-        let torn = [&NAME[..], &[NAMELESS], &bytes[HEAD..], &bytes[HEAD..HEAD + 20]].concat();
-        fs::write(path(&folder), torn).expect("a disk");
-        let kept = read_nameless(&folder).expect("a journal").expect("it is there");
-        assert_eq!((kept.cut, kept.stored.entries.get()), (20, 1));
-        adopt(&folder, &kept, &identity()).expect("a disk");
-        assert_eq!(fs::read(path(&folder)).expect("it is there"), bytes);
-        assert!(matches!(read_nameless(&folder), Err(JournalError::OtherVersion(VERSION))));
-    }
-
-    #[test]
     fn a_journal_of_another_identity_is_refused() {
         let folder = scratch("identity");
         voted(&folder);
@@ -381,11 +351,11 @@ mod tests {
     fn other_files_are_refused_by_name() {
         let folder = scratch("other");
         let mut bytes = voted(&folder);
-        bytes[8] = 1;
-        let refused = parse(&bytes).expect_err("of an earlier version");
-        assert!(refused.to_string().contains("the journal has version 1"), "{refused}");
-        bytes[8] = NAMELESS;
-        assert!(matches!(parse(&bytes), Err(JournalError::Nameless)));
+        bytes[8] = VERSION + 1;
+        let refused = parse(&bytes).expect_err("of a later version");
+        assert!(refused.to_string().contains("the journal has version 5"), "{refused}");
+        bytes[8] = 3;
+        assert!(matches!(parse(&bytes), Err(JournalError::OfNoNetwork(3))));
         bytes[0] = b'S';
         assert!(matches!(parse(&bytes), Err(JournalError::NoJournal)));
         assert!(matches!(parse(b""), Err(JournalError::NoJournal)));

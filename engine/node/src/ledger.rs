@@ -1,12 +1,14 @@
 //! A sample application: a ledger of blocks that hold some numbers, and a file with a line for each block of the finalized chain.
 
-use crate::application::Application;
+use crate::application::{Application, Cancelled};
 use crate::blocks::{Block, now_us};
 use crate::crypto::digest;
 use simplex_view_state::{Context, Digest, View};
 use std::fs::{self, File, OpenOptions};
 use std::io::{self, Read, Seek, SeekFrom, Write};
 use std::path::{Path, PathBuf};
+use std::thread::sleep;
+use std::time::{Duration, Instant};
 
 /// How many bytes a block holds.
 const CONTENT: usize = 256;
@@ -77,11 +79,13 @@ pub struct Ledger {
     last: (View, Digest),
     height: u64,
     salt: u64,
+    /// How long each answer takes, in a trial.
+    works_for: Duration,
 }
 
 impl Ledger {
     /// Goes on from the chain that a folder has, or from the block where the node starts.
-    pub fn open(folder: &Path, start: (View, Digest), salt: u64) -> io::Result<Ledger> {
+    pub fn open(folder: &Path, start: (View, Digest), salt: u64, works_for: Duration) -> io::Result<Ledger> {
         let chain = read_chain(folder)?;
         let last = chain.last().map_or(Ok(start), |link| {
             Ok::<_, io::Error>((View::new(link.view), parse_digest(&link.payload)?))
@@ -90,7 +94,25 @@ impl Ledger {
         let whole: usize = chain.iter().map(|link| written(link).len()).sum();
         file.set_len(whole as u64)?;
         let height = chain.len() as u64;
-        Ok(Ledger { file, last, height, salt })
+        Ok(Ledger {
+            file,
+            last,
+            height,
+            salt,
+            works_for,
+        })
+    }
+
+    /// Takes its time; `None` where it is cancelled meanwhile.
+    fn works(&self, cancelled: &Cancelled) -> Option<()> {
+        let begun = Instant::now();
+        while begun.elapsed() < self.works_for {
+            if cancelled.is_cancelled() {
+                return None;
+            }
+            sleep(Duration::from_millis(1));
+        }
+        Some(())
     }
 }
 
@@ -108,22 +130,25 @@ fn parse_digest(hex: &str) -> io::Result<Digest> {
 }
 
 impl Application for Ledger {
-    fn build(&mut self, context: &Context) -> Vec<u8> {
+    fn build(&mut self, context: &Context, cancelled: &Cancelled) -> Option<Vec<u8>> {
+        self.works(cancelled)?;
         self.salt = self.salt.wrapping_add(1);
         let mut content = Vec::with_capacity(CONTENT);
         for place in 0..CONTENT / 32 {
             let seed = [self.salt, place as u64, context.round.view.get()].map(u64::to_be_bytes);
             content.extend_from_slice(digest(seed.as_flattened()).bytes());
         }
-        content
+        Some(content)
     }
 
-    fn verify(&mut self, block: &Block) -> bool {
-        block.content().len() == CONTENT
+    fn verify(&mut self, block: &Block, cancelled: &Cancelled) -> Option<bool> {
+        self.works(cancelled)?;
+        Some(block.content().len() == CONTENT)
     }
 
-    fn certify(&mut self, block: &Block) -> bool {
-        block.content().len() == CONTENT
+    fn certify(&mut self, block: &Block, cancelled: &Cancelled) -> Option<bool> {
+        self.works(cancelled)?;
+        Some(block.content().len() == CONTENT)
     }
 
     fn finalized(&mut self, block: &Block) -> io::Result<()> {
@@ -146,5 +171,10 @@ impl Application for Ledger {
 
     fn height(&self) -> u64 {
         self.height
+    }
+
+    fn durable(&mut self) -> io::Result<u64> {
+        self.file.sync_data()?;
+        Ok(self.height)
     }
 }

@@ -7,10 +7,14 @@
 #![deny(missing_docs)]
 
 pub mod application;
+pub mod archive;
 pub mod audit;
 pub mod blocks;
+pub mod catch_up;
+pub mod chain;
 pub mod clock;
 pub mod crypto;
+pub mod events;
 pub mod faults;
 pub mod floor;
 pub mod identity;
@@ -21,11 +25,13 @@ pub mod ledger;
 pub mod message;
 pub mod metrics;
 pub mod network;
+pub mod network_name;
 pub mod pace;
 pub mod peers;
 pub mod picture;
 pub mod replica;
 pub mod run_folder;
+pub mod segments;
 pub mod settings;
 pub mod start;
 pub mod trace;

@@ -1,23 +1,26 @@
 //! What members send each other, and its bytes.
 
-use crate::crypto::{SIGNATURE, Signature};
+use crate::blocks::Block;
+use crate::crypto::SIGNATURE;
 use simplex_view_state::{Certificate, Digest, FetchKind, Participant, Subject, View, Vote};
 
-/// The version of all that stands below. It is a part of what is signed in a greeting, so members of two versions refuse each other.
-/// From 2 on certificates are as the library makes them of votes; from 3 on both sides of a link send heartbeats.
-pub const VERSION: u8 = 3;
+/// The version of all that stands below. Greetings say it, so members of two versions refuse each other.
+/// From 2 on certificates are as the library makes them of votes; from 3 on both sides of a link send heartbeats; from 4 on
+/// all that is signed begins with the network's name, and links are encrypted by TLS 1.3.
+pub const VERSION: u8 = 4;
 
-/// The longest message that is read: 1 MiB.
-pub const LONGEST: usize = 1 << 20;
+/// The longest message that is read: 1 MiB, and room for the fields around the blocks.
+pub const LONGEST: usize = (1 << 20) + (64 << 10);
 
-/// The longest block: a proposal of it is a message, with its leader's vote.
-pub const LONGEST_BLOCK: usize = LONGEST - 256;
+/// The longest block.
+pub const LONGEST_BLOCK: usize = (1 << 20) - 256;
+
+/// How many bytes of blocks a range has at most, where one block has no more.
+pub const LONGEST_RANGE: usize = 1 << 20;
 
 /// A message from one member to another.
 #[derive(Clone, Debug)]
 pub enum Message {
-    /// Who begins the connection, with a signature on what it was asked.
-    Hello(Participant, Signature),
     /// A leader's proposal: its vote to notarize it, and its block.
     Proposal(Vote, Vec<u8>),
     /// A vote.
@@ -26,10 +29,39 @@ pub enum Message {
     Certificate(Certificate),
     /// A certificate is asked for: of a view, or one that leads past it.
     AskCertificate(FetchKind, View),
-    /// A block is asked for, by its payload's digest.
-    AskBlock(Digest),
+    /// A block of a view is asked for, by its payload's digest.
+    AskBlock(View, Digest),
+    /// Final blocks behind a view are asked for, up to another view or beyond.
+    AskRange(View, View),
+    /// Final blocks behind a view.
+    Range(Range),
+    /// The final blocks just behind a view are not here: the first one that is has the second view, or none is where that is 0.
+    NoRange(View, View),
     /// A block.
     Block(Vec<u8>),
+}
+
+/// Final blocks, each on the one before, up to one whose finalization comes with them.
+#[derive(Clone, Debug)]
+pub struct Range {
+    /// The view behind which they were asked for.
+    pub after: View,
+    /// The finalization of the first one below.
+    pub certificate: Certificate,
+    /// The blocks, the last one first. The digests that they carry are those of the links between them until [`Range::is_linked`].
+    pub blocks: Vec<Block>,
+}
+
+impl Range {
+    /// Whether each block has the digest that the certificate, or the block on it, names, and stands below that.
+    pub fn is_linked(&self) -> bool {
+        let is_falling = self
+            .blocks
+            .windows(2)
+            .all(|it| it[1].view == it[0].parent.0 && it[1].view < it[0].view);
+        let is_first = self.blocks.first().is_some_and(|it| it.view == self.certificate.round().view);
+        is_first && is_falling && self.blocks.iter().all(|it| crate::crypto::digest(it.bytes()) == it.payload())
+    }
 }
 
 impl Message {
@@ -44,11 +76,6 @@ impl Message {
 
     fn write(&self, out: &mut Vec<u8>) {
         match self {
-            Message::Hello(from, signature) => {
-                out.push(0);
-                out.extend_from_slice(&from.get().to_be_bytes());
-                out.extend_from_slice(signature);
-            }
             Message::Proposal(vote, block) => {
                 out.push(1);
                 write_vote(out, vote);
@@ -67,14 +94,18 @@ impl Message {
                 out.extend_from_slice(&[4, number_of(*kind)]);
                 out.extend_from_slice(&view.get().to_be_bytes());
             }
-            Message::AskBlock(payload) => {
+            Message::AskBlock(view, payload) => {
                 out.push(5);
+                out.extend_from_slice(&view.get().to_be_bytes());
                 out.extend_from_slice(payload.bytes());
             }
             Message::Block(block) => {
                 out.push(6);
                 out.extend_from_slice(block);
             }
+            Message::AskRange(after, upto) => write_views(out, 7, *after, *upto),
+            Message::Range(it) => write_range(out, it),
+            Message::NoRange(after, first) => write_views(out, 9, *after, *first),
         }
     }
 
@@ -82,21 +113,20 @@ impl Message {
     pub fn read(bytes: &[u8]) -> Option<Message> {
         let (&tag, rest) = bytes.split_first()?;
         match tag {
-            0 => {
-                let (from, signature) = rest.split_first_chunk::<4>()?;
-                Some(Message::Hello(
-                    Participant::new(u32::from_be_bytes(*from)),
-                    signature.try_into().ok()?,
-                ))
-            }
             1 => split_vote(rest).map(|(vote, block)| Message::Proposal(vote, block.to_vec())),
             2 => split_vote(rest)
                 .filter(|(_, rest)| rest.is_empty())
                 .map(|(vote, _)| Message::Vote(vote)),
             3 => Subject::decode(rest).map(|(subject, bytes)| Message::Certificate(Certificate::of(subject, bytes.to_vec()))),
             4 => read_ask(rest),
-            5 => Some(Message::AskBlock(Digest::new(rest.try_into().ok()?))),
+            5 => {
+                let (view, rest) = split_view(rest)?;
+                Some(Message::AskBlock(view, Digest::new(rest.try_into().ok()?)))
+            }
             6 => Some(Message::Block(rest.to_vec())),
+            7 => read_views(rest).map(|(after, upto)| Message::AskRange(after, upto)),
+            8 => read_range(rest).map(Message::Range),
+            9 => read_views(rest).map(|(after, first)| Message::NoRange(after, first)),
             _ => None,
         }
     }
@@ -121,6 +151,61 @@ fn read_ask(bytes: &[u8]) -> Option<Message> {
     Some(Message::AskCertificate(kind, View::new(u64::from_be_bytes(view.try_into().ok()?))))
 }
 
+fn split_view(bytes: &[u8]) -> Option<(View, &[u8])> {
+    let (view, rest) = bytes.split_first_chunk()?;
+    Some((View::new(u64::from_be_bytes(*view)), rest))
+}
+
+fn write_views(out: &mut Vec<u8>, tag: u8, first: View, second: View) {
+    out.push(tag);
+    out.extend_from_slice(&first.get().to_be_bytes());
+    out.extend_from_slice(&second.get().to_be_bytes());
+}
+
+fn read_views(bytes: &[u8]) -> Option<(View, View)> {
+    let (first, rest) = split_view(bytes)?;
+    let (second, rest) = split_view(rest)?;
+    rest.is_empty().then_some((first, second))
+}
+
+/// The view, the certificate behind its length, and the blocks, each behind its length.
+fn write_range(out: &mut Vec<u8>, it: &Range) {
+    out.push(8);
+    out.extend_from_slice(&it.after.get().to_be_bytes());
+    write_long(out, &[&it.certificate.subject().encode()[..], it.certificate.bytes()].concat());
+    it.blocks.iter().for_each(|block| write_long(out, block.bytes()));
+}
+
+fn write_long(out: &mut Vec<u8>, bytes: &[u8]) {
+    out.extend_from_slice(&(bytes.len() as u32).to_be_bytes());
+    out.extend_from_slice(bytes);
+}
+
+fn split_long(bytes: &[u8]) -> Option<(&[u8], &[u8])> {
+    let (length, rest) = bytes.split_first_chunk::<4>()?;
+    rest.split_at_checked(u32::from_be_bytes(*length) as usize)
+}
+
+fn read_range(bytes: &[u8]) -> Option<Range> {
+    let (after, rest) = split_view(bytes)?;
+    let (certificate, mut rest) = split_long(rest)?;
+    let (subject, certificate) = Subject::decode(certificate)?;
+    let Subject::Finalize(proposal) = subject else { return None };
+    let (mut blocks, mut payload) = (Vec::new(), proposal.payload);
+    while !rest.is_empty() {
+        let (block, behind) = split_long(rest)?;
+        let block = Block::of(block.to_vec(), payload)?;
+        payload = block.parent.1;
+        blocks.push(block);
+        rest = behind;
+    }
+    Some(Range {
+        after,
+        certificate: Certificate::of(subject, certificate.to_vec()),
+        blocks,
+    })
+}
+
 /// A signature has the length of all signatures here: the library lets it be any.
 fn write_vote(out: &mut Vec<u8>, vote: &Vote) {
     out.extend_from_slice(&vote.signer.get().to_be_bytes());
@@ -143,7 +228,7 @@ fn split_vote(bytes: &[u8]) -> Option<(Vote, &[u8])> {
 #[cfg(test)]
 mod tests {
     use super::*;
-    use simplex_view_state::{Epoch, Proposal, Round};
+    use simplex_view_state::{Context, Epoch, Proposal, Round};
 
     fn messages() -> Vec<Message> {
         let round = Round {
@@ -162,8 +247,9 @@ mod tests {
         };
         let subjects = [Subject::Notarize(proposal), Subject::Nullify(round), Subject::Finalize(proposal)];
         let mut all = vec![
-            Message::Hello(Participant::new(1), [9; 64]),
-            Message::AskBlock(proposal.payload),
+            Message::AskRange(View::new(8), View::new(99)),
+            Message::NoRange(View::new(8), View::GENESIS),
+            Message::AskBlock(View::new(8), proposal.payload),
             Message::Block(vec![1, 2]),
         ];
         all.push(Message::Proposal(vote(subjects[0]), vec![7; 100]));
@@ -180,6 +266,59 @@ mod tests {
             let frame = message.frame();
             assert_eq!(format!("{:?}", Message::read(&frame[4..])), format!("{:?}", Some(&message)));
         }
+    }
+
+    /// A chain of blocks, the last one first, and the finalization of that.
+    fn range(blocks: u64) -> Range {
+        let (mut parent, mut chain) = ((View::GENESIS, Digest::default()), Vec::new());
+        for view in 1..=blocks {
+            let context = Context {
+                round: Round {
+                    epoch: Epoch::new(3),
+                    view: View::new(view),
+                },
+                leader: Participant::new(0),
+                parent: parent.0,
+                parent_payload: parent.1,
+            };
+            let block = Block::new(&context, &[blocks as u8; 9]);
+            parent = (block.view, block.payload());
+            chain.insert(0, block);
+        }
+        let proposal = Proposal {
+            round: Round {
+                epoch: Epoch::new(3),
+                view: parent.0,
+            },
+            parent: View::new(blocks - 1),
+            payload: parent.1,
+        };
+        Range {
+            after: View::GENESIS,
+            certificate: Certificate::of(Subject::Finalize(proposal), vec![4; 228]),
+            blocks: chain,
+        }
+    }
+
+    #[test]
+    fn a_range_that_is_written_is_read_and_one_with_another_block_is_not_linked() {
+        let it = range(5);
+        let bytes = Message::Range(it.clone()).frame();
+        let Some(Message::Range(read)) = Message::read(&bytes[4..]) else {
+            panic!("it is a range")
+        };
+        assert_eq!((&read.blocks, read.certificate.bytes()), (&it.blocks, it.certificate.bytes()));
+        assert!(read.is_linked());
+        for place in 0..5 {
+            let mut other = it.clone();
+            other.blocks[place] = range(6).blocks[place + 1].clone();
+            let bytes = Message::Range(other).frame();
+            let Some(Message::Range(read)) = Message::read(&bytes[4..]) else {
+                panic!("it is a range")
+            };
+            assert!(!read.is_linked(), "block {place}");
+        }
+        assert!(Message::read(&bytes[4..bytes.len() - 1]).is_none());
     }
 
     #[test]

@@ -38,6 +38,16 @@ counters! {
     last_finalized: "gauge",
     /// Blocks of the finalized chain.
     height: "gauge",
+    /// Views between the archive's last block and the last finalized view.
+    lag_views: "gauge",
+    /// The height of a final block that no other member has any more; 0 where there is none.
+    missing_height: "gauge",
+    /// Bytes of the archive of final blocks.
+    archive_bytes: "gauge",
+    /// The height of the archive's first block.
+    archive_first: "gauge",
+    /// Ranges of final blocks that peers were asked for.
+    ranges: "counter",
     /// Votes to notarize that were sent.
     notarizes: "counter",
     /// Votes to nullify that were sent, repeats among them.

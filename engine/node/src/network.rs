@@ -2,8 +2,9 @@
 
 use crate::faults::{Fault, Trial};
 use crate::ledger::{self, Link};
+use crate::network_name::NetworkName;
 use crate::run_folder::RunFolder;
-use crate::settings::{Outcome, Peer, Protocol, Settings};
+use crate::settings::{Archived, Outcome, Peer, Protocol, Settings};
 use crate::trace::{self, Line};
 use crate::{crypto, journal};
 use std::fs::{self, File, OpenOptions};
@@ -61,18 +62,23 @@ impl Network {
                 key,
             });
         }
+        let name = NetworkName::try_from("local".to_owned())?;
         let settings_of = |index: u32| Settings {
+            network: name.clone(),
             index,
             data: PathBuf::from(index.to_string()),
             key: PathBuf::from(format!("{index}.pem")),
             metrics: Some(addresses[2 * index as usize + 1]),
             sync: plan.sync,
             trace: Some(PathBuf::from(format!("{index}.votes"))),
+            events: None,
             floor: None,
+            archive: Archived::default(),
             protocol: plan.protocol.clone(),
             trial: Trial {
                 fault: plan.faults.iter().find(|it| it.0 == index).map(|it| it.1),
                 delay_ms: plan.delay_ms,
+                application_ms: 0,
                 cut: Some(PathBuf::from(format!("{index}.cut"))),
             },
             members: members.clone(),

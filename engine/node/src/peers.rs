@@ -1,19 +1,23 @@
 //! TCP to the other members: a thread that writes to each ([`link`]), and one that reads each connection and verifies what comes
 //! ([`reader`]).
 //!
-//! What one member sends another goes over the connection that the sender began. Who accepts one sends 32 random bytes first; who began it
-//! signs them, so that nobody else's greeting can be played again. Queues are bounded in bytes, and what does not fit is dropped: all of it
+//! What one member sends another goes over the connection that the sender began. It is encrypted, and both sides prove that they have the
+//! keys of members ([`tls`]), and say what they share ([`greeting`]). Queues are bounded in bytes, and what does not fit is dropped: all of it
 //! can be asked for again. So a slow peer holds up no other, nor does one that floods: each has a queue of its own at the thread that owns
 //! the member ([`crate::inbox`]), a place of its own among the connections ([`accept`]), and a budget ([`budget`]).
 
 mod accept;
 mod budget;
+mod greeting;
 mod link;
 mod outgoing;
 mod reader;
+mod session;
+mod tls;
 
-pub use link::{HEARTBEAT, HEARTBEAT_FRAME, SILENCE, greet};
-pub use reader::{Horizon, read_message};
+pub use link::{HEARTBEAT, HEARTBEAT_FRAME};
+pub use reader::{Horizon, read_frame, read_message};
+pub use session::{Credentials, SILENCE, Session};
 
 use crate::crypto::Keys;
 use crate::inbox::Inbox;
@@ -27,18 +31,22 @@ use reader::Reader;
 use simplex_view_state::{Epoch, Participant};
 use std::collections::BTreeSet;
 use std::net::TcpListener;
-use std::sync::Arc;
 use std::sync::atomic::Ordering::Relaxed;
+use std::sync::{Arc, Mutex, MutexGuard};
 use std::thread;
 use std::time::{Duration, Instant};
 
 /// How many bytes of blocks a peer is served a second, and at once.
 const SERVED: (f64, f64) = (8e6, 16e6);
 
+fn locked<T>(it: &Mutex<T>) -> MutexGuard<'_, T> {
+    it.lock().unwrap_or_else(|it| it.into_inner())
+}
+
 /// Another member: what waits for it, and what it may still be served.
 struct Peer {
     queue: Arc<Outgoing>,
-    served: Bucket,
+    served: Mutex<Bucket>,
 }
 
 /// The other members.
@@ -46,7 +54,7 @@ pub struct Peers {
     peers: Vec<Option<Peer>>,
     counters: Arc<Counters>,
     delay: Duration,
-    cut_off: BTreeSet<u32>,
+    cut_off: Mutex<BTreeSet<u32>>,
 }
 
 impl Peers {
@@ -60,7 +68,8 @@ impl Peers {
     ) -> Outcome<Peers> {
         let address = settings.members[settings.index as usize].address;
         let listener = TcpListener::bind(address).map_err(|error| format!("{address}: {error}"))?;
-        let doors = Arc::new(Doors::new(settings.members.len(), counters));
+        let credentials = Arc::new(Credentials::new(settings, keys)?);
+        let doors = Arc::new(Doors::new(settings.members.len(), &credentials, counters));
         let reader = Arc::new(Reader {
             keys: keys.clone(),
             horizon: horizon.clone(),
@@ -78,8 +87,8 @@ impl Peers {
                 None
             } else {
                 Some(Peer {
-                    queue: link::begin(Participant::new(index), peer.address, keys, counters)?,
-                    served: Bucket::new(SERVED.0, SERVED.1, Instant::now()),
+                    queue: link::begin(Participant::new(index), peer.address, &credentials, counters)?,
+                    served: Mutex::new(Bucket::new(SERVED.0, SERVED.1, Instant::now())),
                 })
             });
         }
@@ -87,18 +96,18 @@ impl Peers {
             peers,
             counters: counters.clone(),
             delay: Duration::from_millis(settings.trial.delay_ms),
-            cut_off: BTreeSet::new(),
+            cut_off: Mutex::default(),
         })
     }
 
     /// Nothing is sent to these members from now on: in a trial, their links are cut.
-    pub fn cut_off(&mut self, members: BTreeSet<u32>) {
-        self.cut_off = members;
+    pub fn cut_off(&self, members: BTreeSet<u32>) {
+        *locked(&self.cut_off) = members;
     }
 
     /// Whether the links to a member are cut.
     pub fn is_cut_off(&self, member: Participant) -> bool {
-        self.cut_off.contains(&member.get())
+        locked(&self.cut_off).contains(&member.get())
     }
 
     /// Sends a message to a member.
@@ -107,17 +116,23 @@ impl Peers {
     }
 
     /// Sends a message that a member asked for, within what it may be served. Returns whether that was left.
-    pub fn serve(&mut self, to: Participant, message: &Message) -> bool {
+    pub fn serve(&self, to: Participant, message: &Message) -> bool {
         let frame = message.frame();
-        let Some(Some(peer)) = self.peers.get_mut(to.get() as usize) else {
+        let Some(Some(peer)) = self.peers.get(to.get() as usize) else {
             return false;
         };
-        let is_left = peer.served.take(frame.len() as f64, Instant::now());
+        let is_left = locked(&peer.served).take(frame.len() as f64, Instant::now());
         if is_left {
             self.counters.served.fetch_add(1, Relaxed);
             self.queue(to.get() as usize, Arc::new(frame));
         }
         is_left
+    }
+
+    /// Whether a member may still be served, so that what it asks for is worth looking up.
+    pub fn may_serve(&self, to: Participant) -> bool {
+        let peer = self.peers.get(to.get() as usize).and_then(Option::as_ref);
+        peer.is_some_and(|it| locked(&it.served).take(0.0, Instant::now()))
     }
 
     /// Sends a message to all others.
@@ -135,7 +150,7 @@ impl Peers {
 
     fn queue(&self, index: usize, frame: Arc<Vec<u8>>) {
         if let Some(Some(peer)) = self.peers.get(index)
-            && !self.cut_off.contains(&(index as u32))
+            && !self.is_cut_off(Participant::new(index as u32))
             && !peer.queue.push(Instant::now() + self.delay, frame)
         {
             self.counters.dropped_frames.fetch_add(1, Relaxed);

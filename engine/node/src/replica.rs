@@ -1,18 +1,24 @@
 //! The one thread that owns the engine: it tells it events as they come, and carries out what it hands out.
 //!
 //! A turn tells all events that wait, and polls until nothing follows: what is recorded goes to the journal, what others see and stands
-//! behind that waits, and what the application is asked it answers at once. Then the disk is waited for, once for all of that, and what
+//! behind that waits, and what the application is asked goes to its thread. Then the disk is waited for, once for all of that, and what
 //! waits leaves, in order. A disk or an engine that fails ends the process; what was not stored was not sent.
 
 mod asking;
 mod casting;
+mod far;
 mod faulty;
+mod finality;
 mod judging;
 
-use crate::application::Application;
+use crate::application::worker::{Kind, Worker};
+use crate::archive::keeper::Keeper;
 use crate::blocks::{Block, Blocks};
+use crate::catch_up::CatchUp;
+use crate::chain::{FinalChain, Tail};
 use crate::clock::Clock;
 use crate::crypto::Keys;
+use crate::events::Events;
 use crate::faults::Fault;
 use crate::inbox::{Event, Inbox};
 use crate::journal::Journal;
@@ -24,10 +30,12 @@ use crate::peers::{Horizon, Peers};
 use crate::settings::{Outcome, Settings, Turns};
 use crate::trace::Trace;
 use crate::waiting::Waiting;
+use far::Far;
+use finality::Lag;
 use simplex_view_state::{
-    Certificate, CertificateKind, Engine, EngineError, Input, Output, Participant, Proposal, Subject, TimeoutReason, View, Views, Vote,
+    CertificateKind, Context, Digest, Engine, EngineError, Input, Output, Participant, Proposal, Subject, TimeoutReason, View, Views, Vote,
 };
-use std::collections::BTreeSet;
+use std::collections::{BTreeMap, BTreeSet};
 use std::fs::File;
 use std::sync::Arc;
 use std::sync::atomic::{AtomicU64, Ordering::Relaxed};
@@ -46,7 +54,7 @@ const EARLY_VIEWS: u64 = 8;
 const AN_HOUR: Duration = Duration::from_secs(3600);
 
 /// What a replica is made of.
-pub struct Parts<A> {
+pub struct Parts {
     /// The settings.
     pub settings: Settings,
     /// The keys.
@@ -56,7 +64,7 @@ pub struct Parts<A> {
     /// What is counted.
     pub counters: Arc<Counters>,
     /// The other members.
-    pub peers: Peers,
+    pub peers: Arc<Peers>,
     /// What waits for this thread.
     pub inbox: Arc<Inbox>,
     /// The engine, whose first output was carried out.
@@ -65,8 +73,12 @@ pub struct Parts<A> {
     pub journal: Journal,
     /// The blocks.
     pub blocks: Blocks,
-    /// The application.
-    pub application: A,
+    /// The thread of the archive.
+    pub keeper: Keeper,
+    /// The archive's last block.
+    pub tail: Tail,
+    /// The thread of the application.
+    pub application: Worker,
     /// The clock of this life.
     pub clock: Clock,
     /// That no other process has the folder.
@@ -74,14 +86,19 @@ pub struct Parts<A> {
 }
 
 /// An engine with all that it needs.
-pub struct Replica<A> {
-    parts: Parts<A>,
+pub struct Replica {
+    parts: Parts,
     turns: Turns,
     trace: Option<Trace>,
+    events: Events,
     /// What waits for blocks.
     waiting: Waiting,
     /// The blocks that wait to be built.
     pace: Pace,
+    /// The context of the block that the application builds.
+    building: Option<Context>,
+    /// What the application is asked of a view, and of which block.
+    asked: BTreeMap<(Kind, View), Digest>,
     /// What others see and stands behind a record that the disk may not have yet, in order.
     leaving: Vec<Output>,
     /// When each member was heard of last.
@@ -96,25 +113,35 @@ pub struct Replica<A> {
     shown: BTreeSet<(View, Participant)>,
     /// The views whose leaders were found to have proposed twice.
     proposed_twice: BTreeSet<View>,
-    finalized: Option<Proposal>,
+    /// What is final, and not in the archive yet.
+    chain: FinalChain,
+    /// What is asked for of the finalized chain.
+    catch_up: CatchUp,
+    lag: Lag,
+    far: Far,
     old_votes: Vec<Vote>,
     told_at: u64,
 }
 
-impl<A: Application> Replica<A> {
+impl Replica {
     /// A replica of these parts.
-    pub fn new(parts: Parts<A>) -> Outcome<Replica<A>> {
+    pub fn new(parts: Parts) -> Outcome<Replica> {
         let members = parts.settings.count().get();
         let last = parts.engine.views().ok_or(EngineError::Failed)?.last_finalized;
-        let finalized = match parts.engine.certificate(CertificateKind::Finalization, last)? {
-            Some(Certificate::Finalization(it)) => Some(it.proposal),
-            _ => None,
-        };
+        let mut chain = FinalChain::new(parts.tail);
+        if let Some(it) = parts.engine.certificate(CertificateKind::Finalization, last)?
+            && let Subject::Finalize(proposal) = it.subject()
+        {
+            chain.finalize(&proposal, Some(it), &parts.blocks)?;
+        }
         Ok(Replica {
             turns: parts.settings.turns(),
             trace: parts.settings.trace.as_deref().map(Trace::open).transpose()?,
+            events: Events::open(&parts.settings, parts.journal.entries())?,
             waiting: Waiting::new(parts.settings.me(), members),
             pace: Pace::new(Duration::from_millis(parts.settings.protocol.pace_ms)),
+            building: None,
+            asked: BTreeMap::new(),
             leaving: Vec::new(),
             heard: vec![Instant::now(); members as usize],
             given_up: View::GENESIS,
@@ -122,7 +149,10 @@ impl<A: Application> Replica<A> {
             leader_votes: LeaderVotes::new(parts.settings.turns()),
             shown: BTreeSet::new(),
             proposed_twice: BTreeSet::new(),
-            finalized,
+            chain,
+            catch_up: CatchUp::new(parts.settings.me(), members),
+            lag: Lag::none(),
+            far: None,
             old_votes: Vec::new(),
             told_at: u64::MAX,
             parts,
@@ -141,15 +171,20 @@ impl<A: Application> Replica<A> {
             for _ in 0..MOST_EVENTS {
                 match next {
                     Some(Event::Stop) => return self.stop(),
+                    Some(Event::Failed(why)) => return Err(why.into()),
+                    Some(Event::Archived(entries)) => self.take_archived(entries)?,
+                    Some(Event::Answered(answer)) => self.take_answer(answer)?,
                     Some(event) => self.take(event)?,
                     None => break,
                 }
                 next = self.parts.inbox.take(Duration::ZERO);
             }
+            self.take_far()?;
             self.watch_leader()?;
             self.build_due()?;
             is_settled = self.settle()?;
             self.fetch_blocks();
+            self.catch_up();
             self.tell()?;
         }
     }
@@ -164,10 +199,18 @@ impl<A: Application> Replica<A> {
     fn stop(mut self) -> Outcome {
         self.parts.inbox.close();
         self.sync()?;
+        self.parts.keeper.stop();
+        while let Some(event) = self.parts.inbox.take(Duration::ZERO) {
+            if let Event::Archived(entries) = event {
+                self.take_archived(entries)?;
+            }
+        }
+        self.parts.application.stop();
         if let Some(trace) = &mut self.trace {
             trace.flush()?;
         }
-        info!(height = self.parts.application.height(), "stopped");
+        self.events.finish();
+        info!(height = self.parts.counters.height.load(Relaxed), "stopped");
         Ok(())
     }
 
@@ -178,9 +221,11 @@ impl<A: Application> Replica<A> {
     /// Tells the engine. Whether it was of use.
     fn handle(&mut self, input: Input) -> Outcome<bool> {
         let now = self.parts.clock.now();
+        let seen = self.events.before(&input);
         let begun = Instant::now();
         let is_of_use = self.parts.engine.handle(input, now)?;
         self.spent(&self.parts.counters.core_us, begun);
+        self.events.after(seen, is_of_use);
         Ok(is_of_use)
     }
 
@@ -205,14 +250,13 @@ impl<A: Application> Replica<A> {
     fn take(&mut self, event: Event) -> Outcome {
         let (from, message) = match event {
             Event::Message(from, message) => (from, message),
-            Event::Stop => return Ok(()),
+            _ => return Ok(()),
         };
         if self.parts.peers.is_cut_off(from) {
             return Ok(());
         }
         self.heard[from.get() as usize] = Instant::now();
         match message {
-            Message::Hello(..) => Ok(()),
             Message::Proposal(vote, block) => self.take_proposal(vote, block),
             Message::Vote(vote) => self.take_vote(vote),
             Message::Certificate(it) => self.take_certificate(it),
@@ -220,8 +264,17 @@ impl<A: Application> Replica<A> {
                 self.serve(from, kind, view);
                 Ok(())
             }
-            Message::AskBlock(payload) => {
-                self.serve_blocks(from, payload);
+            Message::AskBlock(view, payload) => {
+                self.serve_block(from, view, payload);
+                Ok(())
+            }
+            Message::AskRange(after, upto) => {
+                self.parts.keeper.serve(from, after, upto);
+                Ok(())
+            }
+            Message::Range(range) => self.take_range(range),
+            Message::NoRange(after, first) => {
+                self.take_no_range(from, after, first);
                 Ok(())
             }
             Message::Block(bytes) => self.take_block(bytes),
@@ -276,19 +329,6 @@ impl<A: Application> Replica<A> {
         Ok(())
     }
 
-    /// A certificate that is good.
-    fn take_certificate(&mut self, it: Certificate) -> Outcome {
-        let (subject, view) = (it.subject(), it.round().view);
-        if self.parts.engine.admits_vote(view) {
-            let found = self.leader_votes.see_certificate(&it);
-            self.compare(found);
-        }
-        if self.handle(Input::Certificate(it))? {
-            self.parts.horizon.know(subject);
-        }
-        Ok(())
-    }
-
     /// Gives a leader up that is not heard of.
     fn watch_leader(&mut self) -> Outcome {
         let view = self.views()?.current;
@@ -316,9 +356,11 @@ impl<A: Application> Replica<A> {
         }
         let views = self.views()?;
         self.parts.horizon.moved(views.current, views.min_active);
+        self.parts.application.cancel_passed(views.current, views.last_finalized);
         if let Some(trace) = &mut self.trace {
             trace.flush()?;
         }
+        self.events.settled(&self.parts.engine);
         Ok(is_settled)
     }
 
@@ -359,6 +401,7 @@ impl<A: Application> Replica<A> {
     }
 
     fn carry_out(&mut self, output: Output) -> Outcome {
+        self.events.output(&output);
         match output {
             Output::Store(entries) => self.parts.journal.append(&entries)?,
             Output::Replace(entries) => {
@@ -371,22 +414,23 @@ impl<A: Application> Replica<A> {
                 self.parts.peers.send_to_all(&Message::Certificate(it));
             }
             Output::Fetch(it) => self.fetch(&it),
-            Output::Finalized(proposal) => {
-                self.finalized = Some(proposal);
-                self.deliver()?;
-            }
+            Output::Finalized(proposal) => self.finalize(&proposal)?,
             Output::Verify(context, proposal) => self.verify(context, proposal)?,
             Output::Build(context) => {
                 self.pace.ask(context);
                 self.build_due()?;
             }
             Output::Certify(proposal) => self.certify(proposal)?,
-            Output::StopBuilding(view) => self.pace.stop(view),
+            Output::StopBuilding(view) => {
+                self.pace.stop(view);
+                self.parts.application.cancel((Kind::Build, view));
+            }
             Output::Equivocated(first, second) => self.show(&first, &second),
             Output::ProposedTwice(view, leader) => self.show_leader(view, leader),
             Output::Forget(lowest) => {
                 self.waiting.forget(lowest);
                 self.leader_votes.forget(lowest);
+                self.asked.retain(|(_, view), _| *view >= lowest);
                 self.proposed_twice = self.proposed_twice.split_off(&lowest);
                 self.shown = self.shown.split_off(&(lowest, Participant::new(0)));
             }
@@ -406,7 +450,6 @@ impl<A: Application> Replica<A> {
         }
         counters.current_view.store(views.current.get(), Relaxed);
         counters.last_finalized.store(views.last_finalized.get(), Relaxed);
-        counters.height.store(self.parts.application.height(), Relaxed);
         counters.journal_bytes.store(self.parts.journal.bytes(), Relaxed);
         counters.record_entries.store(self.parts.journal.entries(), Relaxed);
         counters.ignored_inputs.store(self.parts.engine.ignored(), Relaxed);

@@ -1,5 +1,6 @@
 //! The folder of a network's files. Only files by the names of a node's, in a folder that a run made, are ever removed.
 
+use crate::segments::is_segment;
 use crate::settings::Outcome;
 use std::fs::{self, File, OpenOptions, TryLockError};
 use std::io::{self, Write};
@@ -9,9 +10,11 @@ use std::path::{Path, PathBuf};
 const MARKER: &str = ".simplex-local";
 const MARKED: &str = "simplex-local made this folder. Each run removes the files of the run before.\n";
 /// What a run writes beside a node's folder, by the ending of the name.
-const OF_A_NODE: [&str; 6] = ["pem", "toml", "log", "votes", "cut", "floor"];
+const OF_A_NODE: [&str; 7] = ["pem", "toml", "log", "votes", "cut", "floor", "trace"];
 /// What a node writes in its own folder.
-const IN_A_NODE: [&str; 6] = ["journal", "journal.new", "chain", "blocks", "blocks.new", "lock"];
+const IN_A_NODE: [&str; 4] = ["journal", "journal.new", "chain", "lock"];
+/// The folders of segments in a node's folder.
+const OF_SEGMENTS: [&str; 2] = ["blocks", "archive"];
 
 /// A folder that one run uses.
 #[derive(Debug)]
@@ -79,24 +82,40 @@ fn lock(folder: &Path) -> Outcome<File> {
 fn left_by_a_run(folder: &Path) -> Outcome<Vec<PathBuf>> {
     let mut found = Vec::new();
     for entry in fs::read_dir(folder)? {
-        let (entry, mut inside) = (entry?, Vec::new());
+        let entry = entry?;
         let (name, is_folder) = (entry.file_name(), entry.file_type()?.is_dir());
         let name = name.to_str().unwrap_or_default();
         if name == MARKER {
             continue;
         }
         if is_folder && is_index(name) {
-            inside = fs::read_dir(entry.path())?.collect::<io::Result<Vec<_>>>()?;
+            found.extend(left_by_a_node(&entry.path())?);
         } else if is_folder || !is_of_a_node(name) {
             return Err(foreign(&entry.path()));
         }
-        for it in &inside {
-            let is_known = it.file_name().to_str().is_some_and(|name| IN_A_NODE.contains(&name));
-            if !is_known || it.file_type()?.is_dir() {
-                return Err(foreign(&it.path()));
+        found.push(entry.path());
+    }
+    Ok(found)
+}
+
+/// What a node left in its folder, and in the folders of segments there.
+fn left_by_a_node(folder: &Path) -> Outcome<Vec<PathBuf>> {
+    let mut found = Vec::new();
+    for entry in fs::read_dir(folder)? {
+        let entry = entry?;
+        let (name, is_folder) = (entry.file_name(), entry.file_type()?.is_dir());
+        let name = name.to_str().unwrap_or_default();
+        if is_folder && OF_SEGMENTS.contains(&name) {
+            for segment in fs::read_dir(entry.path())? {
+                let segment = segment?;
+                if segment.file_type()?.is_dir() || !is_segment(&segment.file_name()) {
+                    return Err(foreign(&segment.path()));
+                }
+                found.push(segment.path());
             }
+        } else if is_folder || !IN_A_NODE.contains(&name) {
+            return Err(foreign(&entry.path()));
         }
-        found.extend(inside.iter().map(fs::DirEntry::path));
         found.push(entry.path());
     }
     Ok(found)
@@ -147,6 +166,8 @@ mod tests {
         }
         fs::create_dir(folder.join("12")).expect("a disk");
         fs::write(folder.join("12/journal"), "").expect("a disk");
+        fs::create_dir(folder.join("12/archive")).expect("a disk");
+        fs::write(folder.join("12/archive/00000000000000000001"), "").expect("a disk");
         drop(RunFolder::take(&folder).expect("it is a run's"));
         let left: Vec<_> = fs::read_dir(&folder)
             .expect("a folder")
@@ -157,7 +178,15 @@ mod tests {
 
     #[test]
     fn a_file_that_no_node_writes_is_never_removed() {
-        for name in ["notes.txt", "0.txt", "0/notes.txt", "0/sub/journal", "x/journal"] {
+        for name in [
+            "notes.txt",
+            "0.txt",
+            "0/notes.txt",
+            "0/sub/journal",
+            "x/journal",
+            "0/archive/notes",
+            "0/archive/sub/x",
+        ] {
             let folder = scratch("mixed");
             drop(RunFolder::take(&folder).expect("it is empty"));
             fs::write(folder.join("1.pem"), "").expect("a disk");

@@ -1,8 +1,9 @@
 //! What a node is told at its start: a TOML file. `engine/node.toml` is one, with reasons.
 
 use crate::faults::Trial;
+use crate::network_name::NetworkName;
 use serde::{Deserialize, Serialize};
-use simplex_view_state::{Config, Digest, Epoch, Floor, Leaders, Participant, Skip, Terms, View, ViewDelta};
+use simplex_view_state::{Config, Epoch, Floor, Leaders, Participant, Skip, Terms, View, ViewDelta};
 use std::fs;
 use std::net::SocketAddr;
 use std::num::NonZeroU32;
@@ -16,6 +17,8 @@ pub type Outcome<T = ()> = Result<T, Box<dyn std::error::Error>>;
 #[derive(Clone, Debug, Deserialize, Serialize)]
 #[serde(deny_unknown_fields)]
 pub struct Settings {
+    /// The network's name. It begins all that members sign, so it has to be the same for all of them, and another one for each network.
+    pub network: NetworkName,
     /// Which of the members this node is: its place in `members`, from 0.
     pub index: u32,
     /// The folder of its journal, blocks and chain. A relative path is taken from the folder of the settings file.
@@ -29,6 +32,11 @@ pub struct Settings {
     pub sync: bool,
     /// Where all votes that are sent or received are written down, for audits; nowhere by default.
     pub trace: Option<PathBuf>,
+    /// Where all events are traced, for `simplex-view`; nowhere by default. A process lifetime is appended.
+    pub events: Option<PathBuf>,
+    /// How final blocks are stored.
+    #[serde(default)]
+    pub archive: Archived,
     /// How the protocol is run: the same for all members.
     #[serde(default)]
     pub protocol: Protocol,
@@ -40,6 +48,25 @@ pub struct Settings {
     /// What is tried on this node; by default nothing is.
     #[serde(default)]
     pub trial: Trial,
+}
+
+/// How final blocks are stored.
+#[derive(Clone, Debug, Deserialize, Serialize)]
+#[serde(deny_unknown_fields, default)]
+pub struct Archived {
+    /// Above how many bytes the oldest segments are removed, once the application has their blocks on the disk. By default none is.
+    pub most_bytes: Option<u64>,
+    /// How long a segment gets, in bytes.
+    pub segment_bytes: u64,
+}
+
+impl Default for Archived {
+    fn default() -> Archived {
+        Archived {
+            most_bytes: None,
+            segment_bytes: 16 << 20,
+        }
+    }
 }
 
 /// A member as the others reach it.
@@ -105,6 +132,7 @@ impl Settings {
         settings.data = folder.join(&settings.data);
         settings.key = folder.join(&settings.key);
         settings.trace = settings.trace.map(|trace| folder.join(trace));
+        settings.events = settings.events.map(|events| folder.join(events));
         settings.floor = settings.floor.map(|floor| folder.join(floor));
         settings.trial.cut = settings.trial.cut.map(|cut| folder.join(cut));
         settings.test().map_err(|error| format!("{}: {error}", path.display()))?;
@@ -212,11 +240,6 @@ impl Turns {
     }
 }
 
-/// The payload of genesis: the same for all members of an epoch.
-pub fn genesis(epoch: u64) -> Digest {
-    crate::crypto::digest(format!("genesis of epoch {epoch}").as_bytes())
-}
-
 #[cfg(test)]
 mod tests {
     use super::*;
@@ -227,7 +250,7 @@ mod tests {
     fn the_example_says_what_stands_where_nothing_is_said() {
         let all: Settings = toml::from_str(EXAMPLE).expect("settings");
         let is_asked = |line: &&str| {
-            ["index", "data", "key", "[[members]]", "address"]
+            ["network", "index", "data", "key", "[[members]]", "address"]
                 .iter()
                 .any(|it| line.starts_with(it))
         };

@@ -1,25 +1,31 @@
 //! How a node begins: from its journal, or at a floor.
 
+use crate::application::Application;
+use crate::application::worker::Worker;
+use crate::archive::keeper::Keeper;
+use crate::archive::{self, Archive, Limits};
 use crate::blocks::{self, Blocks};
+use crate::chain::Tail;
 use crate::clock::Clock;
 use crate::crypto::Keys;
 use crate::floor;
 use crate::identity::Identity;
 use crate::inbox::Inbox;
-use crate::journal::{self, Journal, JournalError, Kept};
+use crate::journal::{self, Journal, Kept};
 use crate::ledger::{self, Ledger};
 use crate::metrics::{self, Counters};
 use crate::peers::{Horizon, Peers};
 use crate::replica::{Parts, Replica};
-use crate::settings::{Outcome, Settings, genesis};
+use crate::settings::{Outcome, Settings};
 use simplex_view_state::{Config, Digest, Engine, EngineError, Floor, Moment, Options, Output, View, Views};
 use std::fs::{self, File, TryLockError};
 use std::path::Path;
 use std::sync::Arc;
+use std::time::Duration;
 use tracing::info;
 
 /// A node that is ready to run, and where it is told of events.
-pub fn open(settings: Settings) -> Outcome<(Replica<Ledger>, Arc<Inbox>)> {
+pub fn open(settings: Settings) -> Outcome<(Replica, Arc<Inbox>)> {
     fs::create_dir_all(&settings.data)?;
     let lock = lock(&settings.data)?;
     let keys = Arc::new(Keys::read(&settings)?);
@@ -29,6 +35,9 @@ pub fn open(settings: Settings) -> Outcome<(Replica<Ledger>, Arc<Inbox>)> {
     let mut engine = engine(&settings.config(floor.clone()), kept.as_ref())?;
     let views = engine.views().ok_or(EngineError::Failed)?;
     test_chain(&settings.data, views.last_finalized)?;
+    let (archive, application) = open_archive(&settings, &identity, &floor)?;
+    test_archive(&settings.data, archive.tail(), views.last_finalized)?;
+    let tail = archive.tail();
     let clock = Clock::start();
     let journal = begin_journal(&mut engine, &settings, &identity, clock.now())?;
     let counters = Arc::new(Counters::default());
@@ -38,11 +47,14 @@ pub fn open(settings: Settings) -> Outcome<(Replica<Ledger>, Arc<Inbox>)> {
     let horizon = Arc::new(Horizon::default());
     horizon.moved(views.current, views.min_active);
     let inbox = Arc::new(Inbox::new(settings.members.len()));
-    let peers = Peers::start(&settings, &keys, &horizon, &counters, &inbox)?;
-    let application = Ledger::open(&settings.data, first_block(&settings, &floor), u64::from(settings.index) << 32)?;
+    let peers = Arc::new(Peers::start(&settings, &keys, &horizon, &counters, &inbox)?);
+    let keeper = Keeper::begin(archive, peers.clone(), inbox.clone(), counters.clone())?;
+    let application = Worker::begin(application, inbox.clone(), counters.clone())?;
     tell(kept.as_ref(), &views);
     let replica = Replica::new(Parts {
-        blocks: Blocks::open(&settings.data, settings.sync)?,
+        blocks: Blocks::open(&settings.data, *identity.genesis().bytes(), settings.sync)?,
+        keeper,
+        tail,
         settings,
         keys,
         horizon,
@@ -58,25 +70,13 @@ pub fn open(settings: Settings) -> Outcome<(Replica<Ledger>, Arc<Inbox>)> {
     Ok((replica, inbox))
 }
 
-/// Says in a node's journal of version 2 that it is this node's. The record has to be one that an engine of these settings takes.
-pub fn adopt(settings: &Settings) -> Outcome {
-    let _lock = lock(&settings.data)?;
-    let floor = floor::read(settings, &Keys::read(settings)?)?;
-    let path = journal::path(&settings.data);
-    let named = |error: JournalError| format!("{}: {error}", path.display());
-    let kept = journal::read_nameless(&settings.data).map_err(named)?;
-    let kept = kept.ok_or_else(|| format!("{} is not there", path.display()))?;
-    let engine = engine(&settings.config(floor), Some(&kept))?;
-    test_chain(&settings.data, engine.views().ok_or(EngineError::Failed)?.last_finalized)?;
-    Ok(journal::adopt(&settings.data, &kept, &Identity::of(settings)?).map_err(named)?)
-}
-
 /// What the journal held; `None` of a node that never began. Where files of the node are here and the journal is not, it is lost: without
 /// it the node would vote a second time.
 fn read_journal(folder: &Path, identity: &Identity) -> Outcome<Option<Kept>> {
     let path = journal::path(folder);
     let kept = journal::read(folder, identity).map_err(|error| format!("{}: {error}", path.display()))?;
-    let left = [ledger::path(folder), blocks::path(folder)].into_iter().find(|it| it.exists());
+    let places = [ledger::path(folder), blocks::path(folder), archive::path(folder)];
+    let left = places.into_iter().find(|it| it.exists());
     match (kept, left) {
         (None, Some(left)) => Err(format!(
             "{} is here, and the journal {} is not: this node may have voted, and could contradict its votes. Put the journal back. {}",
@@ -104,6 +104,68 @@ fn test_chain(folder: &Path, finalized: View) -> Outcome {
         journal::NEW_KEY
     )
     .into())
+}
+
+/// Refuses a journal that is older than the archive beside it, which is written behind it as the chain is.
+fn test_archive(folder: &Path, last: Tail, finalized: View) -> Outcome {
+    if last.view <= finalized || last.height == 0 {
+        return Ok(());
+    }
+    Err(format!(
+        "the journal {} is older than {}: its last finalized view is {finalized}, and the archive's is {}. Votes are lost: put the newest \
+         journal back. {}",
+        journal::path(folder).display(),
+        archive::path(folder).display(),
+        last.view,
+        journal::NEW_KEY
+    )
+    .into())
+}
+
+/// The archive, and the application with all blocks that are in it. The archive is written first, so the application may be behind it.
+fn open_archive(settings: &Settings, identity: &Identity, floor: &Floor) -> Outcome<(Archive, Ledger)> {
+    let start = first_block(identity, floor);
+    let works_for = Duration::from_millis(settings.trial.application_ms);
+    let mut application = Ledger::open(&settings.data, start, u64::from(settings.index) << 32, works_for)?;
+    let (view, payload) = application.last();
+    let tail = Tail {
+        height: application.height(),
+        view,
+        payload,
+    };
+    let limits = Limits {
+        segment_bytes: settings.archive.segment_bytes,
+        most_bytes: settings.archive.most_bytes,
+    };
+    let genesis = *identity.genesis().bytes();
+    let (mut archive, cut) = Archive::open(&settings.data, genesis, limits, settings.sync, tail)?;
+    if cut > 0 {
+        info!(cut, "the archive's last block was cut off");
+    }
+    replay(&mut archive, &mut application)?;
+    Ok((archive, application))
+}
+
+/// Hands the application the blocks of the archive that it has not taken.
+fn replay(archive: &mut Archive, application: &mut Ledger) -> Outcome {
+    let (height, last) = (application.height(), application.last());
+    if archive.first().is_some_and(|first| first > height + 1) {
+        return Err(format!(
+            "the application has {height} blocks, and the archive begins with block {}: put back a newer copy of the application's data, or \
+             move both away, and this node asks its peers for all blocks",
+            archive.first().unwrap_or_default()
+        )
+        .into());
+    }
+    let mut replayed = 0_u64;
+    archive.each_after(last.0, |entry| {
+        replayed += 1;
+        application.finalized(&entry.block).map(|()| true)
+    })?;
+    if replayed > 0 {
+        info!(replayed, "the application was behind the archive");
+    }
+    Ok(())
 }
 
 fn tell(kept: Option<&Kept>, views: &Views) {
@@ -139,9 +201,9 @@ fn lock(folder: &Path) -> Outcome<File> {
     }
 }
 
-fn first_block(settings: &Settings, floor: &Floor) -> (View, Digest) {
+fn first_block(identity: &Identity, floor: &Floor) -> (View, Digest) {
     match floor {
-        Floor::Genesis(_) => (View::GENESIS, genesis(settings.protocol.epoch)),
+        Floor::Genesis(_) => (View::GENESIS, identity.genesis()),
         Floor::Finalized(it) => (it.proposal.view(), it.proposal.payload),
     }
 }

@@ -3,14 +3,16 @@
 use simplex_view_state::{Context, Digest, Moment, Participant, Proposal, View};
 use std::collections::{BTreeMap, BTreeSet, HashSet};
 
-/// After how long a block is asked for again, in milliseconds.
-const RETRY_MS: u64 = 100;
+/// After how long a block is asked for again, in milliseconds: at first, and at most.
+const RETRY_MS: (u64, u64) = (100, 3200);
 
 /// Whose turn it is to be asked for a block, and when.
 #[derive(Clone, Copy)]
 struct Asking {
+    view: View,
     next: Moment,
     peer: Participant,
+    wait_ms: u64,
 }
 
 /// The proposals that wait for their blocks, and the blocks that are asked for.
@@ -49,26 +51,46 @@ impl Waiting {
     /// A proposal is to be verified once its block is here, which is asked of its leader first.
     pub fn verify(&mut self, context: Context, proposal: Proposal, now: Moment) {
         self.to_verify.insert(context.round.view, (context, proposal));
-        self.want(proposal.payload, context.leader, now);
+        self.want(proposal.view(), proposal.payload, context.leader, now);
     }
 
     /// A proposal is to be judged once its block is here.
     pub fn certify(&mut self, proposal: Proposal, leader: Participant, now: Moment) {
         self.to_certify.insert(proposal.view(), proposal);
-        self.want(proposal.payload, leader, now);
+        self.want(proposal.view(), proposal.payload, leader, now);
     }
 
     /// The finalized chain waits for this block; none where it has all of them.
-    pub fn deliver(&mut self, lacking: Option<(Digest, Participant)>, now: Moment) {
-        self.of_chain = lacking.map(|(payload, _)| payload);
-        if let Some((payload, leader)) = lacking {
-            self.want(payload, leader, now);
+    pub fn deliver(&mut self, lacking: Option<(View, Digest)>, leader: Participant, now: Moment) {
+        let payload = lacking.map(|(_, payload)| payload);
+        if payload != self.of_chain {
+            let before = std::mem::replace(&mut self.of_chain, payload);
+            self.drop_unneeded(before);
+        }
+        if let Some((view, payload)) = lacking {
+            self.want(view, payload, leader, now);
+        }
+    }
+
+    /// What the chain waited for is asked for no longer, where nothing else waits for it.
+    fn drop_unneeded(&mut self, payload: Option<Digest>) {
+        let is_needed = |payload: &Digest| {
+            let mut of_views = self.to_verify.values().map(|it| &it.1).chain(self.to_certify.values());
+            of_views.any(|it| it.payload == *payload)
+        };
+        if let Some(payload) = payload.filter(|it| !is_needed(it)) {
+            self.wanted.remove(&payload);
         }
     }
 
     /// What is asked for already stays as it is.
-    fn want(&mut self, payload: Digest, peer: Participant, now: Moment) {
-        self.wanted.entry(payload).or_insert(Asking { next: now, peer });
+    fn want(&mut self, view: View, payload: Digest, peer: Participant, now: Moment) {
+        self.wanted.entry(payload).or_insert(Asking {
+            view,
+            next: now,
+            peer,
+            wait_ms: RETRY_MS.0,
+        });
     }
 
     /// Whether a block is asked for.
@@ -110,7 +132,7 @@ impl Waiting {
     }
 
     /// The blocks that are to be asked for now, and of whom. Each stands there once, and again after a while, for the next member.
-    pub fn due(&mut self, now: Moment) -> Vec<(Digest, Participant)> {
+    pub fn due(&mut self, now: Moment) -> Vec<(View, Digest, Participant)> {
         let (me, members) = (self.me, self.members);
         let is_due = |asking: &Asking| asking.next <= now;
         let asked = self
@@ -120,10 +142,11 @@ impl Waiting {
             .map(|(payload, asking)| {
                 let peer = if asking.peer == me { next_of(me, members) } else { asking.peer };
                 asking.peer = next_of(peer, members);
-                asking.next = Moment::from_millis(now.as_millis() + RETRY_MS);
-                (*payload, peer)
+                asking.next = Moment::from_millis(now.as_millis() + asking.wait_ms);
+                asking.wait_ms = (2 * asking.wait_ms).min(RETRY_MS.1);
+                (asking.view, *payload, peer)
             });
-        asked.filter(|(_, peer)| *peer != me).collect()
+        asked.filter(|(_, _, peer)| *peer != me).collect()
     }
 }
 
@@ -161,14 +184,15 @@ mod tests {
         let lacking = proposal(5, 7);
         waiting.certify(lacking, Participant::new(1), at(50));
         assert!(waiting.due(at(49)).is_empty());
-        let mut peers = Vec::new();
+        let (mut peers, mut now) = (Vec::new(), 50);
         for turn in 0..6 {
-            peers.extend(waiting.due(at(50 + RETRY_MS * turn)).into_iter().map(|it| it.1.get()));
-            assert!(waiting.due(at(49 + RETRY_MS * (turn + 1))).is_empty());
+            peers.extend(waiting.due(at(now)).into_iter().map(|it| it.2.get()));
+            now += RETRY_MS.0 << turn;
+            assert!(waiting.due(at(now - 1)).is_empty(), "later and later");
         }
         assert_eq!(peers, [1, 3, 0, 1, 3, 0]);
         assert_eq!(waiting.arrived(&lacking.payload).to_certify, [lacking]);
-        assert!(waiting.due(at(9999)).is_empty() && waiting.is_empty());
+        assert!(waiting.due(at(99_999)).is_empty() && waiting.is_empty());
     }
 
     #[test]
@@ -177,11 +201,11 @@ mod tests {
         for view in 1..=4 {
             waiting.certify(proposal(view, view as u8), Participant::new(1), at(0));
         }
-        waiting.deliver(Some((Digest::new([1; 32]), Participant::new(3))), at(0));
+        waiting.deliver(Some((View::new(1), Digest::new([1; 32]))), Participant::new(3), at(0));
         waiting.forget(View::new(4));
         let is_wanted = |it: &Waiting| [1, 2, 3, 4].map(|payload| it.wants(&Digest::new([payload; 32])));
         assert_eq!(is_wanted(&waiting), [true, false, false, true]);
-        waiting.deliver(None, at(0));
+        waiting.deliver(None, Participant::new(3), at(0));
         waiting.forget(View::new(4));
         assert_eq!(is_wanted(&waiting), [false, false, false, true]);
         assert!(waiting.arrived(&Digest::new([2; 32])).to_certify.is_empty());

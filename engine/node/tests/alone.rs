@@ -1,17 +1,21 @@
 //! One node among members that the test plays: what it asks of them, and what it makes of what they send.
 
+mod members;
+
+use members::{Link, chain, hear, played, settings_of, stored_blocks};
 use simplex_node::blocks::Block;
 use simplex_node::crypto::{Keys, hex};
-use simplex_node::message::Message;
+use simplex_node::identity::Identity;
+use simplex_node::message::{Message, Range};
 use simplex_node::network::{Network, Plan, folder_of};
-use simplex_node::peers::{HEARTBEAT, HEARTBEAT_FRAME, greet, read_message};
-use simplex_node::settings::{Protocol, Settings, genesis};
-use simplex_view_state::{Certificate, Context, Epoch, FetchKind, Participant, Proposal, Round, Subject, View, Vote};
+use simplex_node::peers::Credentials;
+use simplex_node::settings::{Protocol, Settings};
+use simplex_view_state::{Certificate, Context, Digest, Epoch, FetchKind, Participant, Proposal, Round, Subject, View, Vote};
 use std::collections::BTreeSet;
 use std::fs;
-use std::io::{BufReader, Read, Write};
-use std::net::{TcpListener, TcpStream};
-use std::sync::mpsc::{Receiver, Sender, channel};
+use std::net::TcpListener;
+use std::sync::Arc;
+use std::sync::mpsc::{Receiver, channel};
 use std::thread::{self, sleep};
 use std::time::{Duration, Instant};
 
@@ -23,9 +27,10 @@ const WHILE: Duration = Duration::from_millis(600);
 /// Members 1 to 3 around node 0, whose views end by what they send alone.
 struct Others {
     network: Network,
-    keys: Vec<Keys>,
-    links: Vec<TcpStream>,
+    keys: Vec<Arc<Keys>>,
+    links: Vec<Link>,
     heard: Receiver<(u32, Message)>,
+    genesis: Digest,
 }
 
 fn plan(name: &str) -> Plan {
@@ -45,57 +50,28 @@ fn plan(name: &str) -> Plan {
     }
 }
 
-/// Writes these bytes again and again until the connection ends: a link that is silent is given up.
-fn show_life(stream: &TcpStream, bytes: &'static [u8]) {
-    let mut stream = stream.try_clone().expect("a connection");
-    thread::spawn(move || {
-        while stream.write_all(bytes).is_ok() {
-            sleep(HEARTBEAT);
-        }
-    });
-}
-
-/// Takes the node's connections to a member, and tells what it sends there.
-fn hear(listener: &TcpListener, member: u32, told: &Sender<(u32, Message)>) {
-    for mut stream in listener.incoming().flatten() {
-        if stream.write_all(&[7; 32]).is_err() {
-            continue;
-        }
-        show_life(&stream, &[0]);
-        let mut stream = BufReader::new(stream);
-        while let Ok(message) = read_message(&mut stream) {
-            if told.send((member, message)).is_err() {
-                return;
-            }
-        }
-    }
-}
-
 impl Others {
     fn around_a_node(name: &str) -> Others {
         let mut network = Network::new(plan(name)).expect("keys and settings");
-        let settings: Vec<Settings> = (0..4)
-            .map(|index| Settings::read(&network.config(index)).expect("settings"))
-            .collect();
-        let keys: Vec<Keys> = settings.iter().map(|it| Keys::read(it).expect("a key")).collect();
+        let settings = settings_of(&network);
+        let (keys, credentials) = played(&settings);
         let (told, heard) = channel();
         for (member, peer) in (0..).zip(&settings[0].members).skip(1) {
             let (listener, told) = (TcpListener::bind(peer.address).expect("a free address"), told.clone());
-            thread::spawn(move || hear(&listener, member, &told));
+            let its_own = Credentials::new(&settings[member as usize], &keys[member as usize]).expect("a certificate");
+            thread::spawn(move || hear(&listener, member, &its_own, &told));
         }
         network.begin(0).expect("a process");
         assert!(network.wait_until(&[0], "current_view", 1, SOON), "it does not begin");
         let address = settings[0].members[0].address;
-        let links = keys[1..]
-            .iter()
-            .map(|it| greet(Participant::new(0), address, it).expect("it listens"));
-        let links: Vec<TcpStream> = links.collect();
-        links.iter().for_each(|it| show_life(it, &HEARTBEAT_FRAME));
+        let links: Vec<Link> = credentials[1..].iter().map(|it| Link::begin(it, address)).collect();
+        links.iter().for_each(Link::show_life);
         Others {
             network,
             links,
             keys,
             heard,
+            genesis: Identity::of(&settings[0]).expect("keys").genesis(),
         }
     }
 
@@ -133,7 +109,7 @@ impl Others {
             round: round(view),
             leader: Participant::new(leader as u32),
             parent: View::GENESIS,
-            parent_payload: genesis(1),
+            parent_payload: self.genesis,
         };
         let block = Block::new(&context, &[content; 256]);
         let proposal = Proposal {
@@ -222,23 +198,6 @@ fn a_peer_is_served_the_certificate_that_it_asks_for() {
 }
 
 #[test]
-fn a_greeting_of_another_version_is_refused() {
-    let others = Others::around_a_node("greets");
-    let address = others.links[0].peer_addr().expect("it is connected");
-    let mut stream = TcpStream::connect(address).expect("it listens");
-    let mut text = b"simplex-node greeting".to_vec();
-    let mut asked = [0; 32];
-    stream.read_exact(&mut asked).expect("it asks");
-    text.extend_from_slice(&asked);
-    text.extend_from_slice(&[0, 0, 0, 1, 0, 0, 0, 0]);
-    let signature = others.keys[1].sign(&text).expect("a signature");
-    let hello = Message::Hello(Participant::new(1), signature);
-    stream.write_all(&hello.frame()).expect("it reads");
-    others.comes_to("refused_greetings", 1);
-    others.end();
-}
-
-#[test]
 fn too_few_votes_and_those_of_others_move_nothing() {
     let mut others = Others::around_a_node("moves");
     let subject = Subject::Nullify(round(1));
@@ -269,6 +228,31 @@ fn too_few_votes_and_those_of_others_move_nothing() {
     others.end();
 }
 
+/// The members, with the same keys, have another network too: what they sign there counts nothing here.
+#[test]
+fn what_is_signed_in_another_network_moves_nothing() {
+    let mut others = Others::around_a_node("networks");
+    let mut settings = Settings::read(&others.network.config(1)).expect("settings");
+    let subject = Subject::Nullify(round(1));
+    let good = others.certificate(&[1, 2, 3], subject);
+    for (index, keys) in (0..).zip(&mut others.keys) {
+        settings.index = index;
+        settings.key = others.network.folder().join(format!("{index}.pem"));
+        settings.network = "another".to_owned().try_into().expect("a name");
+        *keys = Arc::new(Keys::read(&settings).expect("a key"));
+    }
+    let of_another = others.certificate(&[1, 2, 3], subject);
+    others.send(1, &Message::Certificate(of_another));
+    for signer in 1..4 {
+        others.send(signer, &Message::Vote(others.vote(signer, subject)));
+    }
+    others.comes_to("forged", 4);
+    assert_eq!(others.counts("current_view"), 1);
+    others.send(1, &Message::Certificate(good));
+    others.comes_to("current_view", 2);
+    others.end();
+}
+
 #[test]
 fn a_proposal_that_comes_two_views_early_is_voted_for_with_its_block() {
     let mut others = Others::around_a_node("early");
@@ -285,7 +269,7 @@ fn a_proposal_that_comes_two_views_early_is_voted_for_with_its_block() {
     others.nullify(2);
     let mut is_asked = false;
     let is_voted = others.hears(SOON, |_, message| {
-        is_asked |= matches!(message, Message::AskBlock(_));
+        is_asked |= matches!(message, Message::AskBlock(..));
         matches!(message, Message::Vote(it) if it.subject == vote.subject)
     });
     assert!(is_voted && !is_asked, "voted: {is_voted}, asked for the block: {is_asked}");
@@ -297,15 +281,14 @@ fn of_a_leader_that_signs_many_blocks_one_is_kept() {
     let mut others = Others::around_a_node("many");
     others.nullify(1);
     others.comes_to("current_view", 2);
-    let blocks_of_one = fs::metadata(others.network.data(0).join("blocks")).expect("its own block").len();
+    let blocks_of_one = stored_blocks(&others.network.data(0));
     for content in 0..20 {
         let (vote, block) = others.proposal(2, 1, content);
         others.send(1, &Message::Proposal(vote, block.bytes().to_vec()));
     }
     // The second one is evidence; those after it tell nothing, and are dropped by the reader.
     others.comes_to("contradictions", 1);
-    let blocks = fs::metadata(others.network.data(0).join("blocks")).expect("blocks").len();
-    assert_eq!(blocks, 2 * blocks_of_one);
+    assert_eq!(stored_blocks(&others.network.data(0)), 2 * blocks_of_one);
     let log = fs::read_to_string(others.network.log(0)).expect("a log");
     assert!(
         log.contains("first_signature") && log.contains("second_signature"),
@@ -365,7 +348,7 @@ fn who_votes_for_another_proposal_is_sent_the_leaders_vote_once() {
         others.send(2, &Message::Vote(others.vote(2, second.subject)));
     }
     assert_eq!(sent_to(&others, &first.0, 1, SOON), [2]);
-    assert_eq!(sent_to(&others, &first.0, 1, WHILE), [], "once a view and peer");
+    assert!(sent_to(&others, &first.0, 1, WHILE).is_empty(), "once a view and peer");
     // Member 2 sends what it has, in return.
     others.send(2, &Message::Vote(second.clone()));
     shows_the_evidence(others, &first.0, &second);
@@ -414,4 +397,88 @@ fn a_leaders_vote_is_evidence_also_where_its_view_is_notarized() {
     others.comes_to("current_view", 3);
     others.send(2, &Message::Vote(second.clone()));
     shows_the_evidence(others, &first.0, &second);
+}
+
+/// The view behind which the node asks for final blocks, and the member that it asks.
+fn asked_range(others: &Others) -> (u32, View) {
+    let mut asked = None;
+    others.hears(SOON, |member, message| {
+        if let Message::AskRange(after, _) = message {
+            asked = Some((member, *after));
+        }
+        asked.is_some()
+    });
+    asked.expect("it asks for ranges")
+}
+
+#[test]
+fn final_blocks_that_are_lacking_are_taken_in_a_range_where_they_are_those_that_the_certificate_names() {
+    let mut others = Others::around_a_node("range");
+    let (blocks, other) = (chain(others.genesis, 1..6, 256), chain(others.genesis, 1..6, 255));
+    let proposal = blocks[4].1;
+    let certificate = others.certificate(&[1, 2, 3], Subject::Finalize(proposal));
+    others.send(1, &Message::Certificate(certificate.clone()));
+    let (first, after) = asked_range(&others);
+    assert_eq!(after, View::GENESIS);
+    let falling: Vec<Block> = blocks.iter().rev().map(|(block, _)| block.clone()).collect();
+    let range = |blocks: &[Block], certificate: &Certificate| {
+        Message::Range(Range {
+            after,
+            certificate: certificate.clone(),
+            blocks: blocks.to_vec(),
+        })
+    };
+    let mut lying = falling.clone();
+    lying[2] = other[2].0.clone();
+    others.send(first as usize, &range(&lying, &certificate));
+    others.comes_to("forged", 1);
+    let forged = others.certificate(&[1, 3], Subject::Finalize(proposal));
+    others.send(first as usize, &range(&falling, &forged));
+    others.comes_to("forged", 2);
+    assert_eq!((others.counts("height"), others.counts("lag_views")), (0, 5));
+    // It is asked of another member meanwhile.
+    assert_ne!(asked_range(&others).0, first);
+    others.send(2, &range(&falling, &certificate));
+    others.comes_to("height", 5);
+    sleep(WHILE);
+    assert_eq!(others.counts("lag_views"), 0);
+    others.end();
+}
+
+#[test]
+fn a_final_block_that_is_lacking_is_taken_by_its_digest_too() {
+    let mut others = Others::around_a_node("digest");
+    let blocks = chain(others.genesis, 1..4, 256);
+    let certificate = others.certificate(&[1, 2, 3], Subject::Finalize(blocks[2].1));
+    others.send(1, &Message::Certificate(certificate));
+    for (block, proposal) in blocks.iter().rev() {
+        let is_it =
+            |message: &Message| matches!(message, Message::AskBlock(view, payload) if *view == block.view && *payload == proposal.payload);
+        assert!(others.hears(SOON, |_, message| is_it(message)), "view {}", block.view);
+        others.send(2, &Message::Block(block.bytes().to_vec()));
+    }
+    others.comes_to("height", 3);
+    others.end();
+}
+
+/// A nullification of a far view would have the node ask for those of all views below, of which there are a hundred thousand.
+#[test]
+fn a_certificate_of_a_far_view_waits_for_a_finalization() {
+    let mut others = Others::around_a_node("far");
+    let far = |view| Proposal {
+        round: round(view),
+        parent: View::new(view - 1),
+        payload: Digest::new([7; 32]),
+    };
+    others.nullify(100_001);
+    let certificate = others.certificate(&[1, 2, 3], Subject::Finalize(far(100_000)));
+    others.send(2, &Message::Certificate(certificate));
+    let begun = Instant::now();
+    others.comes_to("current_view", 100_002);
+    assert!(begun.elapsed() < Duration::from_secs(5), "{:?}", begun.elapsed());
+    assert_eq!(others.counts("last_finalized"), 100_000);
+    // Where nothing is finalized it counts by itself.
+    others.nullify(100_801);
+    others.comes_to("current_view", 100_802);
+    others.end();
 }

@@ -411,6 +411,22 @@ fn run(arguments: &[&str], is_good: bool) -> String {
     said
 }
 
+/// Node 3's application takes a minute for each answer, unless nobody waits for it any more: it votes for no block, and the node follows.
+#[test]
+fn an_application_that_is_slow_holds_up_its_own_votes_alone() {
+    let mut network = Network::new(plan("application", 4)).expect("keys and settings");
+    network.set(3, |it| it.trial.application_ms = 60_000).expect("settings");
+    network.begin_all().expect("processes");
+    assert!(network.wait_for(&[0, 1, 2, 3], 5, START), "{}", logs(&network));
+    for _ in 0..2 {
+        goes_on(&network, &[0, 1, 2, 3]);
+        let height = network.metric(0, "height").expect("it answers");
+        assert!(network.wait_until(&[3], "height", height, SOON), "{}", logs(&network));
+    }
+    assert_eq!(network.metric(3, "proposals"), Some(0));
+    ends_well(network, 1);
+}
+
 /// Builds the chain of so many nodes, each with this time between its blocks, and returns how long that took and what links there are.
 fn paced(name: &str, nodes: u32, pace_ms: u64, views: u64) -> (Duration, Vec<Link>) {
     let mut paced = plan(name, nodes);

@@ -1,15 +1,20 @@
 //! One node against members and strangers that attack it, whom the test plays: what they do costs the others nothing that matters.
 
+mod members;
+
+use members::{Link, chain, played, settings_of, stored_blocks};
 use simplex_node::blocks::Block;
 use simplex_node::crypto::Keys;
-use simplex_node::message::Message;
+use simplex_node::identity::Identity;
+use simplex_node::message::{Message, Range};
 use simplex_node::network::{Network, Plan, folder_of};
-use simplex_node::peers::{HEARTBEAT_FRAME, SILENCE, greet};
-use simplex_node::settings::{Protocol, Settings, genesis};
-use simplex_view_state::{Certificate, Context, Epoch, FetchKind, Participant, Proposal, Round, Subject, View, Vote};
+use simplex_node::peers::{Credentials, HEARTBEAT_FRAME, SILENCE};
+use simplex_node::settings::{Protocol, Settings};
+use simplex_view_state::{Certificate, Context, Digest, Epoch, FetchKind, Participant, Proposal, Round, Subject, View, Vote};
 use std::fs;
 use std::io::{Read, Write};
 use std::net::{SocketAddr, TcpListener, TcpStream};
+use std::sync::Arc;
 use std::thread::{self, sleep};
 use std::time::{Duration, Instant};
 
@@ -21,8 +26,11 @@ const MOST_KB: u64 = 64 << 10;
 /// Node 0 of four, and the keys of the others.
 struct Attacked {
     network: Network,
-    keys: Vec<Keys>,
+    settings: Vec<Settings>,
+    keys: Vec<Arc<Keys>>,
+    credentials: Vec<Credentials>,
     addresses: Vec<SocketAddr>,
+    genesis: Digest,
 }
 
 impl Attacked {
@@ -42,19 +50,25 @@ impl Attacked {
             folder: folder_of(name),
         };
         let mut network = Network::new(plan).expect("keys and settings");
-        let settings: Vec<Settings> = (0..4)
-            .map(|index| Settings::read(&network.config(index)).expect("settings"))
-            .collect();
-        let keys = settings.iter().map(|it| Keys::read(it).expect("a key")).collect();
+        let settings = settings_of(&network);
+        let (keys, credentials) = played(&settings);
         let addresses = settings[0].members.iter().map(|it| it.address).collect();
         network.begin(0).expect("a process");
         assert!(network.wait_until(&[0], "current_view", 1, SOON), "it does not begin");
-        Attacked { network, keys, addresses }
+        let genesis = Identity::of(&settings[0]).expect("keys").genesis();
+        Attacked {
+            network,
+            settings,
+            keys,
+            credentials,
+            addresses,
+            genesis,
+        }
     }
 
     /// A connection of a member to the node.
-    fn link(&self, member: usize) -> TcpStream {
-        greet(Participant::new(0), self.addresses[0], &self.keys[member]).expect("it listens")
+    fn link(&self, member: usize) -> Link {
+        Link::begin(&self.credentials[member], self.addresses[0])
     }
 
     fn vote(&self, signer: usize, subject: Subject) -> Vote {
@@ -67,18 +81,22 @@ impl Attacked {
 
     /// The nullification of a view, by the three others.
     fn nullification(&self, view: u64) -> Message {
-        let subject = Subject::Nullify(round(view));
+        Message::Certificate(self.certificate(Subject::Nullify(round(view))))
+    }
+
+    /// The certificate that the votes of the three others make.
+    fn certificate(&self, subject: Subject) -> Certificate {
         let mut bytes = Vec::new();
         for vote in (1..4).map(|signer| self.vote(signer, subject)) {
             bytes.extend_from_slice(&vote.signer.get().to_be_bytes());
             bytes.extend_from_slice(&(vote.signature.len() as u64).to_be_bytes());
             bytes.extend_from_slice(&vote.signature);
         }
-        Message::Certificate(Certificate::of(subject, bytes))
+        Certificate::of(subject, bytes)
     }
 
     /// Whether the node goes from view to view while a member sends certificates.
-    fn goes_through(&self, link: &mut TcpStream, views: std::ops::Range<u64>) {
+    fn goes_through(&self, link: &Link, views: std::ops::Range<u64>) {
         let last = views.end;
         for view in views {
             let frame = self.nullification(view).frame();
@@ -128,8 +146,8 @@ fn strangers_that_do_not_greet_keep_no_member_out() {
     let strangers: Vec<TcpStream> = (0..120)
         .map(|_| TcpStream::connect(attacked.addresses[0]).expect("it listens"))
         .collect();
-    let mut link = attacked.link(1);
-    attacked.goes_through(&mut link, 1..3);
+    let link = attacked.link(1);
+    attacked.goes_through(&link, 1..3);
     assert!(attacked.counts("refused_connections") >= 60, "the room for greetings is small");
     let longest = strangers.iter().map(|it| ends_within(it, SOON)).max();
     assert!(longest < Some(Duration::from_secs(5)), "{longest:?}");
@@ -140,8 +158,8 @@ fn strangers_that_do_not_greet_keep_no_member_out() {
 fn a_greeting_has_two_seconds_as_a_whole() {
     let attacked = Attacked::begin("drips");
     let mut stream = TcpStream::connect(attacked.addresses[0]).expect("it listens");
-    // As if a long frame came, byte by byte.
-    stream.write_all(&[0, 16, 0, 0]).expect("it reads");
+    // As if a long handshake came, byte by byte.
+    stream.write_all(&[22, 3, 1, 16, 0]).expect("it reads");
     let dripping = thread::spawn({
         let mut stream = stream.try_clone().expect("a connection");
         move || {
@@ -150,8 +168,6 @@ fn a_greeting_has_two_seconds_as_a_whole() {
             }
         }
     });
-    let mut asked = [0; 32];
-    stream.read_exact(&mut asked).expect("it asks");
     let ended = ends_within(&stream, SOON);
     assert!(ended < Duration::from_secs(4), "{ended:?}");
     dripping.join().expect("it ends");
@@ -161,15 +177,14 @@ fn a_greeting_has_two_seconds_as_a_whole() {
 #[test]
 fn a_member_has_one_connection_and_the_newest_one() {
     let attacked = Attacked::begin("holds");
-    let held: Vec<TcpStream> = (0..40).map(|_| attacked.link(3)).collect();
-    let mut link = attacked.link(1);
-    attacked.goes_through(&mut link, 1..3);
+    let held: Vec<Link> = (0..40).map(|_| attacked.link(3)).collect();
+    let link = attacked.link(1);
+    attacked.goes_through(&link, 1..3);
     let (newest, older) = held.split_last().expect("some");
     for it in older {
-        ends_within(it, SOON);
+        ends_within(&it.tcp(), SOON);
     }
     let frame = attacked.nullification(3).frame();
-    let mut newest = newest;
     newest.write_all(&frame).expect("the newest one is read");
     attacked.comes_to("current_view", 4);
     attacked.end();
@@ -178,15 +193,15 @@ fn a_member_has_one_connection_and_the_newest_one() {
 #[test]
 fn a_connection_that_is_silent_is_ended_and_one_with_heartbeats_is_not() {
     let attacked = Attacked::begin("silent");
-    let (silent, mut alive) = (attacked.link(1), attacked.link(2));
+    let (silent, alive) = (attacked.link(1), attacked.link(2));
     let begun = Instant::now();
     while begun.elapsed() < 2 * SILENCE {
         alive.write_all(&HEARTBEAT_FRAME).expect("it is open");
         sleep(SILENCE / 4);
     }
-    let ended = ends_within(&silent, SOON);
+    let ended = ends_within(&silent.tcp(), SOON);
     assert!(ended < SILENCE, "{ended:?}");
-    attacked.goes_through(&mut alive, 1..3);
+    attacked.goes_through(&alive, 1..3);
     attacked.end();
 }
 
@@ -198,9 +213,10 @@ fn a_link_without_heartbeats_is_begun_anew() {
     let (mut accepted, begun) = (Vec::new(), Instant::now());
     while accepted.len() < 2 && begun.elapsed() < SOON {
         match listener.accept() {
-            Ok((mut stream, _)) => {
-                stream.write_all(&[7; 32]).expect("it reads");
-                accepted.push((stream, Instant::now()));
+            Ok((stream, _)) => {
+                stream.set_nonblocking(false).expect("a connection");
+                let greeted = attacked.credentials[1].accept(stream).expect("it greets");
+                accepted.push((greeted, Instant::now()));
             }
             Err(_) => sleep(Duration::from_millis(10)),
         }
@@ -214,14 +230,14 @@ fn a_link_without_heartbeats_is_begun_anew() {
 #[test]
 fn blocks_that_nobody_asked_for_cost_little() {
     let attacked = Attacked::begin("blocks");
-    let mut flood = attacked.link(3);
+    let flood = attacked.link(3);
     let flooding = thread::spawn(move || {
         let (frame, begun) = (Message::Block(vec![7; 1_000_000]).frame(), Instant::now());
         while begun.elapsed() < Duration::from_secs(4) && flood.write_all(&frame).is_ok() {}
     });
-    let mut link = attacked.link(1);
+    let link = attacked.link(1);
     for view in 1..40 {
-        attacked.goes_through(&mut link, view..view + 1);
+        attacked.goes_through(&link, view..view + 1);
         assert!(attacked.counts("resident_kb") < MOST_KB, "{} kB", attacked.counts("resident_kb"));
     }
     flooding.join().expect("it ends");
@@ -232,9 +248,9 @@ fn blocks_that_nobody_asked_for_cost_little() {
 #[test]
 fn asks_without_end_take_no_memory() {
     let attacked = Attacked::begin("asks");
-    let mut link = attacked.link(1);
-    attacked.goes_through(&mut link, 1..20);
-    let mut flood = attacked.link(3);
+    let link = attacked.link(1);
+    attacked.goes_through(&link, 1..20);
+    let flood = attacked.link(3);
     let flooding = thread::spawn(move || {
         let mut frames = Vec::new();
         for view in 0..1000 {
@@ -244,7 +260,7 @@ fn asks_without_end_take_no_memory() {
         while begun.elapsed() < Duration::from_secs(4) && flood.write_all(&frames).is_ok() {}
     });
     for view in 20..40 {
-        attacked.goes_through(&mut link, view..view + 1);
+        attacked.goes_through(&link, view..view + 1);
         assert!(attacked.counts("resident_kb") < MOST_KB, "{} kB", attacked.counts("resident_kb"));
     }
     flooding.join().expect("it ends");
@@ -255,7 +271,7 @@ fn asks_without_end_take_no_memory() {
 #[test]
 fn a_member_that_forges_is_refused_for_a_while() {
     let attacked = Attacked::begin("forges");
-    let mut forger = attacked.link(3);
+    let forger = attacked.link(3);
     let forged = Vote {
         signer: Participant::new(1),
         ..attacked.vote(3, Subject::Nullify(round(1)))
@@ -264,26 +280,26 @@ fn a_member_that_forges_is_refused_for_a_while() {
         let _ = forger.write_all(&Message::Vote(forged.clone()).frame());
     }
     attacked.comes_to("offences", 1);
-    ends_within(&forger, SOON);
+    ends_within(&forger.tcp(), SOON);
     assert!(attacked.counts("forged") < 50, "what follows is not verified");
     let refused = attacked.link(3);
-    ends_within(&refused, SOON);
+    ends_within(&refused.tcp(), SOON);
     sleep(Duration::from_secs(1));
-    let mut link = attacked.link(3);
-    attacked.goes_through(&mut link, 1..2);
+    let link = attacked.link(3);
+    attacked.goes_through(&link, 1..2);
     attacked.end();
 }
 
 #[test]
 fn a_block_under_the_name_of_another_is_not_kept() {
     let attacked = Attacked::begin("names");
-    let mut link = attacked.link(1);
-    attacked.goes_through(&mut link, 1..2);
+    let link = attacked.link(1);
+    attacked.goes_through(&link, 1..2);
     let context = Context {
         round: round(2),
         leader: Participant::new(1),
         parent: View::GENESIS,
-        parent_payload: genesis(1),
+        parent_payload: attacked.genesis,
     };
     let (named, other) = (Block::new(&context, &[1; 256]), Block::new(&context, &[2; 256]));
     let proposal = Proposal {
@@ -291,13 +307,113 @@ fn a_block_under_the_name_of_another_is_not_kept() {
         parent: context.parent,
         payload: named.payload(),
     };
-    let bytes = || fs::metadata(attacked.network.data(0).join("blocks")).map_or(0, |it| it.len());
+    let bytes = || stored_blocks(&attacked.network.data(0));
     let before = bytes();
     let vote = attacked.vote(1, Subject::Notarize(proposal));
     let message = Message::Proposal(vote, other.bytes().to_vec());
     link.write_all(&message.frame()).expect("it reads");
     attacked.comes_to("forged", 1);
-    attacked.goes_through(&mut link, 2..3);
+    attacked.goes_through(&link, 2..3);
     assert_eq!(bytes(), before);
+    attacked.end();
+}
+
+/// What the node's log says.
+fn log_of(attacked: &Attacked) -> String {
+    fs::read_to_string(attacked.network.log(0)).expect("a log")
+}
+
+#[test]
+fn a_stranger_with_a_key_of_its_own_is_refused() {
+    let attacked = Attacked::begin("key");
+    let mut settings = attacked.settings[1].clone();
+    settings.key = attacked.network.folder().join("9.pem");
+    settings.members[1].key = simplex_node::crypto::make_key(&settings.key).expect("a key");
+    let keys = Arc::new(Keys::read(&settings).expect("a key"));
+    let stranger = Credentials::new(&attacked.settings[1], &keys).expect("a certificate");
+    // Its own handshake may end before the node has looked at its key.
+    let session = stranger.connect(Participant::new(0), attacked.addresses[0]);
+    if let Ok(session) = &session {
+        ends_within(session.tcp(), SOON);
+    }
+    attacked.comes_to("refused_greetings", 1);
+    assert!(log_of(&attacked).contains("a greeting is refused"));
+    attacked.end();
+}
+
+#[test]
+fn nothing_is_sent_to_who_answers_at_a_members_address_with_another_key() {
+    let attacked = Attacked::begin("answers");
+    let mut settings = attacked.settings[1].clone();
+    settings.key = attacked.network.folder().join("9.pem");
+    settings.members[1].key = simplex_node::crypto::make_key(&settings.key).expect("a key");
+    let keys = Arc::new(Keys::read(&settings).expect("a key"));
+    let stranger = Credentials::new(&attacked.settings[1], &keys).expect("a certificate");
+    let listener = TcpListener::bind(attacked.addresses[1]).expect("a free address");
+    for _ in 0..3 {
+        let (stream, _) = listener.accept().expect("it connects");
+        assert!(stranger.accept(stream).is_err(), "the node ends the handshake");
+    }
+    assert_eq!(attacked.counts("connections"), 0);
+    assert!(
+        log_of(&attacked).contains("a member's greeting is refused"),
+        "{}",
+        log_of(&attacked)
+    );
+    attacked.end();
+}
+
+#[test]
+fn settings_that_differ_are_refused_by_name_at_both_ends() {
+    let attacked = Attacked::begin("differ");
+    let mut settings = attacked.settings[2].clone();
+    settings.protocol.term_length = 4.try_into().expect("not 0");
+    let other = Credentials::new(&settings, &attacked.keys[2]).expect("a certificate");
+    let refused = other
+        .connect(Participant::new(0), attacked.addresses[0])
+        .expect_err("it is refused");
+    assert!(refused.to_string().contains("`term_length` is 1 there and 4 here"), "{refused}");
+    attacked.comes_to("refused_greetings", 1);
+    let listener = TcpListener::bind(attacked.addresses[2]).expect("a free address");
+    let (_, refused) = other.accept(listener.accept().expect("it connects").0).expect_err("it is refused");
+    assert!(refused.to_string().contains("`term_length`"), "{refused}");
+    attacked.comes_to("refused_greetings", 1);
+    let begun = Instant::now();
+    while log_of(&attacked).matches("`term_length` is 4 there and 1 here").count() < 2 {
+        assert!(begun.elapsed() < SOON, "{}", log_of(&attacked));
+        sleep(Duration::from_millis(20));
+    }
+    attacked.end();
+}
+
+/// Two final blocks of half a MiB, asked for again and again by one member.
+#[test]
+fn asks_for_final_blocks_are_served_within_a_share() {
+    let attacked = Attacked::begin("share");
+    let blocks = chain(attacked.genesis, 1..3, 500_000);
+    let certificate = attacked.certificate(Subject::Finalize(blocks[1].1));
+    let range = Range {
+        after: View::GENESIS,
+        certificate: certificate.clone(),
+        blocks: blocks.iter().rev().map(|(block, _)| block.clone()).collect(),
+    };
+    let link = attacked.link(1);
+    link.write_all(&Message::Certificate(certificate).frame()).expect("it reads");
+    let begun = Instant::now();
+    while attacked.counts("height") < 2 {
+        assert!(begun.elapsed() < SOON, "the blocks are not taken");
+        link.write_all(&Message::Range(range.clone()).frame()).expect("it reads");
+        sleep(Duration::from_millis(100));
+    }
+    let (flood, begun) = (attacked.link(3), Instant::now());
+    while begun.elapsed() < Duration::from_secs(3) {
+        let asks = (0..50).flat_map(|_| Message::AskRange(View::GENESIS, View::new(2)).frame());
+        flood.write_all(&asks.collect::<Vec<u8>>()).expect("it reads");
+        sleep(Duration::from_millis(50));
+    }
+    // 16 MB at once, and 8 MB a second, in answers of 1 MB.
+    let (most, served) = (16 + 8 * (begun.elapsed().as_secs() + 1) + 2, attacked.counts("served"));
+    assert!(served > 8 && served < most, "{served} of at most {most}");
+    assert!(attacked.counts("resident_kb") < MOST_KB, "{} kB", attacked.counts("resident_kb"));
     attacked.end();
 }

@@ -78,12 +78,18 @@ fn a_node_that_lost_its_journal_is_refused_by_what_it_left() {
     let network = stopped("lost", 1);
     let data = network.data(0);
     fs::remove_file(journal::path(&data)).expect("a journal");
-    for left in ["chain", "blocks"] {
+    for left in ["chain", "blocks", "archive"] {
         let said = refused(&network, 0);
         assert!(said.contains(data.join(left).to_str().expect("letters")), "{said}");
         assert!(said.contains("journal") && said.contains("Put the journal back"), "{said}");
         assert!(!journal::path(&data).exists(), "no other journal is begun");
-        fs::remove_file(data.join(left)).expect("it is left");
+        let path = data.join(left);
+        if path.is_dir() {
+            fs::remove_dir_all(path)
+        } else {
+            fs::remove_file(path)
+        }
+        .expect("it is left");
     }
     end(network);
 }
@@ -151,32 +157,33 @@ fn a_journal_of_another_list_of_members_is_refused() {
 }
 
 #[test]
-fn a_journal_that_names_no_member_has_to_be_adopted() {
-    let network = stopped("adopt", 1);
-    let path = journal::path(&network.data(0));
-    let bytes = fs::read(&path).expect("a journal");
-    fs::write(&path, [b"simplexj\x02", &bytes[HEAD..]].concat()).expect("a disk");
+fn a_journal_of_another_network_is_refused() {
+    let mut network = stopped("network", 1);
+    let other = "other".to_owned().try_into().expect("a name");
+    network.set(0, |it| it.network = other).expect("settings");
     let said = refused(&network, 0);
-    assert!(said.contains("version 2") && said.contains("simplex-node adopt --config"), "{said}");
-    let adopted = run(&["adopt"], &network.config(0)).expect("it ends");
-    assert!(adopted.status.success(), "{}", String::from_utf8_lossy(&adopted.stderr));
-    assert_eq!(fs::read(&path).expect("a journal"), bytes);
-    assert!(run(&[], &network.config(0)).is_none(), "it runs");
-    let again = run(&["adopt"], &network.config(0)).expect("it ends");
-    assert!(!again.status.success(), "it names its member already");
+    assert!(
+        said.contains("of the network local") && said.contains("`network` is other"),
+        "{said}"
+    );
     end(network);
 }
 
 #[test]
-fn a_journal_of_another_member_is_not_adopted() {
-    let network = stopped("foreign", 4);
-    let bytes = fs::read(journal::path(&network.data(1))).expect("a journal");
-    let before = [b"simplexj\x02", &bytes[HEAD..]].concat();
+fn a_journal_of_before_networks_had_names_is_refused_and_stays_as_it_is() {
+    let network = stopped("nameless", 1);
     let path = journal::path(&network.data(0));
-    fs::write(&path, &before).expect("a disk");
-    let adopted = run(&["adopt"], &network.config(0)).expect("it ends");
-    assert!(!adopted.status.success());
-    assert_eq!(fs::read(&path).expect("a journal"), before, "it stays as it is");
+    let bytes = fs::read(&path).expect("a journal");
+    for version in [2, 3] {
+        let before = [b"simplexj", &[version][..], &bytes[HEAD..]].concat();
+        fs::write(&path, &before).expect("a disk");
+        let said = refused(&network, 0);
+        assert!(
+            said.contains(&format!("has version {version}")) && said.contains("begin the next epoch"),
+            "{said}"
+        );
+        assert_eq!(fs::read(&path).expect("a journal"), before);
+    }
     end(network);
 }
 

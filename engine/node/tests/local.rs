@@ -1,9 +1,10 @@
 //! `simplex-local` as its user meets it: what it refuses, what it leaves alone, how it ends, and its last line.
 
 use simplex_node::settings::Settings;
+use simplex_trace::{Event, Trace};
 use simplex_view_state::build_info;
 use std::fs::{self, File, TryLockError};
-use std::io::{Read, Write};
+use std::io::{BufReader, Read, Write};
 use std::net::{SocketAddr, TcpStream};
 use std::path::{Path, PathBuf};
 use std::process::{Child, Command, Output, Stdio};
@@ -227,4 +228,43 @@ fn each_program_says_its_own_name_and_what_its_library_is() {
         let said = String::from_utf8(done.stdout).expect("letters");
         assert!(said.starts_with(name) && said.contains(build_info()), "{said}");
     }
+}
+
+#[test]
+fn a_page_of_a_run_is_written_over_an_earlier_page_and_over_nothing_else() {
+    let folder = scratch("page");
+    let (page, thesis) = (folder.join("run.html"), folder.join("thesis.html"));
+    for _ in 0..2 {
+        succeeds(&["--nodes", "4", "--views", "8", "--kill", "1", "--html", text_of(&page)]);
+        let html = fs::read_to_string(&page).expect("a page");
+        assert!(html.contains("content=\"simplex-view\"") && html.contains("\"members\":4"));
+    }
+    fs::write(&thesis, "years of work").expect("a disk");
+    let said = refused(&["--nodes", "1", "--views", "3", "--html", text_of(&thesis)]);
+    assert!(said.contains("name another file"), "{said}");
+    assert_eq!(fs::read_to_string(&thesis).expect("it is there"), "years of work");
+    fs::remove_dir_all(folder).expect("a folder");
+}
+
+#[test]
+fn each_node_traces_all_its_lifetimes_and_no_run_is_mixed_with_another() {
+    let folder = scratch("traces").join("new");
+    let words = ["--nodes", "4", "--views", "30", "--kill", "2", "--trace", text_of(&folder)];
+    succeeds(&words);
+    let (mut votes, mut resumes) = (0, 0);
+    for index in 0..4 {
+        let file = File::open(folder.join(format!("{index}.trace"))).expect("a trace");
+        let trace = Trace::read(BufReader::new(file)).expect("a trace");
+        assert!(trace.lines.iter().all(|it| it.member == Some(index)));
+        let count = |is_it: fn(&Event) -> bool| trace.lines.iter().filter(|it| is_it(&it.event)).count();
+        assert!(count(|it| matches!(it, Event::Finalized { .. })) > 10, "node {index}");
+        assert!(count(|it| matches!(it, Event::VoteReceived { .. })) > 30, "node {index}");
+        assert_eq!(count(|it| matches!(it, Event::Dropped { .. })), 0);
+        votes += count(|it| matches!(it, Event::Vote { .. }));
+        resumes += count(|it| matches!(it, Event::Resume { .. }));
+    }
+    assert!(votes > 100 && resumes == 2, "{votes} votes, {resumes} resumes");
+    let said = refused(&words);
+    assert!(said.contains("name a new folder for --trace"), "{said}");
+    fs::remove_dir_all(folder).expect("a folder");
 }

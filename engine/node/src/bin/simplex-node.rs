@@ -20,6 +20,9 @@ struct Arguments {
     /// The settings of the node, a TOML file.
     #[arg(long, required = true)]
     config: Option<PathBuf>,
+    /// Traces all events into this file, for simplex-view. A trace that is there is appended to.
+    #[arg(long)]
+    trace: Option<PathBuf>,
     #[command(subcommand)]
     command: Option<Command>,
 }
@@ -31,12 +34,6 @@ enum Command {
         /// Where the secret key goes.
         #[arg(long)]
         out: PathBuf,
-    },
-    /// Says in a journal of version 2, which does not say whose it is, that it is this node's. Do so only where this node wrote it.
-    Adopt {
-        /// The settings of the node.
-        #[arg(long)]
-        config: PathBuf,
     },
     /// Writes the last finalized proposal of a node that does not run, with its certificate: another node can begin there.
     Floor {
@@ -58,9 +55,8 @@ fn main() -> ExitCode {
         .init();
     let outcome = match (arguments.command, arguments.config) {
         (Some(Command::Keygen { out }), _) => crypto::make_key(&out).map(|public| println!("{public}")),
-        (Some(Command::Adopt { config }), _) => Settings::read(&config).and_then(|it| start::adopt(&it)),
         (Some(Command::Floor { config, out }), _) => write_floor(&config, &out),
-        (None, Some(config)) => run(&config),
+        (None, Some(config)) => run(&config, arguments.trace),
         (None, None) => Err("--config is lacking".into()),
     };
     match outcome {
@@ -77,8 +73,10 @@ fn write_floor(config: &std::path::Path, out: &std::path::Path) -> Outcome {
     fs::write(out, bytes).map_err(|error| format!("{}: {error}", out.display()).into())
 }
 
-fn run(config: &std::path::Path) -> Outcome {
-    let (replica, inbox) = start::open(Settings::read(config)?)?;
+fn run(config: &std::path::Path, trace: Option<PathBuf>) -> Outcome {
+    let mut settings = Settings::read(config)?;
+    settings.events = trace.or(settings.events);
+    let (replica, inbox) = start::open(settings)?;
     let mut signals = Signals::new([SIGINT, SIGTERM])?;
     thread::Builder::new().name("signals".into()).spawn(move || {
         for _ in signals.forever() {

@@ -4,14 +4,13 @@
 //! oldest one goes. A member's newer connection takes the place of its older one, which may be what is left of a process or of a path that
 //! is gone. A member that sent forgeries is refused for a time that doubles.
 
-use super::link::{GREETING, HEARTBEAT, SILENCE, greeting};
+use super::link::{HEARTBEAT, LOGGED, is_refusal};
 use super::reader::Reader;
-use crate::crypto::{Keys, SIGNATURE};
-use crate::message::Message;
+use super::session::{Credentials, Session};
 use crate::metrics::Counters;
 use simplex_view_state::Participant;
 use std::collections::VecDeque;
-use std::io::{self, Read, Write};
+use std::io::{self, Write};
 use std::net::{Shutdown, TcpListener, TcpStream};
 use std::sync::atomic::{AtomicU64, Ordering::Relaxed};
 use std::sync::{Arc, Mutex, MutexGuard};
@@ -21,14 +20,10 @@ use tracing::{debug, warn};
 
 /// How many connections may be greeting at once, beside two for each member.
 const GREETING_ROOM: usize = 32;
-/// The bytes of a greeting: a frame's length, the kind, the member and its signature.
-const GREETING_BYTES: usize = 4 + 1 + 4 + SIGNATURE;
 /// For how long a member that sent forgeries is refused: at first, and at most.
 const PENALTY: (Duration, Duration) = (Duration::from_secs(1), Duration::from_secs(60));
 /// After how long without an offence a member is refused for the shortest time again.
 const FORGIVEN: Duration = Duration::from_secs(600);
-/// How often refused connections are logged at most.
-const LOGGED: Duration = Duration::from_secs(10);
 /// How long the listener waits where the system has no room for a connection.
 const NO_ROOM: Duration = Duration::from_millis(50);
 
@@ -52,6 +47,7 @@ pub struct Doors {
     logged: Mutex<Option<Instant>>,
     room: usize,
     next: AtomicU64,
+    credentials: Arc<Credentials>,
     counters: Arc<Counters>,
 }
 
@@ -61,7 +57,7 @@ fn locked<T>(it: &Mutex<T>) -> MutexGuard<'_, T> {
 
 impl Doors {
     /// Of a network of so many members; none is open.
-    pub fn new(members: usize, counters: &Arc<Counters>) -> Doors {
+    pub fn new(members: usize, credentials: &Arc<Credentials>, counters: &Arc<Counters>) -> Doors {
         Doors {
             greeting: Mutex::default(),
             members: Mutex::new((0..members).map(|_| None).collect()),
@@ -69,6 +65,7 @@ impl Doors {
             logged: Mutex::default(),
             room: GREETING_ROOM + 2 * members,
             next: AtomicU64::new(0),
+            credentials: credentials.clone(),
             counters: counters.clone(),
         }
     }
@@ -150,11 +147,27 @@ impl Doors {
     /// Counts a connection that was refused, and logs it if none was logged for a while.
     fn refused(&self, why: &str) {
         let count = self.counters.refused_connections.fetch_add(1, Relaxed) + 1;
-        let mut logged = locked(&self.logged);
-        if logged.is_none_or(|it| it.elapsed() > LOGGED) {
-            *logged = Some(Instant::now());
+        if self.is_to_be_logged() {
             warn!(count, why, "connections are refused");
         }
+    }
+
+    /// Counts a greeting that was refused: of a stranger, or of a member whose settings differ.
+    fn refused_greeting(&self, from: Option<Participant>, error: &io::Error) {
+        self.counters.refused_greetings.fetch_add(1, Relaxed);
+        if self.is_to_be_logged() {
+            let peer = from.map(Participant::get);
+            warn!(peer, %error, "a greeting is refused");
+        }
+    }
+
+    fn is_to_be_logged(&self) -> bool {
+        let mut logged = locked(&self.logged);
+        let is_due = logged.is_none_or(|it| it.elapsed() > LOGGED);
+        if is_due {
+            *logged = Some(Instant::now());
+        }
+        is_due
     }
 }
 
@@ -184,79 +197,42 @@ pub fn listen(listener: &TcpListener, reader: &Arc<Reader>, doors: &Arc<Doors>) 
 }
 
 fn serve(stream: TcpStream, id: u64, reader: &Reader, doors: &Doors) {
-    let greeted = greeted(&stream, reader.keys());
-    let ended = match greeted {
-        Ok(from) if doors.admit(id, from) => {
-            let ended = read_all(&stream, from, reader);
+    let ended = match doors.credentials.accept(stream) {
+        Ok((from, mut session)) if doors.admit(id, from) => {
+            let ended = read_all(&mut session, from, reader);
             if ended.as_ref().is_err_and(|it| it.kind() == io::ErrorKind::PermissionDenied) {
                 doors.offended(from);
             }
             doors.close(id, from);
+            let _ = session.tcp().shutdown(Shutdown::Both);
             ended
         }
         Ok(_) => Ok(()),
-        Err(error) => {
+        Err((from, error)) => {
             doors.leave(id);
-            if error.kind() == io::ErrorKind::PermissionDenied {
-                doors.counters.refused_greetings.fetch_add(1, Relaxed);
+            if is_refusal(&error) {
+                doors.refused_greeting(from, &error);
             }
             Err(error)
         }
     };
-    let _ = stream.shutdown(Shutdown::Both);
     if let Err(error) = ended {
         debug!(%error, "a connection ended");
     }
 }
 
-/// Who began a connection, as it has signed. `PermissionDenied` where the signature is not good.
-fn greeted(mut stream: &TcpStream, keys: &Keys) -> io::Result<Participant> {
-    stream.set_nodelay(true)?;
-    stream.set_write_timeout(Some(GREETING))?;
-    let mut asked = [0; 32];
-    openssl::rand::rand_bytes(&mut asked)?;
-    stream.write_all(&asked)?;
-    let mut frame = [0; GREETING_BYTES];
-    read_within(stream, &mut frame, GREETING)?;
-    let Some(Message::Hello(from, signature)) = Message::read(&frame[4..]) else {
-        return Err(io::ErrorKind::InvalidData.into());
-    };
-    if from == keys.me || !keys.is_signed(from, &greeting(&asked, from, keys.me), &signature) {
-        return Err(io::ErrorKind::PermissionDenied.into());
-    }
-    Ok(from)
-}
-
-/// Fills a buffer, within a time for all of it.
-fn read_within(mut stream: &TcpStream, buffer: &mut [u8], within: Duration) -> io::Result<()> {
-    let until = Instant::now() + within;
-    let mut filled = 0;
-    while filled < buffer.len() {
-        let left = until.checked_duration_since(Instant::now()).filter(|it| !it.is_zero());
-        stream.set_read_timeout(Some(left.ok_or(io::ErrorKind::TimedOut)?))?;
-        match stream.read(&mut buffer[filled..])? {
-            0 => return Err(io::ErrorKind::UnexpectedEof.into()),
-            count => filled += count,
-        }
-    }
-    Ok(())
-}
-
 /// Reads a member's messages until the connection ends, and answers with heartbeats. `PermissionDenied` where it sends forgeries.
-fn read_all(stream: &TcpStream, from: Participant, reader: &Reader) -> io::Result<()> {
-    stream.set_read_timeout(Some(SILENCE))?;
-    stream.set_write_timeout(Some(SILENCE))?;
-    let mut answers = stream;
+fn read_all(session: &mut Session, from: Participant, reader: &Reader) -> io::Result<()> {
     let mut link = reader.link(from);
     let mut shown = Instant::now();
-    let mut bytes = io::BufReader::new(stream);
+    let mut bytes = io::BufReader::new(session);
     loop {
         if !link.read_one(&mut bytes)? {
             return Ok(());
         }
         if shown.elapsed() >= HEARTBEAT / 2 {
             shown = Instant::now();
-            answers.write_all(&[0])?;
+            bytes.get_mut().write_all(&[0])?;
         }
     }
 }

@@ -4,18 +4,16 @@
 //! [`SILENCE`] is begun anew: packets that are dropped on the way end no connection by themselves.
 
 use super::outgoing::Outgoing;
-use crate::crypto::{Keys, Signature};
-use crate::message::{Message, VERSION};
+use super::session::{Credentials, SILENCE, Session};
 use crate::metrics::Counters;
-use crate::settings::Outcome;
 use simplex_view_state::Participant;
-use std::io::{self, Read, Write};
-use std::net::{Shutdown, SocketAddr, TcpStream};
+use std::io::{self, Write};
+use std::net::SocketAddr;
 use std::sync::Arc;
 use std::sync::atomic::Ordering::Relaxed;
 use std::thread;
 use std::time::{Duration, Instant};
-use tracing::debug;
+use tracing::{debug, warn};
 
 /// How long a peer is waited for before it is tried again: from the first to the longest.
 const BACKOFF: (Duration, Duration) = (Duration::from_millis(20), Duration::from_secs(1));
@@ -23,33 +21,37 @@ const BACKOFF: (Duration, Duration) = (Duration::from_millis(20), Duration::from
 const FRESH: Duration = Duration::from_secs(1);
 /// How often each side of a link shows that it is there.
 pub const HEARTBEAT: Duration = Duration::from_millis(500);
-/// After how long without a byte a link is given up.
-pub const SILENCE: Duration = Duration::from_secs(2);
-/// How long a new connection may take to greet, as a whole.
-pub const GREETING: Duration = Duration::from_secs(2);
+/// How often the other side's heartbeats are looked for.
+const LOOK: Duration = Duration::from_millis(100);
+/// How often it is logged at most that a peer refuses, or is refused.
+pub(super) const LOGGED: Duration = Duration::from_secs(10);
 /// A frame without a message.
 pub const HEARTBEAT_FRAME: [u8; 4] = [0; 4];
 
 /// Begins the thread of a link. It ends once the queue is closed.
-pub fn begin(to: Participant, address: SocketAddr, keys: &Arc<Keys>, counters: &Arc<Counters>) -> io::Result<Arc<Outgoing>> {
+pub fn begin(to: Participant, address: SocketAddr, credentials: &Arc<Credentials>, counters: &Arc<Counters>) -> io::Result<Arc<Outgoing>> {
     let queue = Arc::new(Outgoing::default());
-    let (keys, counters, frames) = (keys.clone(), counters.clone(), queue.clone());
+    let (credentials, counters, frames) = (credentials.clone(), counters.clone(), queue.clone());
     thread::Builder::new()
         .name(format!("to {}", to.get()))
-        .spawn(move || keep(to, address, &keys, &counters, &frames))?;
+        .spawn(move || keep(to, address, &credentials, &counters, &frames))?;
     Ok(queue)
 }
 
-fn keep(to: Participant, address: SocketAddr, keys: &Keys, counters: &Counters, frames: &Outgoing) {
-    let mut wait = BACKOFF.0;
+fn keep(to: Participant, address: SocketAddr, credentials: &Credentials, counters: &Counters, frames: &Outgoing) {
+    let (mut wait, mut logged) = (BACKOFF.0, None::<Instant>);
     while !frames.is_closed() {
         let begun = Instant::now();
-        match greet(to, address, keys) {
-            Ok(stream) => {
+        match credentials.connect(to, address) {
+            Ok(mut session) => {
                 counters.connections.fetch_add(1, Relaxed);
-                if let Err(error) = write_frames(&stream, frames) {
+                if let Err(error) = write_frames(&mut session, frames) {
                     debug!(peer = to.get(), %error, "a connection ended");
                 }
+            }
+            Err(error) if is_refusal(&error) && logged.is_none_or(|it| it.elapsed() > LOGGED) => {
+                logged = Some(Instant::now());
+                warn!(peer = to.get(), %error, "a member's greeting is refused");
             }
             Err(error) => debug!(peer = to.get(), %error, "no connection"),
         }
@@ -63,50 +65,27 @@ fn keep(to: Participant, address: SocketAddr, keys: &Keys, counters: &Counters, 
     }
 }
 
-/// What who begins a connection signs: how it talks, the bytes that it was sent, who it is, and whom it means.
-pub fn greeting(asked: &[u8; 32], from: Participant, to: Participant) -> Vec<u8> {
-    let mut text = format!("simplex-node greeting {VERSION}").into_bytes();
-    text.extend_from_slice(asked);
-    text.extend_from_slice(&from.get().to_be_bytes());
-    text.extend_from_slice(&to.get().to_be_bytes());
-    text
-}
-
-/// Begins a connection to a member, and says whose it is.
-pub fn greet(to: Participant, address: SocketAddr, keys: &Keys) -> Outcome<TcpStream> {
-    let mut stream = TcpStream::connect_timeout(&address, GREETING)?;
-    stream.set_nodelay(true)?;
-    stream.set_read_timeout(Some(GREETING))?;
-    stream.set_write_timeout(Some(SILENCE))?;
-    let mut asked = [0; 32];
-    stream.read_exact(&mut asked)?;
-    let signature: Signature = keys.sign(&greeting(&asked, keys.me, to))?;
-    stream.write_all(&Message::Hello(keys.me, signature).frame())?;
-    Ok(stream)
+/// Whether a connection ended since the two sides are not those that they have to be, or have settings that differ.
+pub(super) fn is_refusal(error: &io::Error) -> bool {
+    matches!(error.kind(), io::ErrorKind::PermissionDenied | io::ErrorKind::InvalidInput)
 }
 
 /// Writes what comes, and heartbeats in between, until there is nothing more to come. An error where the link is silent or ends.
-fn write_frames(stream: &TcpStream, frames: &Outgoing) -> io::Result<()> {
-    let heard = stream.try_clone()?;
-    thread::Builder::new().name("heartbeats".into()).spawn(move || hear(heard))?;
-    let mut stream = stream;
-    let written = loop {
-        let Some(batch) = frames.take(HEARTBEAT) else { break Ok(()) };
+fn write_frames(session: &mut Session, frames: &Outgoing) -> io::Result<()> {
+    let (mut heard, mut looked) = (Instant::now(), Instant::now());
+    while let Some(batch) = frames.take(HEARTBEAT) {
         let bytes = if batch.is_empty() { &HEARTBEAT_FRAME } else { &batch[..] };
-        if let Err(error) = stream.write_all(bytes) {
-            break Err(error);
+        session.write_all(bytes)?;
+        if looked.elapsed() < LOOK {
+            continue;
         }
-    };
-    // (which ends the other thread too)
-    let _ = stream.shutdown(Shutdown::Both);
-    written
-}
-
-/// Reads the other side's heartbeats, and ends the connection once none comes.
-fn hear(mut stream: TcpStream) {
-    let mut bytes = [0; 64];
-    if stream.set_read_timeout(Some(SILENCE)).is_ok() {
-        while matches!(stream.read(&mut bytes), Ok(1..)) {}
+        looked = Instant::now();
+        if session.drain()? {
+            heard = looked;
+        }
+        if heard.elapsed() > SILENCE {
+            return Err(io::ErrorKind::TimedOut.into());
+        }
     }
-    let _ = stream.shutdown(Shutdown::Both);
+    Ok(())
 }

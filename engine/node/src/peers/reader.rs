@@ -32,6 +32,7 @@ pub struct Horizon {
     min_active: AtomicU64,
     known: Mutex<Known>,
     wanted: Mutex<HashSet<Digest>>,
+    ranges: Mutex<HashSet<View>>,
 }
 
 #[derive(Default)]
@@ -73,6 +74,15 @@ impl Horizon {
     /// The blocks that the member asks for. Others are dropped unread.
     pub fn want(&self, blocks: HashSet<Digest>) {
         *locked(&self.wanted) = blocks;
+    }
+
+    /// The views behind which the member asks for final blocks. Other ranges are dropped.
+    pub fn want_ranges(&self, after: HashSet<View>) {
+        *locked(&self.ranges) = after;
+    }
+
+    fn wants_range(&self, after: View) -> bool {
+        locked(&self.ranges).contains(&after)
     }
 
     fn wants(&self, block: &[u8]) -> bool {
@@ -139,11 +149,6 @@ pub struct Link<'a> {
 }
 
 impl Reader {
-    /// The keys of the members.
-    pub fn keys(&self) -> &Keys {
-        &self.keys
-    }
-
     /// A new connection of a member.
     pub fn link(&self, from: Participant) -> Link<'_> {
         Link {
@@ -186,7 +191,6 @@ impl Link<'_> {
     fn is_of_use(&mut self, message: &Message) -> bool {
         let (epoch, horizon) = (self.reader.epoch, self.reader.horizon.clone());
         match message {
-            Message::Hello(..) => false,
             Message::Proposal(vote, block) => {
                 let Subject::Notarize(proposal) = &vote.subject else { return false };
                 let view = proposal.view();
@@ -212,7 +216,14 @@ impl Link<'_> {
                     && !horizon.knows(&subject)
                     && self.is_good(self.reader.keys.is_certificate(it))
             }
-            Message::AskCertificate(..) | Message::AskBlock(_) => self.budget.may_ask(Instant::now()),
+            Message::AskCertificate(..) | Message::AskBlock(..) | Message::AskRange(..) => self.budget.may_ask(Instant::now()),
+            Message::Range(it) => {
+                is_sound(&it.certificate.subject(), epoch)
+                    && horizon.wants_range(it.after)
+                    && self.is_good(self.reader.keys.is_certificate(&it.certificate))
+                    && (it.is_linked() || self.is_good(false))
+            }
+            Message::NoRange(after, _) => horizon.wants_range(*after),
             Message::Block(bytes) => horizon.wants(bytes),
         }
     }
@@ -253,7 +264,7 @@ pub fn read_message(stream: &mut impl Read) -> io::Result<Message> {
 }
 
 /// Reads the bytes of a frame; `None` of a heartbeat.
-fn read_frame(stream: &mut impl Read) -> io::Result<Option<Vec<u8>>> {
+pub fn read_frame(stream: &mut impl Read) -> io::Result<Option<Vec<u8>>> {
     let mut length = [0; 4];
     stream.read_exact(&mut length)?;
     let length = u32::from_be_bytes(length) as usize;

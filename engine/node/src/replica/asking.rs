@@ -1,15 +1,11 @@
 //! What peers are asked for, and what they are served.
 
 use super::Replica;
-use crate::application::Application;
 use crate::message::Message;
 use simplex_view_state::{Certificate, CertificateKind, Digest, EngineError, Fetch, FetchKind, Participant, View};
 use std::sync::atomic::Ordering::Relaxed;
 
-/// How many blocks a peer is served at once: one, and those that it builds on.
-const BLOCKS_SERVED: usize = 64;
-
-impl<A: Application> Replica<A> {
+impl Replica {
     /// Asks a member for a certificate; nobody, where there is no other one.
     pub(super) fn fetch(&mut self, it: &Fetch) {
         if let Some(peer) = it.of {
@@ -25,8 +21,8 @@ impl<A: Application> Replica<A> {
     /// Asks for the missing blocks, whose turn it is. The readers drop all others.
     pub(super) fn fetch_blocks(&mut self) {
         self.parts.horizon.want(self.waiting.payloads());
-        for (payload, peer) in self.waiting.due(self.parts.clock.now()) {
-            self.ask(peer, &Message::AskBlock(payload));
+        for (view, payload, peer) in self.waiting.due(self.parts.clock.now()) {
+            self.ask(peer, &Message::AskBlock(view, payload));
         }
     }
 
@@ -34,6 +30,7 @@ impl<A: Application> Replica<A> {
     pub(super) fn serve(&mut self, from: Participant, kind: FetchKind, view: View) {
         if let Ok(Some(it)) = self.certificate_for(kind, view) {
             self.parts.peers.serve(from, &Message::Certificate(it));
+            self.events.served(from, kind, view);
         }
     }
 
@@ -52,15 +49,13 @@ impl<A: Application> Replica<A> {
         self.parts.engine.serve(view)
     }
 
-    /// Serves a block, and those that it builds on, as far as the peer's share of this node goes.
-    pub(super) fn serve_blocks(&mut self, from: Participant, mut payload: Digest) {
-        for _ in 0..BLOCKS_SERVED {
-            let Some(block) = self.parts.blocks.get(&payload) else { break };
-            let (message, parent) = (Message::Block(block.bytes().to_vec()), block.parent.1);
-            if !self.parts.peers.serve(from, &message) {
-                break;
+    /// Serves a block, of those of proposals or of the archive, as far as the peer's share of this node goes.
+    pub(super) fn serve_block(&mut self, from: Participant, view: View, payload: Digest) {
+        match self.parts.blocks.get(&payload) {
+            Some(block) => {
+                self.parts.peers.serve(from, &Message::Block(block.bytes().to_vec()));
             }
-            payload = parent;
+            None => self.parts.keeper.serve_block(from, view, payload),
         }
     }
 }

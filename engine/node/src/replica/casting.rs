@@ -1,7 +1,6 @@
 //! Votes of this member, and the evidence of others' that contradict each other.
 
 use super::Replica;
-use crate::application::Application;
 use crate::crypto::hex;
 use crate::faults::Fault;
 use crate::leader_votes::Found;
@@ -12,7 +11,7 @@ use std::sync::atomic::Ordering::Relaxed;
 use std::time::Instant;
 use tracing::{info, warn};
 
-impl<A: Application> Replica<A> {
+impl Replica {
     /// Signs a vote that is stored, sends it to all, and tells the engine.
     pub(super) fn cast(&mut self, order: &Order) -> Outcome {
         let begun = Instant::now();

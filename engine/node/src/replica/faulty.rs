@@ -1,13 +1,12 @@
 //! What a faulty node sends.
 
 use super::Replica;
-use crate::application::Application;
 use crate::blocks::Block;
 use crate::message::Message;
 use crate::settings::Outcome;
 use simplex_view_state::{Context, Participant, Proposal, Subject, Vote};
 
-impl<A: Application> Replica<A> {
+impl Replica {
     /// A second block for the same view, signed behind the engine's back: every other member gets it in place of the first.
     pub(super) fn send_two_proposals(&mut self, vote: &Vote, block: Vec<u8>) -> Outcome {
         let Subject::Notarize(first) = vote.subject else { return Ok(()) };
@@ -18,7 +17,8 @@ impl<A: Application> Replica<A> {
             parent: built.parent.0,
             parent_payload: built.parent.1,
         };
-        let other = Block::new(&context, &self.parts.application.build(&context));
+        let content: Vec<u8> = built.content().iter().map(|byte| !byte).collect();
+        let other = Block::new(&context, &content);
         let subject = Subject::Notarize(Proposal {
             payload: other.payload(),
             ..first

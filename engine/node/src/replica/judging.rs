@@ -1,53 +1,89 @@
-//! Blocks: what the application builds, verifies and judges, and the finalized chain.
+//! Blocks: what the application builds, verifies and judges.
 
 use super::Replica;
-use crate::application::Application;
+use crate::application::worker::{Answer, Kind, Question};
 use crate::blocks::Block;
 use crate::message::LONGEST_BLOCK;
 use crate::settings::Outcome;
-use simplex_view_state::{Context, Input, Proposal};
+use simplex_view_state::{Context, Digest, Input, Proposal};
 use std::sync::atomic::Ordering::Relaxed;
 use std::time::Instant;
 use tracing::error;
 
-impl<A: Application> Replica<A> {
-    /// Has the application verify a proposal, at once or when its block has come.
+impl Replica {
+    /// Has the application verify a proposal, now or when its block has come.
     pub(super) fn verify(&mut self, context: Context, proposal: Proposal) -> Outcome {
         let view = context.round.view;
         let Some(block) = self.parts.blocks.get(&proposal.payload) else {
             self.waiting.verify(context, proposal, self.parts.clock.now());
             return Ok(());
         };
-        let is_in_place = block.is_of(&proposal) && block.parent == (context.parent, context.parent_payload);
-        let is_valid = is_in_place && self.parts.application.verify(block);
-        self.handle(Input::Verified { view, is_valid })?;
+        if block.is_of(&proposal) && block.parent == (context.parent, context.parent_payload) {
+            let question = Question::Verify(proposal, block.clone());
+            self.ask_application(question, proposal.payload);
+            return Ok(());
+        }
+        self.handle(Input::Verified { view, is_valid: false })?;
         Ok(())
     }
 
-    /// Has the application judge a notarized proposal, at once or when its block has come.
+    /// Has the application judge a notarized proposal, now or when its block has come.
     pub(super) fn certify(&mut self, proposal: Proposal) -> Outcome {
         let view = proposal.view();
         let Some(block) = self.parts.blocks.get(&proposal.payload) else {
             self.waiting.certify(proposal, self.turns.leader(view), self.parts.clock.now());
             return Ok(());
         };
-        let is_success = block.is_of(&proposal) && self.parts.application.certify(block);
-        self.handle(Input::Certified { view, is_success })?;
+        if block.is_of(&proposal) {
+            let question = Question::Certify(proposal, block.clone());
+            self.ask_application(question, proposal.payload);
+            return Ok(());
+        }
+        self.handle(Input::Certified { view, is_success: false })?;
         Ok(())
     }
 
-    /// Has the application build the blocks that are due.
+    fn ask_application(&mut self, question: Question, of: Digest) {
+        self.asked.insert(question.key(), of);
+        self.parts.application.ask(question);
+    }
+
+    /// Has the application build the next block that is due, once it has built the one before.
     pub(super) fn build_due(&mut self) -> Outcome {
         self.pace.forget(self.views()?.current);
-        while let Some(context) = self.pace.due(Instant::now()) {
-            self.build(&context)?;
-            self.pace.built(Instant::now());
+        if self.building.is_none()
+            && let Some(context) = self.pace.due(Instant::now())
+        {
+            self.building = Some(context);
+            self.parts.application.ask(Question::Build(context));
         }
         Ok(())
     }
 
-    fn build(&mut self, context: &Context) -> Outcome {
-        let (context, block) = (*context, Block::new(context, &self.parts.application.build(context)));
+    /// What the application answered. An answer on another block than the one that was asked of last is dropped.
+    pub(super) fn take_answer(&mut self, answer: Answer) -> Outcome {
+        let mut is_asked =
+            |kind, view, payload| self.asked.get(&(kind, view)) == Some(&payload) && self.asked.remove(&(kind, view)).is_some();
+        match answer {
+            Answer::Verified(view, payload, is_valid) if is_asked(Kind::Verify, view, payload) => {
+                self.handle(Input::Verified { view, is_valid })?;
+            }
+            Answer::Certified(view, payload, is_success) if is_asked(Kind::Certify, view, payload) => {
+                self.handle(Input::Certified { view, is_success })?;
+            }
+            Answer::Built(context, content) => {
+                self.building = None;
+                self.pace.built(Instant::now());
+                content.map_or(Ok(()), |it| self.take_built(context, &it))?;
+            }
+            Answer::Durable(height) => self.parts.keeper.durable(height),
+            Answer::Verified(..) | Answer::Certified(..) => {}
+        }
+        Ok(())
+    }
+
+    fn take_built(&mut self, context: Context, content: &[u8]) -> Outcome {
+        let block = Block::new(&context, content);
         let (payload, bytes) = (block.payload(), block.bytes().len());
         if bytes > LONGEST_BLOCK {
             self.parts.counters.oversized_blocks.fetch_add(1, Relaxed);
@@ -75,7 +111,8 @@ impl<A: Application> Replica<A> {
     /// Keeps a block: what waited for it goes on.
     pub(super) fn keep_block(&mut self, block: Block) -> Outcome {
         let payload = block.payload();
-        self.parts.blocks.keep(block)?;
+        self.parts.blocks.keep(block.clone())?;
+        self.chain.arrived(&block, &self.parts.blocks)?;
         let ready = self.waiting.arrived(&payload);
         for (context, proposal) in ready.to_verify {
             self.verify(context, proposal)?;
@@ -84,35 +121,5 @@ impl<A: Application> Replica<A> {
             self.certify(proposal)?;
         }
         self.deliver()
-    }
-
-    /// Hands the finalized chain to the application, block behind block, as far as the blocks are here.
-    pub(super) fn deliver(&mut self) -> Outcome {
-        let Some(target) = self.finalized else { return Ok(()) };
-        let (last, payload_of_last) = self.parts.application.last();
-        if target.view() <= last {
-            return Ok(());
-        }
-        let (now, leader) = (self.parts.clock.now(), self.turns.leader(target.view()));
-        let mut chain = Vec::new();
-        let mut payload = target.payload;
-        while payload != payload_of_last {
-            let Some(block) = self.parts.blocks.get(&payload) else {
-                self.waiting.deliver(Some((payload, leader)), now);
-                return Ok(());
-            };
-            if block.view <= last {
-                let view = target.view();
-                return Err(format!("view {view} is finalized on a chain that lacks view {last}: the chain forks").into());
-            }
-            payload = block.parent.1;
-            chain.push(block);
-        }
-        for block in chain.iter().rev() {
-            self.parts.application.finalized(block)?;
-        }
-        self.waiting.deliver(None, now);
-        self.parts.blocks.forget(target.view())?;
-        Ok(())
     }
 }

@@ -1,6 +1,7 @@
 //! A network of nodes on this machine, to be watched.
 
 mod report;
+mod traced;
 
 use clap::Parser;
 use report::{Kill, Run};
@@ -69,6 +70,12 @@ struct Arguments {
     /// Draws the last views into this file. A file that is there is replaced.
     #[arg(long)]
     svg: Option<PathBuf>,
+    /// Traces all events of each node into a file `INDEX.trace` of this folder, for simplex-view.
+    #[arg(long)]
+    trace: Option<PathBuf>,
+    /// Writes a page on which the run can be looked at. A file that is there and is no earlier page is refused.
+    #[arg(long)]
+    html: Option<PathBuf>,
 }
 
 /// How long nothing may be finalized before a run is given up.
@@ -106,6 +113,7 @@ fn run(arguments: &Arguments) -> Outcome<bool> {
     }
     let folder = arguments.folder.clone().unwrap_or_else(|| folder_of("run"));
     let mut network = Network::new(plan(arguments, folder.clone())?)?;
+    let traces = traced::begin(&mut network, arguments)?;
     network.begin_all()?;
     let (begun, mut kills) = (Instant::now(), Vec::new());
     let ended = watch(&mut network, arguments, &is_signalled, &mut kills)?;
@@ -124,6 +132,7 @@ fn run(arguments: &Arguments) -> Outcome<bool> {
     };
     network.stop()?;
     let is_good = report::print(&network, arguments, &run, svg.as_mut())?;
+    traced::end(&traces, arguments)?;
     drop(network);
     if arguments.folder.is_none() && is_good {
         fs::remove_dir_all(folder)?;
@@ -142,7 +151,7 @@ fn test(arguments: &Arguments) -> Outcome {
     if arguments.fault.is_some() && arguments.faulty == 0 {
         return Err("--fault says what the faulty nodes do, and no node is faulty: add --faulty 1".into());
     }
-    Ok(())
+    traced::test(arguments)
 }
 
 /// Opens the picture's file, so that a path that can't be written is refused before the run. What it holds stays until the run has ended.

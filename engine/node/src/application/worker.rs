@@ -1,0 +1,440 @@
+//! The thread of the application. What the engine waits for comes first, then final blocks, one at a time in between.
+
+use super::{Application, Cancelled};
+use crate::blocks::Block;
+use crate::chain::Entry;
+use crate::inbox::{Event, Inbox};
+use crate::metrics::Counters;
+use simplex_view_state::{Context, Digest, Proposal, View};
+use std::collections::VecDeque;
+use std::io;
+use std::sync::atomic::Ordering::Relaxed;
+use std::sync::{Arc, Condvar, Mutex, MutexGuard};
+use std::thread::{self, JoinHandle};
+use std::time::{Duration, Instant};
+
+/// How often the application is asked what it has on the disk.
+const DURABLE: Duration = Duration::from_secs(1);
+
+/// What the application is asked, and the engine waits for.
+#[derive(Debug)]
+pub enum Question {
+    /// To build a block.
+    Build(Context),
+    /// To verify the block of a proposal.
+    Verify(Proposal, Block),
+    /// To judge the block of a notarized proposal.
+    Certify(Proposal, Block),
+}
+
+/// Which questions a view has: one of each kind.
+#[derive(Clone, Copy, PartialEq, Eq, PartialOrd, Ord, Debug)]
+pub enum Kind {
+    /// To build.
+    Build,
+    /// To verify.
+    Verify,
+    /// To judge.
+    Certify,
+}
+
+impl Question {
+    /// Its kind and view.
+    pub fn key(&self) -> (Kind, View) {
+        match self {
+            Question::Build(context) => (Kind::Build, context.round.view),
+            Question::Verify(proposal, _) => (Kind::Verify, proposal.view()),
+            Question::Certify(proposal, _) => (Kind::Certify, proposal.view()),
+        }
+    }
+}
+
+/// What the application answered.
+#[derive(Debug)]
+pub enum Answer {
+    /// What a block holds that it built; `None` where it built none.
+    Built(Context, Option<Vec<u8>>),
+    /// Whether the block of this digest may be voted for.
+    Verified(View, Digest, bool),
+    /// Whether the notarized block of this digest may be built on.
+    Certified(View, Digest, bool),
+    /// It has so many blocks on the disk.
+    Durable(u64),
+}
+
+/// What waits for the application.
+#[derive(Debug, Default)]
+struct Waiting {
+    questions: VecDeque<(Question, Cancelled)>,
+    /// What it works on.
+    running: Option<((Kind, View), Cancelled)>,
+    finals: VecDeque<Entry>,
+    is_closed: bool,
+}
+
+#[derive(Debug, Default)]
+struct Shared {
+    waiting: Mutex<Waiting>,
+    arrival: Condvar,
+}
+
+impl Shared {
+    fn lock(&self) -> MutexGuard<'_, Waiting> {
+        self.waiting.lock().unwrap_or_else(|it| it.into_inner())
+    }
+}
+
+/// The thread that owns the application.
+#[derive(Debug)]
+pub struct Worker {
+    shared: Arc<Shared>,
+    thread: Option<JoinHandle<()>>,
+}
+
+impl Worker {
+    /// Begins the thread. It answers by [`Event::Answered`], and tells that it can't go on by [`Event::Failed`].
+    pub fn begin(application: impl Application, inbox: Arc<Inbox>, counters: Arc<Counters>) -> io::Result<Worker> {
+        let shared = Arc::new(Shared::default());
+        counters.height.store(application.height(), Relaxed);
+        let mut work = Work {
+            application,
+            shared: shared.clone(),
+            counters,
+            asked_at: Instant::now(),
+        };
+        let thread = thread::Builder::new().name("application".into()).spawn(move || {
+            let mut end = End { inbox, why: None };
+            end.why = Some(work.run(&end.inbox).err().map(|it| it.to_string()));
+        })?;
+        Ok(Worker {
+            shared,
+            thread: Some(thread),
+        })
+    }
+
+    /// Asks the application, in place of the question of the same kind and view.
+    pub fn ask(&self, question: Question) {
+        self.cancel(question.key());
+        self.shared.lock().questions.push_back((question, Cancelled::default()));
+        self.shared.arrival.notify_one();
+    }
+
+    /// Nobody waits for the answer to a question any more.
+    pub fn cancel(&self, key: (Kind, View)) {
+        self.cancel_where(|it| it == key);
+    }
+
+    /// Nobody waits for what was built or verified below a view, nor for a judgement up to the last finalized one.
+    pub fn cancel_passed(&self, current: View, finalized: View) {
+        self.cancel_where(|(kind, view)| match kind {
+            Kind::Build | Kind::Verify => view < current,
+            Kind::Certify => view <= finalized,
+        });
+    }
+
+    fn cancel_where(&self, is_passed: impl Fn((Kind, View)) -> bool) {
+        let mut waiting = self.shared.lock();
+        // (a build is answered also where it never began)
+        waiting.questions.retain(|(question, cancelled)| {
+            let (is_passed, is_build) = (is_passed(question.key()), matches!(question, Question::Build(_)));
+            if is_passed {
+                cancelled.cancel();
+            }
+            is_build || !is_passed
+        });
+        if let Some((_, cancelled)) = waiting.running.as_ref().filter(|(key, _)| is_passed(*key)) {
+            cancelled.cancel();
+        }
+    }
+
+    /// These blocks are final, and in the archive.
+    pub fn finalized(&self, entries: Vec<Entry>) {
+        self.shared.lock().finals.extend(entries);
+        self.shared.arrival.notify_one();
+    }
+
+    /// Waits until the application has all final blocks. Questions are answered no more.
+    pub fn stop(&mut self) {
+        {
+            let mut waiting = self.shared.lock();
+            waiting.is_closed = true;
+            waiting.questions.clear();
+            waiting.running.iter().for_each(|(_, cancelled)| cancelled.cancel());
+        }
+        self.shared.arrival.notify_one();
+        if let Some(thread) = self.thread.take() {
+            let _ = thread.join();
+        }
+    }
+}
+
+/// Tells how the thread ended, also where the application panicked.
+struct End {
+    inbox: Arc<Inbox>,
+    /// None where it did not come to its end, and else why it failed.
+    why: Option<Option<String>>,
+}
+
+impl Drop for End {
+    fn drop(&mut self) {
+        let why = match self.why.take() {
+            None => "the application panicked".to_owned(),
+            Some(Some(why)) => format!("the application: {why}"),
+            Some(None) => return,
+        };
+        self.inbox.tell(Event::Failed(why));
+    }
+}
+
+/// What is to be done next.
+enum Next {
+    Question(Question, Cancelled),
+    Final(Box<Entry>),
+    End,
+}
+
+struct Work<A> {
+    application: A,
+    shared: Arc<Shared>,
+    counters: Arc<Counters>,
+    asked_at: Instant,
+}
+
+impl<A: Application> Work<A> {
+    fn run(&mut self, inbox: &Inbox) -> io::Result<()> {
+        loop {
+            match self.next() {
+                Next::Question(question, cancelled) => {
+                    let answer = self.answer(question, &cancelled);
+                    self.shared.lock().running = None;
+                    if let Some(it) = answer {
+                        inbox.tell(Event::Answered(it));
+                    }
+                }
+                Next::Final(entry) => self.take(&entry.block)?,
+                Next::End => return Ok(()),
+            }
+            if self.asked_at.elapsed() > DURABLE {
+                let durable = self.application.durable()?;
+                self.asked_at = Instant::now();
+                inbox.tell(Event::Answered(Answer::Durable(durable)));
+            }
+        }
+    }
+
+    fn next(&self) -> Next {
+        let mut waiting = self.shared.lock();
+        loop {
+            if let Some((question, cancelled)) = waiting.questions.pop_front() {
+                waiting.running = Some((question.key(), cancelled.clone()));
+                return Next::Question(question, cancelled);
+            }
+            if let Some(entry) = waiting.finals.pop_front() {
+                return Next::Final(Box::new(entry));
+            }
+            if waiting.is_closed {
+                return Next::End;
+            }
+            waiting = self.shared.arrival.wait(waiting).unwrap_or_else(|it| it.into_inner());
+        }
+    }
+
+    /// The answer; `None` where nobody waits for it. A build is always answered: until then no other one begins.
+    fn answer(&mut self, question: Question, cancelled: &Cancelled) -> Option<Answer> {
+        match question {
+            Question::Build(context) => {
+                let is_wanted = !cancelled.is_cancelled();
+                let content = is_wanted.then(|| self.application.build(&context, cancelled)).flatten();
+                Some(Answer::Built(context, content.filter(|_| !cancelled.is_cancelled())))
+            }
+            Question::Verify(proposal, block) => {
+                let is_valid = self.application.verify(&block, cancelled)?;
+                Some(Answer::Verified(proposal.view(), proposal.payload, is_valid))
+            }
+            Question::Certify(proposal, block) => {
+                let is_success = self.application.certify(&block, cancelled)?;
+                Some(Answer::Certified(proposal.view(), proposal.payload, is_success))
+            }
+        }
+    }
+
+    /// (An application may be ahead of an archive whose end was cut off.)
+    fn take(&mut self, block: &Block) -> io::Result<()> {
+        if block.view > self.application.last().0 {
+            self.application.finalized(block)?;
+            self.counters.height.store(self.application.height(), Relaxed);
+        }
+        Ok(())
+    }
+}
+
+#[cfg(test)]
+mod tests {
+    use super::*;
+    use simplex_view_state::{Epoch, Participant, Round};
+    use std::sync::mpsc::{Sender, channel};
+
+    const SOON: Duration = Duration::from_secs(10);
+
+    /// Works on each question until it is cancelled, where its view is odd; and panics in view 100.
+    struct Slow {
+        taken: Vec<View>,
+        begun: Sender<View>,
+    }
+
+    impl Slow {
+        fn work(&self, view: View, cancelled: &Cancelled) -> Option<bool> {
+            assert_ne!(view.get(), 100);
+            self.begun.send(view).expect("the test looks");
+            while view.get() % 2 == 1 {
+                thread::sleep(Duration::from_millis(1));
+                if cancelled.is_cancelled() {
+                    return None;
+                }
+            }
+            Some(true)
+        }
+    }
+
+    impl Application for Slow {
+        fn build(&mut self, context: &Context, cancelled: &Cancelled) -> Option<Vec<u8>> {
+            self.work(context.round.view, cancelled).map(|_| vec![1])
+        }
+
+        fn verify(&mut self, block: &Block, cancelled: &Cancelled) -> Option<bool> {
+            self.work(block.view, cancelled)
+        }
+
+        fn certify(&mut self, block: &Block, cancelled: &Cancelled) -> Option<bool> {
+            self.work(block.view, cancelled)
+        }
+
+        fn finalized(&mut self, block: &Block) -> io::Result<()> {
+            self.taken.push(block.view);
+            Ok(())
+        }
+
+        fn last(&self) -> (View, Digest) {
+            (self.taken.last().copied().unwrap_or(View::GENESIS), Digest::default())
+        }
+
+        fn height(&self) -> u64 {
+            self.taken.len() as u64
+        }
+
+        fn durable(&mut self) -> io::Result<u64> {
+            Ok(self.height())
+        }
+    }
+
+    fn context(view: u64) -> Context {
+        Context {
+            round: Round {
+                epoch: Epoch::new(1),
+                view: View::new(view),
+            },
+            leader: Participant::new(0),
+            parent: View::GENESIS,
+            parent_payload: Digest::default(),
+        }
+    }
+
+    fn asked(kind: Kind, view: u64) -> Question {
+        let block = Block::new(&context(view), &[]);
+        let proposal = Proposal {
+            round: context(view).round,
+            parent: View::GENESIS,
+            payload: block.payload(),
+        };
+        match kind {
+            Kind::Build => Question::Build(context(view)),
+            Kind::Verify => Question::Verify(proposal, block),
+            Kind::Certify => Question::Certify(proposal, block),
+        }
+    }
+
+    /// The worker, what it began, and its answers and counts.
+    fn worker() -> (Worker, std::sync::mpsc::Receiver<View>, Arc<Inbox>, Arc<Counters>) {
+        let (begun, seen) = channel();
+        let (inbox, counters) = (Arc::new(Inbox::new(1)), Arc::new(Counters::default()));
+        let slow = Slow { taken: Vec::new(), begun };
+        (
+            Worker::begin(slow, inbox.clone(), counters.clone()).expect("a thread"),
+            seen,
+            inbox,
+            counters,
+        )
+    }
+
+    /// The next answer, but for what it has on the disk.
+    fn answer(inbox: &Inbox, within: Duration) -> Option<Answer> {
+        loop {
+            match inbox.take(within)? {
+                Event::Answered(Answer::Durable(_)) => {}
+                Event::Answered(it) => return Some(it),
+                other => panic!("{other:?}"),
+            }
+        }
+    }
+
+    #[test]
+    fn what_is_passed_is_cancelled_while_it_runs_and_while_it_waits() {
+        let (worker, begun, inbox, _) = worker();
+        worker.ask(asked(Kind::Verify, 3));
+        assert_eq!(begun.recv_timeout(SOON), Ok(View::new(3)));
+        worker.ask(asked(Kind::Verify, 5));
+        worker.ask(asked(Kind::Certify, 6));
+        worker.cancel_passed(View::new(6), View::new(4));
+        let first = answer(&inbox, SOON);
+        assert!(
+            matches!(first, Some(Answer::Certified(view, _, true)) if view.get() == 6),
+            "{first:?}"
+        );
+        assert_eq!(begun.try_iter().collect::<Vec<_>>(), [View::new(6)], "view 5 was never begun");
+    }
+
+    #[test]
+    fn a_build_that_is_stopped_is_answered_without_a_block() {
+        let (worker, begun, inbox, _) = worker();
+        worker.ask(asked(Kind::Build, 7));
+        assert_eq!(begun.recv_timeout(SOON), Ok(View::new(7)));
+        assert!(answer(&inbox, Duration::from_millis(30)).is_none());
+        worker.cancel((Kind::Build, View::new(7)));
+        let stopped = answer(&inbox, SOON);
+        assert!(matches!(stopped, Some(Answer::Built(it, None)) if it == context(7)), "{stopped:?}");
+        // Also where it never began.
+        worker.ask(asked(Kind::Verify, 9));
+        assert_eq!(begun.recv_timeout(SOON), Ok(View::new(9)));
+        worker.ask(asked(Kind::Build, 11));
+        worker.cancel_passed(View::new(12), View::new(0));
+        let stopped = answer(&inbox, SOON);
+        assert!(matches!(stopped, Some(Answer::Built(it, None)) if it == context(11)), "{stopped:?}");
+        assert!(begun.try_recv().is_err());
+    }
+
+    #[test]
+    fn final_blocks_are_taken_in_order_behind_questions_and_all_of_them_before_the_end() {
+        let (mut worker, begun, inbox, counters) = worker();
+        worker.ask(asked(Kind::Certify, 1));
+        assert_eq!(begun.recv_timeout(SOON), Ok(View::new(1)));
+        let entry = |height: u64| Entry {
+            height,
+            block: Block::new(&context(height), &[]),
+            certificate: None,
+        };
+        worker.finalized((1..=500).map(entry).collect());
+        worker.ask(asked(Kind::Verify, 2));
+        worker.cancel_passed(View::new(1), View::new(1));
+        assert!(matches!(answer(&inbox, SOON), Some(Answer::Verified(..))));
+        worker.stop();
+        assert_eq!(counters.height.load(Relaxed), 500);
+    }
+
+    #[test]
+    fn a_panic_of_the_application_is_told() {
+        let (worker, _begun, inbox, _) = worker();
+        worker.ask(asked(Kind::Verify, 100));
+        let told = inbox.take(SOON);
+        assert!(matches!(&told, Some(Event::Failed(why)) if why.contains("panicked")), "{told:?}");
+    }
+}

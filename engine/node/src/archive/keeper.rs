@@ -1,0 +1,220 @@
+//! The thread of the archive: it writes final blocks, and serves peers from them, so that the thread of the engine never waits for either.
+
+use super::{Archive, Behind};
+use crate::chain::Entry;
+use crate::inbox::{Event, Inbox};
+use crate::message::{LONGEST_RANGE, Message};
+use crate::metrics::Counters;
+use crate::peers::Peers;
+use simplex_view_state::{Digest, Participant, View};
+use std::io;
+use std::sync::Arc;
+use std::sync::atomic::{AtomicU64, AtomicUsize, Ordering::Relaxed};
+use std::sync::mpsc::{Receiver, RecvTimeoutError, Sender, channel};
+use std::thread::{self, JoinHandle};
+use std::time::{Duration, Instant};
+use tracing::error;
+
+/// How many orders are taken together, with one wait for the disk.
+const BATCH: usize = 1024;
+/// How often the disk is waited for: until then the blocks are among those of proposals, on the disk.
+const SYNC: Duration = Duration::from_millis(500);
+/// How often it is logged at most that peers can't be served.
+const LOGGED: Duration = Duration::from_secs(60);
+
+/// What the thread is to do.
+enum Order {
+    Append(Vec<Entry>),
+    /// A peer asked for the blocks behind a view, up to another one.
+    Range(Participant, View, View),
+    /// A peer asked for a block of a view.
+    Block(Participant, View, Digest),
+    /// The application has all blocks up to a height on the disk.
+    Durable(u64),
+}
+
+/// The thread that owns the archive.
+pub struct Keeper {
+    orders: Option<Sender<Order>>,
+    /// The bytes of blocks that wait to be written.
+    waiting: Arc<AtomicUsize>,
+    /// The view of the last block that the disk has.
+    synced: Arc<AtomicU64>,
+    thread: Option<JoinHandle<()>>,
+}
+
+impl Keeper {
+    /// Begins the thread. It tells of blocks that are written by [`Event::Archived`], and that the disk refuses by [`Event::Failed`].
+    pub fn begin(archive: Archive, peers: Arc<Peers>, inbox: Arc<Inbox>, counters: Arc<Counters>) -> io::Result<Keeper> {
+        let (orders, taken) = channel();
+        let waiting = Arc::new(AtomicUsize::new(0));
+        let synced = Arc::new(AtomicU64::new(archive.tail().view.get()));
+        let work = Work {
+            archive,
+            peers,
+            inbox,
+            counters,
+            waiting: waiting.clone(),
+            durable: 0,
+            synced_at: Instant::now(),
+            synced: synced.clone(),
+            logged: None,
+        };
+        let thread = thread::Builder::new().name("archive".into()).spawn(move || work.run(&taken))?;
+        Ok(Keeper {
+            orders: Some(orders),
+            synced,
+            waiting,
+            thread: Some(thread),
+        })
+    }
+
+    /// Has blocks written, behind all those before.
+    pub fn append(&self, entries: Vec<Entry>) {
+        let bytes: usize = entries.iter().map(|it| it.block.bytes().len()).sum();
+        self.waiting.fetch_add(bytes, Relaxed);
+        self.order(Order::Append(entries));
+    }
+
+    /// Has a peer served the blocks behind a view.
+    pub fn serve(&self, to: Participant, after: View, upto: View) {
+        self.order(Order::Range(to, after, upto));
+    }
+
+    /// Has a peer served a block.
+    pub fn serve_block(&self, to: Participant, view: View, payload: Digest) {
+        self.order(Order::Block(to, view, payload));
+    }
+
+    /// The application has all blocks up to this height on the disk: those may be pruned.
+    pub fn durable(&self, height: u64) {
+        self.order(Order::Durable(height));
+    }
+
+    /// The view of the last block that the disk has. Blocks above it have to stay where they were stored before a vote for them left.
+    pub fn synced(&self) -> View {
+        View::new(self.synced.load(Relaxed))
+    }
+
+    /// How many bytes of blocks wait to be written.
+    pub fn waiting(&self) -> usize {
+        self.waiting.load(Relaxed)
+    }
+
+    /// (A thread that has ended has told why.)
+    fn order(&self, order: Order) {
+        if let Some(orders) = &self.orders {
+            let _ = orders.send(order);
+        }
+    }
+
+    /// Waits until all that was ordered is done.
+    pub fn stop(&mut self) {
+        self.orders = None;
+        if let Some(thread) = self.thread.take() {
+            let _ = thread.join();
+        }
+    }
+}
+
+/// What the thread owns.
+struct Work {
+    archive: Archive,
+    peers: Arc<Peers>,
+    inbox: Arc<Inbox>,
+    counters: Arc<Counters>,
+    waiting: Arc<AtomicUsize>,
+    durable: u64,
+    synced_at: Instant,
+    synced: Arc<AtomicU64>,
+    logged: Option<Instant>,
+}
+
+impl Work {
+    fn run(mut self, orders: &Receiver<Order>) {
+        loop {
+            let first = match orders.recv_timeout(SYNC) {
+                Ok(first) => Some(first),
+                Err(RecvTimeoutError::Timeout) => None,
+                Err(RecvTimeoutError::Disconnected) => break,
+            };
+            let batch: Vec<Order> = first.into_iter().chain(orders.try_iter().take(BATCH)).collect();
+            if let Err(error) = self.carry_out(batch).and_then(|()| self.sync(SYNC)) {
+                self.inbox.tell(Event::Failed(format!("the archive: {error}")));
+                return;
+            }
+        }
+        if let Err(error) = self.sync(Duration::ZERO) {
+            self.log(&error);
+        }
+    }
+
+    /// Waits for the disk, where that was done last so long ago.
+    fn sync(&mut self, every: Duration) -> io::Result<()> {
+        if self.synced_at.elapsed() >= every {
+            self.archive.sync()?;
+            self.synced_at = Instant::now();
+            self.synced.store(self.archive.tail().view.get(), Relaxed);
+        }
+        Ok(())
+    }
+
+    /// Writes first: peers can wait.
+    fn carry_out(&mut self, batch: Vec<Order>) -> io::Result<()> {
+        let (mut written, mut asks) = (Vec::new(), Vec::new());
+        for order in batch {
+            match order {
+                Order::Append(entries) => {
+                    self.archive.append(&entries)?;
+                    written.extend(entries);
+                }
+                Order::Durable(height) => self.durable = height,
+                ask => asks.push(ask),
+            }
+        }
+        if !written.is_empty() {
+            let bytes: usize = written.iter().map(|it| it.block.bytes().len()).sum();
+            self.waiting.fetch_sub(bytes, Relaxed);
+            self.inbox.tell(Event::Archived(written));
+        }
+        self.archive.prune(self.durable)?;
+        self.counters.archive_bytes.store(self.archive.bytes(), Relaxed);
+        self.counters.archive_first.store(self.archive.first().unwrap_or(0), Relaxed);
+        for ask in asks {
+            if let Err(error) = self.answer(ask) {
+                self.log(&error);
+            }
+        }
+        Ok(())
+    }
+
+    /// Serves a peer within its share. What is not served it asks for again.
+    fn answer(&mut self, ask: Order) -> io::Result<()> {
+        let (Order::Range(to, ..) | Order::Block(to, ..)) = ask else {
+            return Ok(());
+        };
+        if !self.peers.may_serve(to) {
+            return Ok(());
+        }
+        let message = match ask {
+            Order::Block(_, view, payload) => self.archive.block(view, payload)?.map(|it| Message::Block(it.bytes().to_vec())),
+            Order::Range(_, after, upto) => Some(match self.archive.behind(after, upto, LONGEST_RANGE)? {
+                Behind::Blocks(range) => Message::Range(range),
+                Behind::Pruned(first) => Message::NoRange(after, first),
+                Behind::Nothing => Message::NoRange(after, View::GENESIS),
+            }),
+            Order::Append(_) | Order::Durable(_) => None,
+        };
+        if let Some(message) = message {
+            self.peers.serve(to, &message);
+        }
+        Ok(())
+    }
+
+    fn log(&mut self, error: &io::Error) {
+        if self.logged.is_none_or(|it| it.elapsed() > LOGGED) {
+            self.logged = Some(Instant::now());
+            error!(%error, "a peer can't be served from the archive");
+        }
+    }
+}

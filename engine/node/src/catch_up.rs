@@ -1,0 +1,240 @@
+//! Final blocks that are lacking, asked for in ranges from the last one that is here on, of several members at once.
+//!
+//! The views up to the last finalized one are cut into slices. A few are asked for at a time, each of another member, and again of the next
+//! one where no answer comes, after a time that doubles. An answer may end earlier: what is left of its slice is asked for anew.
+
+use simplex_view_state::{Moment, Participant, View};
+use std::collections::{BTreeMap, BTreeSet};
+use std::time::Duration;
+
+/// How many views a slice has.
+const SLICE: u64 = 1024;
+/// How many slices are asked for at once of each member.
+const OF_A_MEMBER: usize = 3;
+/// After how long a slice is asked for again: at first, and at most.
+const RETRY: (Duration, Duration) = (Duration::from_millis(500), Duration::from_secs(8));
+
+/// A part of the views, behind the one that it is found by.
+#[derive(Debug)]
+struct Slice {
+    upto: View,
+    /// Of whom it is asked, until when; none where it came.
+    asked: Option<(Participant, Moment)>,
+    tries: u32,
+}
+
+/// What is asked for.
+#[derive(Clone, Copy, PartialEq, Eq, Debug)]
+pub struct Ask {
+    /// Of whom.
+    pub of: Participant,
+    /// The blocks behind this view.
+    pub after: View,
+    /// Up to this one.
+    pub upto: View,
+}
+
+/// The slices that are asked for.
+#[derive(Debug)]
+pub struct CatchUp {
+    me: Participant,
+    members: u32,
+    next: Participant,
+    slices: BTreeMap<View, Slice>,
+    /// The members that have pruned the blocks just behind a view.
+    pruned: (View, BTreeSet<Participant>),
+}
+
+impl CatchUp {
+    /// Nothing is asked for, at this member of so many.
+    pub fn new(me: Participant, members: u32) -> CatchUp {
+        CatchUp {
+            me,
+            members,
+            next: Participant::new((me.get() + 1) % members),
+            slices: BTreeMap::new(),
+            pruned: (View::GENESIS, BTreeSet::new()),
+        }
+    }
+
+    /// What is to be asked for now, behind the last block that is here and up to the last finalized view. Where there is no room for more,
+    /// the blocks just behind the last one alone.
+    pub fn due(&mut self, last: View, target: View, is_full: bool, now: Moment) -> Vec<Ask> {
+        self.slices.retain(|_, it| it.upto > last);
+        if self.members == 1 {
+            return Vec::new();
+        }
+        self.cut(last, target);
+        let most = OF_A_MEMBER * (self.members as usize - 1);
+        let open = self
+            .slices
+            .values()
+            .filter(|it| it.asked.is_some_and(|(_, until)| until > now))
+            .count();
+        let mut asks = Vec::new();
+        let is_due = |(after, it): (&View, &Slice)| {
+            let is_over = it.asked.is_some_and(|(_, until)| until <= now);
+            (is_over && (*after <= last || !is_full)).then_some(*after)
+        };
+        let due: Vec<View> = self.slices.iter().filter_map(is_due).collect();
+        for after in due.into_iter().take(most.saturating_sub(open)) {
+            asks.extend(self.ask(after, now));
+        }
+        asks
+    }
+
+    /// Cuts what no slice has into slices, a few ahead. They are due at once.
+    fn cut(&mut self, last: View, target: View) {
+        let most = OF_A_MEMBER * self.members as usize;
+        let mut after = last;
+        while after < target && self.slices.values().filter(|it| it.asked.is_some()).count() < most {
+            let lower = self.slices.range(..=after).next_back().filter(|(_, it)| it.upto > after);
+            if let Some((_, slice)) = lower {
+                after = slice.upto;
+                continue;
+            }
+            let above = self.slices.range(after..).next().map_or(target, |(view, _)| *view);
+            let upto = View::new(after.get() + SLICE).min(above).min(target);
+            let slice = Slice {
+                upto,
+                asked: Some((self.me, Moment::from_millis(0))),
+                tries: 0,
+            };
+            self.slices.insert(after, slice);
+            after = upto;
+        }
+    }
+
+    fn ask(&mut self, after: View, now: Moment) -> Option<Ask> {
+        let of = self.next;
+        self.next = self.following(of);
+        let slice = self.slices.get_mut(&after)?;
+        let wait = (RETRY.0 * 2_u32.pow(slice.tries.min(8))).min(RETRY.1);
+        slice.tries += 1;
+        slice.asked = Some((of, Moment::from_millis(now.as_millis() + wait.as_millis() as u64)));
+        Some(Ask {
+            of,
+            after,
+            upto: slice.upto,
+        })
+    }
+
+    /// The member whose turn comes after another's: any but this one.
+    fn following(&self, peer: Participant) -> Participant {
+        let next = Participant::new((peer.get() + 1) % self.members);
+        if next == self.me {
+            Participant::new((next.get() + 1) % self.members)
+        } else {
+            next
+        }
+    }
+
+    /// The blocks behind a view have come, up to another one.
+    pub fn arrived(&mut self, after: View, upto: View) {
+        if let Some(slice) = self.slices.get_mut(&after) {
+            slice.upto = upto;
+            slice.asked = None;
+        }
+    }
+
+    /// A member does not have the blocks just behind a view, or has pruned them.
+    pub fn refused(&mut self, by: Participant, after: View, is_pruned: bool, now: Moment) {
+        if is_pruned {
+            if self.pruned.0 != after {
+                self.pruned = (after, BTreeSet::new());
+            }
+            self.pruned.1.insert(by);
+        }
+        let is_its_own = |it: &&mut Slice| it.asked.is_some_and(|(peer, _)| peer == by);
+        if let Some(slice) = self.slices.get_mut(&after).filter(is_its_own) {
+            let soon = Moment::from_millis(now.as_millis() + 50 * u64::from(slice.tries.min(40)));
+            slice.asked = Some((by, soon));
+        }
+    }
+
+    /// How many members have pruned the blocks just behind a view.
+    pub fn pruned_by(&self, after: View) -> usize {
+        if self.pruned.0 == after { self.pruned.1.len() } else { 0 }
+    }
+
+    /// Blocks that came are lacking again, all of them.
+    pub fn begin_anew(&mut self) {
+        self.slices.clear();
+    }
+
+    /// The views behind which blocks are asked for.
+    pub fn asked(&self) -> impl Iterator<Item = View> {
+        self.slices.iter().filter(|(_, it)| it.asked.is_some()).map(|(after, _)| *after)
+    }
+}
+
+#[cfg(test)]
+mod tests {
+    use super::*;
+
+    fn view(it: u64) -> View {
+        View::new(it)
+    }
+
+    fn at(millis: u64) -> Moment {
+        Moment::from_millis(millis)
+    }
+
+    fn ranges(asks: &[Ask]) -> Vec<(u32, u64, u64)> {
+        asks.iter().map(|it| (it.of.get(), it.after.get(), it.upto.get())).collect()
+    }
+
+    #[test]
+    fn slices_are_asked_of_all_others_in_turn_and_rise() {
+        let mut it = CatchUp::new(Participant::new(1), 4);
+        let asks = ranges(&it.due(view(10), view(100_000), false, at(5)));
+        assert_eq!(asks.len(), 9, "three of each");
+        assert_eq!(asks.iter().map(|it| it.0).collect::<Vec<_>>(), [2, 3, 0, 2, 3, 0, 2, 3, 0]);
+        assert!(asks.windows(2).all(|it| it[0].2 == it[1].1) && asks[0].1 == 10);
+        assert!(it.due(view(10), view(100_000), false, at(6)).is_empty());
+    }
+
+    #[test]
+    fn where_there_is_no_room_the_lowest_slice_alone_is_asked_for() {
+        let mut it = CatchUp::new(Participant::new(1), 4);
+        assert_eq!(ranges(&it.due(view(10), view(100_000), true, at(5))), [(2, 10, 10 + SLICE)]);
+        assert_eq!(it.due(view(10), view(100_000), false, at(6)).len(), 8);
+    }
+
+    #[test]
+    fn what_does_not_come_is_asked_of_the_next_member_later_and_later() {
+        let mut it = CatchUp::new(Participant::new(3), 4);
+        let mut times = Vec::new();
+        for now in 0..20_000 {
+            times.extend(it.due(view(0), view(5), false, at(now)).iter().map(|ask| (now, ask.of.get())));
+        }
+        assert_eq!(times[..5], [(0, 0), (500, 1), (1500, 2), (3500, 0), (7500, 1)]);
+        assert!(times.len() < 8, "{times:?}");
+    }
+
+    #[test]
+    fn an_answer_that_ends_earlier_leaves_the_rest_to_be_asked_for() {
+        let mut it = CatchUp::new(Participant::new(0), 2);
+        assert_eq!(ranges(&it.due(view(0), view(600), false, at(0))), [(1, 0, 600)]);
+        it.arrived(view(0), view(350));
+        assert_eq!(ranges(&it.due(view(350), view(700), false, at(1))), [(1, 350, 700)]);
+        it.arrived(view(350), view(700));
+        assert!(it.due(view(700), view(700), false, at(2)).is_empty());
+    }
+
+    #[test]
+    fn who_has_pruned_is_counted_once_and_for_the_lowest_lacking_block() {
+        let mut it = CatchUp::new(Participant::new(0), 4);
+        it.due(view(7), view(600), false, at(0));
+        for by in [1, 2, 2] {
+            it.refused(Participant::new(by), view(7), true, at(1));
+        }
+        it.refused(Participant::new(3), view(7), false, at(1));
+        assert_eq!((it.pruned_by(view(7)), it.pruned_by(view(8))), (2, 0));
+    }
+
+    #[test]
+    fn a_member_alone_asks_nobody() {
+        assert!(CatchUp::new(Participant::new(0), 1).due(view(0), view(9), false, at(0)).is_empty());
+    }
+}

@@ -1,0 +1,167 @@
+//! The finalized chain: its blocks go to the archive, and what is on the disk there to the application. Where blocks are lacking, peers are
+//! asked for them in ranges.
+
+use super::Replica;
+use crate::chain::Entry;
+use crate::message::{Message, Range};
+use crate::settings::Outcome;
+use simplex_view_state::{CertificateKind, Participant, Proposal, View};
+use std::sync::atomic::Ordering::Relaxed;
+use std::time::{Duration, Instant};
+use tracing::{error, info};
+
+/// Behind by so many views a node asks for ranges at once, and by fewer once that has lasted for [`PATIENCE`].
+const FAR: u64 = 64;
+const PATIENCE: Duration = Duration::from_millis(200);
+/// How many bytes of final blocks may wait for those below them and for the disk, before no more are asked for.
+const MOST_WAITING: usize = 32 << 20;
+/// Of a node that is behind, blocks of more bytes than this are dropped again where they are final: peers have them.
+const MOST_BLOCKS: usize = 64 << 20;
+/// How often it is logged how far behind the node is.
+const LOGGED: Duration = Duration::from_secs(5);
+/// How often it is logged that nobody has a block.
+const LACK_LOGGED: Duration = Duration::from_secs(60);
+/// After how long without a block all that was asked for is asked for again.
+const STALLED: Duration = Duration::from_secs(15);
+
+/// How far the node is behind, and what was told of it.
+#[derive(Debug)]
+pub(super) struct Lag {
+    /// Since when blocks are lacking, and behind which view the first one was.
+    since: Option<(Instant, View)>,
+    /// When the chain grew last.
+    grew: Instant,
+    logged: Option<Instant>,
+    lack_logged: Option<Instant>,
+    is_told: bool,
+}
+
+impl Lag {
+    pub(super) fn none() -> Lag {
+        Lag {
+            since: None,
+            grew: Instant::now(),
+            logged: None,
+            lack_logged: None,
+            is_told: false,
+        }
+    }
+}
+
+fn is_due(last: &mut Option<Instant>, every: Duration) -> bool {
+    let is_due = last.is_none_or(|it| it.elapsed() >= every);
+    if is_due {
+        *last = Some(Instant::now());
+    }
+    is_due
+}
+
+impl Replica {
+    /// A proposal is final.
+    pub(super) fn finalize(&mut self, proposal: &Proposal) -> Outcome {
+        let certificate = self.parts.engine.certificate(CertificateKind::Finalization, proposal.view())?;
+        self.chain.finalize(proposal, certificate, &self.parts.blocks)?;
+        self.deliver()
+    }
+
+    /// Final blocks that a peer sends, verified.
+    pub(super) fn take_range(&mut self, range: Range) -> Outcome {
+        let last = range.certificate.round().view;
+        self.catch_up.arrived(range.after, last);
+        self.chain.add(range.certificate, range.blocks, &self.parts.blocks)?;
+        self.deliver()
+    }
+
+    /// A peer has no blocks behind a view: it has pruned them, where it names the first that it has.
+    pub(super) fn take_no_range(&mut self, from: Participant, after: View, first: View) {
+        let now = self.parts.clock.now();
+        self.catch_up.refused(from, after, first > View::GENESIS, now);
+    }
+
+    /// Hands final blocks to the archive, block on block, as far as none is lacking.
+    pub(super) fn deliver(&mut self) -> Outcome {
+        let entries = self.chain.take(&self.parts.blocks);
+        if !entries.is_empty() {
+            self.lag.grew = Instant::now();
+            self.parts.keeper.append(entries);
+        }
+        let (hole, target) = (self.chain.hole(), self.chain.target());
+        self.waiting.deliver(hole, self.turns.leader(target), self.parts.clock.now());
+        if self.parts.blocks.bytes() > MOST_BLOCKS && hole.is_some() {
+            self.parts.blocks.forget(target)?;
+        }
+        Ok(())
+    }
+
+    /// These blocks are in the archive: the application takes them, and what was kept for them goes.
+    pub(super) fn take_archived(&mut self, entries: Vec<Entry>) -> Outcome {
+        self.parts.application.finalized(entries);
+        Ok(self.parts.blocks.forget(self.parts.keeper.synced())?)
+    }
+
+    /// Asks for the blocks that are missing after the chain's last one, where it is far behind or has been for a while.
+    pub(super) fn catch_up(&mut self) {
+        let (tail, target) = (self.chain.tail(), self.chain.target());
+        self.note_lag();
+        let is_long = self.lag.since.is_some_and(|(since, _)| since.elapsed() > PATIENCE);
+        if self.chain.hole().is_none() || (target.get() - tail.view.get() < FAR && !is_long) {
+            self.parts.horizon.want_ranges(Default::default());
+            return;
+        }
+        if self.lag.grew.elapsed() > STALLED {
+            self.lag.grew = Instant::now();
+            self.catch_up.begin_anew();
+        }
+        let is_full = self.chain.fetched_bytes() + self.parts.keeper.waiting() > MOST_WAITING;
+        for ask in self.catch_up.due(tail.view, target, is_full, self.parts.clock.now()) {
+            self.parts.counters.ranges.fetch_add(1, Relaxed);
+            self.parts.peers.send(ask.of, &Message::AskRange(ask.after, ask.upto));
+        }
+        self.parts.horizon.want_ranges(self.catch_up.asked().collect());
+        self.note_lack();
+    }
+
+    /// Counts and logs how far behind the node is, and when it has caught up.
+    fn note_lag(&mut self) {
+        let (tail, target) = (self.chain.tail(), self.chain.target());
+        let views = target.get().saturating_sub(tail.view.get());
+        self.parts.counters.lag_views.store(views, Relaxed);
+        if self.chain.hole().is_none() {
+            if let Some((since, first)) = self.lag.since.take().filter(|_| self.lag.is_told) {
+                let milliseconds = since.elapsed().as_millis() as u64;
+                info!(
+                    from = first.get(),
+                    upto = tail.view.get(),
+                    milliseconds,
+                    "caught up with the finalized chain"
+                );
+            }
+            self.lag.is_told = false;
+            self.parts.counters.missing_height.store(0, Relaxed);
+            return;
+        }
+        self.lag.since.get_or_insert((Instant::now(), tail.view));
+        if views >= FAR && is_due(&mut self.lag.logged, LOGGED) {
+            self.lag.is_told = true;
+            info!(views, height = tail.height, "behind the finalized chain: its blocks are asked for");
+        }
+    }
+
+    /// Says which block nobody has, and what to do.
+    fn note_lack(&mut self) {
+        let tail = self.chain.tail();
+        let others = self.heard.len() - 1;
+        let pruned = self.catch_up.pruned_by(tail.view);
+        let is_nowhere = others > 0 && pruned == others;
+        let height = if is_nowhere { tail.height + 1 } else { 0 };
+        self.parts.counters.missing_height.store(height, Relaxed);
+        if is_nowhere && is_due(&mut self.lag.lack_logged, LACK_LOGGED) {
+            error!(
+                height,
+                after_view = tail.view.get(),
+                "no other member has the final block of this height any more: begin this member anew at a floor, with a copy of another \
+                 one's `archive` and `chain` in its folder; and give the members a larger `most_bytes` in `[archive]`"
+            );
+        }
+    }
+}

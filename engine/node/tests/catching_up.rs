@@ -1,0 +1,208 @@
+//! Nodes that were away for long: they get all final blocks from their peers, or say which one nobody has.
+
+use simplex_node::audit::disagreements;
+use simplex_node::network::{Network, Plan, folder_of};
+use simplex_node::settings::Protocol;
+use std::fs;
+use std::time::{Duration, Instant};
+
+/// Within what time something has to be seen, on a machine that does much else.
+const SOON: Duration = Duration::from_secs(30);
+/// How long a network gets for many views.
+const LONG: Duration = Duration::from_secs(150);
+
+fn network(name: &str, nodes: u32) -> Network {
+    let plan = Plan {
+        nodes,
+        protocol: Protocol {
+            inactivity_ms: 200,
+            leader_timeout_ms: 150,
+            certification_timeout_ms: 190,
+            timeout_retry_ms: 100,
+            ..Protocol::default()
+        },
+        sync: false,
+        faults: Vec::new(),
+        delay_ms: 0,
+        program: env!("CARGO_BIN_EXE_simplex-node").into(),
+        folder: folder_of(name),
+    };
+    let mut network = Network::new(plan).expect("keys and settings");
+    (0..nodes).for_each(|index| network.set(index, |it| it.trace = None).expect("settings"));
+    network
+}
+
+fn log(network: &Network, index: u32) -> String {
+    fs::read_to_string(network.log(index)).unwrap_or_default()
+}
+
+fn count(network: &Network, index: u32, name: &str) -> u64 {
+    network.metric(index, name).expect("it answers")
+}
+
+fn ends_well(mut network: Network) {
+    network.stop().expect("they stop");
+    let chains = network.chains().expect("chains");
+    assert_eq!(disagreements(&chains), Vec::<String>::new());
+    fs::remove_dir_all(network.folder()).expect("a folder");
+}
+
+/// Three nodes finalize so many views, while node 3 is away.
+fn away_for(name: &str, views: u64) -> Network {
+    let mut network = network(name, 4);
+    network.begin_all().expect("processes");
+    assert!(network.wait_until(&[3], "height", 5, SOON), "{}", log(&network, 3));
+    network.kill(3).expect("a process");
+    let last = network.highest(&[0, 1, 2]) + views;
+    assert!(network.wait_for(&[0, 1, 2], last, LONG), "{}", log(&network, 0));
+    network
+}
+
+#[test]
+fn a_node_that_was_away_for_2500_views_gets_all_blocks_of_several_peers() {
+    let mut network = away_for("away", 2500);
+    let (before, begun) = (count(&network, 0, "height"), Instant::now());
+    network.begin(3).expect("a process");
+    assert!(network.wait_until(&[3], "height", before, SOON), "{}", log(&network, 3));
+    println!("{before} blocks after {:?}", begun.elapsed());
+    let servers = (0..3).filter(|index| count(&network, *index, "served") > 0).count();
+    assert!(servers >= 2, "{servers} members served it");
+    assert!(count(&network, 3, "ranges") > 0);
+    let said = log(&network, 3);
+    assert!(
+        said.contains("behind the finalized chain") && said.contains("caught up with"),
+        "{said}"
+    );
+    ends_well(network);
+}
+
+/// The members have pruned what node 3 lacks.
+#[test]
+fn a_block_that_nobody_has_is_an_error_that_names_its_height() {
+    let mut network = network("pruned", 4);
+    for index in 0..4 {
+        let small = |it: &mut simplex_node::settings::Settings| {
+            it.archive.segment_bytes = 20_000;
+            it.archive.most_bytes = Some(60_000);
+        };
+        network.set(index, small).expect("settings");
+    }
+    network.begin_all().expect("processes");
+    assert!(network.wait_until(&[3], "height", 5, SOON), "{}", log(&network, 3));
+    network.kill(3).expect("a process");
+    let height = network.chains().expect("chains")[3].len() as u64;
+    assert!(
+        network.wait_until(&[0, 1, 2], "archive_first", height + 2, LONG),
+        "{}",
+        log(&network, 0)
+    );
+    network.begin(3).expect("a process");
+    let is_told = network.wait_until(&[3], "missing_height", height + 1, SOON);
+    let said = log(&network, 3);
+    assert!(
+        is_told,
+        "{} in place of {height} and 1: {said}",
+        count(&network, 3, "missing_height")
+    );
+    let line = said
+        .lines()
+        .find(|it| it.contains("no other member has the final block"))
+        .expect("a line");
+    // (the archive may have had a block more than the application)
+    let missing = count(&network, 3, "missing_height");
+    assert!(line.contains(&format!("height={missing}")) && line.contains("ERROR"), "{line}");
+    assert!(network.wait_for(&[3], network.highest(&[0]) + 5, SOON), "it votes on: {said}");
+    ends_well(network);
+}
+
+/// Node 3's process ends again and again while it gets blocks, and its archive's end is torn.
+#[test]
+fn a_node_that_is_killed_while_it_catches_up_goes_on_where_it_was() {
+    let mut network = away_for("torn", 600);
+    for _ in 0..4 {
+        network.begin(3).expect("a process");
+        std::thread::sleep(Duration::from_millis(150));
+        network.kill(3).expect("a process");
+        tear_last_segment(&network);
+    }
+    let height = count(&network, 0, "height");
+    network.begin(3).expect("a process");
+    assert!(network.wait_until(&[3], "height", height, SOON), "{}", log(&network, 3));
+    ends_well(network);
+}
+
+/// Cuts some bytes off the last segment of node 3's archive, as a power cut does where the disk had not all of it.
+fn tear_last_segment(network: &Network) {
+    let segments = fs::read_dir(network.data(3).join("archive")).expect("a folder").flatten();
+    let Some(last) = segments.map(|it| it.path()).max() else { return };
+    let file = fs::OpenOptions::new().write(true).open(&last).expect("a segment");
+    let length = file.metadata().expect("a segment").len();
+    file.set_len(length.saturating_sub(70).max(simplex_node::segments::HEAD))
+        .expect("a disk");
+}
+
+/// A member alone, which has nobody to ask, with an archive of some segments. It has stopped.
+fn alone(name: &str) -> Network {
+    let mut network = network(name, 1);
+    network.set(0, |it| it.archive.segment_bytes = 10_000).expect("settings");
+    network.begin(0).expect("a process");
+    assert!(network.wait_until(&[0], "height", 100, SOON), "{}", log(&network, 0));
+    network.stop().expect("it stops");
+    network
+}
+
+/// The lines of the chain, of which the first so many are left.
+fn cut_chain(network: &Network, left: usize) -> Vec<String> {
+    let path = network.data(0).join("chain");
+    let text = fs::read_to_string(&path).expect("a chain");
+    let lines: Vec<String> = text.lines().map(|it| it.split(' ').take(2).collect::<Vec<_>>().join(" ")).collect();
+    let kept: String = text.split_inclusive('\n').take(left).collect();
+    fs::write(path, kept).expect("a disk");
+    lines
+}
+
+/// As where the machine lost power before the application's file was on the disk.
+#[test]
+fn an_application_that_lost_its_last_blocks_gets_them_from_the_archive() {
+    let mut network = alone("lost");
+    let before = cut_chain(&network, 20);
+    network.begin(0).expect("a process");
+    assert!(
+        network.wait_until(&[0], "height", before.len() as u64 + 5, SOON),
+        "{}",
+        log(&network, 0)
+    );
+    network.stop().expect("it stops");
+    assert!(log(&network, 0).contains("the application was behind the archive"));
+    let after = cut_chain(&network, usize::MAX);
+    assert_eq!(after[..before.len()], before);
+    fs::remove_dir_all(network.folder()).expect("a folder");
+}
+
+#[test]
+fn a_segment_that_is_damaged_and_needed_is_named() {
+    let mut network = alone("damaged");
+    cut_chain(&network, 2);
+    let archive = network.data(0).join("archive");
+    let mut segments: Vec<_> = fs::read_dir(archive).expect("a folder").flatten().map(|it| it.path()).collect();
+    segments.sort();
+    assert!(segments.len() > 2);
+    let whole = fs::read(&segments[1]).expect("a segment");
+    let mut bytes = whole.clone();
+    bytes[500] ^= 1;
+    fs::write(&segments[1], bytes).expect("a disk");
+    network.begin(0).expect("a process");
+    let begun = Instant::now();
+    while !network.has_ended(0).expect("a process") {
+        assert!(begun.elapsed() < SOON, "it goes on");
+        std::thread::sleep(Duration::from_millis(20));
+    }
+    let said = log(&network, 0);
+    let is_named = said.contains(segments[1].to_str().expect("letters")) && said.contains("put back a whole copy");
+    assert!(is_named, "{said}");
+    fs::write(&segments[1], whole).expect("a disk");
+    network.begin(0).expect("a process");
+    assert!(network.wait_until(&[0], "height", 101, SOON), "{}", log(&network, 0));
+    network.stop().expect("it stops");
+    fs::remove_dir_all(network.folder()).expect("a folder");
+}
