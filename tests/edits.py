@@ -8,6 +8,7 @@ one check (`lib/batches.py`), over the libraries that `rt ci` or `rt lib` left. 
     tests/edits.py simplex_round ..        those of some crates
     tests/edits.py --only verdict          those whose name holds a word
     tests/edits.py --gate FILE             those that `rt ci` does not try, and what it printed, in a file, of those that it tried
+    tests/edits.py --seconds N             begins no check after N seconds, and says how many edits that left untried
 
 It ends with status 1 where an edit is proved, can't be made or read, is refused only since a proof cites a name that it takes away, or
 where one of those that the gate itself must try is missing."""
@@ -25,7 +26,7 @@ from lib import batches, edits
 from lib.floors import lacking
 from lib.program import ROOT, last_change
 
-LEAST = {"edits": 292}
+LEAST = {"edits": 305}
 REFUSED_BY_THE_KIT = re.compile(r"must-fail (\S+/\S+)\.edit: refused, as it must be(?!.*only because a proof file names)")
 TRIED_BY_THE_GATE = (
     "simplex_voter/never_votes_to_notarize",
@@ -73,6 +74,7 @@ def options():
     parser.add_argument("crates", nargs="*", help="the crates whose edits are tried (else all)")
     parser.add_argument("--only", default="", help="only those whose name holds this")
     parser.add_argument("--gate", type=Path, help="what `rt ci` printed")
+    parser.add_argument("--seconds", type=float, default=float("inf"), help="begin no check after so many seconds")
     parser.add_argument("--jobs", type=int, default=len(os.sched_getaffinity(0)), help="how many checks run side by side")
     return parser.parse_args()
 
@@ -107,8 +109,8 @@ def build_below(crates):
                 raise SystemExit(f"{dep.name} is not proved, so no edit above it can be tried")
 
 
-def verdicts_of(rt, crate, chosen, kept):
-    """The verdicts on a crate's edits, batch after batch, and the seconds that they took."""
+def verdicts_of(rt, crate, chosen, kept, deadline):
+    """The verdicts on a crate's edits, batch after batch, and the seconds that they took. No batch begins after the deadline."""
     begun, found, trials = time.monotonic(), [], []
     folder = Path(crate.folder)
     for edit in chosen:
@@ -118,7 +120,10 @@ def verdicts_of(rt, crate, chosen, kept):
             found.append(batches.Verdict(edit, "unread", str(fault)))
     parts = batches.in_batches(trials, folder)
     for part, texts in parts:
-        found += batches.tried(rt, crate, part, texts, kept)
+        if time.monotonic() > deadline:
+            found += [batches.Verdict(trial.edit, "untried", "") for trial in part]
+        else:
+            found += batches.tried(rt, crate, part, texts, kept)
     print(f"  {crate.name}: {len(chosen)} edits in {len(parts)} checks, {time.monotonic() - begun:.0f} s", flush=True)
     print("".join(f"    {fault}\n" for fault in faults_of(found)), end="", flush=True)
     return found
@@ -126,22 +131,22 @@ def verdicts_of(rt, crate, chosen, kept):
 
 def faults_of(verdicts):
     """What is not as asked of these verdicts."""
-    return [f"{it.edit.title} {WORDS[it.kind]}: {it.said}" for it in verdicts if it.kind != "contract"]
+    return [f"{it.edit.title} {WORDS[it.kind]}: {it.said}" for it in verdicts if it.kind in WORDS]
 
 
-def tried(rt, crates, chosen, jobs):
+def tried(rt, crates, chosen, jobs, deadline):
     """The verdicts on edits, those of several crates side by side, the crates with the most to prove first."""
     of_crate = {name: [it for it in chosen if it.crate == name] for name in {it.crate for it in chosen}}
     first = sorted(of_crate, key=lambda name: -crates[name].count(b"\n"))
     with tempfile.TemporaryDirectory(prefix="edits-") as room, ThreadPoolExecutor(jobs) as pool:
         for name in first:
             Path(room, name).mkdir()
-        work = [pool.submit(verdicts_of, rt, crates[name], of_crate[name], f"{room}/{name}") for name in first]
+        work = [pool.submit(verdicts_of, rt, crates[name], of_crate[name], f"{room}/{name}", deadline) for name in first]
         return [verdict for it in work for verdict in it.result()]
 
 
 def main():
-    given = options()
+    given, begun = options(), time.monotonic()
     os.chdir(ROOT)
     rt = batches.kit()
     crates = {crate.name: crate for crate in rt.rtlib.crates_below(str(ROOT))}
@@ -154,12 +159,15 @@ def main():
     needed = [crates[name] for name in sorted({it.crate for it in chosen})]
     if not all(are_from_the_gate(crate) for crate in needed):
         build_below(needed)
-    found = tried(rt, crates, chosen, given.jobs)
+    found = tried(rt, crates, chosen, given.jobs, begun + given.seconds)
+    untried = sum(it.kind == "untried" for it in found)
     faults = faults_of(found)
     faults += missing_from_the_gate(given.gate.read_text() if given.gate else None)
     if not given.only and not given.crates:
         faults += lacking({"edits": len(found) + len(by_the_kit)}, LEAST)
-    print(f"must-fail edits: {len(found)} in batches, {len(by_the_kit)} by the kit, {len(faults)} not as asked")
+    print(f"must-fail edits: {len(found) - untried} in batches, {len(by_the_kit)} by the kit, {len(faults)} not as asked")
+    if untried:
+        print(f"  {untried} edits were not tried: the time was up")
     print("".join(f"  {fault}\n" for fault in faults), end="")
     return 1 if faults else 0
 

@@ -24,9 +24,9 @@ from lib.program import ROOT
 
 ENGINE = ROOT / "engine"
 SKIPPED = 77
-LEAST_TESTS = 105
-# The words of the README's command.
-NETWORK = re.compile(r"^target/release/simplex-local (--.*)$", re.M)
+LEAST_TESTS = 150
+# The words of the network that `./demo` runs.
+NETWORK = re.compile(r"words=\((--.*)\)")
 
 # A file, what stands there, what is put in its place, and what fails then.
 WRONG_BODIES = (
@@ -34,9 +34,9 @@ WRONG_BODIES = (
     ("votes are not verified", "peers/reader.rs", "let is_good = self.is_good(self.reader.keys.is_signed_vote(vote));", "let is_good = self.is_good(true);"),
     ("a member may hold many connections", "peers/accept.rs", "if let Some(older) = place.replace(open) {",
      "std::mem::forget(open); if let Some(older) = None::<Open> {"),
-    ("a greeting takes as long as it likes", "peers/link.rs", "pub const GREETING: Duration = Duration::from_secs(2);",
+    ("a greeting takes as long as it likes", "peers/session.rs", "pub const GREETING: Duration = Duration::from_secs(2);",
      "pub const GREETING: Duration = Duration::from_secs(600);"),
-    ("a silent link stays", "peers/link.rs", "pub const SILENCE: Duration = Duration::from_secs(2);", "pub const SILENCE: Duration = Duration::from_secs(600);"),
+    ("a silent link stays", "peers/session.rs", "pub const SILENCE: Duration = Duration::from_secs(2);", "pub const SILENCE: Duration = Duration::from_secs(600);"),
     ("the queue to a peer has no bound", "peers/outgoing.rs", "if bytes > MOST_BYTES {", "if bytes == usize::MAX {"),
     ("blocks that nobody asked for are passed on", "peers/reader.rs", "Message::Block(bytes) => horizon.wants(bytes),", "Message::Block(_) => true,"),
     ("a forger stays", "peers/reader.rs", "if self.forged > MOST_FORGED {", "if self.forged == u32::MAX {"),
@@ -44,7 +44,17 @@ WRONG_BODIES = (
     ("certificates that are lacking are not asked for", "replica.rs", "Output::Fetch(it) => self.fetch(&it),", "Output::Fetch(_) => {}"),
     ("blocks that are lacking are not asked for", "waiting.rs", "let is_due = |asking: &Asking| asking.next <= now;",
      "let is_due = |_: &Asking| now.as_millis() == u64::MAX;"),
-    ("peers are served no block", "replica/asking.rs", "const BLOCKS_SERVED: usize = 64;", "const BLOCKS_SERVED: usize = 0;"),
+    ("peers are served no final blocks", "archive/keeper.rs", "Behind::Blocks(range) => Message::Range(range),",
+     "Behind::Blocks(_) => Message::NoRange(after, View::GENESIS),"),
+    ("peers are served all that they ask for", "peers.rs", "let is_left = locked(&peer.served).take(frame.len() as f64, Instant::now());",
+     "let is_left = !frame.is_empty();"),
+    ("a range of blocks is not compared with its certificate", "peers/reader.rs", "(it.is_linked() || self.is_good(false))", "!it.blocks.is_empty()"),
+    ("a stored block's checksum is not tested", "segments.rs", "if sum_of(lengths, body) != sum {", "if lengths == u32::MAX {"),
+    ("blocks are pruned that the application has not stored", "archive.rs", "&& second <= durable + 1", "&& second < durable + u64::from(u32::MAX)"),
+    ("all lacking blocks are asked of one member", "catch_up.rs", "self.next = self.following(of);", ""),
+    ("nobody says which block all others have pruned", "replica/finality.rs", "let is_nowhere = others > 0 && pruned == others;",
+     "let is_nowhere = others > 0 && pruned > others;"),
+    ("an application that lost blocks is not given them again", "start.rs", "    replay(&mut archive, &mut application)?;\n", ""),
     ("a certificate of too few votes is taken", "crypto.rs", "signed.len() == self.quorum()", "signed.len() + 1 >= self.quorum()"),
     ("a damaged journal is taken for a cut one", "journal.rs", "Some(_) => Err(JournalError::Damaged(at)),", "Some(_) => Ok(None),"),
     ("a node that can't store goes on", "replica.rs", "Output::Store(entries) => self.parts.journal.append(&entries)?,",
@@ -66,7 +76,44 @@ WRONG_BODIES = (
      "!horizon.knows(&vote.subject)"),
     ("a vote for another proposal is dropped where the view is certified", "peers/reader.rs",
      "locked(&self.known).certificates.get(&key) == Some(subject)", "locked(&self.known).certificates.contains_key(&key)"),
-    ("votes in a notarization are not compared", "replica.rs", "let found = self.leader_votes.see_certificate(&it);", "let found = Default::default();"),
+    ("votes in a notarization are not compared", "replica/far.rs", "let found = self.leader_votes.see_certificate(&it);", "let found = Default::default();"),
+    ("what is signed in one network counts in another", "network_name.rs", "[SIGNED, &self.prefixed(), text].concat()", "[SIGNED, text].concat()"),
+    ("a journal of another network is taken", "identity.rs", "if self.network != node.network {", "if false {"),
+    ("genesis is the same in all networks", "identity.rs", "text.extend_from_slice(&self.network.prefixed());", ""),
+    ("who answers at a member's address is taken for it", "peers/tls.rs",
+     "chain.error_depth() == 0 && key.is_some_and(|it| is_allowed(&keys, &it))", "chain.error_depth() == 0 || key.is_some_and(|it| is_allowed(&keys, &it))"),
+    ("a greeting's time begins anew with each read", "peers/tls.rs",
+     "let left = until.checked_duration_since(Instant::now()).filter(|it| !it.is_zero());", "let left = (until.elapsed() < Duration::from_secs(600)).then_some(Duration::from_secs(2));"),
+    ("a member with other settings is taken", "peers/greeting.rs", 'differs("term_length", peer.term_length, self.term_length)?;', ""),
+    ("events of what came are not traced", "replica.rs", "self.events.after(seen, is_of_use);", "drop(seen);"),
+    ("a resume is traced as a start", "events.rs", "if entries == 0 {", "if entries < u64::MAX {"),
+    ("traces of two runs are mixed", "bin/simplex-local/traced.rs", ".find(|it| it.exists())", ".find(|_| false)"),
+    ("a full queue of events is waited for", "../../trace/src/queue.rs", "to.try_send(line).is_ok()", "to.send(line).is_ok()"),
+    ("dropped events are not counted", "../../trace/src/queue.rs", "self.dropped.fetch_add(1, Relaxed);", "{}"),
+    ("a trace is written over any file", "../../trace/src/file.rs", "Some(Err(_)) | None => Err(FileError::NoTrace(path.to_owned())),",
+     "Some(Err(_)) | None => Ok(None),"),
+    ("a trace is written over another program's", "../../trace/src/file.rs", "let earlier = header_at(path)?.filter(|it| program",
+     "let earlier = header_at(path)?.filter(|_| false).filter(|it| program"),
+    ("a lifetime is appended to half a line", "../../trace/src/file.rs", "cut_last_line(path, &file).map_err(named)?;", ""),
+    ("another version is read", "../../trace/src/reader.rs", "if version != VERSION {", "if version == 0 {"),
+    ("a certificate that came is made here", "../../trace/src/observer.rs", "let is_made = !self.accepted.contains(&(kind, view));",
+     "let is_made = true;"),
+    ("each first view of a term is a handoff", "../../trace/src/observer.rs", "if is_first_of_term && !is_certified {", "if is_first_of_term {"),
+    ("a simulated host forgets its journal", "../../sim/src/engine_host.rs",
+     "Some(stored) => Engine::resume(&config, &options, now, stored, &self.disk.journal)?,", "Some(_) => Engine::start(&config, &options, now)?,"),
+    ("a vote that is cast twice is not seen", "../../sim/src/checks.rs", "let vote = message.vote().filter(|it| it.signer == from)?;",
+     "let vote = message.vote().filter(|it| it.signer != from)?;"),
+    ("a disagreement is not seen", "../../sim/src/network.rs", "let violation = self.checks.finalized(Participant::new(index as u32), proposal);",
+     "let violation = None;"),
+    ("a simulation has chance of its own", "../../sim/src/network.rs", "random: Random::new(plan.seed),",
+     "random: Random::new(plan.seed ^ u64::from(std::time::UNIX_EPOCH.elapsed().map_or(0, |it| it.subsec_nanos()))),"),
+    ("links are never cut", "../../sim/src/network.rs", "let is_cut = side(sent.from) != side(sent.to);", "let is_cut = false;"),
+    ("a silent leader proposes", "../../sim/src/fault.rs", "if matches!(sent.message, Message::Proposal(..)) {", "if false {"),
+    ("what is passed is not cancelled", "application/worker.rs", "cancelled.cancel();\n        }\n    }\n\n    /// These blocks are final", "drop(cancelled);\n        }\n    }\n\n    /// These blocks are final"),
+    ("an answer of the application is lost", "replica/judging.rs", "self.handle(Input::Certified { view, is_success })?;", "drop(is_success);"),
+    ("a panic of the application is not told", "application/worker.rs", 'None => "the application panicked".to_owned(),', "None => return,"),
+    ("a certificate of a far view does not wait", "replica/far.rs", "const FAR: u64 = 256;", "const FAR: u64 = 1 << 40;"),
+    ("a build that never began is not answered", "application/worker.rs", "is_build || !is_passed", "let _ = is_build; !is_passed"),
     ("a clock falls back with the machine's", "clock.rs", "self.ahead += by;", "self.ahead = Duration::ZERO; self.begun = Instant::now();"),
 )
 
@@ -104,16 +151,18 @@ def faults(surroundings, target):
 
 
 def newcomers_faults(surroundings, target):
-    """What is not as it has to be where the README's command is given, in a build for trying."""
-    words = NETWORK.search((ROOT / "README.md").read_text())[1].split()
+    """What is not as it has to be of the network that `./demo` runs, in a build for trying."""
+    words = NETWORK.search((ROOT / "demo").read_text())[1].split()
     built = cargo(ENGINE, surroundings, "build", "--offline")
     if built.returncode:
         yield f"cargo build:\n{built.stderr[-4000:]}"
         return
-    done = subprocess.run([target / "debug/simplex-local", *words], capture_output=True, text=True)
+    done = subprocess.run([target / "debug/simplex-local", *words], cwd=target, capture_output=True, text=True)
     print(done.stdout[done.stdout.find("\nThe last views"):].strip())
     if done.returncode:
         yield f"simplex-local {' '.join(words)}:\n{(done.stdout + done.stderr)[-2000:]}"
+    elif "--html" in words and not (target / words[words.index("--html") + 1]).is_file():
+        yield f"simplex-local {' '.join(words)} wrote no page"
 
 
 def wrong_bodies(surroundings, room, only):

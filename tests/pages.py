@@ -1,5 +1,5 @@
 #!/usr/bin/env python3
-"""That the paths in pages lead somewhere, and how many words they have.
+"""That the paths in pages lead somewhere and their words are the field's, and how many words they have.
 
 Each `ghost use` and `use` line in a fenced block of the README, of `docs/**/*.md` and of `crates/*/CALLING.md`, and each path of
 the repository's crates between backquotes, names a module that stands here, and the names that are taken from it stand in it. Of
@@ -8,7 +8,8 @@ Words are those between spaces, outside fenced blocks, which are code or output,
 
     tests/pages.py
 
-It ends with status 1 where a path leads nowhere, or where it found next to none."""
+It ends with status 1 where a path leads nowhere, where it found next to none, or where a page that keeps to the field's words has one of
+the repository's own."""
 
 import re
 import shutil
@@ -26,6 +27,15 @@ SIBLING = re.compile(r"^((?:\w+\.)*[A-Z]\w*)(?:\.\{([^}]*)\})?$")
 GENERATED = ("Goals", "Given", "Answers", "TheVariants")
 PACKAGE = "bindings/rust/src/lib.rs"
 WRITTEN_BY_SCRIPTS = ("DEFINITIONS.md", "REFUSED.md", "SPEED.md")
+# Words of this repository's own, where the field has one (returns, passes, out of memory, lifetime, host ..), and pages that keep to the
+# field's.
+DIALECT = re.compile(
+    r"\b(hand(?:s|ed|ing)? (?:in|out)|giv(?:es?|en|ing) (?:out|up)|(?:is|are|was|were|be|been) told|want of memory|memory is wanting|of no use"
+    r"|lets? go|likewise|its kin|comes? of|go(?:es)? on|leaves? behind|a life|lives|drivers?|owes?|owed|reckoned|late comers?)\b",
+    re.IGNORECASE,
+)
+IN_PLAIN_WORDS = ("README.md", "CONTRIBUTING.md", "CHANGELOG.md", "SECURITY.md", *(f"docs/{name}.md" for name in (
+    "CALLERS", "DECISIONS", "DESIGN", "DIFFERENCES", "EMBEDDING", "GLOSSARY", "GUARANTEES", "PARTS", "PRODUCTION", "PROGRAM", "TESTED", "TRACE")))
 LEAST = {"paths in blocks": 45, "paths between backquotes": 25, "names": 120}
 
 
@@ -165,6 +175,13 @@ def paths_of(page):
         yield from (("paths between backquotes", *it) for it in told_in(cell))
 
 
+def in_dialect():
+    """The words of the repository's own in pages that are written in the field's, outside code."""
+    for name in IN_PLAIN_WORDS:
+        text = FENCED.sub("", (ROOT / name).read_text())
+        yield from (f"{name}: say {found[0]!r} in the field's words" for found in DIALECT.finditer(re.sub(r"`[^`]*`", "`", text)))
+
+
 def words_by_hand(texts):
     """How many words some pages have."""
     return sum(len(FENCED.sub("", page.read_text()).split()) for page in texts if page.name not in WRITTEN_BY_SCRIPTS)
@@ -180,8 +197,8 @@ def main():
                 look(path, names)
             except LeadsNowhere as fault:
                 faults.append(f"{page.relative_to(ROOT)}: {path}: {fault}")
-    faults += lacking(seen, LEAST)
-    print(f"pages: {', '.join(f'{count} {what}' for what, count in seen.items())}; {len(faults)} lead nowhere or are lacking")
+    faults += [*in_dialect(), *lacking(seen, LEAST)]
+    print(f"pages: {', '.join(f'{count} {what}' for what, count in seen.items())}; {len(faults)} faults")
     print("".join(f"  {fault}\n" for fault in faults), end="")
     callings = [page for page in pages() if page.name == "CALLING.md"]
     others = [ROOT / "CONTRIBUTING.md", ROOT / "CHANGELOG.md", *(page for page in pages() if page not in callings)]
