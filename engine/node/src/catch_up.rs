@@ -4,7 +4,7 @@
 //! one where no answer comes, after a time that doubles. An answer may end earlier: what is left of its slice is asked for anew.
 
 use simplex_view_state::{Moment, Participant, View};
-use std::collections::{BTreeMap, BTreeSet};
+use std::collections::BTreeMap;
 use std::time::Duration;
 
 /// How many views a slice has.
@@ -41,8 +41,8 @@ pub struct CatchUp {
     members: u32,
     next: Participant,
     slices: BTreeMap<View, Slice>,
-    /// The members that have pruned the blocks just behind a view.
-    pruned: (View, BTreeSet<Participant>),
+    /// The highest view just behind which a member has pruned the blocks: it has pruned those of all lower ones too.
+    pruned: BTreeMap<Participant, View>,
 }
 
 impl CatchUp {
@@ -53,7 +53,7 @@ impl CatchUp {
             members,
             next: Participant::new((me.get() + 1) % members),
             slices: BTreeMap::new(),
-            pruned: (View::GENESIS, BTreeSet::new()),
+            pruned: BTreeMap::new(),
         }
     }
 
@@ -140,10 +140,8 @@ impl CatchUp {
     /// A member does not have the blocks just behind a view, or has pruned them.
     pub fn refused(&mut self, by: Participant, after: View, is_pruned: bool, now: Moment) {
         if is_pruned {
-            if self.pruned.0 != after {
-                self.pruned = (after, BTreeSet::new());
-            }
-            self.pruned.1.insert(by);
+            let highest = self.pruned.entry(by).or_insert(after);
+            *highest = after.max(*highest);
         }
         let is_its_own = |it: &&mut Slice| it.asked.is_some_and(|(peer, _)| peer == by);
         if let Some(slice) = self.slices.get_mut(&after).filter(is_its_own) {
@@ -154,7 +152,7 @@ impl CatchUp {
 
     /// How many members have pruned the blocks just behind a view.
     pub fn pruned_by(&self, after: View) -> usize {
-        if self.pruned.0 == after { self.pruned.1.len() } else { 0 }
+        self.pruned.values().filter(|highest| **highest >= after).count()
     }
 
     /// Blocks that came are lacking again, all of them.
@@ -223,7 +221,7 @@ mod tests {
     }
 
     #[test]
-    fn who_has_pruned_is_counted_once_and_for_the_lowest_lacking_block() {
+    fn who_has_pruned_is_counted_once_a_member() {
         let mut it = CatchUp::new(Participant::new(0), 4);
         it.due(view(7), view(600), false, at(0));
         for by in [1, 2, 2] {
@@ -231,6 +229,17 @@ mod tests {
         }
         it.refused(Participant::new(3), view(7), false, at(1));
         assert_eq!((it.pruned_by(view(7)), it.pruned_by(view(8))), (2, 0));
+    }
+
+    #[test]
+    fn who_has_pruned_a_higher_slice_has_pruned_the_lower_ones() {
+        let mut it = CatchUp::new(Participant::new(0), 4);
+        it.due(view(7), view(6000), false, at(0));
+        it.refused(Participant::new(1), view(7), true, at(1));
+        it.refused(Participant::new(2), view(7 + SLICE), true, at(1));
+        it.refused(Participant::new(3), view(7), true, at(1));
+        it.refused(Participant::new(3), view(7 + SLICE), true, at(1));
+        assert_eq!((it.pruned_by(view(7)), it.pruned_by(view(8 + SLICE))), (3, 0));
     }
 
     #[test]
