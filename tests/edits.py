@@ -8,6 +8,7 @@ one check (`lib/batches.py`), over the libraries that `rt ci` or `rt lib` left. 
     tests/edits.py simplex_round ..        those of some crates
     tests/edits.py --only verdict          those whose name holds a word
     tests/edits.py --gate FILE             those that `rt ci` does not try, and what it printed, in a file, of those that it tried
+    tests/edits.py --gate FILE --beside    the same while `rt ci` is at work: an edit waits for the libraries that it needs
     tests/edits.py --seconds N             begins no check after N seconds, and says how many edits that left untried
 
 It ends with status 1 where an edit is proved, can't be made or read, is refused only since a proof cites a name that it takes away, or
@@ -23,6 +24,7 @@ from concurrent.futures import ThreadPoolExecutor
 from pathlib import Path
 
 from lib import batches, edits
+from lib.beside import Gate
 from lib.floors import lacking
 from lib.program import ROOT, last_change
 
@@ -74,6 +76,7 @@ def options():
     parser.add_argument("crates", nargs="*", help="the crates whose edits are tried (else all)")
     parser.add_argument("--only", default="", help="only those whose name holds this")
     parser.add_argument("--gate", type=Path, help="what `rt ci` printed")
+    parser.add_argument("--beside", action="store_true", help="`rt ci` still writes that file: begin each crate's edits once what they need is proved")
     parser.add_argument("--seconds", type=float, default=float("inf"), help="begin no check after so many seconds")
     parser.add_argument("--jobs", type=int, default=len(os.sched_getaffinity(0)), help="how many checks run side by side")
     return parser.parse_args()
@@ -109,8 +112,10 @@ def build_below(crates):
                 raise SystemExit(f"{dep.name} is not proved, so no edit above it can be tried")
 
 
-def verdicts_of(rt, crate, chosen, kept, deadline):
+def verdicts_of(rt, crate, chosen, kept, deadline, gate):
     """The verdicts on a crate's edits, batch after batch, and the seconds that they took. No batch begins after the deadline."""
+    if unproved := gate.unproved([dep.name for dep in crate.below()]):
+        return [batches.Verdict(edit, "unread", f"{unproved} is not proved") for edit in chosen]
     begun, found, trials = time.monotonic(), [], []
     folder = Path(crate.folder)
     for edit in chosen:
@@ -123,7 +128,8 @@ def verdicts_of(rt, crate, chosen, kept, deadline):
         if time.monotonic() > deadline:
             found += [batches.Verdict(trial.edit, "untried", "") for trial in part]
         else:
-            found += batches.tried(rt, crate, part, texts, kept)
+            with gate.room():
+                found += batches.tried(rt, crate, part, texts, kept)
     print(f"  {crate.name}: {len(chosen)} edits in {len(parts)} checks, {time.monotonic() - begun:.0f} s", flush=True)
     print("".join(f"    {fault}\n" for fault in faults_of(found)), end="", flush=True)
     return found
@@ -134,14 +140,15 @@ def faults_of(verdicts):
     return [f"{it.edit.title} {WORDS[it.kind]}: {it.said}" for it in verdicts if it.kind in WORDS]
 
 
-def tried(rt, crates, chosen, jobs, deadline):
+def tried(rt, crates, chosen, jobs, deadline, gate):
     """The verdicts on edits, those of several crates side by side, the crates with the most to prove first."""
     of_crate = {name: [it for it in chosen if it.crate == name] for name in {it.crate for it in chosen}}
     first = sorted(of_crate, key=lambda name: -crates[name].count(b"\n"))
-    with tempfile.TemporaryDirectory(prefix="edits-") as room, ThreadPoolExecutor(jobs) as pool:
+    lanes = len(first) if gate.is_at_work() else jobs
+    with tempfile.TemporaryDirectory(prefix="edits-") as room, ThreadPoolExecutor(lanes) as pool:
         for name in first:
             Path(room, name).mkdir()
-        work = [pool.submit(verdicts_of, rt, crates[name], of_crate[name], f"{room}/{name}", deadline) for name in first]
+        work = [pool.submit(verdicts_of, rt, crates[name], of_crate[name], f"{room}/{name}", deadline, gate) for name in first]
         return [verdict for it in work for verdict in it.result()]
 
 
@@ -157,9 +164,11 @@ def main():
         print("no such edits")
         return 1
     needed = [crates[name] for name in sorted({it.crate for it in chosen})]
-    if not all(are_from_the_gate(crate) for crate in needed):
+    gate = Gate(given.gate if given.beside else None, given.jobs)
+    if not given.beside and not all(are_from_the_gate(crate) for crate in needed):
         build_below(needed)
-    found = tried(rt, crates, chosen, given.jobs, begun + given.seconds)
+    found = tried(rt, crates, chosen, given.jobs, begun + given.seconds, gate)
+    gate.wait()
     untried = sum(it.kind == "untried" for it in found)
     faults = faults_of(found)
     faults += missing_from_the_gate(given.gate.read_text() if given.gate else None)
