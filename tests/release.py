@@ -112,8 +112,9 @@ def refusal_faults(tree, archive, room):
     gate.write_text("rt: nothing is counted here\n")
     for what, words in (("an archive of unknown origin", (other,)), ("a gate without a count", (archive, "--gate", gate))):
         out = room / "refused"
-        if made(tree, out, *words).returncode != 1 or out.exists():
-            yield f"{what} is taken"
+        done = made(tree, out, *words)
+        if done.returncode != 1 or out.exists() or "Traceback" in done.stderr:
+            yield f"{what} is not refused in words: {done.stderr[-300:]}"
     gate.write_text("12 passed, 0 failed\nrt: and then\n87 passed, 1 failed\n")
     done = made(tree, room / "counted", archive, "--gate", gate)
     if done.returncode or json.loads((room / "counted/PROOF.json").read_text())["gate"] != "87 passed, 1 failed":

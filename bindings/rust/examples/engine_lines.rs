@@ -44,18 +44,17 @@ fn main() -> Outcome {
 
 fn config(members: u32, me: u32, terms: u32, optimistic: u64) -> Outcome<Config> {
     let signer = (me < members).then(|| Participant::new(me));
-    Ok(Config {
-        terms: Terms {
-            length: terms.try_into()?,
-            optimistic_views: ViewDelta::new(optimistic),
-            stall_timeout: None,
-        },
-        skip: Some(Skip {
-            timeout: Duration::from_millis(3000),
-            budget: None,
-        }),
-        ..Config::new(members.try_into()?, signer, EPOCH, Digest::default())
-    })
+    let mut config = Config::new(members.try_into()?, signer, EPOCH, Digest::default());
+    config.terms = Terms {
+        length: terms.try_into()?,
+        optimistic_views: ViewDelta::new(optimistic),
+        stall_timeout: None,
+    };
+    config.skip = Some(Skip {
+        timeout: Duration::from_millis(3000),
+        budget: None,
+    });
+    Ok(config)
 }
 
 /// An engine, and what it stored.
@@ -68,10 +67,8 @@ struct Life {
 
 impl Life {
     fn start(config: Config) -> Outcome<Life> {
-        let options = Options {
-            long_record: EntryCount::new(40),
-            ..Options::default()
-        };
+        let mut options = Options::default();
+        options.long_record = EntryCount::new(40);
         Ok(Life {
             engine: Engine::start(&config, &options, Moment::from_millis(0))?,
             config,

@@ -56,15 +56,13 @@ pub fn config(members: &str, me: &str, terms: &str, optimistic: &str) -> Result<
         "-" => None,
         index => Some(Participant::new(index.parse()?)),
     };
-    let terms = Terms {
+    let mut config = Config::new(members.parse()?, signer, EPOCH, payload(0));
+    config.terms = Terms {
         length: terms.parse()?,
         optimistic_views: ViewDelta::new(optimistic.parse()?),
         stall_timeout: None,
     };
-    Ok(Config {
-        terms,
-        ..Config::new(members.parse()?, signer, EPOCH, payload(0))
-    })
+    Ok(config)
 }
 
 /// A member that lines are asked of.

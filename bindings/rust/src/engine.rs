@@ -19,8 +19,10 @@ use std::fmt;
 use std::ptr::{NonNull, null_mut};
 use std::time::Duration;
 
-/// Intervals, and the length of a record. They need not be those of the other members.
+/// Intervals, and the length of a record. They need not be those of the other members. [`Options::default`] has usual values; set the fields
+/// that differ.
 #[derive(Clone, Copy, PartialEq, Eq, Hash, Debug)]
+#[non_exhaustive]
 pub struct Options {
     /// After how long a fetch asks again, the next member. It is at least a millisecond, or the options are refused
     /// ([`SettingsError::FetchRetryZero`](crate::SettingsError::FetchRetryZero)).

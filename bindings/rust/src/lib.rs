@@ -85,7 +85,7 @@ pub use messages::{
     Added, Candidates, Certificate, CertificateFetch, CertificateKind, Context, Finalization, Finalize, Lacking, Notarization, Notarize,
     Nullification, Nullify, Proposal, ProposalRequest, Subject, Verify, Vote,
 };
-pub use numbers::{Digest, Epoch, Moment, Participant, Round, Token, View, ViewDelta};
+pub use numbers::{Digest, Epoch, Moment, ParseDigestError, Participant, Round, Token, View, ViewDelta};
 pub use reasons::{HandoffAbandonedReason, TimeoutReason};
 pub use resolver::{Effect, FetchReason, Resolver};
 pub use settings::{Config, Floor, Leaders, Skip, Terms};

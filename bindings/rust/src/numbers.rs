@@ -1,7 +1,42 @@
 //! Views, epochs, members, digests and moments.
 
 use std::fmt;
+use std::num::ParseIntError;
+use std::str::FromStr;
 use std::time::Duration;
+
+/// Conversions between a number and what it counts, and its decimal text.
+macro_rules! is_number {
+    ($($name:ident: $number:ty),+) => {$(
+        impl From<$number> for $name {
+            fn from(number: $number) -> $name {
+                $name(number)
+            }
+        }
+
+        impl From<$name> for $number {
+            fn from(it: $name) -> $number {
+                it.0
+            }
+        }
+
+        impl FromStr for $name {
+            type Err = ParseIntError;
+
+            fn from_str(text: &str) -> Result<$name, ParseIntError> {
+                text.parse().map($name)
+            }
+        }
+
+        impl fmt::Display for $name {
+            fn fmt(&self, f: &mut fmt::Formatter<'_>) -> fmt::Result {
+                self.0.fmt(f)
+            }
+        }
+    )+};
+}
+
+is_number!(View: u64, ViewDelta: u64, Epoch: u64, Participant: u32, Token: u64);
 
 /// A view: one attempt to agree on a block. 0 is genesis.
 #[derive(Clone, Copy, PartialEq, Eq, PartialOrd, Ord, Hash, Debug, Default)]
@@ -19,12 +54,6 @@ impl View {
     /// Its number.
     pub const fn get(self) -> u64 {
         self.0
-    }
-}
-
-impl fmt::Display for View {
-    fn fmt(&self, f: &mut fmt::Formatter<'_>) -> fmt::Result {
-        self.0.fmt(f)
     }
 }
 
@@ -60,12 +89,6 @@ impl Epoch {
     }
 }
 
-impl fmt::Display for Epoch {
-    fn fmt(&self, f: &mut fmt::Formatter<'_>) -> fmt::Result {
-        self.0.fmt(f)
-    }
-}
-
 /// A member, by its index.
 #[derive(Clone, Copy, PartialEq, Eq, PartialOrd, Ord, Hash, Debug)]
 pub struct Participant(u32);
@@ -79,12 +102,6 @@ impl Participant {
     /// Its index.
     pub const fn get(self) -> u32 {
         self.0
-    }
-}
-
-impl fmt::Display for Participant {
-    fn fmt(&self, f: &mut fmt::Formatter<'_>) -> fmt::Result {
-        self.0.fmt(f)
     }
 }
 
@@ -107,6 +124,42 @@ impl Digest {
 impl fmt::Display for Digest {
     fn fmt(&self, f: &mut fmt::Formatter<'_>) -> fmt::Result {
         self.0.iter().try_for_each(|byte| write!(f, "{byte:02x}"))
+    }
+}
+
+impl From<[u8; 32]> for Digest {
+    fn from(bytes: [u8; 32]) -> Digest {
+        Digest(bytes)
+    }
+}
+
+/// A text is not the 64 hexadecimal digits of a digest.
+#[derive(Clone, Copy, PartialEq, Eq, Debug)]
+pub struct ParseDigestError;
+
+impl fmt::Display for ParseDigestError {
+    fn fmt(&self, f: &mut fmt::Formatter<'_>) -> fmt::Result {
+        f.write_str("a digest is written as 64 hexadecimal digits")
+    }
+}
+
+impl std::error::Error for ParseDigestError {}
+
+impl FromStr for Digest {
+    type Err = ParseDigestError;
+
+    /// Reads what `Display` writes; upper case too.
+    fn from_str(text: &str) -> Result<Digest, ParseDigestError> {
+        let digits = text.as_bytes();
+        if digits.len() != 64 {
+            return Err(ParseDigestError);
+        }
+        let value = |digit: u8| (digit as char).to_digit(16).ok_or(ParseDigestError);
+        let mut bytes = [0; 32];
+        for (byte, pair) in bytes.iter_mut().zip(digits.chunks_exact(2)) {
+            *byte = (16 * value(pair[0])? + value(pair[1])?) as u8;
+        }
+        Ok(Digest(bytes))
     }
 }
 
@@ -166,5 +219,41 @@ impl Token {
     /// Its number.
     pub const fn get(self) -> u64 {
         self.0
+    }
+}
+
+#[cfg(test)]
+mod tests {
+    use super::*;
+
+    #[test]
+    fn a_number_is_read_as_it_is_written() {
+        for number in [0, 1, u64::MAX] {
+            assert_eq!(View::from(number).to_string().parse(), Ok(View::new(number)));
+            assert_eq!(u64::from(Epoch::new(number)), number);
+        }
+        assert_eq!("7".parse(), Ok(Participant::new(7)));
+        assert!("4294967296".parse::<Participant>().is_err() && "-1".parse::<View>().is_err() && "".parse::<ViewDelta>().is_err());
+    }
+
+    #[test]
+    fn a_digest_is_read_as_it_is_written() {
+        let bytes = std::array::from_fn(|place| 8 * place as u8 + 3);
+        let digest = Digest::from(bytes);
+        assert_eq!(digest.to_string().parse(), Ok(digest));
+        assert_eq!(digest.to_string().to_uppercase().parse(), Ok(digest));
+        for wrong in [
+            "",
+            &digest.to_string()[1..],
+            &format!("{digest}0"),
+            &digest.to_string().replace('3', "g"),
+        ] {
+            assert_eq!(wrong.parse::<Digest>(), Err(ParseDigestError), "{wrong}");
+        }
+        assert_eq!(
+            "é".repeat(32).parse::<Digest>(),
+            Err(ParseDigestError),
+            "64 bytes that are no digits"
+        );
     }
 }

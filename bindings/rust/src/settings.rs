@@ -9,8 +9,9 @@ use std::time::Duration;
 
 /// How a member is set up. All members of an epoch have the same, but for the signer and the floor.
 ///
-/// Times are read in whole milliseconds.
+/// Times are read in whole milliseconds. [`Config::new`] has usual values; set the fields that differ.
 #[derive(Clone, PartialEq, Eq, Debug)]
+#[non_exhaustive]
 pub struct Config {
     /// How many members there are.
     pub members: NonZeroU32,

@@ -16,6 +16,12 @@ use std::time::Duration;
 type Tested = Result<(), Box<dyn Error>>;
 
 const START: Moment = Moment::from_millis(0);
+
+/// These settings, but for what is changed.
+fn changed<T>(mut settings: T, change: impl FnOnce(&mut T)) -> T {
+    change(&mut settings);
+    settings
+}
 const MEMBERS: u32 = 4;
 
 fn config(index: u32) -> Config {
@@ -253,10 +259,7 @@ fn a_long_record_is_made_short_when_a_life_begins() -> Tested {
     let stored = stored.ok_or("it has stored")?;
     let all = stored.entries.get();
     let lengths = |long_record| -> Result<Vec<u64>, Box<dyn Error>> {
-        let options = Options {
-            long_record: EntryCount::new(long_record),
-            ..Options::default()
-        };
+        let options = changed(Options::default(), |it| it.long_record = EntryCount::new(long_record));
         let mut engine = Engine::resume(&config(1), &options, START, &stored, journal)?;
         let replaced = outputs(&mut engine, START)?.into_iter().filter_map(|output| match output {
             Output::Replace(entries) => Some(entries.stored.entries.get()),
@@ -275,10 +278,7 @@ fn a_long_record_is_made_short_when_a_life_begins() -> Tested {
 
 #[test]
 fn a_record_stays_short_within_a_life() -> Tested {
-    let options = Options {
-        long_record: EntryCount::new(4),
-        ..Options::default()
-    };
+    let options = changed(Options::default(), |it| it.long_record = EntryCount::new(4));
     let mut engine = Engine::start(&config(1), &options, START)?;
     let (mut longest, mut replaced) = (0, 0);
     for view in 1..=200 {
@@ -397,13 +397,12 @@ fn what_is_of_no_use_changes_nothing() -> Tested {
 
 /// Member 1 gives view 1 up, and then learns that views 1 and 2 of the term are notarized, and certifies both.
 fn gives_up_what_others_certify() -> Result<Engine, Box<dyn Error>> {
-    let term = Config {
-        terms: Terms {
-            length: 3.try_into()?,
+    let term = changed(config(1), |it| {
+        it.terms = Terms {
+            length: 3.try_into().expect("not 0"),
             ..Terms::ONE_VIEW
-        },
-        ..config(1)
-    };
+        }
+    });
     let mut engine = Engine::start(&term, &Options::default(), START)?;
     let (view, reason) = (View::new(1), TimeoutReason::Inactivity);
     assert!(engine.handle(Input::GivenUp { view, reason }, START)?);
@@ -501,10 +500,7 @@ fn a_fetch_is_asked_of_one_member_after_another_until_it_is_closed() -> Tested {
 
 #[test]
 fn votes_make_no_certificate_that_names_a_leader() -> Tested {
-    let drawn = Config {
-        leaders: Leaders::Drawn(vec![Participant::new(0)]),
-        ..config(1)
-    };
+    let drawn = changed(config(1), |it| it.leaders = Leaders::Drawn(vec![Participant::new(0)]));
     let mut engine = Engine::start(&drawn, &Options::default(), START)?;
     let told = engine.handle(Input::Vote(vote(2, Subject::Nullify(round(1)))), START);
     assert_eq!(told, Err(EngineError::NotAllowed));
@@ -520,14 +516,7 @@ fn votes_make_no_certificate_that_names_a_leader() -> Tested {
 #[test]
 fn settings_that_break_a_rule_are_refused() {
     let retry = Duration::MAX;
-    let refused = Engine::start(
-        &config(0),
-        &Options {
-            retry,
-            ..Options::default()
-        },
-        START,
-    );
+    let refused = Engine::start(&config(0), &changed(Options::default(), |it| it.retry = retry), START);
     assert_eq!(refused.err(), Some(OpenError::Settings(SettingsError::TimeTooLong)));
     assert_eq!(engine(4).err(), Some(OpenError::Settings(SettingsError::NoSuchMember)));
 }
@@ -543,7 +532,7 @@ fn a_table_of_leaders_that_is_not_one_of_these_members_is_refused() {
         }
     };
     let of = |leaders: &[u32]| leaders.iter().copied().map(Participant::new).collect::<Vec<_>>();
-    let with = |leaders| Config { leaders, ..config(1) };
+    let with = |leaders| changed(config(1), |it| it.leaders = leaders);
     for leaders in [&[0, 1, 2, 4][..], &[77], &[u32::MAX, 0, 1, 2]] {
         assert_eq!(refused(&with(Leaders::Table(of(leaders)))), Some(SettingsError::NoSuchLeader));
         assert_eq!(refused(&with(Leaders::Drawn(of(leaders)))), Some(SettingsError::NoSuchLeader));
@@ -562,10 +551,7 @@ fn a_table_of_leaders_that_is_not_one_of_these_members_is_refused() {
 #[test]
 fn a_fetch_that_would_be_asked_again_at_once_is_refused() {
     for retry in [Duration::ZERO, Duration::from_micros(999)] {
-        let options = Options {
-            retry,
-            ..Options::default()
-        };
+        let options = changed(Options::default(), |it| it.retry = retry);
         let refused = Some(OpenError::Settings(SettingsError::FetchRetryZero));
         assert_eq!(Engine::start(&config(0), &options, START).err(), refused);
         let mut member = Member::start(&config(0), START).expect("good settings");

@@ -12,6 +12,12 @@ type Tested = Result<(), Box<dyn Error>>;
 
 const START: Moment = Moment::from_millis(0);
 
+/// These settings, but for what is changed.
+fn changed<T>(mut settings: T, change: impl FnOnce(&mut T)) -> T {
+    change(&mut settings);
+    settings
+}
+
 fn config() -> Config {
     let members = 4.try_into().expect("not 0");
     Config::new(members, Some(Participant::new(0)), Epoch::new(1), Digest::default())
@@ -96,10 +102,7 @@ fn a_journal_that_is_cut_or_changed_is_refused() -> Tested {
 
 #[test]
 fn a_finalized_floor_is_recorded() -> Tested {
-    let floor = Config {
-        floor: Floor::Finalized(finalization(90, 80)),
-        ..config()
-    };
+    let floor = changed(config(), |it| it.floor = Floor::Finalized(finalization(90, 80)));
     let mut member = Member::start(&floor, START)?;
     let views = member.views().ok_or("it lives")?;
     assert_eq!((views.last_finalized, views.current), (View::new(90), View::new(91)));
@@ -121,10 +124,7 @@ fn a_restart_prunes_and_keeps_no_more_views_then() -> Tested {
         },
     )?;
     assert!(member.stored().entries < before);
-    let more = Config {
-        view_retention: ViewDelta::new(20),
-        ..config()
-    };
+    let more = changed(config(), |it| it.view_retention = ViewDelta::new(20));
     let restarted = member.restart(&more, START, Cut::default());
     assert_eq!(restarted, Err(OpenError::Recover(RecoverError::RetentionGrown)));
     assert!(!member.is_failed());
@@ -135,31 +135,16 @@ fn a_restart_prunes_and_keeps_no_more_views_then() -> Tested {
 fn settings_that_break_a_rule_are_refused() {
     let refusals = [
         (
-            Config {
-                leader_timeout: Duration::ZERO,
-                ..config()
-            },
+            changed(config(), |it| it.leader_timeout = Duration::ZERO),
             SettingsError::LeaderTimeoutZero,
         ),
+        (changed(config(), |it| it.timeout_retry = Duration::MAX), SettingsError::TimeTooLong),
         (
-            Config {
-                timeout_retry: Duration::MAX,
-                ..config()
-            },
-            SettingsError::TimeTooLong,
-        ),
-        (
-            Config {
-                signer: Some(Participant::new(4)),
-                ..config()
-            },
+            changed(config(), |it| it.signer = Some(Participant::new(4))),
             SettingsError::NoSuchMember,
         ),
         (
-            Config {
-                view_retention: ViewDelta::new(0),
-                ..config()
-            },
+            changed(config(), |it| it.view_retention = ViewDelta::new(0)),
             SettingsError::RetentionZero,
         ),
     ];

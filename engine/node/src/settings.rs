@@ -3,7 +3,7 @@
 use crate::faults::Trial;
 use crate::network_name::NetworkName;
 use serde::{Deserialize, Serialize};
-use simplex_view_state::{Config, Epoch, Floor, Leaders, Participant, Skip, Terms, View, ViewDelta};
+use simplex_view_state::{Config, Digest, Epoch, Floor, Participant, Skip, Terms, View, ViewDelta};
 use std::fs;
 use std::net::SocketAddr;
 use std::num::NonZeroU32;
@@ -188,26 +188,22 @@ impl Settings {
     pub fn config(&self, floor: Floor) -> Config {
         let it = &self.protocol;
         let stall = (it.optimistic_views > 0).then(|| Duration::from_millis(it.certification_timeout_ms));
-        Config {
-            members: self.count(),
-            signer: Some(self.me()),
-            epoch: Epoch::new(it.epoch),
-            leaders: Leaders::round_robin(self.count()),
-            terms: Terms {
-                length: it.term_length,
-                optimistic_views: ViewDelta::new(it.optimistic_views),
-                stall_timeout: stall,
-            },
-            floor,
-            leader_timeout: Duration::from_millis(it.leader_timeout_ms),
-            certification_timeout: Duration::from_millis(it.certification_timeout_ms),
-            timeout_retry: Duration::from_millis(it.timeout_retry_ms),
-            view_retention: ViewDelta::new(it.view_retention),
-            skip: Some(Skip {
-                timeout: Duration::from_millis(it.inactivity_ms),
-                budget: None,
-            }),
-        }
+        let mut config = Config::new(self.count(), Some(self.me()), Epoch::new(it.epoch), Digest::default());
+        config.terms = Terms {
+            length: it.term_length,
+            optimistic_views: ViewDelta::new(it.optimistic_views),
+            stall_timeout: stall,
+        };
+        config.floor = floor;
+        config.leader_timeout = Duration::from_millis(it.leader_timeout_ms);
+        config.certification_timeout = Duration::from_millis(it.certification_timeout_ms);
+        config.timeout_retry = Duration::from_millis(it.timeout_retry_ms);
+        config.view_retention = ViewDelta::new(it.view_retention);
+        config.skip = Some(Skip {
+            timeout: Duration::from_millis(it.inactivity_ms),
+            budget: None,
+        });
+        config
     }
 
     /// Who leads which views.

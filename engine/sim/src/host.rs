@@ -3,7 +3,7 @@
 use crate::message::{Message, Sent};
 use crate::plan::Times;
 use simplex_trace::Event;
-use simplex_view_state::{Config, Digest, Epoch, Leaders, Moment, Participant, Proposal, Skip, Terms, View, ViewDelta};
+use simplex_view_state::{Config, Digest, Epoch, Moment, Participant, Proposal, Skip, Terms, View, ViewDelta};
 use std::num::NonZeroU32;
 
 /// Why a host failed. The simulation counts it as a violation.
@@ -51,26 +51,21 @@ impl Seat {
     /// The settings of its engine.
     pub fn config(&self) -> Config {
         let stall = (self.optimistic_views > 0).then_some(self.times.certification);
-        Config {
-            members: self.members,
-            signer: Some(self.me),
-            epoch: EPOCH,
-            leaders: Leaders::round_robin(self.members),
-            terms: Terms {
-                length: self.term_length,
-                optimistic_views: ViewDelta::new(self.optimistic_views),
-                stall_timeout: stall,
-            },
-            leader_timeout: self.times.leader,
-            certification_timeout: self.times.certification,
-            timeout_retry: self.times.retry,
-            view_retention: ViewDelta::new(self.view_retention),
-            skip: Some(Skip {
-                timeout: self.times.inactivity,
-                budget: None,
-            }),
-            ..Config::new(self.members, Some(self.me), EPOCH, Digest::default())
-        }
+        let mut config = Config::new(self.members, Some(self.me), EPOCH, Digest::default());
+        config.terms = Terms {
+            length: self.term_length,
+            optimistic_views: ViewDelta::new(self.optimistic_views),
+            stall_timeout: stall,
+        };
+        config.leader_timeout = self.times.leader;
+        config.certification_timeout = self.times.certification;
+        config.timeout_retry = self.times.retry;
+        config.view_retention = ViewDelta::new(self.view_retention);
+        config.skip = Some(Skip {
+            timeout: self.times.inactivity,
+            budget: None,
+        });
+        config
     }
 
     /// The leader of a view.

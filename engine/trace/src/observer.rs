@@ -73,7 +73,7 @@ impl Observer {
                     reason: reason_of(*reason),
                 },
             )),
-            Input::Proposal { .. } | Input::Vote(_) | Input::Built { .. } => None,
+            _ => None,
         }
     }
 

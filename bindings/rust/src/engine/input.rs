@@ -7,6 +7,7 @@ use crate::reasons::TimeoutReason;
 
 /// One input. Time is no input: [`Engine::poll`](crate::Engine::poll) takes the moment.
 #[derive(Clone, PartialEq, Eq, Debug)]
+#[non_exhaustive]
 pub enum Input {
     /// A proposal, and the member that sent it, whose signature the host has verified. A leader's vote to notarize is its proposal too:
     /// pass it as both.
