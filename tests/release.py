@@ -123,7 +123,10 @@ def refusal_faults(tree, archive, room):
 
 def host_faults(folder, room):
     """What the packages of the folder, moved elsewhere, do wrong."""
-    parts = [name for name in languages.ready_parts(("C", "packaging"))]
+    if not (folder / "c/include/simplex.h").is_file():
+        yield "the folder has no header"
+        return
+    parts = [*languages.ready_parts(("C", "packaging"))]
     moved = room / "moved"
     shutil.copytree(folder, moved)
     hosts = room / "hosts"
