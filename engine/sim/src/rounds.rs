@@ -1,7 +1,8 @@
 //! Networks that continue in rounds after a hostile past: after how many does each honest host carry out a new `Finalized`?
 //!
-//! A seed draws a past: messages are lost and late, links are cut, processes end. Then a round delivers all messages that are on their way;
-//! where none is, the clocks jump to the next moment at which a host wakes. Faulty members do what their fault does all the time.
+//! A seed draws a past: messages are lost and late, links are cut, processes end. Then a round delivers all messages that are on their way.
+//! Where none of them is of an honest member to an honest one, the clocks jump to the next moment at which a host wakes: faulty members,
+//! which do what their fault does all the time, can't stop time by talking.
 
 use crate::host::{Host, Seat};
 use crate::network::Simulation;
@@ -22,7 +23,7 @@ pub struct Measured {
     pub past: u64,
     /// After how many rounds each honest host had carried out a new `Finalized`; `None` where it did not within [`MOST_ROUNDS`].
     pub rounds: Option<u64>,
-    /// How often the clocks jumped, since no message was on its way.
+    /// How often the clocks jumped, since no honest member had anything on its way to another one.
     pub jumps: u64,
     /// How many simulated milliseconds that took.
     pub milliseconds: u64,
@@ -95,17 +96,18 @@ fn begin_all(network: &mut Simulation, trace: &mut dyn FnMut(Line)) {
     }
 }
 
-/// Plays a round. Returns whether the clocks jumped, since no message was on its way.
+/// Plays a round. Returns whether the clocks jumped, since no honest member had anything on its way to another one.
 fn round(network: &mut Simulation, trace: &mut dyn FnMut(Line)) -> bool {
     let mut messages = network.take_messages();
-    if messages.is_empty() {
-        let wake = network.wake().unwrap_or(network.now);
-        network.wake_up(wake, trace);
-        return true;
-    }
+    let is_honest = |it: Participant| network.members[it.get() as usize].is_honest();
+    let is_quiet = !messages.iter().any(|it| is_honest(it.from) && is_honest(it.to));
     network.random.shuffle(&mut messages);
     for sent in messages {
         network.deliver(sent, trace);
     }
-    false
+    if is_quiet {
+        let wake = network.wake().unwrap_or(network.now);
+        network.wake_up(wake, trace);
+    }
+    is_quiet
 }
