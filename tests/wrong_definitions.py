@@ -54,14 +54,16 @@ EXAMPLES = {
     "simplex_laws": Examples(
         tuple(f"networks.{name}" for name in ("Scripts", "ChangingLives", "AheadNetwork", "Rivals", "PlainNetwork")),
         ("laws::instances", "laws::plain", "laws::rivals")),
+    "simplex_histories": Examples((), ("histories::histories_are_shown",)),
     "simplex_progress": Examples((), ("progress::continuations", "progress::instances")),
     "simplex_chains": Examples((), tuple(f"chains::{name}" for name in (
         "finalized_parents_are_certified", "finalized_chains_reach_genesis", "views_ahead_reach_genesis", "chains_need_offers",
         "parents_need_one_elector", "votes_may_be_on_another_parent"))),
     "simplex_engine_definitions": Examples(("Examples", "Votes"), ("laws::calls_were_told_before", "laws::nullifies_once_due", "laws::work_was_given")),
 }
-VOTER, RECORD, MEMBER, RESOLVER, LAWS, PROGRESS, CHAINS, ENGINE = (
-    (f"simplex_{name}",) for name in ("definitions", "record", "member", "resolver", "laws", "progress", "chains", "engine_definitions"))
+VOTER, RECORD, MEMBER, RESOLVER, LAWS, HISTORIES, PROGRESS, CHAINS, ENGINE = (
+    (f"simplex_{name}",) for name in (
+        "definitions", "record", "member", "resolver", "laws", "histories", "progress", "chains", "engine_definitions"))
 
 
 class Wrong(NamedTuple):
@@ -300,6 +302,11 @@ WRONG_DEFINITIONS = (
     Wrong(
         "where skipping is disabled terms are skipped", "simplex_record/specs/Settings.antt",
         (("skip_budget_of skip.Disabled participants = 0", "skip_budget_of skip.Disabled participants = participants"),), RECORD,
+    ),
+    Wrong(
+        "a finalization enters its own view", "simplex_histories/specs/HistoryFolds.antt",
+        (("entered_by term_length is_notarized (AddFinalization c _) = c.proposal.round.view + 1",
+          "entered_by term_length is_notarized (AddFinalization c _) = c.proposal.round.view"),), HISTORIES,
     ),
     Wrong(
         "a view may be finalized again", "simplex_laws/specs/Continuations.antt",
