@@ -96,6 +96,10 @@ def source_copies():
     for block in blocks("README.md", "rust"):
         if not any(block in sample for sample in samples):
             yield f"a sample of the README is neither in {SAMPLE} nor in {PACKAGE}"
+    host = text_of("bindings/rust/examples/first_engine/host.rs")
+    yield from (f"docs/TUTORIAL.md: no part of the example: {block[:60]!r}" for block in blocks("docs/TUTORIAL.md", "rust") if block not in host)
+    if len(host.splitlines()) > 150:
+        yield "the host of docs/TUTORIAL.md has over 150 lines"
     printed = text_of("crates/example_network/stdout")
     for block in blocks("docs/PARTS.md", "text"):
         yield from (f"docs/PARTS.md: not printed: {part}" for part in block.split("...\n") if part not in printed)

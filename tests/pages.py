@@ -35,7 +35,7 @@ DIALECT = re.compile(
     re.IGNORECASE,
 )
 IN_PLAIN_WORDS = ("README.md", "CONTRIBUTING.md", "CHANGELOG.md", "SECURITY.md", *(f"docs/{name}.md" for name in (
-    "CALLERS", "DECISIONS", "DESIGN", "DIFFERENCES", "EMBEDDING", "GLOSSARY", "GUARANTEES", "PARTS", "PRODUCTION", "PROGRAM", "TESTED", "TRACE")),
+    "CALLERS", "DECISIONS", "DESIGN", "DIFFERENCES", "EMBEDDING", "GLOSSARY", "GUARANTEES", "PARTS", "PRODUCTION", "PROGRAM", "TESTED", "TRACE", "TUTORIAL")),
     "docs/inside/PROOFS.md", "docs/inside/CALLS.md",
     *(f"crates/simplex_{name}/CALLING.md" for name in (
         "codec", "engine", "flat", "host", "laws", "lawful", "member", "record", "resolver", "types", "voter")))
