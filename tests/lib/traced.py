@@ -8,7 +8,7 @@ WITHHELD = {
     "not_admitted": "the view is too far ahead of the current one", "voted_to_nullify": "the member voted to nullify the view",
     "no_proposal": "no proposal was received", "equivocated": "the leader signed two proposals",
     "not_verified": "the application has not found the proposal valid", "ancestry_not_ready": "the view before offers nothing to build on",
-    "binding_changed": "the proposal was verified on another payload of its parent", "already_finalized": "the view or one above it is finalized",
+    "binding_changed": "the proposal was verified on a parent that the view may no longer build on", "already_finalized": "the view or one above it is finalized",
     "conflicting_nullify": "the member voted to nullify a view below in the term", "parent_not_certified": "the proposal's parent is not certified",
     "not_notarized": "the view has no notarization", "certification_failed": "the application refused to certify the proposal",
     "not_certified": "the application has not certified the proposal",

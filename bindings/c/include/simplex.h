@@ -210,7 +210,7 @@ enum simplex_vote_kind { SIMPLEX_NOTARIZE = 1, SIMPLEX_NULLIFY = 2, SIMPLEX_FINA
 enum simplex_withheld_reason {
     SIMPLEX_NOT_WITHHELD = 0,                   /* the vote is returned where it is asked for */
     SIMPLEX_WITHHELD_NO_KEY = 1,                /* N, U, F: the member has no key */
-    SIMPLEX_WITHHELD_NOT_ADMITTED = 2,          /* N, F: the view is too far ahead of the current one */
+    SIMPLEX_WITHHELD_NOT_ADMITTED = 2,          /* N, F: the view is genesis, or too far ahead of the current one */
     SIMPLEX_WITHHELD_ALREADY_VOTED = 3,         /* N, F: this vote was cast before */
     SIMPLEX_WITHHELD_VOTED_TO_NULLIFY = 4,      /* N, F: the member voted to nullify the view */
     SIMPLEX_WITHHELD_VOTED_TO_FINALIZE = 5,     /* U: the member voted to finalize the view */
@@ -218,7 +218,7 @@ enum simplex_withheld_reason {
     SIMPLEX_WITHHELD_EQUIVOCATED = 7,           /* N, F: the view's leader signed two proposals */
     SIMPLEX_WITHHELD_NOT_VERIFIED = 8,          /* N: the application has not found the proposal valid */
     SIMPLEX_WITHHELD_ANCESTRY_NOT_READY = 9,    /* N: the view before offers no payload to build on before it is certified */
-    SIMPLEX_WITHHELD_BINDING_CHANGED = 10,      /* N: the proposal was verified on another payload of its parent */
+    SIMPLEX_WITHHELD_BINDING_CHANGED = 10,      /* N: the proposal was verified on a parent, with its payload, that the view may no longer build on */
     SIMPLEX_WITHHELD_NOT_CURRENT = 11,          /* U: the view is not the current one */
     SIMPLEX_WITHHELD_ALREADY_FINALIZED = 12,    /* F: the view, or one above it, is finalized */
     SIMPLEX_WITHHELD_CONFLICTING_NULLIFY = 13,  /* F: the member voted to nullify a view below in the term, and nothing from there on is finalized */

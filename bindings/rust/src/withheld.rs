@@ -26,7 +26,7 @@ impl VoteKind {
 pub enum Withheld {
     /// The member has no key: it never votes.
     NoKey,
-    /// The view is too far ahead of the current view.
+    /// The view is genesis, or too far ahead of the current view.
     NotAdmitted,
     /// This vote was cast before.
     AlreadyVoted,
@@ -42,7 +42,7 @@ pub enum Withheld {
     NotVerified,
     /// The view builds on a parent that is not certified yet, and the view before offers no payload.
     AncestryNotReady,
-    /// The proposal was verified on another payload of its parent.
+    /// The proposal was verified on a parent, with its payload, that the view may no longer build on.
     BindingChanged,
     /// The view is not the current one.
     NotCurrent,
@@ -100,7 +100,7 @@ impl fmt::Display for Withheld {
             Withheld::Equivocated => "the leader signed two proposals",
             Withheld::NotVerified => "the application has not found the proposal valid",
             Withheld::AncestryNotReady => "the view before offers nothing to build on",
-            Withheld::BindingChanged => "the proposal was verified on another payload of its parent",
+            Withheld::BindingChanged => "the proposal was verified on a parent that the view may no longer build on",
             Withheld::NotCurrent => "the view is not the current one",
             Withheld::AlreadyFinalized => "the view or one above it is finalized",
             Withheld::ConflictingNullify => "the member voted to nullify a view below in the term",

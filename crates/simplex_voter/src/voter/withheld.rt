@@ -12,7 +12,7 @@ use simplex_types::types::{CertificateScheme, Digest, Elector, View};
 pub enum Withheld {
     /// The member has no key, so no vote of it is ever returned.
     NoKey,
-    /// The view is too far ahead of the current view.
+    /// The view is genesis, or too far ahead of the current view.
     NotAdmitted,
     /// This vote was cast before.
     AlreadyVoted,
@@ -28,7 +28,7 @@ pub enum Withheld {
     NotVerified,
     /// The view builds on a parent that is not certified yet, and the view before offers no payload.
     AncestryNotReady,
-    /// The proposal was verified on another payload of its parent.
+    /// The proposal was verified on a parent, with its payload, that the view may no longer build on.
     BindingChanged,
     /// The view is not the current one.
     NotCurrent,
