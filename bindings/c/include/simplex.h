@@ -13,6 +13,8 @@
  *   the reply is exactly the core's                        | of their view's leader only
  *   a member's call orders a vote exactly where its rule   | sign an ordered text with the key of the member in the reply, and
  *   allows, for the vote's own bytes, once it is recorded  | nothing else
+ *   a vote is withheld for the first part of its rule that |
+ *   is false, and for none where it is ordered             |
  *   a resume continues from exactly the entries in the     | store the new entries of the record before it sends a vote, and
  *   bytes; damaged or missing ones are refused             | read back the bytes and numbers that it stored last
  *   an engine receives exactly the input of its numbers,   | verify a vote before it passes one, pass the engine's own votes
