@@ -122,7 +122,7 @@ def engine_script(network, seed, length=ENGINE_LINES):
             f"verified {view} {int(drawn.random() < 0.9)} {now}", f"verified {view} 1 {now}",
             f"built {view} {before} {before} {leader} {view} {now}", f"certified {view} {int(drawn.random() < 0.9)} {now}", f"certified {view} 1 {now}",
             f"given-up {view} {drawn.randrange(10)} {now}" if drawn.random() < 0.3 else f"poll {now}",
-            drawn.choice(("status", f"open {drawn.randrange(3)}", f"view {view}", f"shown {drawn.choice((1, 2, 3))} {view}", f"served {view}")),
+            drawn.choice(("status", f"open {drawn.randrange(3)}", f"view {view}", f"withheld {drawn.choice((1, 2, 3))} {view}", f"shown {drawn.choice((1, 2, 3))} {view}", f"served {view}")),
             f"resume {now}" if drawn.random() < 0.3 else "status",
         )))
     return lines

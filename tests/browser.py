@@ -27,15 +27,18 @@ from lib.program import ROOT
 from lib.traced import Traced
 
 SKIPPED = 77
+LEAST_WITHHELD = 10
 # A page's name, the words of its network, and what the reasons of its lost views have to say.
 NETWORKS = (
     ("healthy", "--members 4 --views 60", ()),
     ("silent", "--members 4 --faulty 1 --byzantine silent --views 40", ("leader 3, which is faulty, sent no proposal",)),
     ("equivocation", "--members 7 --faulty 2 --term 5 --optimistic 2 --loss 5 --views 120 --seed 7",
      ("leader 6 sent two proposals: ", " was built on it", "the nullification of view ")),
-    ("partition", "--members 5 --partition 3s..8s:0,1 --views 60", ("cut off from a quorum",)),
+    ("partition", "--members 5 --partition 3s..8s:0,1 --views 60", ("cut off from a quorum", " did not vote for it, since no proposal was received")),
     ("crash", "--members 4 --retention 10 --term 2 --crash 3@4s..9s --views 220", ("leader 3 was down",)),
 )
+# How many views from the first one on are drawn without a scroll.
+SHOWN_VIEWS = 40
 # The measures of the grid: `grid.js` has them.
 LABEL, TOP, ROW, CELL = 130, 22, 28, 22
 # A file, what is in it, what is put in its place: then the test has to fail.
@@ -50,6 +53,10 @@ WRONG_BODIES = (
     ("a filter hides nothing", "page/main.js", "(i) => state.kinds.has(kindOfCode.get(run.events.code[i]))", "() => true"),
     ("members stay where they are hidden", "page/main.js", "state.visible = (isOn ?", "const unused = (isOn ?"),
     ("dark is as light", "page/style.css", "@media (prefers-color-scheme: dark)", "@media (prefers-color-scheme: sepia)"),
+    ("a vote that is withheld has the reason after its own", "page/words.js",
+     "withholds its vote to notarize: ${run.withheld[run.events.choice[i]]}", "withholds its vote to notarize: ${run.withheld[run.events.choice[i] + 1]}"),
+    ("why votes were withheld is left out of the lost views", "src/reasons.rs", "of_reason.entry(*reason).or_default().insert(*member);",
+     "let _ = (reason, member);"),
     ("no messages are drawn", "page/timeline.js", "const arrows = received.length <= MOST_ARROWS", "const arrows = received.length < 0"),
     ("events are read one byte off", "src/pack.rs", "let doubled = ((step << 1) ^ (step >> 63)) as u64;", "let doubled = (step << 1) as u64;"),
     ("the chain ends at its first finalized view", "src/chain.rs", "while view > 0 && facts[view].fate != Fate::Finalized {",
@@ -63,7 +70,7 @@ class Shown:
     """A page in a browser, compared with its trace."""
 
     def __init__(self, page, trace, name):
-        self.page, self.trace, self.name, self.faults, self.compared = page, trace, name, [], 0
+        self.page, self.trace, self.name, self.faults, self.compared, self.withheld_cells = page, trace, name, [], 0, 0
 
     def expect(self, what, seen, wanted):
         if seen != wanted:
@@ -130,6 +137,15 @@ class Shown:
         """What the panel says that the member did, without moments."""
         lines = self.page.ask("[...document.querySelectorAll('#view-events li')].map((it) => it.textContent)")
         return [line.partition("  ")[2] for line in lines]
+
+    def withheld(self):
+        """Clicks on cells of members that withheld their votes."""
+        withheld = self.trace.withheld()
+        for view, member in [it for it in sorted(withheld) if it[0] <= SHOWN_VIEWS][:4]:
+            self.click(view, member)
+            seen = [line for line in self.events() if line.startswith("withholds")]
+            self.expect(f"what member {member} withheld in view {view}", seen, withheld[view, member])
+            self.withheld_cells += 1
 
     def slider(self, view):
         self.page.ask(f"(() => {{ const it = document.getElementById('slider'); it.value = {view}; it.dispatchEvent(new Event('input')); }})()")
@@ -198,6 +214,7 @@ class Shown:
         self.keys()
         self.click(5, 2)
         self.click(9, 0)
+        self.withheld()
         self.slider(last // 2)
         self.filters()
         self.drawing()
@@ -236,7 +253,7 @@ def refusals(programs, room, trace):
 
 def faults(binary, programs, room, screenshots=None):
     """What is not as it has to be. How many views were compared is printed."""
-    compared = 0
+    compared, withheld = 0, 0
     with chromium.Page(binary) as page:
         for name, words, reasons in NETWORKS:
             trace, html = room / f"{name}.trace", room / f"{name}.html"
@@ -248,11 +265,13 @@ def faults(binary, programs, room, screenshots=None):
             page.open(html)
             shown = Shown(page, Traced(trace), name)
             yield from shown.all(reasons)
-            compared += shown.compared
+            compared, withheld = compared + shown.compared, withheld + shown.withheld_cells
             if screenshots:
                 picture = page.call("Page.captureScreenshot", format="png")["data"]
                 (screenshots / f"{name}.png").write_bytes(base64.b64decode(picture))
-    print(f"browser: {len(NETWORKS)} pages, {compared} views compared")
+    print(f"browser: {len(NETWORKS)} pages, {compared} views compared, {withheld} cells of members that withheld their votes")
+    if withheld < LEAST_WITHHELD:
+        yield f"{withheld} cells of members that withheld their votes, where {LEAST_WITHHELD} are asked for"
     yield from refusals(programs, room, room / "healthy.trace")
 
 

@@ -65,6 +65,27 @@ enum class TimeoutReason : std::uint32_t {
     FailedCertification = SIMPLEX_FAILED_CERTIFICATION
 };
 
+/* Why a member withholds a vote: the first part of the vote's rule that is false. simplex.h says what each means. */
+enum class Withheld : std::uint32_t {
+    NoKey = SIMPLEX_WITHHELD_NO_KEY,
+    NotAdmitted = SIMPLEX_WITHHELD_NOT_ADMITTED,
+    AlreadyVoted = SIMPLEX_WITHHELD_ALREADY_VOTED,
+    VotedToNullify = SIMPLEX_WITHHELD_VOTED_TO_NULLIFY,
+    VotedToFinalize = SIMPLEX_WITHHELD_VOTED_TO_FINALIZE,
+    NoProposal = SIMPLEX_WITHHELD_NO_PROPOSAL,
+    Equivocated = SIMPLEX_WITHHELD_EQUIVOCATED,
+    NotVerified = SIMPLEX_WITHHELD_NOT_VERIFIED,
+    AncestryNotReady = SIMPLEX_WITHHELD_ANCESTRY_NOT_READY,
+    BindingChanged = SIMPLEX_WITHHELD_BINDING_CHANGED,
+    NotCurrent = SIMPLEX_WITHHELD_NOT_CURRENT,
+    AlreadyFinalized = SIMPLEX_WITHHELD_ALREADY_FINALIZED,
+    ConflictingNullify = SIMPLEX_WITHHELD_CONFLICTING_NULLIFY,
+    ParentNotCertified = SIMPLEX_WITHHELD_PARENT_NOT_CERTIFIED,
+    NotNotarized = SIMPLEX_WITHHELD_NOT_NOTARIZED,
+    CertificationFailed = SIMPLEX_WITHHELD_CERTIFICATION_FAILED,
+    NotCertified = SIMPLEX_WITHHELD_NOT_CERTIFIED
+};
+
 /* Which certificate is fetched: the view's notarization, a nullification that covers it, or whatever certificate decides it. */
 enum class FetchKind : std::uint32_t {
     Notarization = SIMPLEX_FETCH_NOTARIZATION,
@@ -243,6 +264,8 @@ public:
     std::vector<OpenFetch> fetches() const;
     /* Throws Error with SIMPLEX_FAILED once the engine has failed. */
     Views view(View view) const;
+    /* Returns why the member withholds its vote of a kind on a view; nothing where it does not. */
+    std::optional<Withheld> withheld(Kind kind, View view) const;
     /* Returns a view's certificate, where the view is tracked and has it. */
     std::optional<Certificate> certificate(Kind kind, View view) const;
     /* Returns the certificate to serve to a peer that asks for the view, if there is one. */

@@ -272,6 +272,13 @@ inline Views Engine::view(View view) const {
             it.has_forwardable ? std::optional<Proposal>(detail::proposal_of(it.forwardable)) : std::nullopt};
 }
 
+inline std::optional<Withheld> Engine::withheld(Kind kind, View view) const {
+    const simplex_withheld it = simplex_engine_withheld(at_.get(), static_cast<std::uint32_t>(kind), view);
+    detail::require(it.status);
+    if (it.reason == SIMPLEX_NOT_WITHHELD) return std::nullopt;
+    return static_cast<Withheld>(it.reason);
+}
+
 inline std::optional<Certificate> Engine::certificate(Kind kind, View view) const {
     const simplex_found it = simplex_engine_certificate(at_.get(), static_cast<std::uint32_t>(kind), view);
     detail::require(it.status);

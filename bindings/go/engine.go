@@ -183,6 +183,13 @@ func (it *Engine) View(view View) (Views, error) {
 	return made, nil
 }
 
+// Withheld returns why the member withholds its vote of a kind on a view; NotWithheld where it does not.
+func (it *Engine) Withheld(kind Kind, view View) (Withheld, error) {
+	withheld := C.simplex_engine_withheld(it.at, C.uint32_t(kind), C.uint64_t(view))
+	runtime.KeepAlive(it)
+	return Withheld(withheld.reason), errorOf(withheld.status)
+}
+
 // Certificate returns a view's certificate; nil where the view is not tracked or has none.
 func (it *Engine) Certificate(kind Kind, view View) (*Certificate, error) {
 	found := C.simplex_engine_certificate(it.at, C.uint32_t(kind), C.uint64_t(view))

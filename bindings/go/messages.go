@@ -54,6 +54,31 @@ const (
 	FailedCertification  TimeoutReason = C.SIMPLEX_FAILED_CERTIFICATION
 )
 
+// Withheld says why a member withholds a vote: the first part of the vote's rule that is false. simplex.h says what each means.
+type Withheld uint32
+
+// The reasons; NotWithheld where the vote is not withheld.
+const (
+	NotWithheld                 Withheld = C.SIMPLEX_NOT_WITHHELD
+	WithheldNoKey               Withheld = C.SIMPLEX_WITHHELD_NO_KEY
+	WithheldNotAdmitted         Withheld = C.SIMPLEX_WITHHELD_NOT_ADMITTED
+	WithheldAlreadyVoted        Withheld = C.SIMPLEX_WITHHELD_ALREADY_VOTED
+	WithheldVotedToNullify      Withheld = C.SIMPLEX_WITHHELD_VOTED_TO_NULLIFY
+	WithheldVotedToFinalize     Withheld = C.SIMPLEX_WITHHELD_VOTED_TO_FINALIZE
+	WithheldNoProposal          Withheld = C.SIMPLEX_WITHHELD_NO_PROPOSAL
+	WithheldEquivocated         Withheld = C.SIMPLEX_WITHHELD_EQUIVOCATED
+	WithheldNotVerified         Withheld = C.SIMPLEX_WITHHELD_NOT_VERIFIED
+	WithheldAncestryNotReady    Withheld = C.SIMPLEX_WITHHELD_ANCESTRY_NOT_READY
+	WithheldBindingChanged      Withheld = C.SIMPLEX_WITHHELD_BINDING_CHANGED
+	WithheldNotCurrent          Withheld = C.SIMPLEX_WITHHELD_NOT_CURRENT
+	WithheldAlreadyFinalized    Withheld = C.SIMPLEX_WITHHELD_ALREADY_FINALIZED
+	WithheldConflictingNullify  Withheld = C.SIMPLEX_WITHHELD_CONFLICTING_NULLIFY
+	WithheldParentNotCertified  Withheld = C.SIMPLEX_WITHHELD_PARENT_NOT_CERTIFIED
+	WithheldNotNotarized        Withheld = C.SIMPLEX_WITHHELD_NOT_NOTARIZED
+	WithheldCertificationFailed Withheld = C.SIMPLEX_WITHHELD_CERTIFICATION_FAILED
+	WithheldNotCertified        Withheld = C.SIMPLEX_WITHHELD_NOT_CERTIFIED
+)
+
 // Round is a view of an epoch.
 type Round struct {
 	Epoch uint64

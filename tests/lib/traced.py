@@ -3,6 +3,16 @@
 import json
 
 VOTES = ("notarize", "nullify", "finalize")
+# Why a vote is withheld, by the core's names.
+WITHHELD = {
+    "not_admitted": "the view is too far ahead of the current one", "voted_to_nullify": "the member voted to nullify the view",
+    "no_proposal": "no proposal was received", "equivocated": "the leader signed two proposals",
+    "not_verified": "the application has not found the proposal valid", "ancestry_not_ready": "the view before offers nothing to build on",
+    "binding_changed": "the proposal was verified on a parent that the view may no longer build on", "already_finalized": "the view or one above it is finalized",
+    "conflicting_nullify": "the member voted to nullify a view below in the term", "parent_not_certified": "the proposal's parent is not certified",
+    "not_notarized": "the view has no notarization", "certification_failed": "the application refused to certify the proposal",
+    "not_certified": "the application has not certified the proposal",
+}
 OF_ENGINES = ("vote", "build", "handoff", "certificate_made", "certificate_accepted", "finalized")
 
 
@@ -59,6 +69,15 @@ class Traced:
                 signer = it["member"] if it["event"] == "vote" else it["from"]
                 found.setdefault((it["kind"], payload), set()).add(signer)
         return {key: sorted(signers) for key, signers in found.items()}
+
+    def withheld(self):
+        """What each member withheld in each view, in words."""
+        found = {}
+        for it in self.lines:
+            if it["event"] == "withheld":
+                text = f"withholds its vote to {it['kind']}: {WITHHELD[it['reason']]}"
+                found.setdefault((it["view"], it["member"]), []).append(text)
+        return found
 
     def of(self, member, view, event):
         """How many events of a kind a member has in a view."""

@@ -197,6 +197,10 @@ static bool asked(struct lifetime *of, const char *word, const uint64_t *it) {
         printf("view %" PRIu64 " %" PRIu64, view.current, view.last_finalized);
         print_member(view.leader);
         printf(" %s %s", flag(view.admits_vote), flag(view.admits_certificate));
+    } else if (!strcmp(word, "withheld")) {
+        struct simplex_withheld withheld = simplex_engine_withheld(at, (uint32_t)it[0], it[1]);
+        require(withheld.status);
+        printf("withheld %" PRIu32, withheld.reason);
     } else if (!strcmp(word, "shown")) {
         struct simplex_found found = simplex_engine_certificate(at, (uint32_t)it[0], it[1]);
         require(found.status);

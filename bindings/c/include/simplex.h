@@ -13,6 +13,8 @@
  *   the reply is exactly the core's                        | of their view's leader only
  *   a member's call orders a vote exactly where its rule   | sign an ordered text with the key of the member in the reply, and
  *   allows, for the vote's own bytes, once it is recorded  | nothing else
+ *   a vote is withheld for the first part of its rule that |
+ *   is false, and for none where it is ordered             |
  *   a resume continues from exactly the entries in the     | store the new entries of the record before it sends a vote, and
  *   bytes; damaged or missing ones are refused             | read back the bytes and numbers that it stored last
  *   an engine receives exactly the input of its numbers,   | verify a vote before it passes one, pass the engine's own votes
@@ -205,6 +207,29 @@ enum simplex_abandoned_reason {
 enum simplex_certificate_kind { SIMPLEX_NOTARIZATION = 1, SIMPLEX_NULLIFICATION = 2, SIMPLEX_FINALIZATION = 3 };
 enum simplex_vote_kind { SIMPLEX_NOTARIZE = 1, SIMPLEX_NULLIFY = 2, SIMPLEX_FINALIZE = 3 };
 
+/* Why a member withholds a vote: the first part of the vote's rule that is false. Numbers are only ever added. After each, the votes
+ * (N to notarize, U to nullify, F to finalize) that it withholds. */
+enum simplex_withheld_reason {
+    SIMPLEX_NOT_WITHHELD = 0,                   /* the vote is returned where it is asked for */
+    SIMPLEX_WITHHELD_NO_KEY = 1,                /* N, U, F: the member has no key */
+    SIMPLEX_WITHHELD_NOT_ADMITTED = 2,          /* N, F: the view is genesis, or too far ahead of the current one */
+    SIMPLEX_WITHHELD_ALREADY_VOTED = 3,         /* N, F: this vote was cast before */
+    SIMPLEX_WITHHELD_VOTED_TO_NULLIFY = 4,      /* N, F: the member voted to nullify the view */
+    SIMPLEX_WITHHELD_VOTED_TO_FINALIZE = 5,     /* U: the member voted to finalize the view */
+    SIMPLEX_WITHHELD_NO_PROPOSAL = 6,           /* N, F: no proposal of the view was received */
+    SIMPLEX_WITHHELD_EQUIVOCATED = 7,           /* N, F: the view's leader signed two proposals */
+    SIMPLEX_WITHHELD_NOT_VERIFIED = 8,          /* N: the application has not found the proposal valid */
+    SIMPLEX_WITHHELD_ANCESTRY_NOT_READY = 9,    /* N: the view before offers no payload to build on before it is certified */
+    SIMPLEX_WITHHELD_BINDING_CHANGED = 10,      /* N: the proposal was verified on a parent, with its payload, that the view may no longer build on */
+    SIMPLEX_WITHHELD_NOT_CURRENT = 11,          /* U: the view is not the current one */
+    SIMPLEX_WITHHELD_ALREADY_FINALIZED = 12,    /* F: the view, or one above it, is finalized */
+    SIMPLEX_WITHHELD_CONFLICTING_NULLIFY = 13,  /* F: the member voted to nullify a view below in the term, and nothing from there on is finalized */
+    SIMPLEX_WITHHELD_PARENT_NOT_CERTIFIED = 14, /* F: the proposal's parent is not certified */
+    SIMPLEX_WITHHELD_NOT_NOTARIZED = 15,        /* F: the view has no notarization */
+    SIMPLEX_WITHHELD_CERTIFICATION_FAILED = 16, /* F: the application refused to certify the proposal */
+    SIMPLEX_WITHHELD_NOT_CERTIFIED = 17         /* F: the application has not certified the proposal */
+};
+
 /* Which items of the last reply are read. */
 enum simplex_items { SIMPLEX_PROPOSALS = 1, SIMPLEX_FETCHES = 2, SIMPLEX_DROPPED = 3 };
 
@@ -343,6 +368,12 @@ struct simplex_view {
     struct simplex_proposal forwardable;
 };
 SIMPLEX_SIZE(struct simplex_view, 128);
+
+struct simplex_withheld {
+    uint32_t status; /* SIMPLEX_OK, SIMPLEX_FAILED, or SIMPLEX_NO_CALL where no vote has the kind */
+    uint32_t reason; /* a simplex_withheld_reason */
+};
+SIMPLEX_SIZE(struct simplex_withheld, 8);
 
 struct simplex_found {
     uint32_t status; /* SIMPLEX_OK, SIMPLEX_OUT_OF_MEMORY, SIMPLEX_FAILED, or SIMPLEX_NO_CALL where no certificate has the kind */
@@ -625,6 +656,9 @@ struct simplex_open simplex_engine_open(simplex_engine *at, uint64_t index);
 /* What its member knows, and what it knows of a view. */
 struct simplex_view simplex_engine_view(simplex_engine *at, uint64_t view);
 
+/* Why its member withholds a vote on a view, of a simplex_vote_kind. It changes nothing. */
+struct simplex_withheld simplex_engine_withheld(simplex_engine *at, uint32_t kind, uint64_t view);
+
 /* Shows a view's certificate, as simplex_member_certificate does. */
 struct simplex_found simplex_engine_certificate(simplex_engine *at, uint32_t kind, uint64_t view);
 
@@ -693,6 +727,10 @@ struct simplex_entries simplex_member_prune_record(simplex_member *at);
 
 /* What the member knows, and what it knows of a view. */
 struct simplex_view simplex_member_view(simplex_member *at, uint64_t view);
+
+/* Why it withholds a vote on a view, of a simplex_vote_kind: the call that constructs the vote returns none exactly where the reason is not
+ * SIMPLEX_NOT_WITHHELD. It changes nothing. */
+struct simplex_withheld simplex_member_withheld(simplex_member *at, uint32_t kind, uint64_t view);
 
 /*
  * Ends the member's lifetime, also one that has failed, and begins another from its record. Returns SIMPLEX_OK; else why not: where settings or

@@ -112,6 +112,10 @@ public:
         if (word == "status") return status();
         if (word == "open") return open(it.at(0));
         if (word == "view") return view(it.at(0));
+        if (word == "withheld") {
+            const auto found = engine_.withheld(static_cast<Kind>(it.at(0)), it.at(1));
+            return "withheld " + std::to_string(found ? static_cast<std::uint32_t>(*found) : 0);
+        }
         if (word == "shown") {
             const auto found = engine_.certificate(static_cast<Kind>(it.at(0)), it.at(1));
             return found ? "shown " + sum_of(found->bytes) : "none";

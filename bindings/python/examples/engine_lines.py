@@ -121,7 +121,7 @@ class Lifetime:
     def reply(self, line: str) -> str:
         word, *rest = line.split()
         numbers = [int(it) for it in rest]
-        if word in ("poll", "resume", "status", "open", "view", "shown", "served"):
+        if word in ("poll", "resume", "status", "open", "view", "withheld", "shown", "served"):
             return getattr(self, word)(*numbers)
         given = input_of(word, numbers)
         try:
@@ -163,6 +163,9 @@ class Lifetime:
     def view(self, view: int) -> str:
         it = self.engine.view(view)
         return f"view {it.current} {it.last_finalized} {member_word(it.leader)} {word_of(it.admits_vote)} {word_of(it.admits_certificate)}"
+
+    def withheld(self, kind: int, view: int) -> str:
+        return f"withheld {int(self.engine.withheld(Kind(kind), view) or 0)}"
 
     def shown(self, kind: int, view: int) -> str:
         found = self.engine.certificate(Kind(kind), view)

@@ -7,13 +7,13 @@ from ._library import ffi as _ffi, lib as _lib
 from .engine import Engine, OpenFetch, State, Views
 from .errors import SimplexError, Status
 from .inputs import Input
-from .messages import Certificate, Context, FetchKind, Kind, Proposal, Round, Subject, TimeoutReason, Vote
+from .messages import Certificate, Context, FetchKind, Kind, Proposal, Round, Subject, TimeoutReason, Vote, Withheld
 from .outputs import Output
 from .settings import Config, Entries, Options, Stored
 
 __all__ = [
     "Certificate", "Config", "Context", "Engine", "Entries", "FetchKind", "Input", "Kind", "OpenFetch", "Options", "Output", "Proposal",
-    "Round", "SimplexError", "State", "Status", "Stored", "Subject", "TimeoutReason", "Views", "Vote", "build_info", "inputs", "outputs",
+    "Round", "SimplexError", "State", "Status", "Stored", "Subject", "TimeoutReason", "Views", "Vote", "Withheld", "build_info", "inputs", "outputs",
 ]
 
 if _lib.simplex_version() != _lib.SIMPLEX_VERSION:

@@ -8,7 +8,7 @@ from typing import List, Optional
 from ._library import ffi, lib
 from .errors import Status, require
 from .inputs import Input, flat_input
-from .messages import Certificate, FetchKind, Kind, Proposal, Round, Subject, member_of, proposal_of, subject_of
+from .messages import Certificate, FetchKind, Kind, Proposal, Round, Subject, Withheld, member_of, proposal_of, subject_of
 from .outputs import Output, output_of
 from .settings import Config, Options, Stored
 
@@ -124,6 +124,12 @@ class Engine:
         flags = (it.is_tracked != 0, it.admits_vote != 0, it.admits_certificate != 0, it.voted_nullify != 0)
         forwardable = proposal_of(it.forwardable) if it.has_forwardable else None
         return Views(it.epoch, it.current, it.last_finalized, it.min_active, *flags, member_of(it.leader), forwardable)
+
+    def withheld(self, kind: Kind, view: int) -> Optional[Withheld]:
+        """Returns why the member withholds its vote of a kind on a view; None where it does not."""
+        it = lib.simplex_engine_withheld(self._at, kind, view)
+        require(it.status)
+        return Withheld(it.reason) if it.reason else None
 
     def certificate(self, kind: Kind, view: int) -> Optional[Certificate]:
         """Returns a view's certificate; None where the view is not tracked or has none."""

@@ -4,7 +4,7 @@
 
 use simplex_view_state::{
     Certificate, CertificateKind, Config, Context, Digest, Engine, Entries, EntryCount, Epoch, FetchKind, Input, Moment, Options, Output,
-    Participant, Proposal, Round, Skip, Subject, Terms, TimeoutReason, View, ViewDelta, Vote,
+    Participant, Proposal, Round, Skip, Subject, Terms, TimeoutReason, View, ViewDelta, Vote, VoteKind,
 };
 use std::error::Error;
 use std::fmt::Write as _;
@@ -86,6 +86,7 @@ impl Life {
             ("status", []) => Ok(self.status()),
             ("open", [index]) => Ok(self.open(*index as usize)),
             ("view", [view]) => self.view(View::new(*view)),
+            ("withheld", [kind, view]) => self.withheld(*kind, View::new(*view)),
             ("shown", [kind, view]) => self.shown(*kind, View::new(*view)),
             ("served", [view]) => self.served(View::new(*view)),
             _ => {
@@ -157,6 +158,16 @@ impl Life {
             it.admits_vote(view),
             it.admits_certificate(view)
         ))
+    }
+
+    fn withheld(&self, kind: u64, view: View) -> Outcome<String> {
+        let kind = match kind {
+            1 => VoteKind::Notarize,
+            2 => VoteKind::Nullify,
+            _ => VoteKind::Finalize,
+        };
+        let number = self.engine.withheld(kind, view)?.map_or(0, |it| it as u32 + 1);
+        Ok(format!("withheld {number}"))
     }
 
     fn shown(&self, kind: u64, view: View) -> Outcome<String> {

@@ -15,6 +15,7 @@ use crate::member::{Views, tested};
 use crate::messages::{Certificate, CertificateKind, Proposal, Subject};
 use crate::numbers::{Moment, Participant, View};
 use crate::settings::{Config, Flat, millis};
+use crate::withheld::{VoteKind, Withheld};
 use std::fmt;
 use std::ptr::{NonNull, null_mut};
 use std::time::Duration;
@@ -237,6 +238,28 @@ impl Engine {
     /// Returns whether this member voted to nullify the view.
     pub fn voted_nullify(&self, view: View) -> bool {
         self.view(view).is_some_and(|shown| shown.voted_nullify != 0)
+    }
+
+    /// Returns why this member withholds its vote of a kind on a view; `None` where it does not: then the engine returns the vote with one of
+    /// its next outputs, or to nullify once the view times out. It changes nothing.
+    ///
+    /// # Errors
+    ///
+    /// [`EngineError::Failed`].
+    ///
+    /// ```
+    /// use simplex_view_state::{Config, Digest, Engine, Epoch, Moment, Options, Participant, View, VoteKind, Withheld};
+    ///
+    /// let config = Config::new(4.try_into()?, Some(Participant::new(3)), Epoch::new(1), Digest::default());
+    /// let engine = Engine::start(&config, &Options::default(), Moment::from_millis(0))?;
+    /// assert_eq!(engine.withheld(VoteKind::Notarize, View::new(1))?, Some(Withheld::NoProposal));
+    /// assert_eq!(engine.withheld(VoteKind::Nullify, View::new(1))?, None);
+    /// # Ok::<(), Box<dyn std::error::Error>>(())
+    /// ```
+    pub fn withheld(&self, kind: VoteKind, view: View) -> Result<Option<Withheld>, EngineError> {
+        // SAFETY: the handle is this engine's.
+        let shown = unsafe { ffi::simplex_engine_withheld(self.at.as_ptr(), kind.number(), view.get()) };
+        answered(shown.status, Withheld::of(shown.reason))
     }
 
     /// Returns the view's proposal that may be forwarded to peers, if there is one.

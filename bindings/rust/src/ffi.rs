@@ -155,6 +155,13 @@ pub(crate) struct Entries {
 
 #[repr(C)]
 #[derive(Clone, Copy)]
+pub(crate) struct Withheld {
+    pub(crate) status: u32,
+    pub(crate) reason: u32,
+}
+
+#[repr(C)]
+#[derive(Clone, Copy)]
 pub(crate) struct View {
     pub(crate) status: u32,
     pub(crate) leader: u32,
@@ -409,6 +416,7 @@ unsafe extern "C" {
     pub(crate) fn simplex_member_entries(at: *mut Opaque, count: u64) -> Entries;
     pub(crate) fn simplex_member_prune_record(at: *mut Opaque) -> Entries;
     pub(crate) fn simplex_member_view(at: *mut Opaque, view: u64) -> View;
+    pub(crate) fn simplex_member_withheld(at: *mut Opaque, kind: u32, view: u64) -> Withheld;
     pub(crate) fn simplex_member_restart(
         at: *mut Opaque,
         restart: &Restart,
@@ -457,6 +465,7 @@ unsafe extern "C" {
     pub(crate) fn simplex_engine_status(at: *mut OpaqueEngine) -> Status;
     pub(crate) fn simplex_engine_open(at: *mut OpaqueEngine, index: u64) -> Open;
     pub(crate) fn simplex_engine_view(at: *mut OpaqueEngine, view: u64) -> View;
+    pub(crate) fn simplex_engine_withheld(at: *mut OpaqueEngine, kind: u32, view: u64) -> Withheld;
     pub(crate) fn simplex_engine_certificate(at: *mut OpaqueEngine, kind: u32, view: u64) -> Found;
     pub(crate) fn simplex_engine_serve(at: *mut OpaqueEngine, view: u64) -> Served;
     pub(crate) fn simplex_engine_free(at: *mut OpaqueEngine);

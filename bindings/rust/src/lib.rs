@@ -75,6 +75,7 @@ mod numbers;
 mod reasons;
 mod resolver;
 mod settings;
+mod withheld;
 
 pub use build_info::build_info;
 pub use engine::{Engine, Fetch, FetchKind, Input, OpenFetch, Options, Order, Output};
@@ -89,3 +90,4 @@ pub use numbers::{Digest, Epoch, Moment, ParseDigestError, Participant, Round, T
 pub use reasons::{HandoffAbandonedReason, TimeoutReason};
 pub use resolver::{Effect, FetchReason, Resolver};
 pub use settings::{Config, Floor, Leaders, Skip, Terms};
+pub use withheld::{VoteKind, Withheld};

@@ -10,6 +10,7 @@ use crate::messages::{
 use crate::numbers::{Digest, Epoch, Moment, Participant, Round, Token, View};
 use crate::reasons::{HandoffAbandonedReason, TimeoutReason};
 use crate::settings::{Config, Flat};
+use crate::withheld::{VoteKind, Withheld};
 use std::fmt;
 use std::ptr::{NonNull, null_mut};
 
@@ -568,6 +569,17 @@ impl Member {
     /// Whether this member voted to nullify the view.
     pub fn voted_nullify(&self, view: View) -> bool {
         self.view(view).is_some_and(|shown| shown.voted_nullify != 0)
+    }
+
+    /// Returns why this member withholds its vote of a kind on a view; `None` exactly where [`Member::construct_notarize`],
+    /// [`Member::construct_nullify`] or [`Member::construct_finalize`] returns one. It changes nothing.
+    pub fn withheld(&self, kind: VoteKind, view: View) -> Answer<Option<Withheld>> {
+        // SAFETY: the handle is this member's.
+        let shown = unsafe { ffi::simplex_member_withheld(self.at.as_ptr(), kind.number(), view.get()) };
+        match Refusal::of(shown.status) {
+            None => Ok(Withheld::of(shown.reason)),
+            Some(refusal) => Err(refusal),
+        }
     }
 
     /// The proposal of the view that may be forwarded to peers, if there is one.

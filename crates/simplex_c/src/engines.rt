@@ -6,7 +6,7 @@ ghost use Rattle.std.specs.Prelude.{◌≡◌};
 ghost use Rattle.std.specs.Borrow.{sem};
 ghost use Rattle.simplex_flat_engine.specs.declared.held.HeldEngine.{HeldEngine};
 ghost use Rattle.simplex_flat_engine.specs.Handling.{IsHandled, IsPolled};
-ghost use Rattle.simplex_flat_engine.specs.Showing.{ShowsChunk, ShowsFound, ShowsOpenFetch, ShowsServed, ShowsStatus, ShowsView};
+ghost use Rattle.simplex_flat_engine.specs.Showing.{ShowsChunk, ShowsFound, ShowsOpenFetch, ShowsServed, ShowsStatus, ShowsView, ShowsWithheld};
 ghost use Rattle.simplex_c.specs.Behind.{IsRead, engine_at, engine_left_at, engine_owned_at};
 ghost use Rattle.simplex_c.specs.Opened.{IsBegunStatus, IsGoingOnStatus};
 
@@ -15,7 +15,7 @@ use crate::loose::Loose;
 use simplex_flat::absent;
 use simplex_flat::flat::FlatSettings;
 use simplex_flat::resolved::FlatServed;
-use simplex_flat::shown::{FlatChunk, FlatFound, FlatStored, FlatView};
+use simplex_flat::shown::{FlatChunk, FlatFound, FlatStored, FlatView, FlatWithheld};
 use simplex_flat_engine::absent as absent_engine;
 use simplex_flat_engine::begin::number_of_not_begun;
 use simplex_flat_engine::held::HeldEngine;
@@ -192,6 +192,25 @@ fn hand_view(held: &mut HeldEngine, view: u64) -> FlatView
     ensures { IsRead held.old held.new (ShowsView held.old view result) }
 {
     held.view(view)
+}
+
+/// Why the member withholds a vote on a view.
+#[unsafe(no_mangle)]
+pub unsafe extern "C" fn simplex_engine_withheld(at: *mut u8, kind: u32, view: u64) -> FlatWithheld
+    ghost held: { HeldEngine }
+    requires* { sem 𝓛 (engine_at at held) }
+    ensures* { sem 𝓛 (engine_left_at at (result.status ≡ 15) (λ new. IsRead held new (ShowsWithheld held kind view result))) }
+{
+    if at.is_null() {
+        return absent::withheld();
+    }
+    hand_withheld(unsafe { &mut *(at as *mut HeldEngine) }, kind, view)
+}
+
+fn hand_withheld(held: &mut HeldEngine, kind: u32, view: u64) -> FlatWithheld
+    ensures { IsRead held.old held.new (ShowsWithheld held.old kind view result) }
+{
+    held.withheld(kind, view)
 }
 
 /// Shows a view's certificate.

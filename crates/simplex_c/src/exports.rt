@@ -9,6 +9,7 @@ ghost use Rattle.simplex_flat.specs.Journals.{IsScan};
 ghost use Rattle.simplex_flat.specs.Pruning.{IsPruned};
 ghost use Rattle.simplex_flat.specs.Serving.{IsCallServed};
 ghost use Rattle.simplex_flat.specs.Showing.{IsChunkOf, IsEntries, IsFound, IsItem, IsText, IsView};
+ghost use Rattle.simplex_flat.specs.Withheld.{IsWithheld};
 ghost use Rattle.simplex_c.specs.Behind.{IsRead, held_at, member_left_at, owned_at};
 ghost use Rattle.simplex_c.specs.Opened.{IsRestartStatus, IsResumeStatus, IsStartStatus};
 
@@ -21,7 +22,7 @@ use simplex_flat::journal::scan;
 use simplex_flat::showing::subject_text;
 use simplex_flat::shown::{
     FlatChunk, FlatEntries, FlatFound, FlatItem, FlatRestart, FlatScan, FlatStored, FlatText,
-    FlatView,
+    FlatView, FlatWithheld,
 };
 use simplex_flat::statuses::{number_of_not_resumed, number_of_not_started, number_of_restart};
 use std::alloc::Global;
@@ -207,6 +208,25 @@ fn hand_view(held: &mut Held, view: u64) -> FlatView
     ensures { IsRead held.old held.new (IsView held.old.member.facts view result) }
 {
     held.view(view)
+}
+
+/// Why the member withholds a vote on a view.
+#[unsafe(no_mangle)]
+pub unsafe extern "C" fn simplex_member_withheld(at: *mut u8, kind: u32, view: u64) -> FlatWithheld
+    ghost held: { Held }
+    requires* { sem 𝓛 (held_at at held) }
+    ensures* { sem 𝓛 (member_left_at at (result.status ≡ 15) (λ now. IsRead held now (IsWithheld held.member.facts kind view result))) }
+{
+    if at.is_null() {
+        return absent::withheld();
+    }
+    hand_withheld(unsafe { &mut *(at as *mut Held) }, kind, view)
+}
+
+fn hand_withheld(held: &mut Held, kind: u32, view: u64) -> FlatWithheld
+    ensures { IsRead held.old held.new (IsWithheld held.old.member.facts kind view result) }
+{
+    held.withheld(kind, view)
 }
 
 /// Ends the member's life and begins another from its record. 0, or why there is none.

@@ -10,3 +10,4 @@ pub mod Settings
 pub mod Showing
 pub mod Starting
 pub mod Statuses
+pub mod Withheld

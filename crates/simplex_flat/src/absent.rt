@@ -7,7 +7,10 @@ use crate::replying::unanswered;
 use crate::resolved::{FlatEffect, FlatEffects, FlatOutstanding, FlatServed, FlatSettled};
 use crate::resolving::{no_effect, no_effects, unserved};
 use crate::showing::{no_item, no_view, unfound};
-use crate::shown::{CHUNK, FlatChunk, FlatEntries, FlatFound, FlatItem, FlatStored, FlatView};
+use crate::shown::{
+    CHUNK, FlatChunk, FlatEntries, FlatFound, FlatItem, FlatStored, FlatView, FlatWithheld,
+};
+use crate::withheld::no_reason;
 
 /// The status where a handle is null: nothing was done.
 pub const STATUS_NO_HANDLE: u32 = 15;
@@ -82,6 +85,13 @@ pub fn view() -> FlatView
         status: STATUS_NO_HANDLE,
         ..no_view()
     }
+}
+
+/// Why a vote is withheld.
+pub fn withheld() -> FlatWithheld
+    ensures { result.status ≡ 15 }
+{
+    no_reason(STATUS_NO_HANDLE)
 }
 
 /// What follows of what a resolver was told.

@@ -19,3 +19,4 @@ pub mod settings;
 pub mod showing;
 pub mod shown;
 pub mod statuses;
+pub mod withheld;

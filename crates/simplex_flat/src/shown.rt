@@ -98,6 +98,16 @@ pub struct FlatFound {
     pub proposal: FlatProposal,
 }
 
+/// Why a member withholds a vote.
+#[repr(C)]
+#[derive(Clone, Copy, Debug)]
+pub struct FlatWithheld {
+    /// 0; 2 where the member has failed, and 6 where no vote has this kind: then the reason has no meaning.
+    pub status: u32,
+    /// The first part of the vote's rule that is false; 0 where the vote is not withheld.
+    pub reason: u32,
+}
+
 /// An item of the last reply's lists.
 #[repr(C)]
 #[derive(Clone, Copy)]

@@ -7,8 +7,10 @@ use Rattle.simplex_flat.specs.declared.resolved.FlatServed.{FlatServed}
 use Rattle.simplex_flat.specs.declared.shown.FlatChunk.{FlatChunk}
 use Rattle.simplex_flat.specs.declared.shown.FlatFound.{FlatFound}
 use Rattle.simplex_flat.specs.declared.shown.FlatView.{FlatView}
+use Rattle.simplex_flat.specs.declared.shown.FlatWithheld.{FlatWithheld}
 use Rattle.simplex_flat.specs.Resolving.{HasServedOf}
 use Rattle.simplex_flat.specs.Showing.{HasAnsweredIn, IsChunk, IsViewIn}
+use Rattle.simplex_flat.specs.Withheld.{IsWithheldIn}
 use Rattle.simplex_flat_engine.specs.declared.held.HeldEngine.{HeldEngine}
 use Rattle.simplex_flat_engine.specs.declared.told.FlatOpen.{FlatOpen}
 use Rattle.simplex_flat_engine.specs.declared.told.FlatStatus.{FlatStatus}
@@ -47,6 +49,10 @@ ShowsOpenFetch held index r =
 -- what the member knows of a view
 abbrev pub ShowsView : HeldEngine → ℕ → FlatView → Type 0
 ShowsView held view r = IsViewIn held.engine.core.member.facts.life view r
+
+-- why the member withholds a vote
+abbrev pub ShowsWithheld : HeldEngine → ℕ → ℕ → FlatWithheld → Type 0
+ShowsWithheld held kind view r = IsWithheldIn held.engine.core.member.facts.life kind view r
 
 -- how a view's certificate is shown
 pub record ShowsFound (old : HeldEngine) (kind view : ℕ) (r : FlatFound) (new : HeldEngine) : Type 0 where

@@ -8,10 +8,11 @@ use crate::told::{FlatOpen, FlatStatus};
 use simplex_flat::resolved::FlatServed;
 use simplex_flat::resolving::serve_in;
 use simplex_flat::showing::{certificate_in, chunk_of, view_in};
-use simplex_flat::shown::{FlatChunk, FlatFound, FlatView};
+use simplex_flat::shown::{FlatChunk, FlatFound, FlatView, FlatWithheld};
+use simplex_flat::withheld::withheld_in;
 
 impl HeldEngine {
-    ghost use Rattle.simplex_flat_engine.specs.Showing.{ShowsChunk, ShowsFound, ShowsOpenFetch, ShowsServed, ShowsStatus, ShowsView, is_failed};
+    ghost use Rattle.simplex_flat_engine.specs.Showing.{ShowsChunk, ShowsFound, ShowsOpenFetch, ShowsServed, ShowsStatus, ShowsView, ShowsWithheld, is_failed};
 
     /// A part of the bytes of what was given out last, where `which` is 0; of the second signature of two, where it is 1; and else
     /// of what was shown last.
@@ -66,6 +67,13 @@ impl HeldEngine {
         ensures { ShowsView self.now view result }
     {
         view_in(self.engine.state(), view)
+    }
+
+    /// Why the member withholds its vote of a kind on a view: 1 asks for a vote to notarize, 2 to nullify, 3 to finalize.
+    pub fn withheld(&self, kind: u32, view: u64) -> FlatWithheld
+        ensures { ShowsWithheld self.now kind view result }
+    {
+        withheld_in(self.engine.state(), kind, view)
     }
 
     /// Shows the bytes of a view's certificate, and answers what it is of: 1 asks for a notarization, 2 for a nullification, 3 for a

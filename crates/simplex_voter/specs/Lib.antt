@@ -21,3 +21,4 @@ pub mod Verifying
 pub mod Serving
 pub mod Replay
 pub mod Due
+pub mod Withheld

@@ -28,6 +28,7 @@ mod state;
 mod timeouts;
 mod verify;
 mod votes;
+mod withheld;
 mod work;
 
 pub use candidates::CertificateFetch;
@@ -35,3 +36,4 @@ pub use propose::ProposalRequest;
 pub use simplex_sorted::tracked::Tracked;
 pub use state::{Config, State};
 pub use verify::Verify;
+pub use withheld::Withheld;

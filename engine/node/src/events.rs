@@ -69,14 +69,15 @@ impl Events {
         }
     }
 
-    /// Writes which fetches are settled.
+    /// Writes which fetches are settled, and which votes were withheld on the views that were left.
     pub fn settled(&mut self, engine: &Engine) {
-        if let Some(open) = &mut self.0
-            && open.observer.has_fetches()
-        {
-            for event in open.observer.settled(&engine.fetches()) {
-                open.write(event);
-            }
+        let Some(open) = &mut self.0 else { return };
+        let mut events = open.observer.watch(engine);
+        if open.observer.has_fetches() {
+            events.extend(open.observer.settled(&engine.fetches()));
+        }
+        for event in events {
+            open.write(event);
         }
     }
 

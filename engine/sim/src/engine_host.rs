@@ -92,6 +92,15 @@ impl<A: Application> EngineHost<A> {
         }
     }
 
+    /// Traces the votes that the engine withheld on the views that it has left.
+    fn watch(&mut self, effects: &mut Effects) {
+        if let Some(engine) = &self.engine {
+            for (view, event) in self.observer.watch(engine) {
+                effects.trace(view, event);
+            }
+        }
+    }
+
     fn engine(&mut self) -> Result<&mut Engine, EngineError> {
         self.engine.as_mut().ok_or(EngineError::Failed)
     }
@@ -360,6 +369,7 @@ impl<A: Application> Host for EngineHost<A> {
         self.watch_leader(now, effects)?;
         self.is_quiet = false;
         for _ in 0..MOST_OUTPUTS {
+            self.watch(effects);
             let Some(output) = self.engine()?.poll(now)? else {
                 self.is_quiet = true;
                 break;

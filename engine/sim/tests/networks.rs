@@ -10,7 +10,7 @@ use simplex_sim::search::{shrink, until_disagreement, violation};
 use simplex_sim::{
     Application, Block, Byzantine, Ended, EngineHost, Fault, Host, Insider, Log, Message, Outcome, Plan, Seat, Sent, Simulation, Violation,
 };
-use simplex_trace::{Event, Line, TimeoutReason};
+use simplex_trace::{Event, Line, TimeoutReason, VoteKind, Withheld};
 use simplex_view_state::Context;
 
 const ALL: [Byzantine; 6] = [
@@ -140,6 +140,38 @@ fn a_silent_leader_costs_its_views_alone() {
     let views: std::collections::BTreeSet<u64> = lines.iter().filter(lost).map(|it| it.view).collect();
     assert_eq!(outcome.ended, Ended::Reached);
     assert!(views.len() >= 9 && views.iter().all(|view| view % 4 == 0), "{views:?}");
+}
+
+#[test]
+fn members_say_why_they_withheld_a_vote() {
+    let silent = Plan {
+        faulty: 1,
+        byzantine: Byzantine::Silent,
+        views: 40,
+        ..Plan::default()
+    };
+    let (_, lines) = played(&silent);
+    let given_up = |it: &&[Line]| matches!(it[0].event, Event::Timeout { reason } if reason != TimeoutReason::Retry);
+    let (kind, reason) = (VoteKind::Notarize, Withheld::NoProposal);
+    let is_explained = |it: &[Line]| it[1].event == Event::Withheld { kind, reason } && it[1].view == it[0].view;
+    let given_up: Vec<&[Line]> = lines.windows(2).filter(given_up).collect();
+    assert!(given_up.len() >= 27 && given_up.iter().all(|it| is_explained(it)));
+    let withheld = count(&lines, |it| matches!(it, Event::Withheld { .. }));
+    let of_given_up = lines.iter().filter(|it| it.view % 4 == 0);
+    assert_eq!(
+        withheld,
+        of_given_up.filter(|it| matches!(it.event, Event::Withheld { .. })).count()
+    );
+    let (_, lines) = played(&plan());
+    for reason in [
+        Withheld::NotVerified,
+        Withheld::NotNotarized,
+        Withheld::AlreadyFinalized,
+        Withheld::ConflictingNullify,
+    ] {
+        let is_it = |it: &Event| matches!(it, Event::Withheld { reason: it, .. } if *it == reason);
+        assert!(count(&lines, is_it) > 0, "{reason}");
+    }
 }
 
 #[test]

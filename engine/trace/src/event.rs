@@ -1,5 +1,6 @@
 //! The lines of a trace.
 
+use crate::withheld::Withheld;
 use serde::{Deserialize, Serialize};
 use simplex_view_state as core;
 use std::fmt;
@@ -178,6 +179,13 @@ pub enum Event {
     Timeout {
         /// Why.
         reason: TimeoutReason,
+    },
+    /// The member left the view, or gave it up, without this vote.
+    Withheld {
+        /// The vote: to notarize or to finalize.
+        kind: VoteKind,
+        /// Why.
+        reason: Withheld,
     },
     /// The leader builds on a certified parent.
     Build {

@@ -11,6 +11,7 @@ mod header;
 mod observer;
 mod queue;
 mod reader;
+mod withheld;
 
 pub use event::{CertificateKind, Event, FetchKind, Line, Proposal, SignedVote, TimeoutReason, VoteKind};
 pub use file::{FileError, TraceFile};
@@ -18,3 +19,4 @@ pub use header::{Header, VERSION};
 pub use observer::{Observed, Observer};
 pub use queue::Queue;
 pub use reader::{ReadError, Reader, Trace};
+pub use withheld::Withheld;

@@ -1,8 +1,9 @@
 //! Makes events of the inputs and outputs of an engine.
 
 use crate::event::{CertificateKind, Event, FetchKind, Proposal, SignedVote, TimeoutReason, VoteKind, proposal_of};
+use crate::withheld::Watch;
 use simplex_view_state as core;
-use simplex_view_state::{Context, Entries, Input, OpenFetch, Order, Output, Subject};
+use simplex_view_state::{Context, Engine, Entries, Input, OpenFetch, Order, Output, Subject};
 use std::collections::{BTreeMap, BTreeSet};
 
 /// How many views below the highest one an observer remembers.
@@ -31,6 +32,7 @@ pub struct Observer {
     /// The certificates that came.
     accepted: BTreeSet<(CertificateKind, u64)>,
     fetches: BTreeSet<(FetchKind, u64)>,
+    watch: Watch,
 }
 
 impl Observer {
@@ -45,6 +47,7 @@ impl Observer {
             certified: BTreeSet::new(),
             accepted: BTreeSet::new(),
             fetches: BTreeSet::new(),
+            watch: Watch::default(),
         }
     }
 
@@ -157,7 +160,12 @@ impl Observer {
             None if self.proposed.contains(&view) => TimeoutReason::CertificationTimeout,
             None => TimeoutReason::LeaderTimeout,
         };
-        vec![(view, Event::Timeout { reason }), vote]
+        let withheld = self.watch.give_up(view);
+        [(view, Event::Timeout { reason })]
+            .into_iter()
+            .chain(withheld)
+            .chain([vote])
+            .collect()
     }
 
     /// A certificate that did not come from another member was made here.
@@ -188,6 +196,12 @@ impl Observer {
         let opened = is_new.then_some((view, Event::FetchOpened { certificate }));
         let asked = (view, Event::FetchAsked { certificate, of });
         opened.into_iter().chain([asked]).collect()
+    }
+
+    /// Returns the votes that the engine withheld on the views that it has left since the last call. Call it before each poll, or at least
+    /// after each turn: a view that the engine gives up is explained by the last call before.
+    pub fn watch(&mut self, engine: &Engine) -> Vec<Observed> {
+        self.watch.look(engine)
     }
 
     /// Whether fetches were opened that are not settled yet.

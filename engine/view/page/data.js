@@ -5,7 +5,7 @@ export const CODE = Object.fromEntries([
   "Start", "Resume", "Crash", "Partition", "ProposalSent", "ProposalReceived", "Verified", "Invalid", "Certified", "NotCertified",
   "Notarize", "Nullify", "Finalize", "NotarizeReceived", "NullifyReceived", "FinalizeReceived",
   "NotarizationMade", "NullificationMade", "FinalizationMade", "NotarizationAccepted", "NullificationAccepted", "FinalizationAccepted",
-  "Timeout", "Build", "Handoff", "FetchOpened", "FetchAsked", "FetchServed", "FetchSettled", "Equivocation", "ProposedTwice",
+  "Timeout", "NotarizeWithheld", "FinalizeWithheld", "Build", "Handoff", "FetchOpened", "FetchAsked", "FetchServed", "FetchSettled", "Equivocation", "ProposedTwice",
   "Finalized", "Stored", "Replaced", "Dropped", "Violation",
 ].map((name, number) => [name, number]));
 

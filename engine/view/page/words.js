@@ -49,6 +49,8 @@ const WORDS = {
   NullificationAccepted: () => "accepts a nullification",
   FinalizationAccepted: (run, i) => `accepts a finalization of ${proposal(run, i)}`,
   Timeout: (run, i) => `gives the view up: ${run.reasons[run.events.choice[i]]}`,
+  NotarizeWithheld: (run, i) => `withholds its vote to notarize: ${run.withheld[run.events.choice[i]]}`,
+  FinalizeWithheld: (run, i) => `withholds its vote to finalize: ${run.withheld[run.events.choice[i]]}`,
   Build: (run, i) => `builds on ${parent(run.events.value[i])}`,
   Handoff: (run, i) => `builds on ${parent(run.events.value[i])} before it is certified: a handoff`,
   FetchOpened: (run, i) => `misses a ${FETCHES[run.events.choice[i]]}: a fetch`,
@@ -74,9 +76,9 @@ export const describe = (run, i) => BY_CODE[run.events.code[i]](run, i);
 
 // The kinds of events that a reader can show and hide, each with its codes.
 export const KINDS = [
-  ["notarize", "votes to notarize", [CODE.Notarize, CODE.NotarizeReceived]],
+  ["notarize", "votes to notarize", [CODE.Notarize, CODE.NotarizeReceived, CODE.NotarizeWithheld]],
   ["nullify", "votes to nullify", [CODE.Nullify, CODE.NullifyReceived, CODE.Timeout]],
-  ["finalize", "votes to finalize", [CODE.Finalize, CODE.FinalizeReceived, CODE.Finalized]],
+  ["finalize", "votes to finalize", [CODE.Finalize, CODE.FinalizeReceived, CODE.FinalizeWithheld, CODE.Finalized]],
   ["proposal", "proposals", [
     CODE.ProposalSent, CODE.ProposalReceived, CODE.Verified, CODE.Invalid, CODE.Certified, CODE.NotCertified, CODE.Build, CODE.Handoff,
   ]],

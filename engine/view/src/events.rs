@@ -1,6 +1,6 @@
 //! Events in the form that the page has: numbers.
 
-use simplex_trace::{CertificateKind, Event, Proposal, TimeoutReason, VoteKind};
+use simplex_trace::{CertificateKind, Event, Proposal, TimeoutReason, VoteKind, Withheld};
 use std::collections::HashMap;
 
 /// The member of an event of the network, and the other member of an event that has none.
@@ -33,6 +33,8 @@ pub enum Code {
     NullificationAccepted,
     FinalizationAccepted,
     Timeout,
+    NotarizeWithheld,
+    FinalizeWithheld,
     Build,
     Handoff,
     FetchOpened,
@@ -63,7 +65,7 @@ pub struct Seen {
     pub value: u64,
     /// What happened.
     pub code: Code,
-    /// Which of the view's proposals, from 1; 0 of none. Of a timeout the reason, of a fetch the kind.
+    /// Which of the view's proposals, from 1; 0 of none. Of a timeout and of a vote that is withheld the reason, of a fetch the kind.
     pub choice: u8,
 }
 
@@ -138,6 +140,7 @@ impl Tables {
                 (seen.choice, seen.value) = (proposal.map_or(0, |it| self.choice(view, &it)), self.set(&signers));
             }
             Event::Timeout { reason } => seen.choice = reason_number(reason),
+            Event::Withheld { reason, .. } => seen.choice = withheld_number(reason),
             Event::Build { parent } | Event::Handoff { parent } => seen.value = parent,
             Event::FetchOpened { certificate } | Event::FetchSettled { certificate } => seen.choice = certificate as u8,
             Event::FetchAsked { certificate, of } => (seen.choice, seen.other) = (certificate as u8, of.unwrap_or(NOBODY)),
@@ -177,6 +180,11 @@ fn reason_number(reason: TimeoutReason) -> u8 {
     place.map_or(0, |it| it as u8)
 }
 
+fn withheld_number(reason: Withheld) -> u8 {
+    let place = Withheld::ALL.iter().position(|it| *it == reason);
+    place.map_or(0, |it| it as u8)
+}
+
 fn code_of(event: &Event) -> Code {
     match event {
         Event::Start => Code::Start,
@@ -199,6 +207,10 @@ fn code_of(event: &Event) -> Code {
             [Code::NotarizationAccepted, Code::NullificationAccepted, Code::FinalizationAccepted],
         ),
         Event::Timeout { .. } => Code::Timeout,
+        Event::Withheld {
+            kind: VoteKind::Finalize, ..
+        } => Code::FinalizeWithheld,
+        Event::Withheld { .. } => Code::NotarizeWithheld,
         Event::Build { .. } => Code::Build,
         Event::Handoff { .. } => Code::Handoff,
         Event::FetchOpened { .. } => Code::FetchOpened,

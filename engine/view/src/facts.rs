@@ -41,6 +41,8 @@ pub struct Facts {
     pub nullifiers: BTreeSet<u32>,
     /// Who gave it up, and the number of the reason.
     pub timeouts: Vec<(u32, u8)>,
+    /// Who withheld its vote to notarize, and the number of the reason.
+    pub withheld: Vec<(u32, u8)>,
     /// Who found the proposal invalid.
     pub invalid: BTreeSet<u32>,
     /// Who did not certify it.
@@ -76,6 +78,7 @@ impl Facts {
             notarizers: Vec::new(),
             nullifiers: BTreeSet::new(),
             timeouts: Vec::new(),
+            withheld: Vec::new(),
             invalid: BTreeSet::new(),
             not_certified: BTreeSet::new(),
             is_sent: false,
@@ -102,6 +105,7 @@ impl Facts {
             Code::Invalid => drop(self.invalid.insert(member)),
             Code::NotCertified => drop(self.not_certified.insert(member)),
             Code::Timeout if !self.timeouts.iter().any(|it| it.0 == member) => self.timeouts.push((member, seen.choice)),
+            Code::NotarizeWithheld if !self.withheld.iter().any(|it| it.0 == member) => self.withheld.push((member, seen.choice)),
             Code::NotarizationMade | Code::NotarizationAccepted => self.notarized = seen.choice,
             Code::NullificationMade | Code::NullificationAccepted => self.is_nullified = true,
             Code::FinalizationMade | Code::FinalizationAccepted | Code::Finalized => {

@@ -7,7 +7,7 @@ use crate::pack::{base64, pack};
 use crate::reasons::reason;
 use crate::summary::Summary;
 use serde_json::{Value, json};
-use simplex_trace::ReadError;
+use simplex_trace::{ReadError, Withheld};
 use std::fmt;
 use std::fs::File;
 use std::io::{self, Read};
@@ -143,5 +143,6 @@ fn data(run: &Run, facts: &[Facts], summary: &Summary) -> Result<String, serde_j
         "sets": tables.sets,
         "texts": tables.texts,
         "reasons": REASONS.map(|it| it.to_string()),
+        "withheld": Withheld::ALL.map(|it| it.to_string()),
     }))
 }

@@ -4,8 +4,8 @@ use crate::chain::parent;
 use crate::events::REASONS;
 use crate::facts::{Facts, Fate, LeaderState};
 use crate::merge::Run;
-use simplex_trace::TimeoutReason;
-use std::collections::BTreeSet;
+use simplex_trace::{TimeoutReason, Withheld};
+use std::collections::{BTreeMap, BTreeSet};
 
 /// Why a view was lost, in words; `None` where it was not.
 pub fn reason(run: &Run, facts: &[Facts], view: usize) -> Option<String> {
@@ -100,11 +100,10 @@ fn with_proposal(run: &Run, facts: &[Facts], view: usize) -> String {
         LeaderState::Up => String::new(),
     };
     if notarizers.len() < quorum {
-        let reasons = reasons(it);
         return format!(
-            "{} of {quorum} votes to notarize were cast{cut}: {} did not vote for it{reasons}",
+            "{} of {quorum} votes to notarize were cast{cut}: {}",
             notarizers.len(),
-            named(&silent)
+            silent_words(it, &silent)
         );
     }
     if let Some(covering) = covering(run, facts, view) {
@@ -116,6 +115,28 @@ fn with_proposal(run: &Run, facts: &[Facts], view: usize) -> String {
         "its votes to notarize did not arrive in time"
     };
     format!("{what}, and {} voted to nullify it{cut}{}", named(&it.nullifiers), reasons(it))
+}
+
+/// Why members did not vote to notarize: by their engines, else by why the view was given up.
+fn silent_words(it: &Facts, silent: &BTreeSet<u32>) -> String {
+    let mut of_reason: BTreeMap<u8, BTreeSet<u32>> = BTreeMap::new();
+    for (member, reason) in it.withheld.iter().filter(|it| silent.contains(&it.0)) {
+        of_reason.entry(*reason).or_default().insert(*member);
+    }
+    let known: BTreeSet<u32> = of_reason.values().flatten().copied().collect();
+    let unknown: BTreeSet<u32> = silent.difference(&known).copied().collect();
+    let group = |(reason, members): (&u8, &BTreeSet<u32>)| {
+        format!(
+            "{} did not vote for it, since {}",
+            named(members),
+            Withheld::ALL[usize::from(*reason)]
+        )
+    };
+    let mut parts: Vec<String> = of_reason.iter().map(group).collect();
+    if !unknown.is_empty() {
+        parts.push(format!("{} did not vote for it{}", named(&unknown), reasons(it)));
+    }
+    parts.join("; ")
 }
 
 /// The reasons of those that gave a view up, in brackets.

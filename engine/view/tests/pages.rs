@@ -116,6 +116,30 @@ fn lost_views_have_their_reasons() {
 }
 
 #[test]
+fn members_that_withheld_their_votes_say_why() {
+    let mut lines = Lines::new([0, 1, 2]);
+    lines.healthy(1, (0, "a1a1"));
+    lines.healthy(2, (1, "a2a2"));
+    lines.vote(&[1, 2], 3, "notarize", Some((2, "a3a3")));
+    lines.line(0, 3, r#""withheld","kind":"notarize","reason":"not_verified""#);
+    lines.line(0, 3, r#""withheld","kind":"finalize","reason":"not_notarized""#);
+    lines.line(3, 3, r#""withheld","kind":"notarize","reason":"not_verified""#);
+    lines.nullified(3, "certification_timeout");
+    lines.vote(&[0, 2], 5, "notarize", Some((2, "a5a5")));
+    lines.line(1, 5, r#""withheld","kind":"notarize","reason":"no_proposal""#);
+    lines.nullified(5, "certification_timeout");
+    lines.healthy(7, (2, "a7a7"));
+    let lost = lost(&data("withheld", &lines.text()));
+    let expected = [
+        "2 of 3 votes to notarize were cast: members 0, 3 did not vote for it, since the application has not found the proposal valid",
+        "2 of 3 votes to notarize were cast: member 1 did not vote for it, since no proposal was received; \
+            member 3 did not vote for it (certification timeout)",
+    ];
+    let reasons: Vec<&str> = lost.iter().filter(|it| [3, 5].contains(&it.0)).map(|it| &it.1[..]).collect();
+    assert_eq!(reasons, expected);
+}
+
+#[test]
 fn ancestors_of_a_finalized_view_are_final_and_what_follows_is_open() {
     let mut lines = Lines::new([0, 1, 2]);
     lines.vote(&[0, 1, 2], 1, "notarize", Some((0, "a1a1")));

@@ -108,6 +108,9 @@ func (it *lifetime) reply(word string, numbers []uint64) (string, error) {
 		views, err := it.engine.View(numbers[0])
 		return fmt.Sprintf("view %d %d %s %t %t", views.Current, views.LastFinalized, memberWord(views.Leader), views.AdmitsVote,
 			views.AdmitsCertificate), err
+	case "withheld":
+		withheld, err := it.engine.Withheld(simplex.Kind(numbers[0]), numbers[1])
+		return fmt.Sprintf("withheld %d", withheld), err
 	case "shown":
 		found, err := it.engine.Certificate(simplex.Kind(numbers[0]), numbers[1])
 		if found == nil {

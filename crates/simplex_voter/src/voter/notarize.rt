@@ -110,7 +110,7 @@ impl<S: CertificateScheme, L: Elector<S>, D: Digest> State<S, L, D> {
     ///
     /// It is the rule by which this member builds. A stricter one could lose a vote that is cast once; a looser one could vote
     /// for what stands on a view that its own application refused.
-    fn has_ancestry(&self, view: View) -> bool
+    pub(super) fn has_ancestry(&self, view: View) -> bool
         ensures { result ≡ has_ancestry D.eq L.elect self.now view }
     {
         if !self.in_issuance_window(view) {

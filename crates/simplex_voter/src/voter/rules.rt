@@ -127,7 +127,7 @@ impl<S: CertificateScheme, L: Elector<S>, D: Digest> State<S, L, D> {
     }
 
     /// Whether the view's held proposal, if there is one, has what it requires.
-    fn has_required_parent(&self, view: View) -> bool
+    pub(super) fn has_required_parent(&self, view: View) -> bool
         ensures { result ≡ has_required_parent L.elect self.now view }
     {
         match self.held_proposal(view) {
