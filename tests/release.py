@@ -32,6 +32,7 @@ WRONG_BODIES = (
     (SCRIPT, "if not counts:", "if counts == 0:"),
     (SCRIPT, "files = sorted(path for path in out.rglob(\"*\") if path.is_file())", "files = sorted(path for path in out.glob(\"*\") if path.is_file())"),
     (SCRIPT, 'COPIED = ("Makefile", "c",', 'COPIED = ("Makefile",'),
+    ("bindings/c/include/simplex.h", "/** What simplex_version returns", "/* What simplex_version returns"),
     ("bindings/packaging/debian/libsimplex4.install", "libsimplex.so.4", "libsimplex.so"),
     ("bindings/packaging/debian/rules", "LIBDIR=/usr/lib/$(DEB_HOST_MULTIARCH)", "LIBDIR=/usr/lib"),
 )
@@ -139,6 +140,19 @@ def host_faults(folder, room):
     yield from it.faults
 
 
+def reference_faults(folder, room):
+    """What the reference of the C functions lacks, where it can be made here."""
+    if not shutil.which("doxygen"):
+        print("release: not tried: the reference, since doxygen is missing (bindings/setup installs it)")
+        return
+    out = room / "reference"
+    done = subprocess.run(["make", "-s", "-C", folder, "reference", f"OUT={out}"], capture_output=True, text=True)
+    page = out / "reference/simplex_8h.html"
+    text = page.read_text() if page.is_file() else ""
+    if done.returncode or "What simplex_version returns for this header" not in text:
+        yield f"no reference: {done.stderr[-500:]}"
+
+
 def debian_faults(folder, room):
     """What is wrong with Debian's packages, where they can be built here."""
     missing = [tool for tool in ("dpkg-buildpackage", "dh", "pkg-config") if not shutil.which(tool)]
@@ -176,7 +190,7 @@ def faults(tree, archive, room):
     if not (folder / "SHA256SUMS").is_file():
         return found
     found += [*sum_faults(folder), *proof_faults(folder, archive), *refusal_faults(tree, archive, room)]
-    return found + [*host_faults(folder, room), *debian_faults(folder, room)]
+    return found + [*host_faults(folder, room), *reference_faults(folder, room), *debian_faults(folder, room)]
 
 
 def copied(folder):

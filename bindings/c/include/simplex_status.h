@@ -1,10 +1,12 @@
-/* What each status of simplex.h says, as text: for logs and for errors of other languages. */
+/**
+ * @file
+ * What each status of simplex.h says, as text: for logs and for errors of other languages. */
 #ifndef SIMPLEX_STATUS_H
 #define SIMPLEX_STATUS_H
 
 #include "simplex.h"
 
-/* Returns what a status says, as text that ends with a zero byte and is never freed; "an unknown status" where simplex_status has no such
+/** Returns what a status says, as text that ends with a zero byte and is never freed; "an unknown status" where simplex_status has no such
  * number. */
 static inline const char *simplex_status_text(uint32_t status) {
     switch (status) {
