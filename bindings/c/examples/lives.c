@@ -141,6 +141,7 @@ static void nulls(void) {
     IS(simplex_member_entries(0, 0).status == SIMPLEX_NO_HANDLE);
     IS(simplex_member_prune_record(0).status == SIMPLEX_NO_HANDLE);
     IS(simplex_member_view(0, 1).status == SIMPLEX_NO_HANDLE);
+    IS(simplex_member_withheld(0, SIMPLEX_NOTARIZE, 1).status == SIMPLEX_NO_HANDLE);
     IS(simplex_member_restart(0, &restart, LEADERS, 4, 0, 0) == SIMPLEX_NO_HANDLE);
     simplex_member_free(0);
     IS(simplex_resolver_told(0, &told, 0, 0).status == SIMPLEX_NO_HANDLE);
@@ -157,6 +158,7 @@ static void nulls(void) {
     IS(simplex_engine_status(0).status == SIMPLEX_NO_HANDLE);
     IS(simplex_engine_open(0, 0).status == SIMPLEX_NO_HANDLE);
     IS(simplex_engine_view(0, 1).status == SIMPLEX_NO_HANDLE);
+    IS(simplex_engine_withheld(0, SIMPLEX_NOTARIZE, 1).status == SIMPLEX_NO_HANDLE);
     IS(simplex_engine_certificate(0, SIMPLEX_NOTARIZATION, 1).status == SIMPLEX_NO_HANDLE);
     IS(simplex_engine_serve(0, 1).status == SIMPLEX_NO_HANDLE);
     simplex_engine_free(0);
@@ -248,7 +250,9 @@ static void engine(void) {
             IS(wanted.count == 57 && !memcmp(text, wanted.bytes, 57) && ++order == 1);
         }
     }
-    IS(order == 1);
+    IS(order == 1 && simplex_engine_withheld(at, SIMPLEX_NOTARIZE, 1).reason == SIMPLEX_WITHHELD_ALREADY_VOTED);
+    IS(simplex_engine_withheld(at, SIMPLEX_NULLIFY, 1).reason == SIMPLEX_NOT_WITHHELD);
+    IS(simplex_engine_withheld(at, 0, 1).status == SIMPLEX_NO_CALL && simplex_engine_withheld(at, 4, 1).status == SIMPLEX_NO_CALL);
     IS(told(at, (struct simplex_input){.kind = SIMPLEX_TELL_CERTIFICATE, .subject = {.kind = 2, .proposal = {.round = {1, 2}}}}, 2000).is_of_use);
     struct simplex_served served = simplex_engine_serve(at, 2);
     IS(served.has && served.bytes == 17 + 2000 && simplex_engine_bytes(at, SIMPLEX_SHOWN_OF_ENGINE, 1024).count == served.bytes - 1024);
