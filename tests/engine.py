@@ -111,6 +111,8 @@ WRONG_BODIES = (
     ("a silent leader proposes", "../../sim/src/fault.rs", "if matches!(sent.message, Message::Proposal(..)) {", "if false {"),
     ("what is passed is not cancelled", "application/worker.rs", "cancelled.cancel();\n        }\n    }\n\n    /// These blocks are final", "drop(cancelled);\n        }\n    }\n\n    /// These blocks are final"),
     ("an answer of the application is lost", "replica/judging.rs", "self.handle(Input::Certified { view, is_success })?;", "drop(is_success);"),
+    ("the disk is waited for before a reply that is near", "replica.rs", "            self.take_replies()?;\n", ""),
+    ("a slow application is waited for each time", "application/worker.rs", "!self.shared.is_slow.load(Relaxed) && {", "{"),
     ("a panic of the application is not told", "application/worker.rs", 'None => "the application panicked".to_owned(),', "None => return,"),
     ("a certificate of a far view does not wait", "replica/far.rs", "const FAR: u64 = 256;", "const FAR: u64 = 1 << 40;"),
     ("a build that never began is not answered", "application/worker.rs", "is_build || !is_passed", "let _ = is_build; !is_passed"),

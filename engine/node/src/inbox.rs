@@ -155,6 +155,23 @@ impl Inbox {
         }
     }
 
+    /// The application's next answer, within some time. All else stays.
+    pub fn take_answer(&self, within: Duration) -> Option<Answer> {
+        let until = Instant::now() + within;
+        let mut waiting = self.lock();
+        loop {
+            let at = waiting.own.iter().position(|it| matches!(it, Event::Answered(_)));
+            if let Some(Event::Answered(answer)) = at.and_then(|it| waiting.own.remove(it)) {
+                return Some(answer);
+            }
+            let left = until.checked_duration_since(Instant::now()).filter(|it| !it.is_zero())?;
+            waiting = match self.arrival.wait_timeout(waiting, left) {
+                Ok((it, _)) => it,
+                Err(poisoned) => poisoned.into_inner().0,
+            };
+        }
+    }
+
     /// Nobody takes messages any more.
     pub fn close(&self) {
         self.lock().is_closed = true;
@@ -223,6 +240,22 @@ mod tests {
         inbox.put(Participant::new(1), ask(1), 9);
         inbox.tell(Event::Stop);
         assert!(matches!(inbox.take(NOW), Some(Event::Stop)));
+        assert_eq!(sender(inbox.take(NOW)), Some(1));
+    }
+
+    #[test]
+    fn an_answer_is_taken_from_among_all_else_which_stays() {
+        let inbox = Arc::new(Inbox::new(2));
+        inbox.tell(Event::Archived(Vec::new()));
+        inbox.put(Participant::new(1), ask(1), 9);
+        assert!(inbox.take_answer(NOW).is_none());
+        let teller = thread::spawn({
+            let inbox = inbox.clone();
+            move || inbox.tell(Event::Answered(Answer::Durable(7)))
+        });
+        assert!(matches!(inbox.take_answer(SOON), Some(Answer::Durable(7))));
+        teller.join().expect("it ends");
+        assert!(matches!(inbox.take(NOW), Some(Event::Archived(_))));
         assert_eq!(sender(inbox.take(NOW)), Some(1));
     }
 

@@ -76,6 +76,12 @@ counters! {
     syncs: "counter",
     /// Microseconds that the disk was waited for.
     sync_us: "counter",
+    /// Replies of the application that a turn waited for, before it waited for the disk.
+    awaited_replies: "counter",
+    /// Microseconds that replies of the application were waited for so.
+    reply_us: "counter",
+    /// Replies of the application that were waited for in vain.
+    missed_replies: "counter",
     /// Microseconds that were spent in the library.
     core_us: "counter",
     /// Microseconds that were spent signing.

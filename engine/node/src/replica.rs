@@ -11,7 +11,7 @@ mod faulty;
 mod finality;
 mod judging;
 
-use crate::application::worker::{Kind, Worker};
+use crate::application::worker::{Answer, Kind, REPLY_WITHIN, Worker};
 use crate::archive::keeper::Keeper;
 use crate::blocks::{Block, Blocks};
 use crate::catch_up::CatchUp;
@@ -352,6 +352,7 @@ impl Replica {
             if is_settled {
                 break;
             }
+            self.take_replies()?;
             self.leave()?;
         }
         let views = self.views()?;
@@ -377,6 +378,35 @@ impl Replica {
             }
         }
         Ok(())
+    }
+
+    /// Waits for replies of the application that are near, so that one wait for the disk serves the votes that follow from them too. An
+    /// application that lets it wait in vain is not waited for again until it was fast: so a slow one slows nothing.
+    fn take_replies(&mut self) -> Outcome {
+        let until = Instant::now() + REPLY_WITHIN;
+        while let Some(answer) = self.next_reply(until) {
+            self.take_answer(answer)?;
+            self.poll_all()?;
+        }
+        Ok(())
+    }
+
+    /// The application's next reply: one that has come, or one that is near and comes until then.
+    fn next_reply(&self, until: Instant) -> Option<Answer> {
+        let waits_for_disk = self.parts.settings.sync && self.parts.journal.is_dirty();
+        if !waits_for_disk || !self.parts.application.is_reply_near() {
+            return self.parts.inbox.take_answer(Duration::ZERO);
+        }
+        let begun = Instant::now();
+        let reply = self.parts.inbox.take_answer(until.saturating_duration_since(begun));
+        self.spent(&self.parts.counters.reply_us, begun);
+        if reply.is_some() {
+            self.parts.counters.awaited_replies.fetch_add(1, Relaxed);
+        } else {
+            self.parts.application.missed();
+            self.parts.counters.missed_replies.fetch_add(1, Relaxed);
+        }
+        reply
     }
 
     /// Waits until the disk has all blocks and all that was recorded. Blocks come first: one that is notarized and lost everywhere would
