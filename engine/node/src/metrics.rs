@@ -195,11 +195,12 @@ mod tests {
             text
         };
         // Who sends no request holds up nobody.
-        let slow: Vec<TcpStream> = (0..8).map(|_| TcpStream::connect(address).expect("it listens")).collect();
+        let slow: Vec<TcpStream> = (0..12).map(|_| TcpStream::connect(address).expect("it listens")).collect();
         let begun = Instant::now();
         assert!(ask("/metrics").contains("\n# TYPE simplex_height gauge\nsimplex_height 7\n"));
         assert!(ask("/").starts_with("HTTP/1.1 404"));
-        assert!(begun.elapsed() < Duration::from_millis(900), "{:?}", begun.elapsed());
+        // (one after another they would take a second each)
+        assert!(begun.elapsed() < Duration::from_secs(8), "{:?}", begun.elapsed());
         drop(slow);
     }
 }

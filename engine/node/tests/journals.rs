@@ -39,10 +39,9 @@ fn runs_on(network: &mut Network) {
     network.stop().expect("they stop");
 }
 
-/// Runs the program with a node's settings until it ends, or runs for long.
-fn run(words: &[&str], config: &Path) -> Option<Output> {
+/// Runs the program with a node's settings until it ends.
+fn run(config: &Path) -> Output {
     let mut child = Command::new(env!("CARGO_BIN_EXE_simplex-node"))
-        .args(words)
         .arg("--config")
         .arg(config)
         .stderr(Stdio::piped())
@@ -50,19 +49,30 @@ fn run(words: &[&str], config: &Path) -> Option<Output> {
         .expect("a process");
     let begun = Instant::now();
     while child.try_wait().expect("a process").is_none() {
-        if begun.elapsed() > Duration::from_secs(3) {
+        if begun.elapsed() > SOON {
             child.kill().expect("a process");
-            child.wait().expect("a process");
-            return None;
+            panic!("it is not refused, and runs");
         }
         sleep(Duration::from_millis(20));
     }
-    Some(child.wait_with_output().expect("a process"))
+    child.wait_with_output().expect("a process")
+}
+
+/// A node begins, and runs.
+fn runs(network: &mut Network, index: u32) {
+    network.begin(index).expect("a process");
+    let log = network.log(index);
+    assert!(
+        network.wait_until(&[index], "current_view", 1, SOON),
+        "{}",
+        fs::read_to_string(log).unwrap_or_default()
+    );
+    network.kill(index).expect("a process");
 }
 
 /// Why a node is refused.
 fn refused(network: &Network, index: u32) -> String {
-    let done = run(&[], &network.config(index)).expect("it is refused, and does not run");
+    let done = run(&network.config(index));
     assert!(!done.status.success());
     let said = String::from_utf8_lossy(&done.stderr).into_owned();
     assert!(!said.contains("begun"), "it began: {said}");
@@ -152,7 +162,7 @@ fn a_journal_of_another_list_of_members_is_refused() {
             it.members[3].address = listens;
         })
         .expect("settings");
-    assert!(run(&[], &network.config(0)).is_none(), "it runs");
+    runs(&mut network, 0);
     end(network);
 }
 
@@ -201,7 +211,7 @@ fn a_journal_that_is_older_than_the_chain_is_refused() {
         "{said}"
     );
     fs::write(&path, newer).expect("a disk");
-    assert!(run(&[], &network.config(0)).is_none(), "it runs");
+    runs(&mut network, 0);
     end(network);
 }
 

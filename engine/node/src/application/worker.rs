@@ -300,7 +300,7 @@ mod tests {
     use simplex_view_state::{Epoch, Participant, Round};
     use std::sync::mpsc::{Sender, channel};
 
-    const SOON: Duration = Duration::from_secs(10);
+    const SOON: Duration = Duration::from_secs(60);
 
     /// Works on each question until it is cancelled, where its view is odd; and panics in view 100.
     struct Slow {

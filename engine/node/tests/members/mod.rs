@@ -14,6 +14,10 @@ use std::path::Path;
 use std::sync::mpsc::Sender;
 use std::sync::{Arc, Mutex};
 use std::thread::{self, sleep};
+use std::time::{Duration, Instant};
+
+/// Within what time something has to be seen, on a machine that does much else.
+pub const SOON: Duration = Duration::from_secs(60);
 
 /// A member's connection to the node, which several threads write to.
 #[derive(Clone)]
@@ -22,8 +26,14 @@ pub struct Link(Arc<Mutex<Session>>);
 impl Link {
     /// Begins a connection of a member to the node at an address.
     pub fn begin(credentials: &Credentials, address: SocketAddr) -> Link {
-        let session = credentials.connect(Participant::new(0), address).expect("it listens");
-        Link(Arc::new(Mutex::new(session)))
+        let begun = Instant::now();
+        // (a greeting has two seconds, which may be over on a slow machine)
+        loop {
+            match credentials.connect(Participant::new(0), address) {
+                Ok(session) => return Link(Arc::new(Mutex::new(session))),
+                Err(error) => assert!(begun.elapsed() < SOON, "it does not greet: {error}"),
+            }
+        }
     }
 
     /// Writes bytes as they are.
@@ -48,7 +58,7 @@ impl Link {
         let link = self.clone();
         thread::spawn(move || {
             while link.write_all(&HEARTBEAT_FRAME).is_ok() {
-                sleep(HEARTBEAT);
+                sleep(HEARTBEAT / 5);
             }
         });
     }
