@@ -24,7 +24,7 @@ from lib.program import ROOT
 
 ENGINE = ROOT / "engine"
 SKIPPED = 77
-LEAST_TESTS = 192
+LEAST_TESTS = 204
 # The words of the network that `./demo` runs.
 NETWORK = re.compile(r"words=\((--.*)\)")
 
@@ -56,17 +56,21 @@ WRONG_BODIES = (
      "let is_nowhere = others > 0 && pruned > others;"),
     ("an application that lost blocks is not given them again", "start.rs", "    replay(&mut archive, &mut application)?;\n", ""),
     ("a certificate of too few votes is taken", "crypto.rs", "signed.len() == self.quorum()", "signed.len() + 1 >= self.quorum()"),
-    ("a damaged journal is taken for a cut one", "journal.rs", "Some(_) => Err(JournalError::Damaged(at)),", "Some(_) => Ok(None),"),
+    ("a damaged journal is taken for a torn one", "../../journal/src/format.rs", "if at == HEAD || was_synced(bytes, at) || !is_torn(bytes, at) {", "if at == HEAD {"),
+    ("zeros behind the last entries are damage", "../../journal/src/format.rs", "|| !is_torn(bytes, at) {", "|| bytes.len() - at >= BEFORE {"),
+    ("what was synced and is lacking is taken for torn", "../../journal/src/format.rs", "|| was_synced(bytes, at) ||", "||"),
+    ("entries do not say what was synced before them", "../../journal/src/journal.rs", "format::piece(entries, it.synced)?", "format::piece(entries, 0)?"),
+    ("a journal that failed goes on", "../../journal/src/journal.rs", "        if self.has_failed {\n            return Err", "        if false {\n            return Err"),
     ("a node that can't store goes on", "replica.rs", "Output::Store(entries) => self.parts.journal.append(&entries)?,",
      "Output::Store(entries) => drop(self.parts.journal.append(&entries)),"),
-    ("a record is made short and the journal kept", "replica.rs", "self.parts.journal.compact(&entries)?;", "drop(entries);"),
-    ("two processes have one key", "start.rs", 'Err(TryLockError::WouldBlock) => Err(format!("another process has {}", folder.display()).into()),',
+    ("a record is made short and the journal kept", "replica.rs", "self.parts.journal.replace(&entries)?;", "drop(entries);"),
+    ("two processes have one key", "../../journal/src/journal.rs", "Err(TryLockError::WouldBlock) => Err(JournalError::new(folder, Cause::InUse)),",
      "Err(TryLockError::WouldBlock) => Ok(file),"),
     ("a leader that proposes early and often takes all room", "replica.rs", "if is_near && (is_first || self.parts.engine.admits_vote(view)) {", "if is_near {"),
     ("all blocks of a leader are kept", "replica.rs", "if is_near && is_first || self.waiting", "if is_near || self.waiting"),
     ("a peer that floods holds up the others", "inbox.rs", "self.turn = (index + 1) % count;", "self.turn = 0;"),
     ("a node that lost its journal begins anew", "start.rs", "(None, Some(left)) => Err(format!(", "(None, Some(left)) if false => Err(format!("),
-    ("a journal of another key is taken", "journal.rs", "Some(difference) => Err(JournalError::Other(difference)),", "Some(_) => Ok(Some(kept)),"),
+    ("a journal of another key is taken", "../../journal/src/journal.rs", "Some(difference) => Err(refused(Cause::Other(difference))),", "Some(_) => Ok(Some(recovered)),"),
     ("a journal that is older than the chain is taken", "start.rs", "if last <= finalized.get() {", "if true {"),
     ("a block is final before its finalization is stored", "replica.rs", "matches!(output, Output::Finalized(_)) || is_behind", "is_behind"),
     ("a run removes what it did not write", "run_folder.rs", "if !is_empty && !is_marked {", "if false {"),
@@ -77,9 +81,9 @@ WRONG_BODIES = (
     ("a vote for another proposal is dropped where the view is certified", "peers/reader.rs",
      "locked(&self.known).certificates.get(&key) == Some(subject)", "locked(&self.known).certificates.contains_key(&key)"),
     ("votes in a notarization are not compared", "replica/far.rs", "let found = self.leader_votes.see_certificate(&it);", "let found = Default::default();"),
-    ("what is signed in one network counts in another", "network_name.rs", "[SIGNED, &self.prefixed(), text].concat()", "[SIGNED, text].concat()"),
-    ("a journal of another network is taken", "identity.rs", "if self.network != node.network {", "if false {"),
-    ("genesis is the same in all networks", "identity.rs", "text.extend_from_slice(&self.network.prefixed());", ""),
+    ("what is signed in one network counts in another", "../../identity/src/network_name.rs", "[SIGNED, &self.prefixed(), text].concat()", "[SIGNED, text].concat()"),
+    ("a journal of another network is taken", "../../identity/src/identity.rs", "if self.network != member.network {", "if false {"),
+    ("genesis is the same in all networks", "../../identity/src/identity.rs", "text.extend_from_slice(&self.network.prefixed());", ""),
     ("who answers at a member's address is taken for it", "peers/tls.rs",
      "chain.error_depth() == 0 && key.is_some_and(|it| is_allowed(&keys, &it))", "chain.error_depth() == 0 || key.is_some_and(|it| is_allowed(&keys, &it))"),
     ("a greeting's time begins anew with each read", "peers/tls.rs",

@@ -1,14 +1,16 @@
 //! Keys, signatures and certificates: ed25519 and SHA-256 of OpenSSL.
 
-use crate::network_name::NetworkName;
 use crate::settings::{Outcome, Settings};
 use openssl::pkey::{Id, PKey, PKeyRef, Private, Public};
 use openssl::sign::{Signer, Verifier};
+use simplex_identity::NetworkName;
 use simplex_view_state::{Certificate, Digest, Participant, Vote};
 use std::fs;
 use std::io::Write;
 use std::os::unix::fs::{OpenOptionsExt, PermissionsExt};
 use std::path::Path;
+
+pub use simplex_identity::hex;
 
 /// How long a signature is.
 pub const SIGNATURE: usize = 64;
@@ -136,11 +138,6 @@ fn is_of_small_order(key: &[u8; 32]) -> bool {
     let is_small = y[0] <= 1 && y[1..].iter().all(|byte| *byte == 0);
     let is_near_the_prime = (0xec..=0xee).contains(&y[0]) && y[1..31].iter().all(|byte| *byte == 0xff) && y[31] == 0x7f;
     is_small || is_near_the_prime || OF_ORDER_EIGHT.contains(&hex(&y).as_str())
-}
-
-/// Bytes in hexadecimal digits.
-pub fn hex(bytes: &[u8]) -> String {
-    bytes.iter().map(|byte| format!("{byte:02x}")).collect()
 }
 
 /// Makes a key, writes the secret one to a new file that only its owner reads, and answers the public one.

@@ -1,12 +1,12 @@
 //! A network of nodes on this machine, each a process: how it is made, watched, disturbed and looked at afterwards.
 
+use crate::crypto;
 use crate::faults::{Fault, Trial};
 use crate::ledger::{self, Link};
-use crate::network_name::NetworkName;
 use crate::run_folder::RunFolder;
 use crate::settings::{Archived, Outcome, Peer, Protocol, Settings};
 use crate::trace::{self, Line};
-use crate::{crypto, journal};
+use simplex_identity::NetworkName;
 use std::fs::{self, File, OpenOptions};
 use std::io::{Read, Write};
 use std::net::{Ipv4Addr, SocketAddr, TcpListener, TcpStream};
@@ -167,11 +167,11 @@ impl Network {
 
     /// Leaves a beginning of a piece at the end of a node's journal, as a crash in the midst of writing does. The node must not run.
     pub fn tear(&self, index: u32, bytes: usize) -> Outcome {
-        let path = journal::path(&self.data(index));
+        let path = simplex_journal::path(&self.data(index));
         let stored = fs::read(&path)?;
         let last = stored.len().saturating_sub(bytes.max(1));
         // The first piece is whole: a beginning of it after the end is a piece that was cut off.
-        let first = stored.get(journal::HEAD..last).unwrap_or_default();
+        let first = stored.get(simplex_journal::HEAD..last).unwrap_or_default();
         let begun = &first[..bytes.min(first.len()).min(40)];
         let mut file = OpenOptions::new().append(true).open(path)?;
         Ok(file.write_all(begun)?)

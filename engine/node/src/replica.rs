@@ -21,7 +21,6 @@ use crate::crypto::Keys;
 use crate::events::Events;
 use crate::faults::Fault;
 use crate::inbox::{Event, Inbox};
-use crate::journal::Journal;
 use crate::leader_votes::LeaderVotes;
 use crate::message::Message;
 use crate::metrics::{Counters, resident_kb};
@@ -32,11 +31,11 @@ use crate::trace::Trace;
 use crate::waiting::Waiting;
 use far::Far;
 use finality::Lag;
+use simplex_journal::Journal;
 use simplex_view_state::{
     CertificateKind, Context, Digest, Engine, EngineError, Input, Output, Participant, Proposal, Subject, TimeoutReason, View, Views, Vote,
 };
 use std::collections::{BTreeMap, BTreeSet};
-use std::fs::File;
 use std::sync::Arc;
 use std::sync::atomic::{AtomicU64, Ordering::Relaxed};
 use std::time::{Duration, Instant};
@@ -81,8 +80,6 @@ pub struct Parts {
     pub application: Worker,
     /// The clock of this life.
     pub clock: Clock,
-    /// That no other process has the folder.
-    pub lock: File,
 }
 
 /// An engine with all that it needs.
@@ -435,7 +432,7 @@ impl Replica {
         match output {
             Output::Store(entries) => self.parts.journal.append(&entries)?,
             Output::Replace(entries) => {
-                self.parts.journal.compact(&entries)?;
+                self.parts.journal.replace(&entries)?;
                 self.parts.counters.compactions.fetch_add(1, Relaxed);
             }
             Output::Vote(order) => self.cast(&order)?,

@@ -9,16 +9,15 @@ use crate::chain::Tail;
 use crate::clock::Clock;
 use crate::crypto::Keys;
 use crate::floor;
-use crate::identity::Identity;
 use crate::inbox::Inbox;
-use crate::journal::{self, Journal, Kept};
 use crate::ledger::{self, Ledger};
 use crate::metrics::{self, Counters};
 use crate::peers::{Horizon, Peers};
 use crate::replica::{Parts, Replica};
 use crate::settings::{Outcome, Settings};
+use simplex_identity::Identity;
+use simplex_journal::{Journal, NEW_KEY, Recovered};
 use simplex_view_state::{Config, Digest, Engine, EngineError, Floor, Moment, Options, Output, View, Views};
-use std::fs::{self, File, TryLockError};
 use std::path::Path;
 use std::sync::Arc;
 use std::time::Duration;
@@ -26,20 +25,19 @@ use tracing::info;
 
 /// A node that is ready to run, and where it is told of events.
 pub fn open(settings: Settings) -> Outcome<(Replica, Arc<Inbox>)> {
-    fs::create_dir_all(&settings.data)?;
-    let lock = lock(&settings.data)?;
+    let identity = settings.identity()?;
+    let (mut journal, recovered) = Journal::open(&settings.data, &identity, settings.sync)?;
+    test_journal(&settings.data, recovered.as_ref())?;
     let keys = Arc::new(Keys::read(&settings)?);
     let floor = floor::read(&settings, &keys)?;
-    let identity = Identity::of(&settings)?;
-    let kept = read_journal(&settings.data, &identity)?;
-    let mut engine = engine(&settings.config(floor.clone()), kept.as_ref())?;
+    let mut engine = engine(&settings.config(floor.clone()), recovered.as_ref())?;
     let views = engine.views().ok_or(EngineError::Failed)?;
     test_chain(&settings.data, views.last_finalized)?;
     let (archive, application) = open_archive(&settings, &identity, &floor)?;
     test_archive(&settings.data, archive.tail(), views.last_finalized)?;
     let tail = archive.tail();
     let clock = Clock::start();
-    let journal = begin_journal(&mut engine, &settings, &identity, clock.now())?;
+    begin_journal(&mut engine, &mut journal, clock.now())?;
     let counters = Arc::new(Counters::default());
     if let Some(address) = settings.metrics {
         metrics::serve(address, counters.clone()).map_err(|error| format!("metrics at {address}: {error}"))?;
@@ -50,7 +48,7 @@ pub fn open(settings: Settings) -> Outcome<(Replica, Arc<Inbox>)> {
     let peers = Arc::new(Peers::start(&settings, &keys, &horizon, &counters, &inbox)?);
     let keeper = Keeper::begin(archive, peers.clone(), inbox.clone(), counters.clone())?;
     let application = Worker::begin(application, inbox.clone(), counters.clone())?;
-    tell(kept.as_ref(), &views);
+    tell(recovered.as_ref(), &views);
     let replica = Replica::new(Parts {
         blocks: Blocks::open(&settings.data, *identity.genesis().bytes(), settings.sync)?,
         keeper,
@@ -65,27 +63,23 @@ pub fn open(settings: Settings) -> Outcome<(Replica, Arc<Inbox>)> {
         journal,
         application,
         clock,
-        lock,
     })?;
     Ok((replica, inbox))
 }
 
-/// What the journal held; `None` of a node that never began. Where files of the node are here and the journal is not, it is lost: without
-/// it the node would vote a second time.
-fn read_journal(folder: &Path, identity: &Identity) -> Outcome<Option<Kept>> {
-    let path = journal::path(folder);
-    let kept = journal::read(folder, identity).map_err(|error| format!("{}: {error}", path.display()))?;
+/// Refuses to begin anew where files of the node are here and the journal is not: it is lost, and without it the node would vote a second
+/// time.
+fn test_journal(folder: &Path, recovered: Option<&Recovered>) -> Outcome {
     let places = [ledger::path(folder), blocks::path(folder), archive::path(folder)];
     let left = places.into_iter().find(|it| it.exists());
-    match (kept, left) {
+    match (recovered, left) {
         (None, Some(left)) => Err(format!(
-            "{} is here, and the journal {} is not: this node may have voted, and could contradict its votes. Put the journal back. {}",
+            "{} is here, and the journal {} is not: this node may have voted, and could contradict its votes. Put the journal back. {NEW_KEY}",
             left.display(),
-            path.display(),
-            journal::NEW_KEY
+            simplex_journal::path(folder).display(),
         )
         .into()),
-        (kept, _) => Ok(kept),
+        _ => Ok(()),
     }
 }
 
@@ -99,9 +93,9 @@ fn test_chain(folder: &Path, finalized: View) -> Outcome {
     Err(format!(
         "the journal {} is older than {}: its last finalized view is {finalized}, and the chain's is {last}. Votes are lost: put the newest \
          journal back. {}",
-        journal::path(folder).display(),
+        simplex_journal::path(folder).display(),
         ledger::path(folder).display(),
-        journal::NEW_KEY
+        NEW_KEY
     )
     .into())
 }
@@ -114,10 +108,10 @@ fn test_archive(folder: &Path, last: Tail, finalized: View) -> Outcome {
     Err(format!(
         "the journal {} is older than {}: its last finalized view is {finalized}, and the archive's is {}. Votes are lost: put the newest \
          journal back. {}",
-        journal::path(folder).display(),
+        simplex_journal::path(folder).display(),
         archive::path(folder).display(),
         last.view,
-        journal::NEW_KEY
+        NEW_KEY
     )
     .into())
 }
@@ -168,36 +162,26 @@ fn replay(archive: &mut Archive, application: &mut Ledger) -> Outcome {
     Ok(())
 }
 
-fn tell(kept: Option<&Kept>, views: &Views) {
-    let (cut, entries) = kept.map_or((0, 0), |it| (it.cut, it.stored.entries.get()));
+fn tell(recovered: Option<&Recovered>, views: &Views) {
+    let (cut, entries) = recovered.map_or((0, 0), |it| (it.cut, it.stored.entries.get()));
     let (current, finalized) = (views.current.get(), views.last_finalized.get());
     info!(cut, entries, current, finalized, "begun");
 }
 
 /// The engine of a member that begins, or goes on from what its journal held.
-fn engine(config: &Config, kept: Option<&Kept>) -> Outcome<Engine> {
+fn engine(config: &Config, recovered: Option<&Recovered>) -> Outcome<Engine> {
     let (options, begun) = (Options::default(), Moment::from_millis(0));
-    match kept {
-        Some(kept) => Ok(Engine::resume(config, &options, begun, &kept.stored, &kept.frames)?),
+    match recovered {
+        Some(it) => Ok(Engine::resume(config, &options, begun, &it.stored, &it.frames)?),
         None => Ok(Engine::start(config, &options, begun)?),
     }
 }
 
-/// The journal of a life, from the engine's first output on: the whole record, in place of all that was stored.
-fn begin_journal(engine: &mut Engine, settings: &Settings, identity: &Identity, now: Moment) -> Outcome<Journal> {
+/// Begins the journal of a life, from the engine's first output on: the whole record, in place of all that was stored.
+fn begin_journal(engine: &mut Engine, journal: &mut Journal, now: Moment) -> Outcome {
     match engine.poll(now)? {
-        Some(Output::Replace(entries)) => Ok(Journal::create(&settings.data, identity, &entries, settings.sync)?),
+        Some(Output::Replace(entries)) => Ok(journal.replace(&entries)?),
         other => Err(format!("the engine begins with {other:?} in place of its record").into()),
-    }
-}
-
-/// Takes a folder for this process alone: two that vote with one key could contradict each other.
-fn lock(folder: &Path) -> Outcome<File> {
-    let file = File::create(folder.join("lock"))?;
-    match file.try_lock() {
-        Ok(()) => Ok(file),
-        Err(TryLockError::WouldBlock) => Err(format!("another process has {}", folder.display()).into()),
-        Err(TryLockError::Error(error)) => Err(error.into()),
     }
 }
 

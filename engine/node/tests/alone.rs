@@ -5,7 +5,6 @@ mod members;
 use members::{Link, SOON, chain, hear, played, settings_of, stored_blocks};
 use simplex_node::blocks::Block;
 use simplex_node::crypto::{Keys, hex};
-use simplex_node::identity::Identity;
 use simplex_node::message::{Message, Range};
 use simplex_node::network::{Network, Plan, folder_of};
 use simplex_node::peers::Credentials;
@@ -70,7 +69,7 @@ impl Others {
             links,
             keys,
             heard,
-            genesis: Identity::of(&settings[0]).expect("keys").genesis(),
+            genesis: settings[0].identity().expect("keys").genesis(),
         }
     }
 

@@ -6,12 +6,11 @@
 use simplex_node::audit::{contradictions, disagreements};
 use simplex_node::crypto::raw_key;
 use simplex_node::faults::Fault;
-use simplex_node::identity::Identity;
 use simplex_node::ledger::Link;
 use simplex_node::network::{Network, Plan, folder_of};
 use simplex_node::settings::{Protocol, Settings};
+use simplex_node::trace;
 use simplex_node::trace::Line;
-use simplex_node::{journal, trace};
 use simplex_view_state::{Digest, Epoch, Proposal, Round, Subject, View};
 use std::fs;
 use std::path::Path;
@@ -279,8 +278,10 @@ fn fewer_than_a_quorum() {
 /// Whether a node's journal has a vote of its own: the record holds the text that was signed.
 fn has_stored(network: &Network, vote: &Line) -> bool {
     let settings = Settings::read(&network.config(vote.signer)).expect("settings");
-    let identity = Identity::of(&settings).expect("keys");
-    let kept = journal::read(&settings.data, &identity).expect("a journal").expect("it began");
+    let identity = settings.identity().expect("keys");
+    let kept = simplex_journal::read(&settings.data, &identity)
+        .expect("a journal")
+        .expect("it began");
     let text = subject_of(vote, settings.protocol.epoch).encode();
     kept.frames.windows(text.len()).any(|it| it == text)
 }
@@ -357,7 +358,7 @@ fn a_node_that_joins_late_from_a_floor() {
 fn a_journal_that_is_damaged_is_refused() {
     let mut network = begun(plan("damaged", 4));
     network.kill(2).expect("a process");
-    let path = journal::path(&network.data(2));
+    let path = simplex_journal::path(&network.data(2));
     let mut bytes = fs::read(&path).expect("a journal");
     let middle = bytes.len() / 2;
     bytes[middle] ^= 1;

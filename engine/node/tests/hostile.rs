@@ -5,7 +5,6 @@ mod members;
 use members::{Link, SOON, chain, played, settings_of, stored_blocks};
 use simplex_node::blocks::Block;
 use simplex_node::crypto::Keys;
-use simplex_node::identity::Identity;
 use simplex_node::message::{Message, Range};
 use simplex_node::network::{Network, Plan, folder_of};
 use simplex_node::peers::{Credentials, HEARTBEAT_FRAME, SILENCE};
@@ -54,7 +53,7 @@ impl Attacked {
         let addresses = settings[0].members.iter().map(|it| it.address).collect();
         network.begin(0).expect("a process");
         assert!(network.wait_until(&[0], "current_view", 1, SOON), "it does not begin");
-        let genesis = Identity::of(&settings[0]).expect("keys").genesis();
+        let genesis = settings[0].identity().expect("keys").genesis();
         Attacked {
             network,
             settings,

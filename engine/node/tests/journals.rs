@@ -1,6 +1,6 @@
 //! Journals that a node must not begin with: lost ones, those of others, and those that are older than its chain.
 
-use simplex_node::journal;
+use simplex_journal::{self as journal, HEAD};
 use simplex_node::network::{Network, Plan, folder_of};
 use simplex_node::settings::Protocol;
 use std::fs;
@@ -11,9 +11,6 @@ use std::time::{Duration, Instant};
 
 /// Within what time something has to be seen, on a machine that does much else.
 const SOON: Duration = Duration::from_secs(60);
-/// Where the pieces of a journal begin: after eight letters, a version, an identity and a digest.
-const HEAD: usize = 9 + simplex_node::identity::SIZE + 32;
-
 /// A network of so many nodes that has finalized some views, and has stopped.
 fn stopped(name: &str, nodes: u32) -> Network {
     let plan = Plan {
@@ -114,7 +111,7 @@ fn a_journal_of_another_key_is_refused() {
     network.set(0, |it| it.members[0].key = key.clone()).expect("settings");
     let said = refused(&network, 0);
     assert!(
-        said.contains("journal") && said.contains("the journal of the key") && said.contains(&key),
+        said.contains("journal") && said.contains("it is of the key") && said.contains(&key),
         "{said}"
     );
     assert_eq!(
@@ -141,7 +138,7 @@ fn a_journal_of_another_term_length_is_refused() {
         .set(0, |it| it.protocol.term_length = 3.try_into().expect("not 0"))
         .expect("settings");
     let said = refused(&network, 0);
-    assert!(said.contains("terms of 1") && said.contains("`term_length` is 3"), "{said}");
+    assert!(said.contains("terms of 1") && said.contains("the term length is 3"), "{said}");
     end(network);
 }
 
@@ -173,7 +170,7 @@ fn a_journal_of_another_network_is_refused() {
     network.set(0, |it| it.network = other).expect("settings");
     let said = refused(&network, 0);
     assert!(
-        said.contains("of the network local") && said.contains("`network` is other"),
+        said.contains("of the network local") && said.contains("of the network other"),
         "{said}"
     );
     end(network);
