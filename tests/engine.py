@@ -24,7 +24,7 @@ from lib.program import ROOT
 
 ENGINE = ROOT / "engine"
 SKIPPED = 77
-LEAST_TESTS = 204
+LEAST_TESTS = 208
 # The words of the network that `./demo` runs.
 NETWORK = re.compile(r"words=\((--.*)\)")
 
@@ -49,6 +49,11 @@ WRONG_BODIES = (
     ("peers are served all that they ask for", "peers.rs", "let is_left = locked(&peer.served).take(frame.len() as f64, Instant::now());",
      "let is_left = !frame.is_empty();"),
     ("a range of blocks is not compared with its certificate", "peers/reader.rs", "(it.is_linked() || self.is_good(false))", "!it.blocks.is_empty()"),
+    ("a message has several texts", "../../wire/src/read.rs", "rest.is_empty().then_some((first, second))", "Some((first, second))"),
+    ("a signature has any length", "../../wire/src/read.rs", ".filter(|_| length <= LONGEST_SIGNATURE)?", "?"),
+    ("a frame has any length", "../../wire/src/frame.rs", "if length > LONGEST {", "if length == usize::MAX {"),
+    ("blocks of a range are not hashed", "../../wire/src/message.rs", "self.blocks.iter().all(|it| digest(it.bytes()) == it.payload())",
+     "!self.blocks.is_empty()"),
     ("a stored block's checksum is not tested", "segments.rs", "if sum_of(lengths, body) != sum {", "if lengths == u32::MAX {"),
     ("blocks are pruned that the application has not stored", "archive.rs", "&& second <= durable + 1", "&& second < durable + u64::from(u32::MAX)"),
     ("all lacking blocks are asked of one member", "catch_up.rs", "self.next = self.following(of);", ""),
@@ -60,7 +65,7 @@ WRONG_BODIES = (
     ("zeros behind the last entries are damage", "../../journal/src/format.rs", "|| !is_torn(bytes, at) {", "|| bytes.len() - at >= BEFORE {"),
     ("what was synced and is lacking is taken for torn", "../../journal/src/format.rs", "|| was_synced(bytes, at) ||", "||"),
     ("entries do not say what was synced before them", "../../journal/src/journal.rs", "format::piece(entries, it.synced)?", "format::piece(entries, 0)?"),
-    ("a journal that failed goes on", "../../journal/src/journal.rs", "        if self.has_failed {\n            return Err", "        if false {\n            return Err"),
+    ("a journal that failed is written to", "../../journal/src/journal.rs", "        if self.has_failed {\n            return Err", "        if false {\n            return Err"),
     ("a node that can't store goes on", "replica.rs", "Output::Store(entries) => self.parts.journal.append(&entries)?,",
      "Output::Store(entries) => drop(self.parts.journal.append(&entries)),"),
     ("a record is made short and the journal kept", "replica.rs", "self.parts.journal.replace(&entries)?;", "drop(entries);"),

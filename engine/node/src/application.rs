@@ -4,8 +4,8 @@
 
 pub mod worker;
 
-use crate::blocks::Block;
 use simplex_view_state::{Context, Digest, View};
+use simplex_wire::Block;
 use std::io;
 use std::sync::Arc;
 use std::sync::atomic::{AtomicBool, Ordering::Relaxed};

@@ -3,8 +3,9 @@
 //! A finalization names one block. Those below it are found by the links to their parents, in what this node has; where one is lacking there
 //! is a hole, which is filled by blocks that peers send.
 
-use crate::blocks::{Block, Blocks};
+use crate::blocks::Blocks;
 use simplex_view_state::{Certificate, Digest, Proposal, View};
+use simplex_wire::Block;
 use std::collections::{BTreeMap, HashMap};
 
 /// The last block of a chain.

@@ -4,7 +4,7 @@ use crate::settings::{Outcome, Settings};
 use openssl::pkey::{Id, PKey, PKeyRef, Private, Public};
 use openssl::sign::{Signer, Verifier};
 use simplex_identity::NetworkName;
-use simplex_view_state::{Certificate, Digest, Participant, Vote};
+use simplex_view_state::{Certificate, Participant, Vote};
 use std::fs;
 use std::io::Write;
 use std::os::unix::fs::{OpenOptionsExt, PermissionsExt};
@@ -16,11 +16,6 @@ pub use simplex_identity::hex;
 pub const SIGNATURE: usize = 64;
 /// A signature.
 pub type Signature = [u8; SIGNATURE];
-
-/// The SHA-256 digest of bytes.
-pub fn digest(bytes: &[u8]) -> Digest {
-    Digest::new(openssl::sha::sha256(bytes))
-}
 
 /// The keys of all members, with the secret one of this node. All that is signed begins with the network's name.
 pub struct Keys {
@@ -157,7 +152,7 @@ pub fn make_key(path: &Path) -> Outcome<String> {
 #[cfg(test)]
 mod tests {
     use super::*;
-    use simplex_view_state::{Config, Engine, Epoch, Input, Moment, Options, Output, Round, Subject, View};
+    use simplex_view_state::{Config, Digest, Engine, Epoch, Input, Moment, Options, Output, Round, Subject, View};
 
     /// The keys of each of so many members.
     fn members(count: u32) -> Vec<Keys> {

@@ -5,8 +5,8 @@
 
 use crate::application::worker::Answer;
 use crate::chain::Entry;
-use crate::message::Message;
 use simplex_view_state::Participant;
+use simplex_wire::Message;
 use std::collections::VecDeque;
 use std::sync::{Condvar, Mutex, MutexGuard};
 use std::time::{Duration, Instant};

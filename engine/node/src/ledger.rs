@@ -1,9 +1,8 @@
 //! A sample application: a ledger of blocks that hold some numbers, and a file with a line for each block of the finalized chain.
 
 use crate::application::{Application, Cancelled};
-use crate::blocks::{Block, now_us};
-use crate::crypto::digest;
 use simplex_view_state::{Context, Digest, View};
+use simplex_wire::{Block, digest, now_us};
 use std::fs::{self, File, OpenOptions};
 use std::io::{self, Read, Seek, SeekFrom, Write};
 use std::path::{Path, PathBuf};

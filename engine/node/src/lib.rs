@@ -20,7 +20,6 @@ pub mod floor;
 pub mod inbox;
 pub mod leader_votes;
 pub mod ledger;
-pub mod message;
 pub mod metrics;
 pub mod network;
 pub mod pace;

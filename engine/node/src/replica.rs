@@ -13,7 +13,7 @@ mod judging;
 
 use crate::application::worker::{Answer, Kind, REPLY_WITHIN, Worker};
 use crate::archive::keeper::Keeper;
-use crate::blocks::{Block, Blocks};
+use crate::blocks::Blocks;
 use crate::catch_up::CatchUp;
 use crate::chain::{FinalChain, Tail};
 use crate::clock::Clock;
@@ -22,7 +22,6 @@ use crate::events::Events;
 use crate::faults::Fault;
 use crate::inbox::{Event, Inbox};
 use crate::leader_votes::LeaderVotes;
-use crate::message::Message;
 use crate::metrics::{Counters, resident_kb};
 use crate::pace::Pace;
 use crate::peers::{Horizon, Peers};
@@ -35,6 +34,7 @@ use simplex_journal::Journal;
 use simplex_view_state::{
     CertificateKind, Context, Digest, Engine, EngineError, Input, Output, Participant, Proposal, Subject, TimeoutReason, View, Views, Vote,
 };
+use simplex_wire::{Block, Message};
 use std::collections::{BTreeMap, BTreeSet};
 use std::sync::Arc;
 use std::sync::atomic::{AtomicU64, Ordering::Relaxed};
@@ -281,7 +281,7 @@ impl Replica {
     /// A proposal that its view's leader signed, with its block. The readers tested the signature, and that the block has the payload.
     fn take_proposal(&mut self, vote: Vote, block: Vec<u8>) -> Outcome {
         let Subject::Notarize(proposal) = vote.subject else { return Ok(()) };
-        if let Some(block) = Block::of(block, proposal.payload).filter(|it| it.is_of(&proposal)) {
+        if let Some(block) = Block::of(block, proposal.payload).ok().filter(|it| it.is_of(&proposal)) {
             self.take_proposed(vote.signer, proposal, block)?;
         }
         self.take_vote(vote)

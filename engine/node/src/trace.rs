@@ -1,7 +1,7 @@
 //! All votes that a node sent or was sent, as lines of a file, for audits.
 
-use crate::blocks::now_us;
 use simplex_view_state::{Participant, Subject, Vote};
+use simplex_wire::now_us;
 use std::fs::{self, File, OpenOptions};
 use std::io::{self, BufWriter, Write};
 use std::path::Path;

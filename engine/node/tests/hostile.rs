@@ -3,13 +3,12 @@
 mod members;
 
 use members::{Link, SOON, chain, played, settings_of, stored_blocks};
-use simplex_node::blocks::Block;
 use simplex_node::crypto::Keys;
-use simplex_node::message::{Message, Range};
 use simplex_node::network::{Network, Plan, folder_of};
-use simplex_node::peers::{Credentials, HEARTBEAT_FRAME, SILENCE};
+use simplex_node::peers::{Credentials, SILENCE};
 use simplex_node::settings::{Protocol, Settings};
 use simplex_view_state::{Certificate, Context, Digest, Epoch, FetchKind, Participant, Proposal, Round, Subject, View, Vote};
+use simplex_wire::{Block, HEARTBEAT_FRAME, Message, Range};
 use std::fs;
 use std::io::{Read, Write};
 use std::net::{SocketAddr, TcpListener, TcpStream};

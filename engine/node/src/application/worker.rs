@@ -1,11 +1,11 @@
 //! The thread of the application. What the engine waits for comes first, then final blocks, one at a time in between.
 
 use super::{Application, Cancelled};
-use crate::blocks::Block;
 use crate::chain::Entry;
 use crate::inbox::{Event, Inbox};
 use crate::metrics::Counters;
 use simplex_view_state::{Context, Digest, Proposal, View};
+use simplex_wire::Block;
 use std::collections::VecDeque;
 use std::io;
 use std::sync::atomic::{AtomicBool, Ordering::Relaxed};

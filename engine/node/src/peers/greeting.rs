@@ -2,10 +2,10 @@
 //!
 //! Each side sends its own before it reads the other's, so where they differ both say in what.
 
-use crate::message::VERSION;
 use crate::settings::{Outcome, Settings};
 use simplex_identity::NetworkName;
 use simplex_view_state::Digest;
+use simplex_wire::VERSION;
 use std::fmt::Display;
 use std::io::{self, Read, Write};
 

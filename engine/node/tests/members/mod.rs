@@ -1,12 +1,11 @@
 //! Members that a test plays.
 
-use simplex_node::blocks::Block;
 use simplex_node::crypto::Keys;
-use simplex_node::message::Message;
 use simplex_node::network::Network;
-use simplex_node::peers::{Credentials, HEARTBEAT, HEARTBEAT_FRAME, Session, read_frame};
+use simplex_node::peers::{Credentials, HEARTBEAT, Session};
 use simplex_node::settings::Settings;
 use simplex_view_state::{Context, Digest, Epoch, Participant, Proposal, Round, View};
+use simplex_wire::{Block, HEARTBEAT_FRAME, Message, read_frame};
 use std::fs;
 use std::io::{self, BufReader, Write};
 use std::net::{SocketAddr, TcpListener, TcpStream};
@@ -122,7 +121,7 @@ pub fn hear(listener: &TcpListener, member: u32, credentials: &Credentials, told
         let Ok((_, session)) = credentials.accept(stream) else { continue };
         let mut session = BufReader::new(session);
         while let Ok(frame) = read_frame(&mut session) {
-            let message = frame.and_then(|it| Message::read(&it));
+            let message = frame.and_then(|it| Message::decode(&it).ok());
             if message.is_some_and(|it| told.send((member, it)).is_err()) {
                 return;
             }
