@@ -24,7 +24,7 @@ from lib.program import ROOT
 
 ENGINE = ROOT / "engine"
 SKIPPED = 77
-LEAST_TESTS = 208
+LEAST_TESTS = 211
 # The words of the network that `./demo` runs.
 NETWORK = re.compile(r"words=\((--.*)\)")
 
@@ -56,7 +56,11 @@ WRONG_BODIES = (
      "!self.blocks.is_empty()"),
     ("a stored block's checksum is not tested", "segments.rs", "if sum_of(lengths, body) != sum {", "if lengths == u32::MAX {"),
     ("blocks are pruned that the application has not stored", "archive.rs", "&& second <= durable + 1", "&& second < durable + u64::from(u32::MAX)"),
-    ("all lacking blocks are asked of one member", "catch_up.rs", "self.next = self.following(of);", ""),
+    ("a missing block is not named", "../../chain/src/final_chain.rs", "self.holes.insert(view, payload);", ""),
+    ("a block that was missing changes nothing", "../../chain/src/final_chain.rs", "self.mark(block.view(), block.digest(), store)?;", ""),
+    ("two final blocks on one parent are taken", "../../chain/src/final_chain.rs", "Some(same) if same == payload => return Ok(()),", "Some(_) => return Ok(()),"),
+    ("fetched blocks of no chain are kept", "../../chain/src/final_chain.rs", "self.drop_taken();", ""),
+    ("all lacking blocks are asked of one member", "../../chain/src/catch_up.rs", "self.next = self.following(of);", ""),
     ("nobody says which block all others have pruned", "replica/finality.rs", "let is_nowhere = others > 0 && pruned == others;",
      "let is_nowhere = others > 0 && pruned > others;"),
     ("an application that lost blocks is not given them again", "start.rs", "    replay(&mut archive, &mut application)?;\n", ""),

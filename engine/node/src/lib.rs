@@ -10,7 +10,6 @@ pub mod application;
 pub mod archive;
 pub mod audit;
 pub mod blocks;
-pub mod catch_up;
 pub mod chain;
 pub mod clock;
 pub mod crypto;

@@ -14,7 +14,6 @@ mod judging;
 use crate::application::worker::{Answer, Kind, REPLY_WITHIN, Worker};
 use crate::archive::keeper::Keeper;
 use crate::blocks::Blocks;
-use crate::catch_up::CatchUp;
 use crate::chain::{FinalChain, Tail};
 use crate::clock::Clock;
 use crate::crypto::Keys;
@@ -30,6 +29,7 @@ use crate::trace::Trace;
 use crate::waiting::Waiting;
 use far::Far;
 use finality::Lag;
+use simplex_chain::CatchUp;
 use simplex_journal::Journal;
 use simplex_view_state::{
     CertificateKind, Context, Digest, Engine, EngineError, Input, Output, Participant, Proposal, Subject, TimeoutReason, View, Views, Vote,
