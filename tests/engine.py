@@ -24,7 +24,7 @@ from lib.program import ROOT
 
 ENGINE = ROOT / "engine"
 SKIPPED = 77
-LEAST_TESTS = 211
+LEAST_TESTS = 213
 # The words of the network that `./demo` runs.
 NETWORK = re.compile(r"words=\((--.*)\)")
 
@@ -63,7 +63,7 @@ WRONG_BODIES = (
     ("all lacking blocks are asked of one member", "../../chain/src/catch_up.rs", "self.next = self.following(of);", ""),
     ("nobody says which block all others have pruned", "replica/finality.rs", "let is_nowhere = others > 0 && pruned == others;",
      "let is_nowhere = others > 0 && pruned > others;"),
-    ("an application that lost blocks is not given them again", "start.rs", "    replay(&mut archive, &mut application)?;\n", ""),
+    ("an application that lost blocks is not given them again", "start.rs", "    replay(&mut archive, application)?;\n", ""),
     ("a certificate of too few votes is taken", "crypto.rs", "signed.len() == self.quorum()", "signed.len() + 1 >= self.quorum()"),
     ("a damaged journal is taken for a torn one", "../../journal/src/format.rs", "if at == HEAD || was_synced(bytes, at) || !is_torn(bytes, at) {", "if at == HEAD {"),
     ("zeros behind the last entries are damage", "../../journal/src/format.rs", "|| !is_torn(bytes, at) {", "|| bytes.len() - at >= BEFORE {"),
@@ -80,7 +80,8 @@ WRONG_BODIES = (
     ("a peer that floods holds up the others", "inbox.rs", "self.turn = (index + 1) % count;", "self.turn = 0;"),
     ("a node that lost its journal begins anew", "start.rs", "(None, Some(left)) => Err(format!(", "(None, Some(left)) if false => Err(format!("),
     ("a journal of another key is taken", "../../journal/src/journal.rs", "Some(difference) => Err(refused(Cause::Other(difference))),", "Some(_) => Ok(Some(recovered)),"),
-    ("a journal that is older than the chain is taken", "start.rs", "if last <= finalized.get() {", "if true {"),
+    ("a journal that is older than the chain is taken", "start.rs", "if height == 0 || last <= finalized {", "if true {"),
+    ("a journal that is lost beside a chain is begun anew", "start.rs", "if recovered.is_none() && height > 0 {", "if false {"),
     ("a block is final before its finalization is stored", "replica.rs", "matches!(output, Output::Finalized(_)) || is_behind", "is_behind"),
     ("a run removes what it did not write", "run_folder.rs", "if !is_empty && !is_marked {", "if false {"),
     ("blocks are built without a pause", "pace.rs", "let due = self.last.map_or(now, |last| last + self.least);", "let due = now;"),

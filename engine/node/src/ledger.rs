@@ -1,6 +1,8 @@
 //! A sample application: a ledger of blocks that hold some numbers, and a file with a line for each block of the finalized chain.
 
 use crate::application::{Application, Cancelled};
+use crate::settings::Outcome;
+use crate::start::Start;
 use simplex_view_state::{Context, Digest, View};
 use simplex_wire::{Block, digest, now_us};
 use std::fs::{self, File, OpenOptions};
@@ -83,10 +85,11 @@ pub struct Ledger {
 }
 
 impl Ledger {
-    /// Goes on from the chain that a folder has, or from the block where the node starts.
-    pub fn open(folder: &Path, start: (View, Digest), salt: u64, works_for: Duration) -> io::Result<Ledger> {
+    /// Goes on from the chain that a node's folder has, or from the block where the node starts. In a trial each answer takes so long.
+    pub fn open(start: &Start, works_for: Duration) -> Outcome<Ledger> {
+        let folder = &start.folder;
         let chain = read_chain(folder)?;
-        let last = chain.last().map_or(Ok(start), |link| {
+        let last = chain.last().map_or(Ok(start.block), |link| {
             Ok::<_, io::Error>((View::new(link.view), parse_digest(&link.payload)?))
         })?;
         let file = OpenOptions::new().create(true).append(true).open(path(folder))?;
@@ -97,7 +100,7 @@ impl Ledger {
             file,
             last,
             height,
-            salt,
+            salt: u64::from(start.me.get()) << 32,
             works_for,
         })
     }

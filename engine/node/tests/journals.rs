@@ -85,9 +85,13 @@ fn a_node_that_lost_its_journal_is_refused_by_what_it_left() {
     let network = stopped("lost", 1);
     let data = network.data(0);
     fs::remove_file(journal::path(&data)).expect("a journal");
-    for left in ["chain", "blocks", "archive"] {
+    for (left, named) in [
+        ("blocks", data.join("blocks").display().to_string()),
+        ("archive", data.join("archive").display().to_string()),
+        ("chain", "the application's chain".to_owned()),
+    ] {
         let said = refused(&network, 0);
-        assert!(said.contains(data.join(left).to_str().expect("letters")), "{said}");
+        assert!(said.contains(&named), "{said}");
         assert!(said.contains("journal") && said.contains("Put the journal back"), "{said}");
         assert!(!journal::path(&data).exists(), "no other journal is begun");
         let path = data.join(left);
