@@ -24,7 +24,7 @@ from lib.program import ROOT
 
 ENGINE = ROOT / "engine"
 SKIPPED = 77
-LEAST_TESTS = 213
+LEAST_TESTS = 216
 # The words of the network that `./demo` runs.
 NETWORK = re.compile(r"words=\((--.*)\)")
 
@@ -130,6 +130,9 @@ WRONG_BODIES = (
     ("a panic of the application is not told", "application/worker.rs", 'None => "the application panicked".to_owned(),', "None => return,"),
     ("a certificate of a far view does not wait", "replica/far.rs", "const FAR: u64 = 256;", "const FAR: u64 = 1 << 40;"),
     ("a build that never began is not answered", "application/worker.rs", "is_build || !is_passed", "let _ = is_build; !is_passed"),
+    ("a damaged line of the chain is cut away", "ledger.rs", "    links.collect()\n", "    Ok(links.map_while(Result::ok).collect())\n"),
+    ("a key that others may read is taken", "crypto.rs", "if mode & 0o077 != 0 {", "if mode == 0 {"),
+    ("the bytes of a secret key stay in memory", "crypto.rs", "    secret.fill(0);\n", ""),
     ("a clock falls back with the machine's", "clock.rs", "self.ahead += by;", "self.ahead = Duration::ZERO; self.begun = Instant::now();"),
 )
 

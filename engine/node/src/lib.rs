@@ -61,6 +61,7 @@ pub mod inbox;
 pub mod leader_votes;
 pub mod ledger;
 pub mod metrics;
+pub mod named;
 pub mod network;
 pub mod pace;
 pub mod peers;

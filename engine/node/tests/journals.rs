@@ -232,5 +232,8 @@ fn a_node_whose_disk_is_full_goes_on_with_its_own_journal() {
     }
     let said = fs::read_to_string(network.log(0)).expect("a log");
     assert!(said.contains("File too large") && !said.contains("is older than"), "{said}");
+    let folder = network.data(0).display().to_string();
+    let ends: Vec<&str> = said.lines().filter(|it| it.contains("File too large")).collect();
+    assert!(ends.iter().all(|it| it.contains(&folder)), "each names its file: {ends:?}");
     end(network);
 }
