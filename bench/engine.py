@@ -16,7 +16,8 @@ from pathlib import Path
 ROOT = Path(__file__).resolve().parent.parent
 ENGINE = ROOT / "engine"
 LINE = re.compile(r"^ *(\d+) s  view (\d+), (\d+) a second, .*?, at most (\d+) kB and (\d+) entries a node$")
-LIFE = re.compile(r"^node \d+, last lifetime: ([\d.]+) % in the core, ([\d.]+) % signing, ([\d.]+) % waiting for the disk \((\d+) times\), ([\d.]+) %")
+LIFE = re.compile(r"^node \d+, last lifetime: ([\d.]+) % in the core, ([\d.]+) % signing, ([\d.]+) % waiting for the disk \((\d+) times\), "
+                  r"([\d.]+) % for the application, ([\d.]+) % for events")
 ROW = re.compile(r"^node \d+: (\d+) blocks, the last of view (\d+), (\d+) a second, ([\d.]+) ms \(median\), ([\d.]+) ms")
 
 
@@ -30,17 +31,20 @@ def run(*arguments):
 
 
 def table(seconds):
-    print("| Nodes | The disk | Views a second | From build to final, median | 99 % | In the core | Signing | Waiting for the disk | For events |")
-    print("|---|---|---|---|---|---|---|---|---|")
+    print("| Nodes | The disk | Views a second | From build to final, median | 99 % | Waits for the disk a view | In the core | Signing "
+          "| Waiting for the disk | For the application | For events |")
+    print("|---|---|---|---|---|---|---|---|---|---|---|")
     for nodes in (4, 10):
         for words in ((), ("--no-sync",)):
             lines = list(run("--nodes", str(nodes), "--seconds", str(seconds), *words))
             rows = [found.groups() for line in lines if (found := ROW.match(line))]
-            lives = [[float(it) for it in found.groups()] for line in lines if (found := LIFE.match(line))]
-            share = [sum(life[place] for life in lives) / len(lives) for place in (0, 1, 2, 4)]
-            views, half, most = (sum(float(row[place]) for row in rows) / len(rows) for place in (2, 3, 4))
-            shares = " | ".join(f"{it:.1f} %" for it in share)
-            print(f"| {nodes} | {'not waited for' if words else 'waited for'} | {views:.0f} | {half:.1f} ms | {most:.1f} ms | {shares} |", flush=True)
+            lives = [found.groups() for line in lines if (found := LIFE.match(line))]
+            mean = lambda kept, place: sum(float(it[place]) for it in kept) / len(kept)
+            views, half, most = (mean(rows, place) for place in (2, 3, 4))
+            waits = mean(lives, 3) / mean(rows, 1)
+            shares = " | ".join(f"{mean(lives, place):.1f} %" for place in (0, 1, 2, 4, 5))
+            disk = "not waited for" if words else "waited for"
+            print(f"| {nodes} | {disk} | {views:.0f} | {half:.1f} ms | {most:.1f} ms | {waits:.2f} | {shares} |", flush=True)
 
 
 def drawn(samples):

@@ -4,8 +4,8 @@
 
 pub mod worker;
 
-use crate::blocks::Block;
 use simplex_view_state::{Context, Digest, View};
+use simplex_wire::Block;
 use std::io;
 use std::sync::Arc;
 use std::sync::atomic::{AtomicBool, Ordering::Relaxed};
@@ -25,8 +25,16 @@ impl Cancelled {
     }
 }
 
-/// An application. What it answers has to be the same in all honest nodes: a network whose applications contradict each other can stop for
-/// good. It is asked one thing at a time.
+/// What blocks hold, which are good, and what follows from them.
+///
+/// It is asked one thing at a time, on a thread of its own, and may take as long as it needs; what took too long is cancelled.
+///
+/// - **All honest nodes have to answer alike.** [`verify`](Application::verify) and [`certify`](Application::certify) depend on the block and
+///   its ancestors alone, not on the clock, on chance or on this machine: a network whose applications contradict each other can stop for good.
+/// - **A block is looked at before its ancestors are final**, and may never be: `build`, `verify` and `certify` change nothing that lasts.
+///   What a block does is done in [`finalized`](Application::finalized).
+/// - **Over lifetimes it gets each final block once after its own [`last`](Application::last).** So it stores a block's effects and that it is
+///   the last one in one step. One that stores nothing gets all blocks again at each start.
 pub trait Application: Send + 'static {
     /// What a block holds that this node builds in a context; `None` where it is cancelled, or has nothing to propose.
     fn build(&mut self, context: &Context, cancelled: &Cancelled) -> Option<Vec<u8>>;
@@ -38,15 +46,24 @@ pub trait Application: Send + 'static {
     /// cancelled.
     fn certify(&mut self, block: &Block, cancelled: &Cancelled) -> Option<bool>;
 
-    /// Takes a finalized block: each once, each behind its parent. An error ends the process.
+    /// Takes a finalized block: each once, each behind its parent.
+    ///
+    /// # Errors
+    ///
+    /// Where it can't be taken, since the disk refuses, say: the process ends, and the block comes again in the next one.
     fn finalized(&mut self, block: &Block) -> io::Result<()>;
 
-    /// The last block that was taken; genesis at first.
+    /// The view and digest of the last block that was taken; where the node starts ([`Start::block`](crate::Start)) at first.
     fn last(&self) -> (View, Digest);
 
     /// How many blocks were taken.
     fn height(&self) -> u64;
 
-    /// Waits until the disk has all blocks that were taken, and returns how many those are. The archive may drop them from then on.
+    /// Waits until the disk has all blocks that were taken, and returns how many those are. The archive may drop them from then on; where it
+    /// returns 0 the archive keeps all. It is asked each second.
+    ///
+    /// # Errors
+    ///
+    /// Where the disk refuses: the process ends.
     fn durable(&mut self) -> io::Result<u64>;
 }

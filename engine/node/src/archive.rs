@@ -6,11 +6,10 @@
 
 pub mod keeper;
 
-use crate::blocks::Block;
 use crate::chain::{Entry, Tail};
-use crate::message::Range;
 use crate::segments::{HEAD, Segments};
 use simplex_view_state::{Certificate, Digest, Subject, View};
+use simplex_wire::{Block, Range};
 use std::collections::{BTreeMap, HashMap};
 use std::io;
 use std::path::{Path, PathBuf};
@@ -79,7 +78,7 @@ fn parse(body: &[u8]) -> io::Result<Entry> {
         Some(Entry {
             height: u64::from_be_bytes(*height),
             certificate: subject.map(|(subject, bytes)| Certificate::of(subject, bytes.to_vec())),
-            block: Block::read(block.to_vec())?,
+            block: Block::decode(block.to_vec()).ok()?,
         })
     };
     parsed().ok_or_else(|| io::Error::other("a record of the archive is none of this release"))

@@ -1,92 +1,17 @@
 //! Blocks: by their digests, in memory and on the disk, until they are in the archive of final blocks.
 
-use crate::crypto::digest;
 use crate::segments::{HEAD as HEAD_OF_SEGMENT, Segments};
-use simplex_view_state::{Context, Digest, Proposal, View};
+use simplex_view_state::{Digest, View};
+use simplex_wire::Block;
 use std::collections::{BTreeMap, HashMap};
 use std::io;
 use std::path::{Path, PathBuf};
-use std::time::{SystemTime, UNIX_EPOCH};
 use tracing::info;
 
-/// A block's view, its parent's view and digest, and when it was built.
-const HEAD: usize = 8 + 8 + 32 + 8;
 /// How many views below the archive's last block blocks are kept: those that are not final are here alone.
 const KEPT: u64 = 64;
 /// How long a segment of blocks gets, in bytes.
 const SEGMENT: u64 = 16 << 20;
-
-/// A block.
-#[derive(Clone, Debug, PartialEq, Eq)]
-pub struct Block {
-    /// Its view.
-    pub view: View,
-    /// Its parent's view and digest.
-    pub parent: (View, Digest),
-    /// When it was built, in microseconds since 1970.
-    pub built_us: u64,
-    payload: Digest,
-    bytes: Vec<u8>,
-}
-
-/// Microseconds since 1970, of a clock that may be set. It measures how long blocks take, and decides nothing.
-pub fn now_us() -> u64 {
-    SystemTime::now().duration_since(UNIX_EPOCH).map_or(0, |it| it.as_micros() as u64)
-}
-
-impl Block {
-    /// A block in its context.
-    pub fn new(context: &Context, content: &[u8]) -> Block {
-        let mut bytes = Vec::with_capacity(HEAD + content.len());
-        bytes.extend_from_slice(&context.round.view.get().to_be_bytes());
-        bytes.extend_from_slice(&context.parent.get().to_be_bytes());
-        bytes.extend_from_slice(context.parent_payload.bytes());
-        bytes.extend_from_slice(&now_us().to_be_bytes());
-        bytes.extend_from_slice(content);
-        Block::read(bytes).expect("a head and a content are a block")
-    }
-
-    /// The block that bytes are.
-    pub fn read(bytes: Vec<u8>) -> Option<Block> {
-        let payload = digest(&bytes);
-        Block::of(bytes, payload)
-    }
-
-    /// The block that bytes are, whose digest is known already: a reader of the peers has hashed them.
-    pub fn of(bytes: Vec<u8>, payload: Digest) -> Option<Block> {
-        let (view, rest) = bytes.split_first_chunk::<8>()?;
-        let (parent, rest) = rest.split_first_chunk::<8>()?;
-        let (parent_payload, rest) = rest.split_first_chunk::<32>()?;
-        let (built, _) = rest.split_first_chunk::<8>()?;
-        Some(Block {
-            view: View::new(u64::from_be_bytes(*view)),
-            parent: (View::new(u64::from_be_bytes(*parent)), Digest::new(*parent_payload)),
-            built_us: u64::from_be_bytes(*built),
-            payload,
-            bytes,
-        })
-    }
-
-    /// Its bytes.
-    pub fn bytes(&self) -> &[u8] {
-        &self.bytes
-    }
-
-    /// What it holds.
-    pub fn content(&self) -> &[u8] {
-        &self.bytes[HEAD..]
-    }
-
-    /// The digest that proposals name it by.
-    pub fn payload(&self) -> Digest {
-        self.payload
-    }
-
-    /// Whether it is the block of this proposal, in its place.
-    pub fn is_of(&self, proposal: &Proposal) -> bool {
-        self.view == proposal.round.view && self.parent.0 == proposal.parent
-    }
-}
 
 /// The blocks of proposals that a node has: in memory, and on the disk before it votes for them.
 pub struct Blocks {
@@ -134,7 +59,7 @@ impl Blocks {
     fn read(&self, segment: u64) -> io::Result<Vec<Block>> {
         let mut found = Vec::new();
         self.segments.each_from(segment, HEAD_OF_SEGMENT, |_, body| {
-            found.extend(Block::read(body.to_vec()));
+            found.extend(Block::decode(body.to_vec()));
             Ok(true)
         })?;
         Ok(found)
@@ -154,7 +79,7 @@ impl Blocks {
     fn hold(&mut self, segment: u64, block: Block) {
         let highest = self.highest.entry(segment).or_insert(block.view);
         *highest = block.view.max(*highest);
-        self.bytes += block.bytes.len();
+        self.bytes += block.bytes().len();
         self.by_view.entry(block.view).or_default().push(block.payload());
         self.by_payload.insert(block.payload(), block);
     }
@@ -185,7 +110,7 @@ impl Blocks {
         let lowest = View::new(archived.get().saturating_sub(KEPT));
         let kept = self.by_view.split_off(&lowest);
         for payload in std::mem::replace(&mut self.by_view, kept).into_values().flatten() {
-            self.bytes -= self.by_payload.remove(&payload).map_or(0, |it| it.bytes.len());
+            self.bytes -= self.by_payload.remove(&payload).map_or(0, |it| it.bytes().len());
         }
         let last = self.segments.lengths().last_key_value().map(|(number, _)| *number);
         let is_over = |(number, highest): (&u64, &View)| (*highest < lowest && Some(*number) != last).then_some(*number);
@@ -202,7 +127,7 @@ impl Blocks {
 mod tests {
     use super::*;
     use crate::trace::scratch;
-    use simplex_view_state::{Epoch, Participant, Round};
+    use simplex_view_state::{Context, Epoch, Participant, Round};
 
     fn block(view: u64, bytes: usize) -> Block {
         let context = Context {

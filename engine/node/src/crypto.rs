@@ -1,24 +1,21 @@
 //! Keys, signatures and certificates: ed25519 and SHA-256 of OpenSSL.
 
-use crate::network_name::NetworkName;
 use crate::settings::{Outcome, Settings};
 use openssl::pkey::{Id, PKey, PKeyRef, Private, Public};
 use openssl::sign::{Signer, Verifier};
-use simplex_view_state::{Certificate, Digest, Participant, Vote};
+use simplex_identity::NetworkName;
+use simplex_view_state::{Certificate, Participant, Vote};
 use std::fs;
 use std::io::Write;
 use std::os::unix::fs::{OpenOptionsExt, PermissionsExt};
 use std::path::Path;
 
+pub use simplex_identity::hex;
+
 /// How long a signature is.
 pub const SIGNATURE: usize = 64;
 /// A signature.
 pub type Signature = [u8; SIGNATURE];
-
-/// The SHA-256 digest of bytes.
-pub fn digest(bytes: &[u8]) -> Digest {
-    Digest::new(openssl::sha::sha256(bytes))
-}
 
 /// The keys of all members, with the secret one of this node. All that is signed begins with the network's name.
 pub struct Keys {
@@ -41,8 +38,10 @@ impl Keys {
             ))
             .into());
         }
-        let pem = fs::read(&settings.key).map_err(|error| named(&error))?;
-        let secret = PKey::private_key_from_pem(&pem).map_err(|error| named(&error))?;
+        let mut pem = fs::read(&settings.key).map_err(|error| named(&error))?;
+        let secret = PKey::private_key_from_pem(&pem);
+        wipe(&mut pem);
+        let secret = secret.map_err(|error| named(&error))?;
         let public = settings.members.iter().map(|it| public_key(&it.key)).collect::<Outcome<Vec<_>>>()?;
         if !secret.public_eq(&public[settings.index as usize]) {
             return Err(format!("{} is not the key of member {}", settings.key.display(), settings.index).into());
@@ -138,9 +137,11 @@ fn is_of_small_order(key: &[u8; 32]) -> bool {
     is_small || is_near_the_prime || OF_ORDER_EIGHT.contains(&hex(&y).as_str())
 }
 
-/// Bytes in hexadecimal digits.
-pub fn hex(bytes: &[u8]) -> String {
-    bytes.iter().map(|byte| format!("{byte:02x}")).collect()
+/// Overwrites the bytes of a secret key, which else stay in memory that is given back. (OpenSSL does so with its own copy.)
+fn wipe(secret: &mut [u8]) {
+    secret.fill(0);
+    // Without a reader the compiler may leave the writing out.
+    std::hint::black_box(secret);
 }
 
 /// Makes a key, writes the secret one to a new file that only its owner reads, and answers the public one.
@@ -152,15 +153,17 @@ pub fn make_key(path: &Path) -> Outcome<String> {
         .mode(0o600)
         .open(path)
         .map_err(|error| format!("{}: {error}", path.display()))?;
-    file.write_all(&secret.private_key_to_pem_pkcs8()?)?;
-    file.sync_all()?;
+    let mut pem = secret.private_key_to_pem_pkcs8()?;
+    let written = file.write_all(&pem).and_then(|()| file.sync_all());
+    wipe(&mut pem);
+    written.map_err(|error| format!("{}: {error}", path.display()))?;
     Ok(hex(&secret.raw_public_key()?))
 }
 
 #[cfg(test)]
 mod tests {
     use super::*;
-    use simplex_view_state::{Config, Engine, Epoch, Input, Moment, Options, Output, Round, Subject, View};
+    use simplex_view_state::{Config, Digest, Engine, Epoch, Input, Moment, Options, Output, Round, Subject, View};
 
     /// The keys of each of so many members.
     fn members(count: u32) -> Vec<Keys> {
@@ -266,6 +269,30 @@ mod tests {
         let votes = members[..3].iter().map(|it| vote(it, nullify(1)));
         let before = votes.flat_map(|it| [it.signer.get().to_be_bytes().to_vec(), it.signature].concat());
         assert!(!members[0].is_certificate(&Certificate::of(nullify(1), before.collect())));
+    }
+
+    #[test]
+    fn a_key_that_others_may_read_is_refused_and_says_what_to_do() {
+        let mut settings: Settings = toml::from_str(include_str!("../../node.toml")).expect("settings");
+        settings.key = crate::trace::scratch("key-mode").join("0.pem");
+        settings.members[0].key = make_key(&settings.key).expect("a key");
+        let mode = |it| fs::set_permissions(&settings.key, fs::Permissions::from_mode(it)).expect("a disk");
+        assert_eq!(fs::metadata(&settings.key).expect("a key").permissions().mode() & 0o777, 0o600);
+        assert!(Keys::read(&settings).is_ok());
+        for it in [0o640, 0o604, 0o660, 0o610, 0o777] {
+            mode(it);
+            let said = Keys::read(&settings).err().expect("it is refused").to_string();
+            assert!(said.contains("chmod 600") && said.contains("0.pem"), "{it:o}: {said}");
+        }
+        mode(0o400);
+        assert!(Keys::read(&settings).is_ok());
+    }
+
+    #[test]
+    fn the_bytes_of_a_secret_key_are_wiped() {
+        let mut secret = vec![7; 119];
+        wipe(&mut secret);
+        assert_eq!(secret, vec![0; 119]);
     }
 
     #[test]

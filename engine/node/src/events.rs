@@ -1,9 +1,9 @@
 //! What a node's engine does, as a trace that `simplex-view` draws.
 
-use crate::blocks::now_us;
 use crate::settings::{Outcome, Settings};
 use simplex_trace::{Event, FetchKind, Header, Line, Observed, Observer, Queue, TraceFile, VERSION};
 use simplex_view_state::{self as core, Engine, Input, Output, Participant, Subject, View};
+use simplex_wire::now_us;
 use std::path::Path;
 use tracing::{info, warn};
 

@@ -3,8 +3,6 @@
 //! It begins with eight letters and a version. Then come the text of the certificate's votes and its bytes.
 
 use crate::crypto::Keys;
-use crate::identity::Identity;
-use crate::journal;
 use crate::settings::{Outcome, Settings};
 use simplex_view_state::{Certificate, CertificateKind, Config, Engine, Finalization, Floor, Moment, Options, Subject};
 use std::fs;
@@ -16,7 +14,7 @@ const VERSION: u8 = 3;
 /// Where a node begins: genesis, or the finalized proposal whose certificate the settings name.
 pub fn read(settings: &Settings, keys: &Keys) -> Outcome<Floor> {
     let Some(path) = &settings.floor else {
-        return Ok(Floor::Genesis(Identity::of(settings)?.genesis()));
+        return Ok(Floor::Genesis(settings.identity()?.genesis()));
     };
     let bytes = fs::read(path).map_err(|error| format!("{}: {error}", path.display()))?;
     match parse(&bytes).map_err(|error| format!("{}: {error}", path.display()))? {
@@ -50,9 +48,17 @@ fn written(it: &Certificate) -> Vec<u8> {
 
 /// The last finalized proposal that a folder's journal has, as the bytes of a floor.
 pub fn of(settings: &Settings) -> Outcome<Vec<u8>> {
-    let kept = journal::read(&settings.data, &Identity::of(settings)?)?.ok_or("there is no journal")?;
+    let folder = &settings.data;
+    let none = || format!("{}: there is no journal", simplex_journal::path(folder).display());
+    let recovered = simplex_journal::read(folder, &settings.identity()?)?.ok_or_else(none)?;
     let config: Config = settings.config(read(settings, &Keys::read(settings)?)?);
-    let engine = Engine::resume(&config, &Options::default(), Moment::from_millis(0), &kept.stored, &kept.frames)?;
+    let engine = Engine::resume(
+        &config,
+        &Options::default(),
+        Moment::from_millis(0),
+        &recovered.stored,
+        &recovered.frames,
+    )?;
     let last = engine.views().ok_or("the engine has failed")?.last_finalized;
     let it = engine
         .certificate(CertificateKind::Finalization, last)?

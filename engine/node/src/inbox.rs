@@ -5,8 +5,8 @@
 
 use crate::application::worker::Answer;
 use crate::chain::Entry;
-use crate::message::Message;
 use simplex_view_state::Participant;
+use simplex_wire::Message;
 use std::collections::VecDeque;
 use std::sync::{Condvar, Mutex, MutexGuard};
 use std::time::{Duration, Instant};
@@ -155,6 +155,23 @@ impl Inbox {
         }
     }
 
+    /// The application's next answer, within some time. All else stays.
+    pub fn take_answer(&self, within: Duration) -> Option<Answer> {
+        let until = Instant::now() + within;
+        let mut waiting = self.lock();
+        loop {
+            let at = waiting.own.iter().position(|it| matches!(it, Event::Answered(_)));
+            if let Some(Event::Answered(answer)) = at.and_then(|it| waiting.own.remove(it)) {
+                return Some(answer);
+            }
+            let left = until.checked_duration_since(Instant::now()).filter(|it| !it.is_zero())?;
+            waiting = match self.arrival.wait_timeout(waiting, left) {
+                Ok((it, _)) => it,
+                Err(poisoned) => poisoned.into_inner().0,
+            };
+        }
+    }
+
     /// Nobody takes messages any more.
     pub fn close(&self) {
         self.lock().is_closed = true;
@@ -174,7 +191,7 @@ mod tests {
     use std::thread;
 
     const NOW: Duration = Duration::ZERO;
-    const SOON: Duration = Duration::from_secs(5);
+    const SOON: Duration = Duration::from_secs(60);
 
     fn ask(view: u64) -> Message {
         Message::AskCertificate(FetchKind::Decision, View::new(view))
@@ -206,14 +223,19 @@ mod tests {
         }
         let writer = thread::spawn({
             let inbox = inbox.clone();
-            move || inbox.put(Participant::new(1), ask(7), 9)
+            // (it waits for room for a while, which may be over on a slow machine)
+            move || {
+                (0..100)
+                    .map(|_| inbox.put(Participant::new(1), ask(7), 9))
+                    .find(|it| *it != Put::Dropped)
+            }
         });
         thread::sleep(Duration::from_millis(20));
         assert!(!writer.is_finished(), "there was no room");
         for _ in 0..=MOST_OF_A_PEER {
             assert_eq!(sender(inbox.take(SOON)), Some(1));
         }
-        assert_eq!(writer.join().expect("the writer ends"), Put::Taken);
+        assert_eq!(writer.join().expect("the writer ends"), Some(Put::Taken));
         assert!(inbox.take(NOW).is_none());
     }
 
@@ -223,6 +245,22 @@ mod tests {
         inbox.put(Participant::new(1), ask(1), 9);
         inbox.tell(Event::Stop);
         assert!(matches!(inbox.take(NOW), Some(Event::Stop)));
+        assert_eq!(sender(inbox.take(NOW)), Some(1));
+    }
+
+    #[test]
+    fn an_answer_is_taken_from_among_all_else_which_stays() {
+        let inbox = Arc::new(Inbox::new(2));
+        inbox.tell(Event::Archived(Vec::new()));
+        inbox.put(Participant::new(1), ask(1), 9);
+        assert!(inbox.take_answer(NOW).is_none());
+        let teller = thread::spawn({
+            let inbox = inbox.clone();
+            move || inbox.tell(Event::Answered(Answer::Durable(7)))
+        });
+        assert!(matches!(inbox.take_answer(SOON), Some(Answer::Durable(7))));
+        teller.join().expect("it ends");
+        assert!(matches!(inbox.take(NOW), Some(Event::Archived(_))));
         assert_eq!(sender(inbox.take(NOW)), Some(1));
     }
 

@@ -1,9 +1,11 @@
 //! A sample application: a ledger of blocks that hold some numbers, and a file with a line for each block of the finalized chain.
 
 use crate::application::{Application, Cancelled};
-use crate::blocks::{Block, now_us};
-use crate::crypto::digest;
+use crate::named::named;
+use crate::settings::Outcome;
+use crate::start::Start;
 use simplex_view_state::{Context, Digest, View};
+use simplex_wire::{Block, digest, now_us};
 use std::fs::{self, File, OpenOptions};
 use std::io::{self, Read, Seek, SeekFrom, Write};
 use std::path::{Path, PathBuf};
@@ -34,32 +36,46 @@ pub fn path(folder: &Path) -> PathBuf {
     folder.join("chain")
 }
 
-/// The finalized chain that a folder has. A last line that was cut off is left out.
+/// The finalized chain that a folder has. A last line that was cut off is left out; any other line that is none is an error, which names it.
 pub fn read_chain(folder: &Path) -> io::Result<Vec<Link>> {
-    match fs::read_to_string(path(folder)) {
-        Ok(text) => Ok(text.split_inclusive('\n').map_while(read_link).collect()),
-        Err(error) if error.kind() == io::ErrorKind::NotFound => Ok(Vec::new()),
-        Err(error) => Err(error),
-    }
+    let path = path(folder);
+    let bytes = match fs::read(&path) {
+        Ok(bytes) => bytes,
+        Err(error) if error.kind() == io::ErrorKind::NotFound => return Ok(Vec::new()),
+        Err(error) => return Err(named(&path)(error)),
+    };
+    let whole = bytes.split_inclusive(|it| *it == b'\n').filter(|it| it.ends_with(b"\n"));
+    let links = (1..).zip(whole).map(|(number, line)| {
+        let link = std::str::from_utf8(line).ok().and_then(read_link);
+        link.ok_or_else(|| {
+            io::Error::other(format!(
+                "{}: line {number} is damaged: move the file away, and the node writes it again from its archive",
+                path.display()
+            ))
+        })
+    });
+    links.collect()
 }
 
-/// The last lines of a folder's chain, at most so many.
+/// The last lines of a folder's chain, at most so many, for who watches a node. Those that are none are left out.
 pub fn last_links(folder: &Path, most: usize) -> io::Result<Vec<Link>> {
-    let mut file = match File::open(path(folder)) {
+    let path = path(folder);
+    let mut file = match File::open(&path) {
         Ok(file) => file,
         Err(error) if error.kind() == io::ErrorKind::NotFound => return Ok(Vec::new()),
-        Err(error) => return Err(error),
+        Err(error) => return Err(named(&path)(error)),
     };
     let begin = file.metadata()?.len().saturating_sub(LONGEST_LINE * most as u64);
     file.seek(SeekFrom::Start(begin))?;
-    let mut text = String::new();
-    file.read_to_string(&mut text)?;
+    let mut bytes = Vec::new();
+    file.read_to_end(&mut bytes)?;
+    let text = String::from_utf8_lossy(&bytes);
     let whole = if begin == 0 {
         &text[..]
     } else {
         text.split_once('\n').map_or("", |it| it.1)
     };
-    let links: Vec<Link> = whole.split_inclusive('\n').map_while(read_link).collect();
+    let links: Vec<Link> = whole.split_inclusive('\n').filter_map(read_link).collect();
     Ok(links[links.len().saturating_sub(most)..].to_vec())
 }
 
@@ -75,6 +91,7 @@ fn read_link(line: &str) -> Option<Link> {
 
 /// The ledger of a node.
 pub struct Ledger {
+    path: PathBuf,
     file: File,
     last: (View, Digest),
     height: u64,
@@ -84,21 +101,29 @@ pub struct Ledger {
 }
 
 impl Ledger {
-    /// Goes on from the chain that a folder has, or from the block where the node starts.
-    pub fn open(folder: &Path, start: (View, Digest), salt: u64, works_for: Duration) -> io::Result<Ledger> {
+    /// Goes on from the chain that a node's folder has, or from the block where the node starts. In a trial each answer takes so long.
+    pub fn open(start: &Start, works_for: Duration) -> Outcome<Ledger> {
+        let folder = &start.folder;
         let chain = read_chain(folder)?;
-        let last = chain.last().map_or(Ok(start), |link| {
+        let last = chain.last().map_or(Ok(start.block), |link| {
             Ok::<_, io::Error>((View::new(link.view), parse_digest(&link.payload)?))
         })?;
-        let file = OpenOptions::new().create(true).append(true).open(path(folder))?;
+        let path = path(folder);
+        let is_new = !path.exists();
+        let file = OpenOptions::new().create(true).append(true).open(&path).map_err(named(&path))?;
         let whole: usize = chain.iter().map(|link| written(link).len()).sum();
-        file.set_len(whole as u64)?;
+        file.set_len(whole as u64).map_err(named(&path))?;
+        if is_new {
+            // Its name is on the disk before any of its lines counts.
+            File::open(folder).and_then(|it| it.sync_all()).map_err(named(folder))?;
+        }
         let height = chain.len() as u64;
         Ok(Ledger {
+            path,
             file,
             last,
             height,
-            salt,
+            salt: u64::from(start.me.get()) << 32,
             works_for,
         })
     }
@@ -159,7 +184,7 @@ impl Application for Ledger {
             taken_us,
             latency_us: taken_us.saturating_sub(block.built_us),
         };
-        self.file.write_all(written(&link).as_bytes())?;
+        self.file.write_all(written(&link).as_bytes()).map_err(named(&self.path))?;
         self.last = (block.view, block.payload());
         self.height += 1;
         Ok(())
@@ -174,7 +199,7 @@ impl Application for Ledger {
     }
 
     fn durable(&mut self) -> io::Result<u64> {
-        self.file.sync_data()?;
+        self.file.sync_data().map_err(named(&self.path))?;
         Ok(self.height)
     }
 }

@@ -1,31 +1,68 @@
-//! An engine over the proved core of the Simplex protocol: members as processes, TCP between them, ed25519, a journal on a disk.
+//! A node of a Simplex network as a library: bring an [`Application`], and [`run`] it.
 //!
-//! The library's engine decides: it is told what came in, and hands out what is to be stored, voted, sent, asked for and done, in order.
-//! What is here brings it all else, a part a module: [`crypto`] signs and verifies, [`journal`] stores, [`peers`] sends and receives,
-//! [`blocks`] keeps blocks, [`application`] builds and judges them, and [`replica`] is the one thread that owns the engine.
+//! The members of a network agree on a chain of blocks. What blocks hold, which are good, and what follows from them is the application's;
+//! the node does all else: it votes by the proved core, stores before it sends, keeps TLS links to the other members, catches up, and serves
+//! peers that lag.
+//!
+//! ```no_run
+//! use simplex_node::{Application, Cancelled, Outcome, Settings, run};
+//! use simplex_view_state::{Context, Digest, View};
+//! use simplex_wire::Block;
+//!
+//! /// Orders greetings, and counts them. It stores nothing: at each start it gets all final blocks again.
+//! struct Greetings {
+//!     last: (View, Digest),
+//!     count: u64,
+//! }
+//!
+//! impl Application for Greetings {
+//!     fn build(&mut self, _: &Context, _: &Cancelled) -> Option<Vec<u8>> { Some(b"hello".to_vec()) }
+//!     fn verify(&mut self, block: &Block, _: &Cancelled) -> Option<bool> { Some(block.content() == b"hello") }
+//!     fn certify(&mut self, block: &Block, _: &Cancelled) -> Option<bool> { Some(block.content() == b"hello") }
+//!     fn finalized(&mut self, block: &Block) -> std::io::Result<()> {
+//!         self.last = (block.view, block.payload());
+//!         self.count += 1;
+//!         Ok(())
+//!     }
+//!     fn last(&self) -> (View, Digest) { self.last }
+//!     fn height(&self) -> u64 { self.count }
+//!     fn durable(&mut self) -> std::io::Result<u64> { Ok(0) }
+//! }
+//!
+//! fn main() -> Outcome {
+//!     let settings = Settings::read("node.toml".as_ref())?;              // engine/node.toml explains them
+//!     run(settings, |start| Ok(Greetings { last: start.block, count: 0 }))
+//! }
+//! ```
+//!
+//! `examples/thirty_lines.rs` is that program, and [`ledger`] an application with a file of its own, which the program `simplex-node` runs.
+//! [`network`] runs networks of processes, for tests of yours too.
+//!
+//! # A part a module, or a crate
+//!
+//! The journal is `simplex_journal`, messages and blocks are `simplex_wire`, delivery is `simplex_chain`, and who a member is
+//! `simplex_identity`: take them alone where you write your own node. Here [`crypto`] signs and verifies, [`peers`] sends and receives,
+//! [`blocks`] and [`archive`] keep blocks, [`application`] says what is asked of one, and [`replica`] is the one thread that owns the engine.
 
+#![forbid(unsafe_code)]
 #![deny(missing_docs)]
 
 pub mod application;
 pub mod archive;
 pub mod audit;
 pub mod blocks;
-pub mod catch_up;
 pub mod chain;
 pub mod clock;
 pub mod crypto;
 pub mod events;
 pub mod faults;
 pub mod floor;
-pub mod identity;
 pub mod inbox;
-pub mod journal;
 pub mod leader_votes;
 pub mod ledger;
-pub mod message;
 pub mod metrics;
+pub mod named;
 pub mod network;
-pub mod network_name;
 pub mod pace;
 pub mod peers;
 pub mod picture;
@@ -38,3 +75,7 @@ pub mod trace;
 pub mod version;
 pub mod vote;
 pub mod waiting;
+
+pub use application::{Application, Cancelled};
+pub use settings::{Outcome, Settings};
+pub use start::{Start, open, run};

@@ -1,12 +1,12 @@
 //! A network of nodes on this machine, each a process: how it is made, watched, disturbed and looked at afterwards.
 
+use crate::crypto;
 use crate::faults::{Fault, Trial};
 use crate::ledger::{self, Link};
-use crate::network_name::NetworkName;
 use crate::run_folder::RunFolder;
 use crate::settings::{Archived, Outcome, Peer, Protocol, Settings};
 use crate::trace::{self, Line};
-use crate::{crypto, journal};
+use simplex_identity::NetworkName;
 use std::fs::{self, File, OpenOptions};
 use std::io::{Read, Write};
 use std::net::{Ipv4Addr, SocketAddr, TcpListener, TcpStream};
@@ -17,7 +17,9 @@ use std::thread::sleep;
 use std::time::{Duration, Instant};
 
 /// How long a node has to end when it is told to.
-const ENDS_WITHIN: Duration = Duration::from_secs(10);
+const ENDS_WITHIN: Duration = Duration::from_secs(60);
+/// How long a node has to reply with what it counts, on a machine that does much else.
+const REPLIES_WITHIN: Duration = Duration::from_secs(5);
 
 /// How a network is made.
 #[derive(Clone, Debug)]
@@ -165,11 +167,11 @@ impl Network {
 
     /// Leaves a beginning of a piece at the end of a node's journal, as a crash in the midst of writing does. The node must not run.
     pub fn tear(&self, index: u32, bytes: usize) -> Outcome {
-        let path = journal::path(&self.data(index));
+        let path = simplex_journal::path(&self.data(index));
         let stored = fs::read(&path)?;
         let last = stored.len().saturating_sub(bytes.max(1));
         // The first piece is whole: a beginning of it after the end is a piece that was cut off.
-        let first = stored.get(journal::HEAD..last).unwrap_or_default();
+        let first = stored.get(simplex_journal::HEAD..last).unwrap_or_default();
         let begun = &first[..bytes.min(first.len()).min(40)];
         let mut file = OpenOptions::new().append(true).open(path)?;
         Ok(file.write_all(begun)?)
@@ -323,8 +325,8 @@ fn free_addresses(count: usize) -> Outcome<Vec<SocketAddr>> {
 }
 
 fn get_metrics(address: SocketAddr) -> Option<String> {
-    let mut stream = TcpStream::connect_timeout(&address, Duration::from_millis(500)).ok()?;
-    stream.set_read_timeout(Some(Duration::from_secs(1))).ok()?;
+    let mut stream = TcpStream::connect_timeout(&address, REPLIES_WITHIN).ok()?;
+    stream.set_read_timeout(Some(REPLIES_WITHIN)).ok()?;
     stream.write_all(b"GET /metrics HTTP/1.1\r\n\r\n").ok()?;
     let mut text = String::new();
     stream.read_to_string(&mut text).ok()?;

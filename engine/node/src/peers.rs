@@ -15,13 +15,12 @@ mod reader;
 mod session;
 mod tls;
 
-pub use link::{HEARTBEAT, HEARTBEAT_FRAME};
-pub use reader::{Horizon, read_frame, read_message};
+pub use link::HEARTBEAT;
+pub use reader::Horizon;
 pub use session::{Credentials, SILENCE, Session};
 
 use crate::crypto::Keys;
 use crate::inbox::Inbox;
-use crate::message::Message;
 use crate::metrics::Counters;
 use crate::settings::{Outcome, Settings};
 use accept::Doors;
@@ -29,6 +28,7 @@ use budget::Bucket;
 use outgoing::Outgoing;
 use reader::Reader;
 use simplex_view_state::{Epoch, Participant};
+use simplex_wire::Message;
 use std::collections::BTreeSet;
 use std::net::TcpListener;
 use std::sync::atomic::Ordering::Relaxed;

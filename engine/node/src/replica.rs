@@ -11,19 +11,16 @@ mod faulty;
 mod finality;
 mod judging;
 
-use crate::application::worker::{Kind, Worker};
+use crate::application::worker::{Answer, Kind, REPLY_WITHIN, Worker};
 use crate::archive::keeper::Keeper;
-use crate::blocks::{Block, Blocks};
-use crate::catch_up::CatchUp;
+use crate::blocks::Blocks;
 use crate::chain::{FinalChain, Tail};
 use crate::clock::Clock;
 use crate::crypto::Keys;
 use crate::events::Events;
 use crate::faults::Fault;
 use crate::inbox::{Event, Inbox};
-use crate::journal::Journal;
 use crate::leader_votes::LeaderVotes;
-use crate::message::Message;
 use crate::metrics::{Counters, resident_kb};
 use crate::pace::Pace;
 use crate::peers::{Horizon, Peers};
@@ -32,11 +29,13 @@ use crate::trace::Trace;
 use crate::waiting::Waiting;
 use far::Far;
 use finality::Lag;
+use simplex_chain::CatchUp;
+use simplex_journal::Journal;
 use simplex_view_state::{
     CertificateKind, Context, Digest, Engine, EngineError, Input, Output, Participant, Proposal, Subject, TimeoutReason, View, Views, Vote,
 };
+use simplex_wire::{Block, Message};
 use std::collections::{BTreeMap, BTreeSet};
-use std::fs::File;
 use std::sync::Arc;
 use std::sync::atomic::{AtomicU64, Ordering::Relaxed};
 use std::time::{Duration, Instant};
@@ -81,8 +80,6 @@ pub struct Parts {
     pub application: Worker,
     /// The clock of this life.
     pub clock: Clock,
-    /// That no other process has the folder.
-    pub lock: File,
 }
 
 /// An engine with all that it needs.
@@ -284,7 +281,7 @@ impl Replica {
     /// A proposal that its view's leader signed, with its block. The readers tested the signature, and that the block has the payload.
     fn take_proposal(&mut self, vote: Vote, block: Vec<u8>) -> Outcome {
         let Subject::Notarize(proposal) = vote.subject else { return Ok(()) };
-        if let Some(block) = Block::of(block, proposal.payload).filter(|it| it.is_of(&proposal)) {
+        if let Some(block) = Block::of(block, proposal.payload).ok().filter(|it| it.is_of(&proposal)) {
             self.take_proposed(vote.signer, proposal, block)?;
         }
         self.take_vote(vote)
@@ -352,6 +349,7 @@ impl Replica {
             if is_settled {
                 break;
             }
+            self.take_replies()?;
             self.leave()?;
         }
         let views = self.views()?;
@@ -377,6 +375,35 @@ impl Replica {
             }
         }
         Ok(())
+    }
+
+    /// Waits for replies of the application that are near, so that one wait for the disk serves the votes that follow from them too. An
+    /// application that lets it wait in vain is not waited for again until it was fast: so a slow one slows nothing.
+    fn take_replies(&mut self) -> Outcome {
+        let until = Instant::now() + REPLY_WITHIN;
+        while let Some(answer) = self.next_reply(until) {
+            self.take_answer(answer)?;
+            self.poll_all()?;
+        }
+        Ok(())
+    }
+
+    /// The application's next reply: one that has come, or one that is near and comes until then.
+    fn next_reply(&self, until: Instant) -> Option<Answer> {
+        let waits_for_disk = self.parts.settings.sync && self.parts.journal.is_dirty();
+        if !waits_for_disk || !self.parts.application.is_reply_near() {
+            return self.parts.inbox.take_answer(Duration::ZERO);
+        }
+        let begun = Instant::now();
+        let reply = self.parts.inbox.take_answer(until.saturating_duration_since(begun));
+        self.spent(&self.parts.counters.reply_us, begun);
+        if reply.is_some() {
+            self.parts.counters.awaited_replies.fetch_add(1, Relaxed);
+        } else {
+            self.parts.application.missed();
+            self.parts.counters.missed_replies.fetch_add(1, Relaxed);
+        }
+        reply
     }
 
     /// Waits until the disk has all blocks and all that was recorded. Blocks come first: one that is notarized and lost everywhere would
@@ -405,7 +432,7 @@ impl Replica {
         match output {
             Output::Store(entries) => self.parts.journal.append(&entries)?,
             Output::Replace(entries) => {
-                self.parts.journal.compact(&entries)?;
+                self.parts.journal.replace(&entries)?;
                 self.parts.counters.compactions.fetch_add(1, Relaxed);
             }
             Output::Vote(order) => self.cast(&order)?,

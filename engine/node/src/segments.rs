@@ -4,6 +4,7 @@
 //! its body and a CRC-32 of length and body, four bytes each, and the body. Nothing that stands is written again. A crash may cut the last
 //! records off: what has no good checksum at the end of the last segment is cut away.
 
+use crate::named::named;
 use std::collections::BTreeMap;
 use std::fs::{self, File, OpenOptions};
 use std::io::{self, Read, Seek, SeekFrom, Write};
@@ -38,7 +39,7 @@ impl Segments {
     /// were is the second answer. A file that is no segment of this network is an error.
     pub fn open(folder: &Path, genesis: [u8; 32], longest: u64, syncs: bool) -> io::Result<(Segments, u64)> {
         if !folder.exists() {
-            fs::create_dir_all(folder)?;
+            fs::create_dir_all(folder).map_err(named(folder))?;
             sync_folder(folder.parent().unwrap_or(Path::new(".")))?;
         }
         let mut segments = Segments {
@@ -50,8 +51,8 @@ impl Segments {
             last: None,
             is_dirty: false,
         };
-        for entry in fs::read_dir(folder)? {
-            let entry = entry?;
+        for entry in fs::read_dir(folder).map_err(named(folder))? {
+            let entry = entry.map_err(named(folder))?;
             let number = number_of(&entry.file_name()).ok_or_else(|| foreign(&entry.path()))?;
             segments.lengths.insert(number, entry.metadata()?.len());
         }
@@ -75,8 +76,9 @@ impl Segments {
             Ok(true)
         })
         .or_else(|error| if is_damage(&error) { Ok(()) } else { Err(error) })?;
-        let file = OpenOptions::new().append(true).open(self.path(number))?;
-        file.set_len(whole)?;
+        let path = self.path(number);
+        let file = OpenOptions::new().append(true).open(&path).map_err(named(&path))?;
+        file.set_len(whole).map_err(named(&path))?;
         self.last = Some(file);
         self.lengths.insert(number, whole);
         Ok(length - whole)
@@ -106,10 +108,15 @@ impl Segments {
             self.begin(number)?;
         }
         let framed = framed(body)?;
+        let segment = self
+            .lengths
+            .last_key_value()
+            .map(|(number, _)| self.path(*number))
+            .unwrap_or_default();
         let (Some(file), Some(mut last)) = (&mut self.last, self.lengths.last_entry()) else {
             return Err(io::Error::other("a segment was begun"));
         };
-        file.write_all(&framed)?;
+        file.write_all(&framed).map_err(named(&segment))?;
         let at = *last.get();
         *last.get_mut() += framed.len() as u64;
         self.is_dirty = true;
@@ -120,10 +127,10 @@ impl Segments {
     fn begin(&mut self, number: u64) -> io::Result<()> {
         self.sync()?;
         let path = self.path(number);
-        let mut file = OpenOptions::new().create_new(true).append(true).open(&path)?;
-        file.write_all(&head(&self.genesis))?;
+        let mut file = OpenOptions::new().create_new(true).append(true).open(&path).map_err(named(&path))?;
+        file.write_all(&head(&self.genesis)).map_err(named(&path))?;
         if self.syncs {
-            file.sync_all()?;
+            file.sync_all().map_err(named(&path))?;
             sync_folder(&self.folder)?;
         }
         self.last = Some(file);
@@ -137,7 +144,7 @@ impl Segments {
             && self.syncs
             && let Some(file) = &self.last
         {
-            file.sync_data()?;
+            file.sync_data().map_err(named(&self.folder))?;
         }
         Ok(())
     }
@@ -145,7 +152,7 @@ impl Segments {
     /// Removes a whole segment; the last one stays.
     pub fn remove(&mut self, number: u64) -> io::Result<()> {
         if self.lengths.last_key_value().is_some_and(|(last, _)| *last != number) && self.lengths.remove(&number).is_some() {
-            fs::remove_file(self.path(number))?;
+            fs::remove_file(self.path(number)).map_err(named(&self.folder))?;
         }
         Ok(())
     }
@@ -154,7 +161,7 @@ impl Segments {
     /// with a wrong checksum is `InvalidData`, which names file and place.
     pub fn each_from(&self, segment: u64, begin: u64, mut each: impl FnMut(u64, &[u8]) -> io::Result<bool>) -> io::Result<()> {
         let (path, length) = (self.path(segment), self.lengths.get(&segment).copied().unwrap_or(0));
-        let mut file = io::BufReader::with_capacity(256 << 10, File::open(&path)?);
+        let mut file = io::BufReader::with_capacity(256 << 10, File::open(&path).map_err(named(&path))?);
         let mut found = [0; HEAD as usize];
         file.read_exact(&mut found)?;
         if found != head(&self.genesis) {
@@ -240,7 +247,7 @@ fn damaged(error: io::Error, path: &Path, at: u64) -> io::Error {
             format!("{} is damaged after {at} bytes: put back a whole copy of this file", path.display()),
         );
     }
-    error
+    named(path)(error)
 }
 
 fn foreign(path: &Path) -> io::Error {
@@ -252,7 +259,7 @@ fn foreign(path: &Path) -> io::Error {
 
 fn sync_folder(folder: &Path) -> io::Result<()> {
     let folder = if folder.as_os_str().is_empty() { Path::new(".") } else { folder };
-    File::open(folder)?.sync_all()
+    File::open(folder).and_then(|it| it.sync_all()).map_err(named(folder))
 }
 
 #[cfg(test)]

@@ -1,8 +1,9 @@
 //! What a node is told at its start: a TOML file. `engine/node.toml` is one, with reasons.
 
+use crate::crypto::raw_key;
 use crate::faults::Trial;
-use crate::network_name::NetworkName;
 use serde::{Deserialize, Serialize};
+use simplex_identity::{Identity, NetworkName, members_digest};
 use simplex_view_state::{Config, Digest, Epoch, Floor, Participant, Skip, Terms, View, ViewDelta};
 use std::fs;
 use std::net::SocketAddr;
@@ -158,7 +159,7 @@ impl Settings {
     /// Each member has a key and an address of its own: two with one key would vote against each other.
     fn test_members(&self) -> Result<(), String> {
         for (index, member) in self.members.iter().enumerate() {
-            crate::crypto::raw_key(&member.key).map_err(|error| format!("member {index}: {error}"))?;
+            raw_key(&member.key).map_err(|error| format!("member {index}: {error}"))?;
             for (other, earlier) in self.members[..index].iter().enumerate() {
                 if earlier.key.eq_ignore_ascii_case(&member.key) {
                     return Err(format!("members {other} and {index} have one key: give each a key of its own"));
@@ -177,6 +178,18 @@ impl Settings {
     /// This node's index.
     pub fn me(&self) -> Participant {
         Participant::new(self.index)
+    }
+
+    /// Who this node is. A public key that is none is an error.
+    pub fn identity(&self) -> Outcome<Identity> {
+        let keys = self.members.iter().map(|it| raw_key(&it.key)).collect::<Outcome<Vec<_>>>()?;
+        Ok(Identity {
+            network: self.network.clone(),
+            key: keys[self.index as usize],
+            epoch: self.protocol.epoch,
+            term_length: self.protocol.term_length.get(),
+            members: members_digest(&keys),
+        })
     }
 
     /// How many members there are.

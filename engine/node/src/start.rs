@@ -9,37 +9,79 @@ use crate::chain::Tail;
 use crate::clock::Clock;
 use crate::crypto::Keys;
 use crate::floor;
-use crate::identity::Identity;
-use crate::inbox::Inbox;
-use crate::journal::{self, Journal, Kept};
-use crate::ledger::{self, Ledger};
+use crate::inbox::{Event, Inbox};
 use crate::metrics::{self, Counters};
 use crate::peers::{Horizon, Peers};
 use crate::replica::{Parts, Replica};
 use crate::settings::{Outcome, Settings};
-use simplex_view_state::{Config, Digest, Engine, EngineError, Floor, Moment, Options, Output, View, Views};
-use std::fs::{self, File, TryLockError};
-use std::path::Path;
+use signal_hook::consts::{SIGINT, SIGTERM};
+use signal_hook::iterator::Signals;
+use simplex_identity::Identity;
+use simplex_journal::{Journal, NEW_KEY, Recovered};
+use simplex_view_state::{Config, Digest, Engine, EngineError, Floor, Moment, Options, Output, Participant, View, Views};
+use std::path::{Path, PathBuf};
 use std::sync::Arc;
-use std::time::Duration;
+use std::thread;
 use tracing::info;
 
-/// A node that is ready to run, and where it is told of events.
-pub fn open(settings: Settings) -> Outcome<(Replica, Arc<Inbox>)> {
-    fs::create_dir_all(&settings.data)?;
-    let lock = lock(&settings.data)?;
+/// Where an application begins: what it is told when it is opened.
+#[derive(Clone, Debug)]
+pub struct Start {
+    /// The node's folder, which this process has for itself. The application may keep files in it under names of its own: not `journal`,
+    /// `journal.new`, `lock`, `blocks` and `archive`.
+    pub folder: PathBuf,
+    /// The block behind which the chain begins: genesis, or the floor. An application that has nothing stored returns it from
+    /// [`Application::last`].
+    pub block: (View, Digest),
+    /// Which member this node is.
+    pub me: Participant,
+}
+
+/// Runs a node until a signal ends it (SIGINT or SIGTERM), or an error does.
+///
+/// The application is opened once the folder is this process's alone. It gets the final blocks that it lacks before the node begins.
+///
+/// # Errors
+///
+/// Where the node must not begin, says what to do: its journal is lost, older, damaged or another member's; another process has its folder;
+/// a key file may be read by others. While it runs: the disk refuses, or the application returned an error or panicked. Nothing was sent
+/// that is not stored, so the node may be run again.
+pub fn run<A: Application>(settings: Settings, application: impl FnOnce(&Start) -> Outcome<A>) -> Outcome {
+    let (replica, inbox) = open(settings, application)?;
+    let mut signals = Signals::new([SIGINT, SIGTERM])?;
+    thread::Builder::new().name("signals".into()).spawn(move || {
+        for _ in signals.forever() {
+            inbox.tell(Event::Stop);
+        }
+    })?;
+    replica.run()
+}
+
+/// Opens a node, for a host with signals of its own: the node runs by [`Replica::run`], and ends by [`Event::Stop`].
+///
+/// # Errors
+///
+/// As of [`run`], of a node that must not begin.
+pub fn open<A: Application>(settings: Settings, application: impl FnOnce(&Start) -> Outcome<A>) -> Outcome<(Replica, Arc<Inbox>)> {
+    let identity = settings.identity()?;
+    let (mut journal, recovered) = Journal::open(&settings.data, &identity, settings.sync)?;
+    test_journal(&settings.data, recovered.as_ref())?;
     let keys = Arc::new(Keys::read(&settings)?);
     let floor = floor::read(&settings, &keys)?;
-    let identity = Identity::of(&settings)?;
-    let kept = read_journal(&settings.data, &identity)?;
-    let mut engine = engine(&settings.config(floor.clone()), kept.as_ref())?;
+    let mut engine = engine(&settings.config(floor.clone()), recovered.as_ref())?;
     let views = engine.views().ok_or(EngineError::Failed)?;
-    test_chain(&settings.data, views.last_finalized)?;
-    let (archive, application) = open_archive(&settings, &identity, &floor)?;
+    let start = Start {
+        folder: settings.data.clone(),
+        block: first_block(&identity, &floor),
+        me: settings.me(),
+    };
+    let mut application = application(&start)?;
+    test_application(&settings.data, &application, recovered.as_ref(), views.last_finalized)?;
+    let archive = open_archive(&settings, &identity, &mut application)?;
     test_archive(&settings.data, archive.tail(), views.last_finalized)?;
     let tail = archive.tail();
     let clock = Clock::start();
-    let journal = begin_journal(&mut engine, &settings, &identity, clock.now())?;
+    begin_journal(&mut engine, &mut journal, clock.now())?;
     let counters = Arc::new(Counters::default());
     if let Some(address) = settings.metrics {
         metrics::serve(address, counters.clone()).map_err(|error| format!("metrics at {address}: {error}"))?;
@@ -50,7 +92,7 @@ pub fn open(settings: Settings) -> Outcome<(Replica, Arc<Inbox>)> {
     let peers = Arc::new(Peers::start(&settings, &keys, &horizon, &counters, &inbox)?);
     let keeper = Keeper::begin(archive, peers.clone(), inbox.clone(), counters.clone())?;
     let application = Worker::begin(application, inbox.clone(), counters.clone())?;
-    tell(kept.as_ref(), &views);
+    tell(recovered.as_ref(), &views);
     let replica = Replica::new(Parts {
         blocks: Blocks::open(&settings.data, *identity.genesis().bytes(), settings.sync)?,
         keeper,
@@ -65,43 +107,46 @@ pub fn open(settings: Settings) -> Outcome<(Replica, Arc<Inbox>)> {
         journal,
         application,
         clock,
-        lock,
     })?;
     Ok((replica, inbox))
 }
 
-/// What the journal held; `None` of a node that never began. Where files of the node are here and the journal is not, it is lost: without
-/// it the node would vote a second time.
-fn read_journal(folder: &Path, identity: &Identity) -> Outcome<Option<Kept>> {
-    let path = journal::path(folder);
-    let kept = journal::read(folder, identity).map_err(|error| format!("{}: {error}", path.display()))?;
-    let places = [ledger::path(folder), blocks::path(folder), archive::path(folder)];
+/// Refuses to begin anew where files of the node are here and the journal is not: it is lost, and without it the node would vote a second
+/// time.
+fn test_journal(folder: &Path, recovered: Option<&Recovered>) -> Outcome {
+    let places = [blocks::path(folder), archive::path(folder)];
     let left = places.into_iter().find(|it| it.exists());
-    match (kept, left) {
+    match (recovered, left) {
         (None, Some(left)) => Err(format!(
-            "{} is here, and the journal {} is not: this node may have voted, and could contradict its votes. Put the journal back. {}",
+            "{} is here, and the journal {} is not: this node may have voted, and could contradict its votes. Put the journal back. {NEW_KEY}",
             left.display(),
-            path.display(),
-            journal::NEW_KEY
+            simplex_journal::path(folder).display(),
         )
         .into()),
-        (kept, _) => Ok(kept),
+        _ => Ok(()),
     }
 }
 
-/// Refuses a journal that is older than the finalized chain beside it. A block is appended to the chain only after the journal holds the
-/// finalization, so a chain that is ahead shows that an earlier journal was put back.
-fn test_chain(folder: &Path, finalized: View) -> Outcome {
-    let last = ledger::last_links(folder, 1)?.last().map_or(0, |it| it.view);
-    if last <= finalized.get() {
+/// Refuses a journal that is older than the application's chain, or is not there while that is. The application gets a block only after
+/// the journal holds the finalization, so one that is ahead shows that the journal is lost, or an earlier one was put back.
+fn test_application(folder: &Path, application: &impl Application, recovered: Option<&Recovered>, finalized: View) -> Outcome {
+    let (height, journal) = (application.height(), simplex_journal::path(folder));
+    if recovered.is_none() && height > 0 {
+        return Err(format!(
+            "the application's chain has {height} blocks, and the journal {} is not here: this node may have voted, and could contradict \
+             its votes. Put the journal back. {NEW_KEY}",
+            journal.display(),
+        )
+        .into());
+    }
+    let last = application.last().0;
+    if height == 0 || last <= finalized {
         return Ok(());
     }
     Err(format!(
-        "the journal {} is older than {}: its last finalized view is {finalized}, and the chain's is {last}. Votes are lost: put the newest \
-         journal back. {}",
-        journal::path(folder).display(),
-        ledger::path(folder).display(),
-        journal::NEW_KEY
+        "the journal {} is older than the application's chain: its last finalized view is {finalized}, and the chain's is {last}. Votes are \
+         lost: put the newest journal back. {NEW_KEY}",
+        journal.display(),
     )
     .into())
 }
@@ -114,19 +159,16 @@ fn test_archive(folder: &Path, last: Tail, finalized: View) -> Outcome {
     Err(format!(
         "the journal {} is older than {}: its last finalized view is {finalized}, and the archive's is {}. Votes are lost: put the newest \
          journal back. {}",
-        journal::path(folder).display(),
+        simplex_journal::path(folder).display(),
         archive::path(folder).display(),
         last.view,
-        journal::NEW_KEY
+        NEW_KEY
     )
     .into())
 }
 
-/// The archive, and the application with all blocks that are in it. The archive is written first, so the application may be behind it.
-fn open_archive(settings: &Settings, identity: &Identity, floor: &Floor) -> Outcome<(Archive, Ledger)> {
-    let start = first_block(identity, floor);
-    let works_for = Duration::from_millis(settings.trial.application_ms);
-    let mut application = Ledger::open(&settings.data, start, u64::from(settings.index) << 32, works_for)?;
+/// The archive, whose blocks the application gets that it lacks. The archive is written first, so the application may be behind it.
+fn open_archive(settings: &Settings, identity: &Identity, application: &mut impl Application) -> Outcome<Archive> {
     let (view, payload) = application.last();
     let tail = Tail {
         height: application.height(),
@@ -142,12 +184,12 @@ fn open_archive(settings: &Settings, identity: &Identity, floor: &Floor) -> Outc
     if cut > 0 {
         info!(cut, "the archive's last block was cut off");
     }
-    replay(&mut archive, &mut application)?;
-    Ok((archive, application))
+    replay(&mut archive, application)?;
+    Ok(archive)
 }
 
 /// Hands the application the blocks of the archive that it has not taken.
-fn replay(archive: &mut Archive, application: &mut Ledger) -> Outcome {
+fn replay(archive: &mut Archive, application: &mut impl Application) -> Outcome {
     let (height, last) = (application.height(), application.last());
     if archive.first().is_some_and(|first| first > height + 1) {
         return Err(format!(
@@ -168,36 +210,26 @@ fn replay(archive: &mut Archive, application: &mut Ledger) -> Outcome {
     Ok(())
 }
 
-fn tell(kept: Option<&Kept>, views: &Views) {
-    let (cut, entries) = kept.map_or((0, 0), |it| (it.cut, it.stored.entries.get()));
+fn tell(recovered: Option<&Recovered>, views: &Views) {
+    let (cut, entries) = recovered.map_or((0, 0), |it| (it.cut, it.stored.entries.get()));
     let (current, finalized) = (views.current.get(), views.last_finalized.get());
     info!(cut, entries, current, finalized, "begun");
 }
 
 /// The engine of a member that begins, or goes on from what its journal held.
-fn engine(config: &Config, kept: Option<&Kept>) -> Outcome<Engine> {
+fn engine(config: &Config, recovered: Option<&Recovered>) -> Outcome<Engine> {
     let (options, begun) = (Options::default(), Moment::from_millis(0));
-    match kept {
-        Some(kept) => Ok(Engine::resume(config, &options, begun, &kept.stored, &kept.frames)?),
+    match recovered {
+        Some(it) => Ok(Engine::resume(config, &options, begun, &it.stored, &it.frames)?),
         None => Ok(Engine::start(config, &options, begun)?),
     }
 }
 
-/// The journal of a life, from the engine's first output on: the whole record, in place of all that was stored.
-fn begin_journal(engine: &mut Engine, settings: &Settings, identity: &Identity, now: Moment) -> Outcome<Journal> {
+/// Begins the journal of a life, from the engine's first output on: the whole record, in place of all that was stored.
+fn begin_journal(engine: &mut Engine, journal: &mut Journal, now: Moment) -> Outcome {
     match engine.poll(now)? {
-        Some(Output::Replace(entries)) => Ok(Journal::create(&settings.data, identity, &entries, settings.sync)?),
+        Some(Output::Replace(entries)) => Ok(journal.replace(&entries)?),
         other => Err(format!("the engine begins with {other:?} in place of its record").into()),
-    }
-}
-
-/// Takes a folder for this process alone: two that vote with one key could contradict each other.
-fn lock(folder: &Path) -> Outcome<File> {
-    let file = File::create(folder.join("lock"))?;
-    match file.try_lock() {
-        Ok(()) => Ok(file),
-        Err(TryLockError::WouldBlock) => Err(format!("another process has {}", folder.display()).into()),
-        Err(TryLockError::Error(error)) => Err(error.into()),
     }
 }
 

@@ -1,13 +1,15 @@
 //! All votes that a node sent or was sent, as lines of a file, for audits.
 
-use crate::blocks::now_us;
+use crate::named::named;
 use simplex_view_state::{Participant, Subject, Vote};
+use simplex_wire::now_us;
 use std::fs::{self, File, OpenOptions};
 use std::io::{self, BufWriter, Write};
-use std::path::Path;
+use std::path::{Path, PathBuf};
 
 /// A file of votes.
 pub struct Trace {
+    path: PathBuf,
     file: BufWriter<File>,
 }
 
@@ -29,10 +31,11 @@ pub struct Line {
 impl Trace {
     /// Goes on with a file. A last line that a crash cut off goes: the next one would run into it.
     pub fn open(path: &Path) -> io::Result<Trace> {
-        let file = OpenOptions::new().create(true).append(true).open(path)?;
-        let end = fs::read(path)?.iter().rposition(|it| *it == b'\n');
-        file.set_len(end.map_or(0, |it| it as u64 + 1))?;
+        let file = OpenOptions::new().create(true).append(true).open(path).map_err(named(path))?;
+        let end = fs::read(path).map_err(named(path))?.iter().rposition(|it| *it == b'\n');
+        file.set_len(end.map_or(0, |it| it as u64 + 1)).map_err(named(path))?;
         Ok(Trace {
+            path: path.to_owned(),
             file: BufWriter::new(file),
         })
     }
@@ -45,12 +48,12 @@ impl Trace {
             Subject::Nullify(_) => ('x', "-".to_owned()),
             Subject::Finalize(it) => ('f', format!("{} {}", it.parent, it.payload)),
         };
-        writeln!(self.file, "{} {} {kind} {view} {proposal}", now_us(), vote.signer)
+        writeln!(self.file, "{} {} {kind} {view} {proposal}", now_us(), vote.signer).map_err(named(&self.path))
     }
 
     /// Hands what was written to the operating system.
     pub fn flush(&mut self) -> io::Result<()> {
-        self.file.flush()
+        self.file.flush().map_err(named(&self.path))
     }
 }
 
@@ -59,7 +62,7 @@ pub fn read(path: &Path) -> io::Result<Vec<Line>> {
     match fs::read_to_string(path) {
         Ok(text) => Ok(text.split_inclusive('\n').filter_map(read_line).collect()),
         Err(error) if error.kind() == io::ErrorKind::NotFound => Ok(Vec::new()),
-        Err(error) => Err(error),
+        Err(error) => Err(named(path)(error)),
     }
 }
 

@@ -2,15 +2,13 @@
 
 mod members;
 
-use members::{Link, chain, hear, played, settings_of, stored_blocks};
-use simplex_node::blocks::Block;
+use members::{Link, SOON, chain, hear, played, settings_of, stored_blocks};
 use simplex_node::crypto::{Keys, hex};
-use simplex_node::identity::Identity;
-use simplex_node::message::{Message, Range};
 use simplex_node::network::{Network, Plan, folder_of};
 use simplex_node::peers::Credentials;
 use simplex_node::settings::{Protocol, Settings};
 use simplex_view_state::{Certificate, Context, Digest, Epoch, FetchKind, Participant, Proposal, Round, Subject, View, Vote};
+use simplex_wire::{Block, Message, Range};
 use std::collections::BTreeSet;
 use std::fs;
 use std::net::TcpListener;
@@ -19,8 +17,6 @@ use std::sync::mpsc::{Receiver, channel};
 use std::thread::{self, sleep};
 use std::time::{Duration, Instant};
 
-/// Within what time something has to be seen, on a machine that does much else.
-const SOON: Duration = Duration::from_secs(20);
 /// How long it is looked whether something is not done.
 const WHILE: Duration = Duration::from_millis(600);
 
@@ -66,12 +62,13 @@ impl Others {
         let address = settings[0].members[0].address;
         let links: Vec<Link> = credentials[1..].iter().map(|it| Link::begin(it, address)).collect();
         links.iter().for_each(Link::show_life);
+        assert!(network.wait_until(&[0], "connections", 3, SOON), "it does not connect");
         Others {
             network,
             links,
             keys,
             heard,
-            genesis: Identity::of(&settings[0]).expect("keys").genesis(),
+            genesis: settings[0].identity().expect("keys").genesis(),
         }
     }
 
@@ -169,10 +166,10 @@ fn a_certificate_that_is_lacking_is_asked_of_each_member_until_it_comes() {
     assert_eq!(asked.iter().map(|it| it.1).collect::<BTreeSet<u64>>(), (1..=3).collect());
     (1..=3).for_each(|view| others.nullify(view));
     others.comes_to("verified", 4);
-    sleep(WHILE);
-    while others.heard.try_recv().is_ok() {}
-    let asks_still = others.hears(WHILE, |_, message| matches!(message, Message::AskCertificate(..)));
-    assert!(!asks_still, "it has them");
+    let (is_ask, begun) = (|message: &Message| matches!(message, Message::AskCertificate(..)), Instant::now());
+    while others.hears(WHILE, |_, message| is_ask(message)) {
+        assert!(begun.elapsed() < SOON, "it has them, and asks still");
+    }
     others.end();
 }
 
@@ -384,7 +381,8 @@ fn a_notarization_of_another_proposal_is_evidence_with_the_leaders_vote_in_it() 
     propose(&mut others, &first);
     let certificate = others.certificate(&[1, 2, 3], second.subject);
     others.send(3, &Message::Certificate(certificate));
-    assert_eq!(sent_to(&others, &first.0, 3, WHILE * 4), [2, 3], "those that voted for the other");
+    assert_eq!(sent_to(&others, &first.0, 2, SOON), [2, 3], "those that voted for the other");
+    assert!(sent_to(&others, &first.0, 1, WHILE).is_empty());
     shows_the_evidence(others, &first.0, &second);
 }
 
@@ -440,8 +438,11 @@ fn final_blocks_that_are_lacking_are_taken_in_a_range_where_they_are_those_that_
     assert_ne!(asked_range(&others).0, first);
     others.send(2, &range(&falling, &certificate));
     others.comes_to("height", 5);
-    sleep(WHILE);
-    assert_eq!(others.counts("lag_views"), 0);
+    let begun = Instant::now();
+    while others.counts("lag_views") > 0 {
+        assert!(begun.elapsed() < SOON, "it lags");
+        sleep(Duration::from_millis(20));
+    }
     others.end();
 }
 
@@ -470,12 +471,13 @@ fn a_certificate_of_a_far_view_waits_for_a_finalization() {
         parent: View::new(view - 1),
         payload: Digest::new([7; 32]),
     };
+    let begun = Instant::now();
     others.nullify(100_001);
     let certificate = others.certificate(&[1, 2, 3], Subject::Finalize(far(100_000)));
     others.send(2, &Message::Certificate(certificate));
-    let begun = Instant::now();
     others.comes_to("current_view", 100_002);
-    assert!(begun.elapsed() < Duration::from_secs(5), "{:?}", begun.elapsed());
+    // (a second at most; with the fetches half a minute on the same machine)
+    assert!(begun.elapsed() < Duration::from_secs(8), "{:?}", begun.elapsed());
     assert_eq!(others.counts("last_finalized"), 100_000);
     // Where nothing is finalized it counts by itself.
     others.nullify(100_801);

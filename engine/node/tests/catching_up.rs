@@ -7,18 +7,19 @@ use std::fs;
 use std::time::{Duration, Instant};
 
 /// Within what time something has to be seen, on a machine that does much else.
-const SOON: Duration = Duration::from_secs(30);
+const SOON: Duration = Duration::from_secs(120);
 /// How long a network gets for many views.
-const LONG: Duration = Duration::from_secs(150);
+const LONG: Duration = Duration::from_secs(400);
 
 fn network(name: &str, nodes: u32) -> Network {
     let plan = Plan {
         nodes,
         protocol: Protocol {
-            inactivity_ms: 200,
-            leader_timeout_ms: 150,
-            certification_timeout_ms: 190,
-            timeout_retry_ms: 100,
+            // (on a slow machine a healthy leader may take longer than some hundred milliseconds)
+            inactivity_ms: 1500,
+            leader_timeout_ms: 1000,
+            certification_timeout_ms: 1400,
+            timeout_retry_ms: 500,
             ..Protocol::default()
         },
         sync: false,
@@ -204,5 +205,41 @@ fn a_segment_that_is_damaged_and_needed_is_named() {
     network.begin(0).expect("a process");
     assert!(network.wait_until(&[0], "height", 101, SOON), "{}", log(&network, 0));
     network.stop().expect("it stops");
+    fs::remove_dir_all(network.folder()).expect("a folder");
+}
+
+/// A line that can't be read is named, and no line is removed: the archive has all blocks.
+#[test]
+fn a_chain_with_bytes_that_are_no_text_is_named_and_written_again_from_the_archive() {
+    let mut network = alone("text");
+    let path = network.data(0).join("chain");
+    let good = fs::read(&path).expect("a chain");
+    let mut bytes = good.clone();
+    let third = bytes.iter().enumerate().filter(|(_, it)| **it == b'\n').nth(1).expect("lines").0 + 5;
+    bytes[third] = 0xff;
+    fs::write(&path, &bytes).expect("a disk");
+    network.begin(0).expect("a process");
+    let begun = Instant::now();
+    while !network.has_ended(0).expect("a process") {
+        assert!(begun.elapsed() < SOON, "it goes on");
+        std::thread::sleep(Duration::from_millis(20));
+    }
+    let said = log(&network, 0);
+    let is_named = said.contains(path.to_str().expect("letters")) && said.contains("line 3 is damaged: move the file away");
+    assert!(is_named, "{said}");
+    assert_eq!(fs::read(&path).expect("a chain"), bytes, "it stays as it is");
+    fs::rename(&path, path.with_extension("damaged")).expect("a disk");
+    network.begin(0).expect("a process");
+    assert!(network.wait_until(&[0], "height", 101, SOON), "{}", log(&network, 0));
+    network.stop().expect("it stops");
+    let payloads = |text: &[u8]| -> Vec<String> {
+        let lines = String::from_utf8(text.to_vec()).expect("text");
+        lines
+            .lines()
+            .map(|it| it.split(' ').take(2).collect::<Vec<_>>().join(" "))
+            .collect()
+    };
+    let (before, after) = (payloads(&good), payloads(&fs::read(&path).expect("a chain")));
+    assert_eq!(after[..before.len()], before);
     fs::remove_dir_all(network.folder()).expect("a folder");
 }

@@ -1,6 +1,6 @@
 //! Journals that a node must not begin with: lost ones, those of others, and those that are older than its chain.
 
-use simplex_node::journal;
+use simplex_journal::{self as journal, HEAD};
 use simplex_node::network::{Network, Plan, folder_of};
 use simplex_node::settings::Protocol;
 use std::fs;
@@ -11,9 +11,6 @@ use std::time::{Duration, Instant};
 
 /// Within what time something has to be seen, on a machine that does much else.
 const SOON: Duration = Duration::from_secs(60);
-/// Where the pieces of a journal begin: after eight letters, a version, an identity and a digest.
-const HEAD: usize = 9 + simplex_node::identity::SIZE + 32;
-
 /// A network of so many nodes that has finalized some views, and has stopped.
 fn stopped(name: &str, nodes: u32) -> Network {
     let plan = Plan {
@@ -39,10 +36,9 @@ fn runs_on(network: &mut Network) {
     network.stop().expect("they stop");
 }
 
-/// Runs the program with a node's settings until it ends, or runs for long.
-fn run(words: &[&str], config: &Path) -> Option<Output> {
+/// Runs the program with a node's settings until it ends.
+fn run(config: &Path) -> Output {
     let mut child = Command::new(env!("CARGO_BIN_EXE_simplex-node"))
-        .args(words)
         .arg("--config")
         .arg(config)
         .stderr(Stdio::piped())
@@ -50,19 +46,30 @@ fn run(words: &[&str], config: &Path) -> Option<Output> {
         .expect("a process");
     let begun = Instant::now();
     while child.try_wait().expect("a process").is_none() {
-        if begun.elapsed() > Duration::from_secs(3) {
+        if begun.elapsed() > SOON {
             child.kill().expect("a process");
-            child.wait().expect("a process");
-            return None;
+            panic!("it is not refused, and runs");
         }
         sleep(Duration::from_millis(20));
     }
-    Some(child.wait_with_output().expect("a process"))
+    child.wait_with_output().expect("a process")
+}
+
+/// A node begins, and runs.
+fn runs(network: &mut Network, index: u32) {
+    network.begin(index).expect("a process");
+    let log = network.log(index);
+    assert!(
+        network.wait_until(&[index], "current_view", 1, SOON),
+        "{}",
+        fs::read_to_string(log).unwrap_or_default()
+    );
+    network.kill(index).expect("a process");
 }
 
 /// Why a node is refused.
 fn refused(network: &Network, index: u32) -> String {
-    let done = run(&[], &network.config(index)).expect("it is refused, and does not run");
+    let done = run(&network.config(index));
     assert!(!done.status.success());
     let said = String::from_utf8_lossy(&done.stderr).into_owned();
     assert!(!said.contains("begun"), "it began: {said}");
@@ -78,9 +85,13 @@ fn a_node_that_lost_its_journal_is_refused_by_what_it_left() {
     let network = stopped("lost", 1);
     let data = network.data(0);
     fs::remove_file(journal::path(&data)).expect("a journal");
-    for left in ["chain", "blocks", "archive"] {
+    for (left, named) in [
+        ("blocks", data.join("blocks").display().to_string()),
+        ("archive", data.join("archive").display().to_string()),
+        ("chain", "the application's chain".to_owned()),
+    ] {
         let said = refused(&network, 0);
-        assert!(said.contains(data.join(left).to_str().expect("letters")), "{said}");
+        assert!(said.contains(&named), "{said}");
         assert!(said.contains("journal") && said.contains("Put the journal back"), "{said}");
         assert!(!journal::path(&data).exists(), "no other journal is begun");
         let path = data.join(left);
@@ -104,7 +115,7 @@ fn a_journal_of_another_key_is_refused() {
     network.set(0, |it| it.members[0].key = key.clone()).expect("settings");
     let said = refused(&network, 0);
     assert!(
-        said.contains("journal") && said.contains("the journal of the key") && said.contains(&key),
+        said.contains("journal") && said.contains("it is of the key") && said.contains(&key),
         "{said}"
     );
     assert_eq!(
@@ -131,7 +142,7 @@ fn a_journal_of_another_term_length_is_refused() {
         .set(0, |it| it.protocol.term_length = 3.try_into().expect("not 0"))
         .expect("settings");
     let said = refused(&network, 0);
-    assert!(said.contains("terms of 1") && said.contains("`term_length` is 3"), "{said}");
+    assert!(said.contains("terms of 1") && said.contains("the term length is 3"), "{said}");
     end(network);
 }
 
@@ -152,7 +163,7 @@ fn a_journal_of_another_list_of_members_is_refused() {
             it.members[3].address = listens;
         })
         .expect("settings");
-    assert!(run(&[], &network.config(0)).is_none(), "it runs");
+    runs(&mut network, 0);
     end(network);
 }
 
@@ -163,7 +174,7 @@ fn a_journal_of_another_network_is_refused() {
     network.set(0, |it| it.network = other).expect("settings");
     let said = refused(&network, 0);
     assert!(
-        said.contains("of the network local") && said.contains("`network` is other"),
+        said.contains("of the network local") && said.contains("of the network other"),
         "{said}"
     );
     end(network);
@@ -201,7 +212,7 @@ fn a_journal_that_is_older_than_the_chain_is_refused() {
         "{said}"
     );
     fs::write(&path, newer).expect("a disk");
-    assert!(run(&[], &network.config(0)).is_none(), "it runs");
+    runs(&mut network, 0);
     end(network);
 }
 
@@ -221,5 +232,8 @@ fn a_node_whose_disk_is_full_goes_on_with_its_own_journal() {
     }
     let said = fs::read_to_string(network.log(0)).expect("a log");
     assert!(said.contains("File too large") && !said.contains("is older than"), "{said}");
+    let folder = network.data(0).display().to_string();
+    let ends: Vec<&str> = said.lines().filter(|it| it.contains("File too large")).collect();
+    assert!(ends.iter().all(|it| it.contains(&folder)), "each names its file: {ends:?}");
     end(network);
 }

@@ -1,20 +1,23 @@
 //! The thread of the application. What the engine waits for comes first, then final blocks, one at a time in between.
 
 use super::{Application, Cancelled};
-use crate::blocks::Block;
 use crate::chain::Entry;
 use crate::inbox::{Event, Inbox};
 use crate::metrics::Counters;
 use simplex_view_state::{Context, Digest, Proposal, View};
+use simplex_wire::Block;
 use std::collections::VecDeque;
 use std::io;
-use std::sync::atomic::Ordering::Relaxed;
+use std::sync::atomic::{AtomicBool, Ordering::Relaxed};
 use std::sync::{Arc, Condvar, Mutex, MutexGuard};
 use std::thread::{self, JoinHandle};
 use std::time::{Duration, Instant};
 
 /// How often the application is asked what it has on the disk.
 const DURABLE: Duration = Duration::from_secs(1);
+/// How long the engine's thread waits at most for a reply before it waits for the disk: a wait for the disk takes longer, and one serves
+/// the votes that follow from the reply too.
+pub const REPLY_WITHIN: Duration = Duration::from_micros(500);
 
 /// What the application is asked, and the engine waits for.
 #[derive(Debug)]
@@ -62,10 +65,13 @@ pub enum Answer {
     Durable(u64),
 }
 
+/// What is asked, whether it is cancelled, and when it was asked.
+type Asked = (Question, Cancelled, Instant);
+
 /// What waits for the application.
 #[derive(Debug, Default)]
 struct Waiting {
-    questions: VecDeque<(Question, Cancelled)>,
+    questions: VecDeque<Asked>,
     /// What it works on.
     running: Option<((Kind, View), Cancelled)>,
     finals: VecDeque<Entry>,
@@ -76,6 +82,8 @@ struct Waiting {
 struct Shared {
     waiting: Mutex<Waiting>,
     arrival: Condvar,
+    /// Whether the last reply came too late to be waited for.
+    is_slow: AtomicBool,
 }
 
 impl Shared {
@@ -115,8 +123,22 @@ impl Worker {
     /// Asks the application, in place of the question of the same kind and view.
     pub fn ask(&self, question: Question) {
         self.cancel(question.key());
-        self.shared.lock().questions.push_back((question, Cancelled::default()));
+        let asked = (question, Cancelled::default(), Instant::now());
+        self.shared.lock().questions.push_back(asked);
         self.shared.arrival.notify_one();
+    }
+
+    /// Whether a reply is due that is worth a short wait ([`REPLY_WITHIN`]): a question is open, and the last reply was fast.
+    pub fn is_reply_near(&self) -> bool {
+        !self.shared.is_slow.load(Relaxed) && {
+            let waiting = self.shared.lock();
+            waiting.running.is_some() || !waiting.questions.is_empty()
+        }
+    }
+
+    /// A reply did not come within [`REPLY_WITHIN`]. None is near from then on, until one was fast again.
+    pub fn missed(&self) {
+        self.shared.is_slow.store(true, Relaxed);
     }
 
     /// Nobody waits for the answer to a question any more.
@@ -135,7 +157,7 @@ impl Worker {
     fn cancel_where(&self, is_passed: impl Fn((Kind, View)) -> bool) {
         let mut waiting = self.shared.lock();
         // (a build is answered also where it never began)
-        waiting.questions.retain(|(question, cancelled)| {
+        waiting.questions.retain(|(question, cancelled, _)| {
             let (is_passed, is_build) = (is_passed(question.key()), matches!(question, Question::Build(_)));
             if is_passed {
                 cancelled.cancel();
@@ -188,7 +210,7 @@ impl Drop for End {
 
 /// What is to be done next.
 enum Next {
-    Question(Question, Cancelled),
+    Question(Asked),
     Final(Box<Entry>),
     End,
 }
@@ -204,12 +226,16 @@ impl<A: Application> Work<A> {
     fn run(&mut self, inbox: &Inbox) -> io::Result<()> {
         loop {
             match self.next() {
-                Next::Question(question, cancelled) => {
+                Next::Question((question, cancelled, asked)) => {
                     let answer = self.answer(question, &cancelled);
-                    self.shared.lock().running = None;
+                    if !cancelled.is_cancelled() {
+                        self.shared.is_slow.store(asked.elapsed() > REPLY_WITHIN, Relaxed);
+                    }
                     if let Some(it) = answer {
                         inbox.tell(Event::Answered(it));
                     }
+                    // (behind that: while a question is open, its reply is waited for)
+                    self.shared.lock().running = None;
                 }
                 Next::Final(entry) => self.take(&entry.block)?,
                 Next::End => return Ok(()),
@@ -225,9 +251,9 @@ impl<A: Application> Work<A> {
     fn next(&self) -> Next {
         let mut waiting = self.shared.lock();
         loop {
-            if let Some((question, cancelled)) = waiting.questions.pop_front() {
-                waiting.running = Some((question.key(), cancelled.clone()));
-                return Next::Question(question, cancelled);
+            if let Some(asked) = waiting.questions.pop_front() {
+                waiting.running = Some((asked.0.key(), asked.1.clone()));
+                return Next::Question(asked);
             }
             if let Some(entry) = waiting.finals.pop_front() {
                 return Next::Final(Box::new(entry));
@@ -274,7 +300,7 @@ mod tests {
     use simplex_view_state::{Epoch, Participant, Round};
     use std::sync::mpsc::{Sender, channel};
 
-    const SOON: Duration = Duration::from_secs(10);
+    const SOON: Duration = Duration::from_secs(60);
 
     /// Works on each question until it is cancelled, where its view is odd; and panics in view 100.
     struct Slow {
@@ -428,6 +454,28 @@ mod tests {
         assert!(matches!(answer(&inbox, SOON), Some(Answer::Verified(..))));
         worker.stop();
         assert_eq!(counters.height.load(Relaxed), 500);
+    }
+
+    #[test]
+    fn a_reply_that_was_missed_is_not_waited_for_until_one_was_fast() {
+        let (worker, begun, inbox, _) = worker();
+        assert!(!worker.is_reply_near(), "nothing is asked");
+        worker.ask(asked(Kind::Verify, 3));
+        assert_eq!(begun.recv_timeout(SOON), Ok(View::new(3)));
+        assert!(worker.is_reply_near());
+        worker.missed();
+        assert!(!worker.is_reply_near());
+        worker.cancel((Kind::Verify, View::new(3)));
+        let since = Instant::now();
+        let is_fast_again = (2..).step_by(2).take_while(|_| since.elapsed() < SOON).any(|view| {
+            worker.ask(asked(Kind::Verify, view));
+            assert!(answer(&inbox, SOON).is_some());
+            worker.ask(asked(Kind::Verify, view + 1));
+            let is_near = worker.is_reply_near();
+            worker.cancel((Kind::Verify, View::new(view + 1)));
+            is_near
+        });
+        assert!(is_fast_again);
     }
 
     #[test]

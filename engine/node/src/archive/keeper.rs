@@ -3,10 +3,10 @@
 use super::{Archive, Behind};
 use crate::chain::Entry;
 use crate::inbox::{Event, Inbox};
-use crate::message::{LONGEST_RANGE, Message};
 use crate::metrics::Counters;
 use crate::peers::Peers;
 use simplex_view_state::{Digest, Participant, View};
+use simplex_wire::{LONGEST_RANGE, Message};
 use std::io;
 use std::sync::Arc;
 use std::sync::atomic::{AtomicU64, AtomicUsize, Ordering::Relaxed};

@@ -1,16 +1,14 @@
-//! One member of a network, as a process.
+//! One member of a network, as a process, with the sample application.
 
 use clap::{Parser, Subcommand};
-use signal_hook::consts::{SIGINT, SIGTERM};
-use signal_hook::iterator::Signals;
-use simplex_node::inbox::Event;
-use simplex_node::settings::{Outcome, Settings};
+use simplex_node::ledger::Ledger;
 use simplex_node::version::version;
-use simplex_node::{crypto, floor, start};
+use simplex_node::{Outcome, Settings};
+use simplex_node::{crypto, floor};
 use std::fs;
 use std::path::PathBuf;
 use std::process::ExitCode;
-use std::thread;
+use std::time::Duration;
 use tracing_subscriber::EnvFilter;
 
 /// A member of a network that runs the Simplex protocol.
@@ -76,12 +74,6 @@ fn write_floor(config: &std::path::Path, out: &std::path::Path) -> Outcome {
 fn run(config: &std::path::Path, trace: Option<PathBuf>) -> Outcome {
     let mut settings = Settings::read(config)?;
     settings.events = trace.or(settings.events);
-    let (replica, inbox) = start::open(settings)?;
-    let mut signals = Signals::new([SIGINT, SIGTERM])?;
-    thread::Builder::new().name("signals".into()).spawn(move || {
-        for _ in signals.forever() {
-            inbox.tell(Event::Stop);
-        }
-    })?;
-    replica.run()
+    let works_for = Duration::from_millis(settings.trial.application_ms);
+    simplex_node::run(settings, |start| Ledger::open(start, works_for))
 }

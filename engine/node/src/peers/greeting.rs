@@ -2,11 +2,10 @@
 //!
 //! Each side sends its own before it reads the other's, so where they differ both say in what.
 
-use crate::identity::Identity;
-use crate::message::VERSION;
-use crate::network_name::NetworkName;
 use crate::settings::{Outcome, Settings};
+use simplex_identity::NetworkName;
 use simplex_view_state::Digest;
+use simplex_wire::VERSION;
 use std::fmt::Display;
 use std::io::{self, Read, Write};
 
@@ -27,7 +26,7 @@ pub struct Greeting {
 impl Greeting {
     /// The greeting of a node with these settings.
     pub fn of(settings: &Settings) -> Outcome<Greeting> {
-        let identity = Identity::of(settings)?;
+        let identity = settings.identity()?;
         Ok(Greeting {
             network: identity.network,
             epoch: identity.epoch,

@@ -7,6 +7,7 @@ use super::outgoing::Outgoing;
 use super::session::{Credentials, SILENCE, Session};
 use crate::metrics::Counters;
 use simplex_view_state::Participant;
+use simplex_wire::HEARTBEAT_FRAME;
 use std::io::{self, Write};
 use std::net::SocketAddr;
 use std::sync::Arc;
@@ -25,8 +26,6 @@ pub const HEARTBEAT: Duration = Duration::from_millis(500);
 const LOOK: Duration = Duration::from_millis(100);
 /// How often it is logged at most that a peer refuses, or is refused.
 pub(super) const LOGGED: Duration = Duration::from_secs(10);
-/// A frame without a message.
-pub const HEARTBEAT_FRAME: [u8; 4] = [0; 4];
 
 /// Begins the thread of a link. It ends once the queue is closed.
 pub fn begin(to: Participant, address: SocketAddr, credentials: &Arc<Credentials>, counters: &Arc<Counters>) -> io::Result<Arc<Outgoing>> {

@@ -124,13 +124,13 @@ mod tests {
     #[test]
     fn frames_leave_in_order_once_they_are_due() {
         let queue = Outgoing::default();
-        let (now, later) = (Instant::now(), Instant::now() + Duration::from_millis(40));
+        let (now, later) = (Instant::now(), Instant::now() + Duration::from_secs(2));
         queue.push(now, Arc::new(vec![1]));
         queue.push(now, Arc::new(vec![2, 3]));
         queue.push(later, Arc::new(vec![4]));
         assert_eq!(queue.take(Duration::ZERO), Some(vec![1, 2, 3]));
         assert_eq!(queue.take(Duration::ZERO), Some(vec![]), "the last one is not due");
-        assert_eq!(queue.take(Duration::from_secs(5)), Some(vec![4]));
+        assert_eq!(queue.take(Duration::from_secs(60)), Some(vec![4]));
         queue.close();
         assert_eq!(queue.take(Duration::from_secs(5)), None);
     }

@@ -4,13 +4,13 @@
 //! vote that was verified is remembered: the same one from another connection, or once more, costs a look-up.
 
 use super::budget::Budget;
-use crate::crypto::{Keys, digest};
+use crate::crypto::Keys;
 use crate::inbox::{Inbox, Put};
-use crate::message::{LONGEST, Message};
 use crate::metrics::Counters;
 use crate::settings::Turns;
 use crate::vote::{is_sound, kind_of};
 use simplex_view_state::{CertificateKind, Digest, Epoch, Participant, Subject, View, Vote};
+use simplex_wire::{Message, digest, read_frame};
 use std::collections::{BTreeMap, HashMap, HashSet};
 use std::io::{self, Read};
 use std::sync::atomic::{AtomicU64, Ordering::Relaxed};
@@ -165,7 +165,7 @@ impl Link<'_> {
     pub fn read_one(&mut self, stream: &mut impl Read) -> io::Result<bool> {
         let Some(bytes) = read_frame(stream)? else { return Ok(true) };
         let begun = Instant::now();
-        let message = message_of(&bytes)?;
+        let message = Message::decode(&bytes)?;
         let is_of_use = self.is_of_use(&message);
         let wait = self.budget.spend(bytes.len(), begun.elapsed(), Instant::now());
         if self.forged > MOST_FORGED {
@@ -252,33 +252,4 @@ impl Link<'_> {
         self.forged += u32::from(!is_good);
         is_good
     }
-}
-
-/// Reads a message from its frame; heartbeats before it are passed over.
-pub fn read_message(stream: &mut impl Read) -> io::Result<Message> {
-    loop {
-        if let Some(bytes) = read_frame(stream)? {
-            return message_of(&bytes);
-        }
-    }
-}
-
-/// Reads the bytes of a frame; `None` of a heartbeat.
-pub fn read_frame(stream: &mut impl Read) -> io::Result<Option<Vec<u8>>> {
-    let mut length = [0; 4];
-    stream.read_exact(&mut length)?;
-    let length = u32::from_be_bytes(length) as usize;
-    if length > LONGEST {
-        return Err(io::Error::new(io::ErrorKind::InvalidData, "a frame is too long"));
-    }
-    if length == 0 {
-        return Ok(None);
-    }
-    let mut bytes = vec![0; length];
-    stream.read_exact(&mut bytes)?;
-    Ok(Some(bytes))
-}
-
-fn message_of(bytes: &[u8]) -> io::Result<Message> {
-    Message::read(bytes).ok_or_else(|| io::Error::new(io::ErrorKind::InvalidData, "a frame is no message"))
 }

@@ -1,8 +1,8 @@
 //! What peers are asked for, and what they are served.
 
 use super::Replica;
-use crate::message::Message;
 use simplex_view_state::{Certificate, CertificateKind, Digest, EngineError, Fetch, FetchKind, Participant, View};
+use simplex_wire::Message;
 use std::sync::atomic::Ordering::Relaxed;
 
 impl Replica {

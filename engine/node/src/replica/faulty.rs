@@ -1,16 +1,15 @@
 //! What a faulty node sends.
 
 use super::Replica;
-use crate::blocks::Block;
-use crate::message::Message;
 use crate::settings::Outcome;
 use simplex_view_state::{Context, Participant, Proposal, Subject, Vote};
+use simplex_wire::{Block, Message};
 
 impl Replica {
     /// A second block for the same view, signed behind the engine's back: every other member gets it in place of the first.
     pub(super) fn send_two_proposals(&mut self, vote: &Vote, block: Vec<u8>) -> Outcome {
         let Subject::Notarize(first) = vote.subject else { return Ok(()) };
-        let Some(built) = Block::read(block.clone()) else { return Ok(()) };
+        let Ok(built) = Block::decode(block.clone()) else { return Ok(()) };
         let context = Context {
             round: first.round,
             leader: vote.signer,

@@ -3,9 +3,9 @@
 
 use super::Replica;
 use crate::chain::Entry;
-use crate::message::{Message, Range};
 use crate::settings::Outcome;
 use simplex_view_state::{CertificateKind, Participant, Proposal, View};
+use simplex_wire::{Message, Range};
 use std::sync::atomic::Ordering::Relaxed;
 use std::time::{Duration, Instant};
 use tracing::{error, info};

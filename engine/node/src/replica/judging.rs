@@ -2,10 +2,9 @@
 
 use super::Replica;
 use crate::application::worker::{Answer, Kind, Question};
-use crate::blocks::Block;
-use crate::message::LONGEST_BLOCK;
 use crate::settings::Outcome;
 use simplex_view_state::{Context, Digest, Input, Proposal};
+use simplex_wire::{Block, LONGEST_BLOCK};
 use std::sync::atomic::Ordering::Relaxed;
 use std::time::Instant;
 use tracing::error;
@@ -102,8 +101,8 @@ impl Replica {
 
     /// A block that a peer sends. Blocks that nobody asked for are not kept.
     pub(super) fn take_block(&mut self, bytes: Vec<u8>) -> Outcome {
-        match Block::read(bytes) {
-            Some(block) if self.waiting.wants(&block.payload()) => self.keep_block(block),
+        match Block::decode(bytes) {
+            Ok(block) if self.waiting.wants(&block.payload()) => self.keep_block(block),
             _ => Ok(()),
         }
     }

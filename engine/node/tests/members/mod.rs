@@ -1,12 +1,11 @@
 //! Members that a test plays.
 
-use simplex_node::blocks::Block;
 use simplex_node::crypto::Keys;
-use simplex_node::message::Message;
 use simplex_node::network::Network;
-use simplex_node::peers::{Credentials, HEARTBEAT, HEARTBEAT_FRAME, Session, read_frame};
+use simplex_node::peers::{Credentials, HEARTBEAT, Session};
 use simplex_node::settings::Settings;
 use simplex_view_state::{Context, Digest, Epoch, Participant, Proposal, Round, View};
+use simplex_wire::{Block, HEARTBEAT_FRAME, Message, read_frame};
 use std::fs;
 use std::io::{self, BufReader, Write};
 use std::net::{SocketAddr, TcpListener, TcpStream};
@@ -14,6 +13,10 @@ use std::path::Path;
 use std::sync::mpsc::Sender;
 use std::sync::{Arc, Mutex};
 use std::thread::{self, sleep};
+use std::time::{Duration, Instant};
+
+/// Within what time something has to be seen, on a machine that does much else.
+pub const SOON: Duration = Duration::from_secs(60);
 
 /// A member's connection to the node, which several threads write to.
 #[derive(Clone)]
@@ -22,8 +25,14 @@ pub struct Link(Arc<Mutex<Session>>);
 impl Link {
     /// Begins a connection of a member to the node at an address.
     pub fn begin(credentials: &Credentials, address: SocketAddr) -> Link {
-        let session = credentials.connect(Participant::new(0), address).expect("it listens");
-        Link(Arc::new(Mutex::new(session)))
+        let begun = Instant::now();
+        // (a greeting has two seconds, which may be over on a slow machine)
+        loop {
+            match credentials.connect(Participant::new(0), address) {
+                Ok(session) => return Link(Arc::new(Mutex::new(session))),
+                Err(error) => assert!(begun.elapsed() < SOON, "it does not greet: {error}"),
+            }
+        }
     }
 
     /// Writes bytes as they are.
@@ -48,7 +57,7 @@ impl Link {
         let link = self.clone();
         thread::spawn(move || {
             while link.write_all(&HEARTBEAT_FRAME).is_ok() {
-                sleep(HEARTBEAT);
+                sleep(HEARTBEAT / 5);
             }
         });
     }
@@ -112,7 +121,7 @@ pub fn hear(listener: &TcpListener, member: u32, credentials: &Credentials, told
         let Ok((_, session)) = credentials.accept(stream) else { continue };
         let mut session = BufReader::new(session);
         while let Ok(frame) = read_frame(&mut session) {
-            let message = frame.and_then(|it| Message::read(&it));
+            let message = frame.and_then(|it| Message::decode(&it).ok());
             if message.is_some_and(|it| told.send((member, it)).is_err()) {
                 return;
             }

@@ -142,11 +142,12 @@ fn shares(metrics: &Metrics) -> Option<String> {
     let lifetime = metrics.get("life_us")?.max(1) as f64;
     let share = |name| Some(100.0 * metrics.get(name)? as f64 / lifetime);
     Some(format!(
-        "{:.1} % in the core, {:.1} % signing, {:.1} % waiting for the disk ({} times), {:.1} % for events; record of {} entries, {} kB",
+        "{:.1} % in the core, {:.1} % signing, {:.1} % waiting for the disk ({} times), {:.1} % for the application, {:.1} % for events; record of {} entries, {} kB",
         share("core_us")?,
         share("sign_us")?,
         share("sync_us")?,
         metrics.get("syncs")?,
+        share("reply_us")?,
         share("idle_us")?,
         metrics.get("record_entries")?,
         metrics.get("resident_kb")?,

@@ -1,6 +1,5 @@
 //! The name of a network: all that its members sign begins with it, so no signature of one network counts in another.
 
-use serde::{Deserialize, Serialize};
 use std::fmt;
 
 /// How many bytes a name has at most.
@@ -9,8 +8,9 @@ pub const LONGEST: usize = 64;
 const SIGNED: &[u8] = b"simplex-node";
 
 /// The name of a network: 1 to 64 letters, digits and signs `-`, `_`, `.` of ASCII.
-#[derive(Clone, Debug, PartialEq, Eq, Deserialize, Serialize)]
-#[serde(try_from = "String", into = "String")]
+#[derive(Clone, Debug, PartialEq, Eq)]
+#[cfg_attr(feature = "serde", derive(serde::Deserialize, serde::Serialize))]
+#[cfg_attr(feature = "serde", serde(try_from = "String", into = "String"))]
 pub struct NetworkName(String);
 
 impl TryFrom<String> for NetworkName {
@@ -22,7 +22,7 @@ impl TryFrom<String> for NetworkName {
             return Ok(NetworkName(name));
         }
         Err(format!(
-            "`network` is {name:?}: name the network by 1 to {LONGEST} letters, digits, `-`, `_` and `.`, the same in all members' settings"
+            "`network` is {name:?}: name the network by 1 to {LONGEST} letters, digits, `-`, `_` and `.`, the same for all members"
         ))
     }
 }
@@ -71,7 +71,7 @@ mod tests {
 
     #[test]
     fn no_two_names_and_texts_are_signed_alike() {
-        let texts = [("a", "bc"), ("ab", "c"), ("abc", ""), ("a", "\u{1}bc")];
+        let texts = [("a", "bc"), ("b", "bc"), ("ab", "c"), ("abc", ""), ("a", "\u{1}bc")];
         let signed: Vec<_> = texts.iter().map(|(it, text)| name(it).signed(text.as_bytes())).collect();
         for (at, it) in signed.iter().enumerate() {
             assert!(!signed[..at].contains(it), "{:?}", texts[at]);

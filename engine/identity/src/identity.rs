@@ -1,13 +1,26 @@
-//! Whose a journal is: a member, by its key, in one epoch of one network with one list of members.
+//! Whose something is: a member's, by its key, in one epoch of one network with one list of members.
 
-use crate::crypto::{digest, hex, raw_key};
 use crate::network_name::{self, NetworkName};
-use crate::settings::{Outcome, Settings};
+use sha2::{Digest as _, Sha256};
 use simplex_view_state::Digest;
 use std::fmt;
 
 /// How many bytes an identity has.
 pub const SIZE: usize = 32 + 8 + 4 + 32 + 1 + network_name::LONGEST;
+
+fn digest(bytes: &[u8]) -> Digest {
+    Digest::new(Sha256::digest(bytes).into())
+}
+
+/// The digest of all members' public keys, in order: SHA-256 of the keys one behind another.
+pub fn members_digest(keys: &[[u8; 32]]) -> Digest {
+    digest(keys.as_flattened())
+}
+
+/// Bytes in hexadecimal digits.
+pub fn hex(bytes: &[u8]) -> String {
+    bytes.iter().map(|byte| format!("{byte:02x}")).collect()
+}
 
 /// What votes of a lifetime must have in common with those of all later ones.
 #[derive(Clone, PartialEq, Eq, Debug)]
@@ -20,23 +33,11 @@ pub struct Identity {
     pub epoch: u64,
     /// How many views a term has.
     pub term_length: u32,
-    /// The digest of all members' public keys, in order. Addresses may change.
+    /// The digest of all members' public keys, in order ([`members_digest`]). Addresses may change.
     pub members: Digest,
 }
 
 impl Identity {
-    /// The identity that settings name. A public key that is none is an error.
-    pub fn of(settings: &Settings) -> Outcome<Identity> {
-        let keys = settings.members.iter().map(|it| raw_key(&it.key)).collect::<Outcome<Vec<_>>>()?;
-        Ok(Identity {
-            network: settings.network.clone(),
-            key: keys[settings.index as usize],
-            epoch: settings.protocol.epoch,
-            term_length: settings.protocol.term_length.get(),
-            members: digest(keys.as_flattened()),
-        })
-    }
-
     /// Its bytes: zeros fill up the room of the name.
     pub fn to_bytes(&self) -> [u8; SIZE] {
         let mut bytes = [0; SIZE];
@@ -76,25 +77,25 @@ impl Identity {
         digest(&text)
     }
 
-    /// In what a journal's identity differs from this node's; `None` where they are the same.
-    pub fn differs_from(&self, node: &Identity) -> Option<Difference> {
-        if self.network != node.network {
-            return Some(Difference::Network(self.network.clone(), node.network.clone()));
+    /// Returns in what the identity of something stored differs from a member's; `None` where they are the same.
+    pub fn differs_from(&self, member: &Identity) -> Option<Difference> {
+        if self.network != member.network {
+            return Some(Difference::Network(self.network.clone(), member.network.clone()));
         }
-        if self.key != node.key {
-            return Some(Difference::Key(self.key, node.key));
+        if self.key != member.key {
+            return Some(Difference::Key(self.key, member.key));
         }
-        if self.epoch != node.epoch {
-            return Some(Difference::Epoch(self.epoch, node.epoch));
+        if self.epoch != member.epoch {
+            return Some(Difference::Epoch(self.epoch, member.epoch));
         }
-        if self.members != node.members {
+        if self.members != member.members {
             return Some(Difference::Members);
         }
-        (self.term_length != node.term_length).then_some(Difference::TermLength(self.term_length, node.term_length))
+        (self.term_length != member.term_length).then_some(Difference::TermLength(self.term_length, member.term_length))
     }
 }
 
-/// In what a journal's identity, which comes first, differs from that of the settings.
+/// In what the identity of something stored, which comes first, differs from a member's.
 #[derive(Clone, PartialEq, Eq, Debug)]
 pub enum Difference {
     /// The network.
@@ -112,28 +113,27 @@ pub enum Difference {
 impl fmt::Display for Difference {
     fn fmt(&self, f: &mut fmt::Formatter<'_>) -> fmt::Result {
         match self {
-            Difference::Network(journal, node) => write!(
+            Difference::Network(stored, member) => write!(
                 f,
-                "this is a journal of the network {journal}, and `network` is {node}: name that network, or another folder in `data`"
+                "it is of the network {stored}, and this member is of the network {member}: name that network, or another folder"
             ),
-            Difference::Key(journal, node) => write!(
+            Difference::Key(stored, member) => write!(
                 f,
-                "this is the journal of the key {}, and this node's key is {}: name that key's folder in `data`, or the journal's key in `key`",
-                hex(journal),
-                hex(node)
+                "it is of the key {}, and this member's key is {}: name that key's folder, or that key",
+                hex(stored),
+                hex(member)
             ),
-            Difference::Epoch(journal, node) => write!(
+            Difference::Epoch(stored, member) => write!(
                 f,
-                "this is a journal of epoch {journal}, and the settings name epoch {node}: an epoch begins in a folder of its own, so name \
-                 another one in `data`"
+                "it is of epoch {stored}, and this is epoch {member}: an epoch begins in a folder of its own, so name another one"
             ),
             Difference::Members => f.write_str(
-                "this is the journal of a network of other members, or in another order: put their list back; another list begins with an \
-                 epoch, in a folder of its own",
+                "it is of a network of other members, or in another order: put their list back; another list begins with an epoch, in a \
+                 folder of its own",
             ),
-            Difference::TermLength(journal, node) => write!(
+            Difference::TermLength(stored, member) => write!(
                 f,
-                "this is a journal of terms of {journal} views, and `term_length` is {node}: put it back; another length begins with an epoch, \
+                "it is of terms of {stored} views, and the term length is {member} here: put it back; another length begins with an epoch, \
                  in a folder of its own"
             ),
         }

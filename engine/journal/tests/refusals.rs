@@ -1,0 +1,119 @@
+//! Journals that are refused by name: of others, of other versions, of another process.
+
+mod common;
+
+use common::{entries, identity, scratch};
+use simplex_identity::{Difference, Identity};
+use simplex_journal::{Cause, Journal, VERSION, parse, path, read};
+use std::fs;
+use std::path::{Path, PathBuf};
+
+fn written(name: &str) -> (PathBuf, Vec<u8>) {
+    let folder = scratch(name);
+    let (mut journal, _) = Journal::open(&folder, &identity(), true).expect("a disk");
+    journal.replace(&entries(3, 70)).expect("a disk");
+    let bytes = fs::read(path(&folder)).expect("a journal");
+    (folder, bytes)
+}
+
+fn refused(folder: &Path, identity: &Identity) -> Cause {
+    let refused = read(folder, identity).expect_err("it is refused");
+    assert_eq!(refused.path, path(folder));
+    assert!(
+        refused.to_string().starts_with(path(folder).to_str().expect("letters")),
+        "{refused}"
+    );
+    refused.cause
+}
+
+#[test]
+fn what_is_stored_comes_back_and_a_folder_without_a_journal_is_none() {
+    let (folder, _) = written("back");
+    let (journal, recovered) = Journal::open(&folder, &identity(), true).expect("a journal");
+    let it = recovered.expect("a journal");
+    assert_eq!((it.stored, it.frames, it.cut), (entries(3, 70).stored, entries(3, 70).bytes, 0));
+    assert_eq!(journal.entries(), 0, "nothing is replaced yet");
+    assert!(read(&scratch("none"), &identity()).expect("a disk").is_none());
+}
+
+#[test]
+fn a_journal_of_another_member_is_refused_by_name() {
+    let (folder, _) = written("identity");
+    let network = "other".to_owned().try_into().expect("a name");
+    let others = [
+        ("the network test", Identity { network, ..identity() }),
+        (
+            "of the key 0808",
+            Identity {
+                key: [9; 32],
+                ..identity()
+            },
+        ),
+        ("of epoch 1", Identity { epoch: 2, ..identity() }),
+        (
+            "terms of 1",
+            Identity {
+                term_length: 2,
+                ..identity()
+            },
+        ),
+        (
+            "other members",
+            Identity {
+                members: Default::default(),
+                ..identity()
+            },
+        ),
+    ];
+    for (said, other) in others {
+        let cause = refused(&folder, &other);
+        assert!(cause.to_string().contains(said), "{cause}");
+    }
+    assert!(matches!(
+        refused(&folder, &Identity { epoch: 2, ..identity() }),
+        Cause::Other(Difference::Epoch(1, 2))
+    ));
+}
+
+#[test]
+fn other_files_are_refused_by_name() {
+    let (folder, mut bytes) = written("other");
+    bytes[8] = VERSION + 1;
+    assert!(matches!(parse(&bytes), Err(Cause::OtherVersion(it)) if it == VERSION + 1));
+    bytes[8] = 4;
+    assert!(matches!(parse(&bytes), Err(Cause::OtherVersion(4))));
+    bytes[8] = 3;
+    assert!(matches!(parse(&bytes), Err(Cause::OfNoNetwork(3))));
+    bytes[0] = b'S';
+    assert!(matches!(parse(&bytes), Err(Cause::NoJournal)));
+    assert!(matches!(parse(b""), Err(Cause::NoJournal)));
+    fs::write(path(&folder), bytes).expect("a disk");
+    assert!(matches!(refused(&folder, &identity()), Cause::NoJournal));
+}
+
+#[test]
+fn a_folder_is_of_one_process_at_a_time() {
+    let (folder, _) = written("lock");
+    let first = Journal::open(&folder, &identity(), true).expect("nobody has it");
+    let refused = Journal::open(&folder, &identity(), true).expect_err("it is taken");
+    assert!(
+        matches!(refused.cause, Cause::InUse) && refused.to_string().contains("another process"),
+        "{refused}"
+    );
+    drop(first);
+    assert!(Journal::open(&folder, &identity(), true).is_ok());
+}
+
+#[test]
+fn nothing_is_appended_before_all_is_replaced_and_what_is_there_stays() {
+    let (folder, bytes) = written("begin");
+    let (mut journal, _) = Journal::open(&folder, &identity(), true).expect("a journal");
+    let refused = journal.append(&entries(4, 9)).expect_err("it is refused");
+    assert!(matches!(refused.cause, Cause::NotBegun), "{refused}");
+    assert_eq!(fs::read(path(&folder)).expect("a journal"), bytes);
+    journal.replace(&entries(4, 9)).expect("a disk");
+    assert!(!journal.is_dirty() && !journal.sync().expect("a disk"));
+    journal.append(&entries(5, 9)).expect("a disk");
+    assert!(journal.is_dirty() && journal.sync().expect("a disk"));
+    assert_eq!(journal.entries(), 5);
+}

@@ -1,0 +1,60 @@
+//! Nodes with an application of their own: the program of `examples/thirty_lines.rs`.
+
+use simplex_node::network::{Network, Plan, folder_of};
+use simplex_node::settings::Protocol;
+use std::fs;
+use std::path::{Path, PathBuf};
+use std::time::Duration;
+
+/// Within what time something has to be seen, on a machine that does much else.
+const SOON: Duration = Duration::from_secs(120);
+
+/// The example's program, which `cargo test` builds beside the others.
+fn program() -> PathBuf {
+    let beside = Path::new(env!("CARGO_BIN_EXE_simplex-node")).with_file_name("examples");
+    let program = beside.join("thirty_lines");
+    assert!(program.exists(), "{}: build it by `cargo build --examples`", program.display());
+    program
+}
+
+/// What a node's application printed in all its lifetimes.
+fn printed(network: &Network, index: u32) -> Vec<String> {
+    let log = fs::read_to_string(network.log(index)).expect("a log");
+    let lines = log.lines().filter(|it| it.contains("hello from member"));
+    lines.map(str::to_owned).collect()
+}
+
+#[test]
+fn four_nodes_order_the_blocks_of_an_application_of_thirty_lines() {
+    let plan = Plan {
+        nodes: 4,
+        protocol: Protocol::default(),
+        sync: true,
+        faults: Vec::new(),
+        delay_ms: 0,
+        program: program(),
+        folder: folder_of("library"),
+    };
+    let mut network = Network::new(plan).expect("keys and settings");
+    network.begin_all().expect("processes");
+    let log = |network: &Network| fs::read_to_string(network.log(0)).unwrap_or_default();
+    assert!(network.wait_until(&[0, 1, 2, 3], "height", 12, SOON), "{}", log(&network));
+    // It stores nothing, so its next lifetime prints the chain from the first block on.
+    network.kill(0).expect("a process");
+    let before = printed(&network, 0);
+    network.begin(0).expect("a process");
+    assert!(
+        network.wait_until(&[0], "height", before.len() as u64 + 5, SOON),
+        "{}",
+        log(&network)
+    );
+    network.stop().expect("they stop");
+    let again = printed(&network, 0).split_off(before.len());
+    assert_eq!(again[..before.len()], before);
+    for index in 1..4 {
+        let other = printed(&network, index);
+        let both = other.len().min(again.len());
+        assert!(both >= 12 && other[..both] == again[..both], "node {index}: {other:?}");
+    }
+    fs::remove_dir_all(network.folder()).expect("a folder");
+}
