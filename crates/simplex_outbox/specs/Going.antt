@@ -12,7 +12,7 @@ use Rattle.simplex_outbox.specs.declared.journaled.Journaled.{Journaled}
 use Rattle.simplex_outbox.specs.declared.output.Output.{Output}
 use Rattle.simplex_outbox.specs.Finals.{finals_in, finals_by, WereAccepted, TellsRising}
 use Rattle.simplex_outbox.specs.Leaving.{AllLeave}
-use Rattle.simplex_outbox.specs.Stops.{votes_recorded, WereSigned, MayStopAfterEach}
+use Rattle.simplex_outbox.specs.Stops.{votes_recorded, WereSigned, MayStopAfterEach, MayStopAmid}
 use Rattle.simplex_outbox.specs.Outboxes.{HasStayed, IsLawfulOutbox, QueuesMore}
 use Rattle.simplex_outbox.specs.Journals.{journal_of, IsRecordOf, IsBeginningOf}
 use Rattle.simplex_outbox.specs.Doing.{IsDoneOn}
@@ -63,7 +63,7 @@ module _ {S L D K G C : Type 0} (bytes_of : C → List ℕ) where
 module _ {S L D K G C : Type 0} (same : D → D → Bool) (elect : Elect L) (bytes_of : C → List ℕ) where
   -- besides, in a lifetime that began when the member had done `earlier`, `all` is what it has done so far, as member `i`: it has signed
   -- each vote of its record, and accepted each finalization that was reported or is queued to be; and until the engine fails, a host may
-  -- stop after each output that was given out or is queued
+  -- stop after each output that was given out or is queued, and amid each `Store`, also of what the record has grown by since
   pub record IsTraced (term_length i : ℕ) (earlier : List (TraceEvent D)) (given : List (Output S D Stored K G C)) (all : List (TraceEvent D))
       (member : Journaled S L D K G C) : Type 0 where
     pub kept : IsKept bytes_of given member
@@ -71,6 +71,8 @@ module _ {S L D K G C : Type 0} (same : D → D → Bool) (elect : Elect L) (byt
     pub signed : WereSigned all (votes_recorded member.member.votes)
     pub finals : WereAccepted all (finals_in (given ++ member.outbox.queue.items))
     pub stops : member.failed ≡ false → MayStopAfterEach same elect bytes_of term_length i earlier all (given ++ member.outbox.queue.items)
+    pub amid : member.failed ≡ false
+        → MayStopAmid same elect bytes_of term_length i earlier all (given ++ member.outbox.queue.items) member.member member.stored
 
   -- it stays traced, with this done besides
   abbrev pub StaysTraced : List (TraceEvent D) → Journaled S L D K G C → Journaled S L D K G C → Type 0

@@ -123,6 +123,7 @@ impl<S: Scheme<D>, L: Elector<S>, D: Digest> Journaled<S, L, D> {
             → IsLeftByCall (asked S.certificate_bytes call) self.old.member.facts self.new.member.facts }
         ensures outbox { self.new.outbox ≡ self.old.outbox }
     {
+        let _record = self.member.record();
         self.member.call(call)
     }
 
@@ -165,6 +166,7 @@ impl<S: Scheme<D>, L: Elector<S>, D: Digest> Journaled<S, L, D> {
         ensures refused { IsTrue (is_refused (told S.certificate_bytes result)) → self.new.member.facts ≡ self.old.member.facts }
         ensures no_work { QueuesNoWork self.old.outbox self.new.outbox }
     {
+        let _record = self.member.record();
         let finalized = finalized_by(&certificate);
         let reply = self.member.call(handing_in(certificate, now));
         self.outbox.tell(final_by(finalized, &reply));
@@ -353,8 +355,9 @@ impl<S: Scheme<D>, L: Elector<S>, D: Digest> Journaled<S, L, D> {
     ///   the record.
     /// - `leaving`: until it fails, each vote that is stored was given out or is queued, but those of the record that the life began
     ///   with, which the first output stores.
-    /// - `stops`: until it fails, a host may stop after each output that was given out or is queued. The journal is then the record of a
-    ///   member that this one was at some moment of this lifetime, and that member had signed each vote among these outputs.
+    /// - `stops`: until it fails, a host may stop after each output that was given out or is queued, and amid each `Store`, of which only
+    ///   the first entries were written. The journal is then the record of a member that this one was at some moment of this lifetime, and
+    ///   that member had signed each vote among these outputs.
     /// - `finals`: of each proposal that it reported as final, its member accepted the finalization.
     /// - `signed`: each vote that it gave out is its member's, with a signature on the vote's own subject under the member's key.
     /// - `rising`: the views of the proposals rise that it told as final.

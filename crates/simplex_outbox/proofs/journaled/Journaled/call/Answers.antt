@@ -10,6 +10,7 @@ use Rattle.simplex_outbox.proofs.Doing.{call_on}
 use Rattle.simplex_outbox.proofs.Dropping.{refused_left, dropped_left}
 use Rattle.simplex_outbox.proofs.Finalizing.{told_by_call, final_none}
 use Rattle.simplex_outbox.proofs.Finals.{tells_none}
+use Rattle.simplex_outbox.proofs.Torn.{call_grows}
 use Rattle.simplex_outbox.proofs.TracedOutputs.{traced_call, reply_signed}
 use Rattle.simplex_outbox.proofs.Going.{call_risen}
 use Rattle.simplex_outbox.proofs.Kept.{called}
@@ -34,7 +35,9 @@ returns-clause-goes_on g c taken may no_final =
       more = taken_by c.args.call c.call.result ++ votes_in c.call.result;
       on_this = call_on taken c.args.call c.call.result may;
       done = c.call.ensures.goes_on;
-      traced = traced_call g.D.PartialEq.eq g.L.Elector.elect bytes_of old new (taken_by c.args.call c.call.result ++ votes_in c.call.result) refl keeps c.call.ensures.goes_on
+      traced = traced_call g.D.PartialEq.eq g.L.Elector.elect bytes_of old new (taken_by c.args.call c.call.result ++ votes_in c.call.result) refl refl keeps c.call.ensures.goes_on
+          c.record-record.result.now c.record-record.ensures.entries c.record-record.ensures.votes
+          (call_grows g.D.PartialEq.eq g.L.Elector.elect old.member.facts c.call.new.self.facts _ _ c.call.ensures.answered) c.call.ensures.stored
           (signed_reply c.call.result) c.call.ensures.votes (reply_signed c.args.call c.call.result) None (refl, refl, refl) rising;
       told = rising;
       queued = queues_none old.outbox;

@@ -15,7 +15,7 @@ returns-in-Ok-clause-goes_on g c =
     let ready = record old { outbox = c.make_room.new.self } in
     goes_further {c = c.take.new.self}
     (does_no_more old ready refl (kept_as_it_was bytes_of old ready refl refl refl refl c.make_room.ensures.goes_on c.make_room.ensures.kept)
-    (traced_stayed g.D.PartialEq.eq g.L.Elector.elect g.S.CertificateScheme.certificate_bytes old ready refl refl (kept_as_it_was bytes_of old ready refl refl refl refl c.make_room.ensures.goes_on c.make_room.ensures.kept) c.make_room.ensures.kept)
+    (traced_stayed g.D.PartialEq.eq g.L.Elector.elect g.S.CertificateScheme.certificate_bytes old ready refl refl (kept_as_it_was bytes_of old ready refl refl refl refl c.make_room.ensures.goes_on c.make_room.ensures.kept) refl c.make_room.ensures.kept)
     (stayed_tells old.outbox ready.outbox c.make_room.ensures.kept) c.make_room.ensures.grown) c.take.ensures.goes_on
 
 pub returns-in-Err-clause-goes_on : goal.returns-in-Err-clause-goes_on
@@ -24,7 +24,7 @@ returns-in-Err-clause-goes_on g c =
     let old = c.args.self.now in
     let ready = record old { outbox = c.make_room.new.self } in
     does_no_more old ready refl (kept_as_it_was bytes_of old ready refl refl refl refl c.make_room.ensures.goes_on c.make_room.ensures.kept)
-    (traced_stayed g.D.PartialEq.eq g.L.Elector.elect g.S.CertificateScheme.certificate_bytes old ready refl refl (kept_as_it_was bytes_of old ready refl refl refl refl c.make_room.ensures.goes_on c.make_room.ensures.kept) c.make_room.ensures.kept)
+    (traced_stayed g.D.PartialEq.eq g.L.Elector.elect g.S.CertificateScheme.certificate_bytes old ready refl refl (kept_as_it_was bytes_of old ready refl refl refl refl c.make_room.ensures.goes_on c.make_room.ensures.kept) refl c.make_room.ensures.kept)
     (stayed_tells old.outbox ready.outbox c.make_room.ensures.kept) c.make_room.ensures.grown
 
 pub returns-in-Ok-clause-no_work : goal.returns-in-Ok-clause-no_work

@@ -17,8 +17,8 @@ returns-clause-goes_on g c =
     (pushed bytes_of old new refl refl refl refl c.push.ensures.goes_on c.args.work)
     (kept_as_it_was bytes_of old new refl refl refl refl c.push.ensures.goes_on))
     (by_result c.push.result c.push.ensures.queued c.push.ensures.kept
-    (λ is. traced_pushed g.D.PartialEq.eq g.L.Elector.elect g.S.CertificateScheme.certificate_bytes old new refl refl (pushed bytes_of old new refl refl refl refl c.push.ensures.goes_on c.args.work is) c.args.work is)
-    (λ is. traced_stayed g.D.PartialEq.eq g.L.Elector.elect g.S.CertificateScheme.certificate_bytes old new refl refl (kept_as_it_was bytes_of old new refl refl refl refl c.push.ensures.goes_on is) is))
+    (λ is. traced_pushed g.D.PartialEq.eq g.L.Elector.elect g.S.CertificateScheme.certificate_bytes old new refl refl (pushed bytes_of old new refl refl refl refl c.push.ensures.goes_on c.args.work is) refl c.args.work is)
+    (λ is. traced_stayed g.D.PartialEq.eq g.L.Elector.elect g.S.CertificateScheme.certificate_bytes old new refl refl (kept_as_it_was bytes_of old new refl refl refl refl c.push.ensures.goes_on is) refl is))
     (by_result c.push.result c.push.ensures.queued c.push.ensures.kept
     (become_tells (output.Work c.args.work ∷ []) old.outbox.repeat old.outbox new.outbox refl)
     (stayed_tells old.outbox new.outbox)) c.push.ensures.grown

@@ -16,8 +16,8 @@ returns-clause-goes_on g c =
     (repeated bytes_of old new refl refl refl refl c.repeat.ensures.goes_on c.args.view)
     (kept_as_it_was bytes_of old new refl refl refl refl c.repeat.ensures.goes_on))
     (by_answer c.repeat.result c.repeat.ensures.queued c.repeat.ensures.kept
-    (λ sent is. traced_repeated g.D.PartialEq.eq g.L.Elector.elect g.S.CertificateScheme.certificate_bytes old new refl refl (repeated bytes_of old new refl refl refl refl c.repeat.ensures.goes_on c.args.view sent is) c.args.view sent is)
-    (λ is. traced_stayed g.D.PartialEq.eq g.L.Elector.elect g.S.CertificateScheme.certificate_bytes old new refl refl (kept_as_it_was bytes_of old new refl refl refl refl c.repeat.ensures.goes_on is) is))
+    (λ sent is. traced_repeated g.D.PartialEq.eq g.L.Elector.elect g.S.CertificateScheme.certificate_bytes old new refl refl (repeated bytes_of old new refl refl refl refl c.repeat.ensures.goes_on c.args.view sent is) refl c.args.view sent is)
+    (λ is. traced_stayed g.D.PartialEq.eq g.L.Elector.elect g.S.CertificateScheme.certificate_bytes old new refl refl (kept_as_it_was bytes_of old new refl refl refl refl c.repeat.ensures.goes_on is) refl is))
     (by_answer c.repeat.result c.repeat.ensures.queued c.repeat.ensures.kept
     (repeated_tells bytes_of old new c.args.view)
     (stayed_tells old.outbox new.outbox)) c.repeat.ensures.grown

@@ -48,7 +48,7 @@ returns-in-Ok-clause-goes_on g c =
     record {
       kept = keeps;
       traced = traced_replaced g.D.PartialEq.eq g.L.Elector.elect bytes_of old new refl keeps c.prune_record.ensures.goes_on (λ v. stays_within old.member.facts (entry_view v.vote)) c.prune_record.ensures.votes
-          all.result.now all.ensures.entries all.ensures.votes is_replaced (replaced_tells bytes_of old new all.result.now c.stored.result c.in-Ok.ensures.queued);
+          all.result.now same_length all.ensures.entries all.ensures.votes is_replaced (replaced_tells bytes_of old new all.result.now c.stored.result c.in-Ok.ensures.queued);
       more = [];
       on_this = All-nil (IsDoneOn None);
       done = c.prune_record.ensures.goes_on;

@@ -23,7 +23,7 @@ returns-clause-goes_on g c =
     (counted bytes_of all.result.now old.member.facts.entries all.ensures.entries) (c.lowest_of-reach.ensures ∙ ap (lowest_of old.reach) c.record_since.ensures.entries))
     c.store.ensures.goes_on all.result.now fresh.result.now refl all.ensures.entries all.ensures.votes fresh.ensures.entries fresh.ensures.votes c.in_ok-store.ensures.queued in
     does_no_more old new refl keeps
-    (traced_stored g.D.PartialEq.eq g.L.Elector.elect g.S.CertificateScheme.certificate_bytes old new refl refl keeps all.result.now fresh.result.now all.ensures.entries all.ensures.votes fresh.ensures.entries fresh.ensures.votes c.in_ok-store.ensures.queued)
+    (traced_stored g.D.PartialEq.eq g.L.Elector.elect g.S.CertificateScheme.certificate_bytes old new refl refl keeps all.result.now fresh.result.now refl all.ensures.entries all.ensures.votes fresh.ensures.entries fresh.ensures.votes c.in_ok-store.ensures.queued)
     (stored_tells bytes_of old new fresh.result.now c.in_ok-store.ensures.queued) c.store.ensures.grown
 
 pub returns-in_err-store-clause-goes_on : goal.returns-in_err-store-clause-goes_on
@@ -31,7 +31,7 @@ returns-in_err-store-clause-goes_on g c =
     let old = c.args.self.now in
     let new = record old { outbox = c.store.new.self } in
     does_no_more old new refl (kept_as_it_was g.S.CertificateScheme.certificate_bytes old new refl refl refl refl c.store.ensures.goes_on c.in_err-store.ensures.kept)
-    (traced_stayed g.D.PartialEq.eq g.L.Elector.elect g.S.CertificateScheme.certificate_bytes old new refl refl (kept_as_it_was g.S.CertificateScheme.certificate_bytes old new refl refl refl refl c.store.ensures.goes_on c.in_err-store.ensures.kept) c.in_err-store.ensures.kept)
+    (traced_stayed g.D.PartialEq.eq g.L.Elector.elect g.S.CertificateScheme.certificate_bytes old new refl refl (kept_as_it_was g.S.CertificateScheme.certificate_bytes old new refl refl refl refl c.store.ensures.goes_on c.in_err-store.ensures.kept) refl c.in_err-store.ensures.kept)
     (stayed_tells old.outbox new.outbox c.in_err-store.ensures.kept) c.store.ensures.grown
 
 pub returns-then-count-self-clause-goes_on : goal.returns-then-count-self-clause-goes_on

@@ -16,6 +16,7 @@ use Rattle.simplex_outbox.proofs.Doing.{call_on}
 use Rattle.simplex_outbox.proofs.Dropping.{refused_left}
 use Rattle.simplex_outbox.proofs.Finalizing.{told_by_call, final_events}
 use Rattle.simplex_outbox.proofs.Finals.{told_tells}
+use Rattle.simplex_outbox.proofs.Torn.{call_grows}
 use Rattle.simplex_outbox.proofs.TracedOutputs.{traced_call, reply_signed}
 use Rattle.simplex_outbox.proofs.Going.{call_risen}
 use Rattle.simplex_outbox.proofs.Kept.{called}
@@ -50,7 +51,10 @@ returns-clause-goes_on g c =
       on_this = call_on (Some on) call answer
           (subst (All (IsDoneOn (Some on))) (sym c.handing_in.ensures.hands) (All-cons (IsDoneOn (Some on)) (Accepts on) [] refl (All-nil (IsDoneOn (Some on)))));
       done = c.call-reply.ensures.goes_on;
-      traced = traced_call same elect bytes_of old new more refl keeps c.call-reply.ensures.goes_on (signed_reply answer) c.call-reply.ensures.votes (reply_signed call answer) tells is_told rising;
+      traced = traced_call same elect bytes_of old new more refl refl keeps c.call-reply.ensures.goes_on
+          c.record-record.result.now c.record-record.ensures.entries c.record-record.ensures.votes
+          (call_grows same elect old.member.facts c.call-reply.new.self.facts _ _ c.call-reply.ensures.answered) c.call-reply.ensures.stored
+          (signed_reply answer) c.call-reply.ensures.votes (reply_signed call answer) tells is_told rising;
       told = rising;
       queued = c.tell.ensures.grown;
       risen = call_risen same elect old.member.facts _ _ c.call-reply.new.self.facts c.call-reply.ensures.answered;
