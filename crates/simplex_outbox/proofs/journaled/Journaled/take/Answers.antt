@@ -24,6 +24,20 @@ use Rattle.simplex_outbox.proofs.Working.{told_no_work}
 use Rattle.simplex_outbox.proofs.Signatures.{called_signed, call_signs, call_signed}
 use Rattle.simplex_outbox.proofs.journaled.Journaled.take.Goals as goal
 
+pub returns-clause-signed : goal.returns-clause-signed
+returns-clause-signed g c =
+    let bytes_of = g.S.CertificateScheme.certificate_bytes in
+    let same = g.D.PartialEq.eq in
+    let elect = g.L.Elector.elect in
+    let old = c.args.self.now in
+    let left = c.call-reply.new.self in
+    let tells = final_by c.finalized_by-finalized.result c.call-reply.result in
+    let is_told : IsTold tells old.outbox c.tell.new.self = subst (λ f. IsTold f old.outbox c.tell.new.self) c.final_by.ensures c.tell.ensures.told in
+    called_signed g.S.Scheme.IsSignature old (record old { member = left; outbox = c.tell.new.self }) (signed_reply c.call-reply.result) c.call-reply.ensures.votes
+    (λ i key. call_signs same elect i key old.member.facts _ _ left.facts c.call-reply.ensures.answered)
+    (λ i key. call_signed same elect g.S.Scheme.IsSignature i key bytes_of old.member.facts left.facts _ c.call-reply.result c.call-reply.ensures.answered c.call-reply.ensures.exact c.call-reply.ensures.signed)
+    tells is_told
+
 pub returns-clause-goes_on : goal.returns-clause-goes_on
 returns-clause-goes_on g c =
     let same = g.D.PartialEq.eq in
@@ -55,6 +69,7 @@ returns-clause-goes_on g c =
           c.record-record.result.now c.record-record.ensures.entries c.record-record.ensures.votes
           (call_grows same elect old.member.facts c.call-reply.new.self.facts _ _ c.call-reply.ensures.answered) c.call-reply.ensures.stored
           (signed_reply answer) c.call-reply.ensures.votes (reply_signed call answer) tells is_told rising;
+      signed = returns-clause-signed g c;
       told = rising;
       queued = c.tell.ensures.grown;
       risen = call_risen same elect old.member.facts _ _ c.call-reply.new.self.facts c.call-reply.ensures.answered;
@@ -74,17 +89,3 @@ returns-clause-refused g c refused =
 
 pub returns-clause-no_work : goal.returns-clause-no_work
 returns-clause-no_work g c = told_no_work c.final_by.result c.args.self.now.outbox c.tell.new.self c.tell.ensures.told
-
-pub returns-clause-signed : goal.returns-clause-signed
-returns-clause-signed g c =
-    let bytes_of = g.S.CertificateScheme.certificate_bytes in
-    let same = g.D.PartialEq.eq in
-    let elect = g.L.Elector.elect in
-    let old = c.args.self.now in
-    let left = c.call-reply.new.self in
-    let tells = final_by c.finalized_by-finalized.result c.call-reply.result in
-    let is_told : IsTold tells old.outbox c.tell.new.self = subst (λ f. IsTold f old.outbox c.tell.new.self) c.final_by.ensures c.tell.ensures.told in
-    called_signed g.S.Scheme.IsSignature old (record old { member = left; outbox = c.tell.new.self }) (signed_reply c.call-reply.result) c.call-reply.ensures.votes
-    (λ i key. call_signs same elect i key old.member.facts _ _ left.facts c.call-reply.ensures.answered)
-    (λ i key. call_signed same elect g.S.Scheme.IsSignature i key bytes_of old.member.facts left.facts _ c.call-reply.result c.call-reply.ensures.answered c.call-reply.ensures.exact c.call-reply.ensures.signed)
-    tells is_told
