@@ -58,8 +58,9 @@ EXAMPLES = {
     "simplex_progress": Examples((), ("progress::continuations", "progress::instances")),
     "simplex_chains": Examples((), tuple(f"chains::{name}" for name in (
         "finalized_parents_are_certified", "finalized_chains_reach_genesis", "views_ahead_reach_genesis", "chains_need_offers",
-        "parents_need_one_elector", "votes_may_be_on_another_parent"))),
-    "simplex_engine_definitions": Examples(("Examples", "Votes"), ("laws::calls_were_told_before", "laws::nullifies_once_due", "laws::work_was_given")),
+        "parents_need_one_elector", "votes_may_be_on_another_parent", "verdicts_on_offers_await_parents"))),
+    "simplex_engine_definitions": Examples(("Examples", "Votes"), (
+        "laws::calls_were_told_before", "laws::nullifies_once_due", "laws::work_was_given", "laws::engines_run_on_offers")),
 }
 VOTER, RECORD, MEMBER, RESOLVER, LAWS, HISTORIES, PROGRESS, CHAINS, ENGINE = (
     (f"simplex_{name}",) for name in (

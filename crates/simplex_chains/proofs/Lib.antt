@@ -6,6 +6,7 @@ pub mod ParentsOfVotes
 pub mod Quorums
 pub mod Parents
 pub mod ChainsToGenesis
+pub mod Offers
 pub mod ViewsAhead
 pub mod UnofferedVerdicts
 pub mod EarlyLeaders

@@ -1,5 +1,6 @@
 pub mod Parents
 pub mod Chains
+pub mod Offers
 pub mod ViewsAhead
 pub mod UnofferedVerdicts
 pub mod EarlyLeaders

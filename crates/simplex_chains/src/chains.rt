@@ -3,6 +3,7 @@
 ghost use Rattle.simplex_chains.specs.Parents.{FewFaultyLeaveTwo, FinalizedHaveParents, NotarizedStartsHaveParents, HandoffsAreWitnessed};
 ghost use Rattle.simplex_chains.specs.ViewsAhead.{KeepsPremises, AheadReachesGenesis};
 ghost use Rattle.simplex_chains.specs.Chains.{CertifiedReachGenesis, FinalizedReachGenesis, VerdictsAreOnOffers};
+ghost use Rattle.simplex_chains.specs.Offers.{OffersAreAwaited};
 ghost use Rattle.simplex_chains.specs.OtherParents.{verified_apart, ParentIsTwelve, VerifiedOnEleven};
 ghost use Rattle.simplex_chains.specs.EarlyLeaders.{both_lead_early, HasNoParent};
 ghost use Rattle.simplex_chains.specs.UnofferedVerdicts.{unoffered, NoFirstNotarized, ReachesNoGenesis};
@@ -45,6 +46,15 @@ pub fn finalized_parents_are_certified<S: Scheme<D>, L: Elector<S>, D: Digest>()
 pub fn finalized_chains_reach_genesis<S: Scheme<D>, L: Elector<S>, D: Digest>()
     ensures finalized { OfEachNetwork S.PublicKey D.eq L.elect (λ term_length. FinalizedReachGenesis) }
     ensures certified { OfEachNetwork S.PublicKey D.eq L.elect (λ term_length. CertifiedReachGenesis) }
+{}
+
+/// A network keeps `VerdictsAreOnOffers`, and so `ParentsAreAwaited`, where each honest member receives a verdict only on a view whose
+/// proposal it offered and that has no verdict.
+///
+/// - Each such member runs by `RunsOnOffers`: whenever it receives a verdict, the offer of the view is open (`Member::awaits_verdict`).
+/// - The premises of `agreement` hold besides: they tell that the offered and the judged proposal of a view are one.
+pub fn verdicts_on_offers_await_parents<S: Scheme<D>, L: Elector<S>, D: Digest>()
+    ensures { OfEachNetwork S.PublicKey D.eq L.elect (λ term_length. OffersAreAwaited D.eq L.elect) }
 {}
 
 /// The premises of `finalized_chains_reach_genesis` hold of the network of `views_ahead_are_agreed_on`, in which a leader proposes

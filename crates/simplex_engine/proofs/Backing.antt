@@ -49,14 +49,14 @@ module _ {S D K G C : Type 0} where
   pub takes_then : {more : List (Vote D G)} {a b c : Batcher S D K G C} → TakesVotes more a b → TakesNone b c → TakesVotes more a c
   takes_then {more = more} taken none = record { are_given = λ given are. none.are_given (given ++ more) (taken.are_given given are); scheme = none.scheme ∙ taken.scheme }
 
-module _ {S L D K G C : Type 0} {same : D → D → Bool} {elect : Elect L} {bytes_of : C → List ℕ} (members : ℕ) where
+module _ {S L D K G C : Type 0} {same : D → D → Bool} {elect : Elect L} {bytes_of : C → List ℕ} {is_signature : K → Subject D → G → Type 0} (members : ℕ) where
   pub backed_by_none : {more : List (Vote D G)} {subject : Subject D} {batcher : Batcher S D K G C} {old new : Journaled S L D K G C}
-      → GoesOn same elect bytes_of None old new → IsBacked same elect bytes_of members more subject batcher old new
+      → GoesOn same elect bytes_of is_signature None old new → IsBacked same elect bytes_of is_signature members more subject batcher old new
   backed_by_none went = record { backed = λ given are. inl went }
 
   -- whatever came in
   pub input_backed_by_none : (what : Input S D K G C) (batcher : Batcher S D K G C) (old new : Journaled S L D K G C)
-      → GoesOn same elect bytes_of None old new → IsBackedInput same elect bytes_of members what batcher old new
+      → GoesOn same elect bytes_of is_signature None old new → IsBackedInput same elect bytes_of is_signature members what batcher old new
   input_backed_by_none (input.Vote vote) batcher old new went = backed_by_none went
   input_backed_by_none (input.Proposal _ _) batcher old new went = tt
   input_backed_by_none (input.Certificate _) batcher old new went = tt
@@ -67,11 +67,11 @@ module _ {S L D K G C : Type 0} {same : D → D → Bool} {elect : Elect L} {byt
 
   -- and then no certificate is accepted
   pub input_backed_then : (what : Input S D K G C) (batcher : Batcher S D K G C) (old mid new : Journaled S L D K G C)
-      → IsBackedInput same elect bytes_of members what batcher old mid → GoesOn same elect bytes_of None mid new
-      → IsBackedInput same elect bytes_of members what batcher old new
+      → IsBackedInput same elect bytes_of is_signature members what batcher old mid → GoesOn same elect bytes_of is_signature None mid new
+      → IsBackedInput same elect bytes_of is_signature members what batcher old new
   input_backed_then (input.Vote vote) batcher old mid new backed went =
       record {
-        backed = λ given are. elim (backed.backed given are) as (λ _. GoesOn same elect bytes_of None old new ⊎ HasQuorum members (given ++ vote ∷ []) vote.subject)
+        backed = λ given are. elim (backed.backed given are) as (λ _. GoesOn same elect bytes_of is_signature None old new ⊎ HasQuorum members (given ++ vote ∷ []) vote.subject)
             [ inl first ↦ inl (goes_further first went) | inr quorum ↦ inr quorum ];
       }
   input_backed_then (input.Proposal _ _) batcher old mid new backed went = tt

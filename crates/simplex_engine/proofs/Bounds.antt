@@ -82,8 +82,8 @@ module _ {S L D K G C : Type 0} (keys_of : S → List K) where
       (next_rises x y risen) none within)
 
   -- where no vote is taken
-  pub bounded_still : {same : D → D → Bool} {elect : Elect L} {bytes_of : C → List ℕ} {taken : Option (Subject D)} {a b : Journaled S L D K G C} {c d : Batcher S D K G C}
-      → GoesOn same elect bytes_of taken a b → TakesNone c d → StaysBounded keys_of a c b d
+  pub bounded_still : {same : D → D → Bool} {elect : Elect L} {bytes_of : C → List ℕ} {is_signature : K → Subject D → G → Type 0} {taken : Option (Subject D)} {a b : Journaled S L D K G C} {c d : Batcher S D K G C}
+      → GoesOn same elect bytes_of is_signature taken a b → TakesNone c d → StaysBounded keys_of a c b d
   bounded_still {a = a} {b = b} {c = c} {d = d} went none = record { stays = within_still a.member.facts.life b.member.facts.life went.risen c d none }
 
   -- one behind the other

@@ -79,12 +79,12 @@ use Rattle.simplex_engine.specs.Acting.{verification_of}
 use Rattle.simplex_engine.specs.Admitting.{keeps_early, IsKeptEarly}
 use Rattle.simplex_engine.specs.Beginning.{HasBegunWith}
 use Rattle.simplex_engine.proofs.Tests.{not_or, or_none, or_nothing}
-use Rattle.simplex_engine.specs.Causes.{at_hand, forgettable, came_in, evidence, given_in, heard_in, of_counted, shown_against, IsMeant, IsStepMeant, Comes, ComesBy, ComesWith, is_final, ComesAlone, HasNoLack}
+use Rattle.simplex_engine.specs.Causes.{at_hand, forgettable, came_in, evidence, given_in, heard_in, of_counted, shown_against, is_verdict, IsMeant, IsOnOffer, IsStepMeant, Comes, ComesBy, ComesWith, is_final, ComesAlone, HasNoLack}
 
 module _ {S L D K G C : Type 0} (now : ℕ) {matters more : List (Matter S D K G C)} (among : AreAmong matters more) (m : MemberFacts K L D) where
   -- a step comes of more
   meant_among : (call : CallFacts D) → IsMeant now matters m call → IsMeant now more m call
-  meant_among call (inl (asked, is, of_these)) = inl (asked, is, among_further of_these among)
+  meant_among call (inl (asked, is, of_these, on_offer)) = inl (asked, is, among_further of_these among, on_offer)
   meant_among call (inr (inl (from, proposal, is, in_these, admits))) = inr (inl (from, proposal, is, among_further in_these among, admits))
   meant_among call (inr (inr (certificate, is, in_these))) = inr (inr (certificate, is, among_further in_these among))
 
@@ -470,10 +470,21 @@ module _ {S L D K G C : Type 0} (same : D → D → Bool) (elect : Elect L) (byt
     where
       by_test : (t : Bool) → asked ≡ verification_of t view → ComesWith same elect bytes bytes_of now (Message (verification_of t view) ∷ []) a b
       by_test true is_it =
-          comes (Message (task.Verified view) ∷ []) (λ kind v. refl) (inl (task.Verified view, ap (λ it. call_of it now) is_it, among_more (Message (task.Verified view) ∷ []) (at_hand a)))
+          comes (Message (task.Verified view) ∷ []) (λ kind v. refl)
+          (inl (
+            task.Verified view,
+            ap (λ it. call_of it now) is_it,
+            among_more (Message (task.Verified view) ∷ []) (at_hand a),
+            subst (λ it. IsOnOffer a.core.member.facts (call_of it now)) (sym is_it) tt,
+          ))
       by_test false is_it =
           comes (Message (task.VerificationFailed view) ∷ []) (λ kind v. refl)
-          (inl (task.VerificationFailed view, ap (λ it. call_of it now) is_it, among_more (Message (task.VerificationFailed view) ∷ []) (at_hand a)))
+          (inl (
+            task.VerificationFailed view,
+            ap (λ it. call_of it now) is_it,
+            among_more (Message (task.VerificationFailed view) ∷ []) (at_hand a),
+            subst (λ it. IsOnOffer a.core.member.facts (call_of it now)) (sym is_it) tt,
+          ))
 
 -- ---- fetches
 
@@ -572,6 +583,11 @@ module _ (S K G C : Type 0) {D : Type 0} where
   task_lacks_none (task.GiveUp v reason) kind view = refl
   task_lacks_none task.Timeout kind view = refl
   task_lacks_none task.Prune kind view = refl
+
+-- a task that passes no verdict needs no offer
+pub needs_no_offer : {K L D : Type 0} (m : MemberFacts K L D) (now : ℕ) (asked : Task D) → is_verdict asked ≡ false → IsOnOffer m (call_of asked now)
+needs_no_offer m now (task.Certified view is_success) is = absurd (false≢true (sym is))
+needs_no_offer m now asked is = tt
 
 module _ (S K C : Type 0) {D G : Type 0} where
   evidence_lacks_none : (vote : Vote D G) (ballot : Option (Ballot D G)) → HasNoLack (option_to_list (option_map (shown_against {S = S} {K = K} {C = C} vote) ballot))

@@ -98,14 +98,14 @@ module _ {S L D K G C : Type 0} (same : D → D → Bool) (elect : Elect L) (byt
 
 -- what a vote comes to
 
-module _ {S L D K G C : Type 0} {same : D → D → Bool} {elect : Elect L} {bytes_of : C → List ℕ} (IsMadeOf : Subject D → List (ℕ × G) → C → Type 0) (members : ℕ)
+module _ {S L D K G C : Type 0} {same : D → D → Bool} {elect : Elect L} {bytes_of : C → List ℕ} {is_signature : K → Subject D → G → Type 0} (IsMadeOf : Subject D → List (ℕ × G) → C → Type 0) (members : ℕ)
     (old new : Batcher S D K G C) (vote : Vote D G) (a b : Journaled S L D K G C) where
   -- a certificate is made on its subject
-  goes_counted : (counted : Counted S D K G C) → IsCounted same IsMadeOf members true old vote new counted → GoesOn same elect bytes_of (subject_made bytes_of counted) a b
-      → GoesOn same elect bytes_of (Some vote.subject) a b
+  goes_counted : (counted : Counted S D K G C) → IsCounted same IsMadeOf members true old vote new counted → GoesOn same elect bytes_of is_signature (subject_made bytes_of counted) a b
+      → GoesOn same elect bytes_of is_signature (Some vote.subject) a b
   goes_counted (Certified made) counts went =
       let certificate = counts.counted.2 in
-      subst (λ on. GoesOn same elect bytes_of (Some on) a b)
+      subst (λ on. GoesOn same elect bytes_of is_signature (Some on) a b)
       (ap (λ (m : Certificate S D K G C). certificate_subject (certificate_facts bytes_of m)) certificate.1 ∙ made_on S K G bytes_of vote.subject certificate.0) went
   goes_counted (Equivocated first second) counts went = goes_on_anyway went
   goes_counted Taken counts went = goes_on_anyway went
@@ -114,8 +114,8 @@ module _ {S L D K G C : Type 0} {same : D → D → Bool} {elect : Elect L} {byt
 
   -- by a quorum
   backed_counted : (law : (d e : D) → same d e ≡ true → d ≡ e) → ((given : List (Vote D G)) → AreGiven given old → AreGiven (given ++ vote ∷ []) new)
-      → (counted : Counted S D K G C) → IsCounted same IsMadeOf members true old vote new counted → GoesOn same elect bytes_of (subject_made bytes_of counted) a b
-      → IsBacked same elect bytes_of members (vote ∷ []) vote.subject old a b
+      → (counted : Counted S D K G C) → IsCounted same IsMadeOf members true old vote new counted → GoesOn same elect bytes_of is_signature (subject_made bytes_of counted) a b
+      → IsBacked same elect bytes_of is_signature members (vote ∷ []) vote.subject old a b
   backed_counted law given_by (Certified made) counts went =
       record { backed = λ given are. inr (certified_given same law IsMadeOf members true old new vote (given ++ vote ∷ []) (given_by given are) made counts) }
   backed_counted law given_by (Equivocated first second) counts went = backed_by_none members went
@@ -170,16 +170,16 @@ module _ {S L D K G C : Type 0} (same : D → D → Bool) (elect : Elect L) (byt
   turned_left (input.GivenUp view reason) old new turned = inl (ap facts_of turned)
 
   -- what it leaves follows from how it was acted on
-  taken : {E : Type 0} (what : Input S D K G C) (old new : Engine S L D K G C) (answer : Result Bool E)
-      → GoesOn same elect bytes_of (subject_in bytes_of what) old.core new.core → TakesVotes (votes_of_input what) old.batcher new.batcher → KeepsVotes what old.batcher new.batcher
-      → IsBackedInput same elect bytes_of (length (keys_of old.batcher.scheme)) what old.batcher old.core new.core
+  taken : {E : Type 0} {is_signature : K → Subject D → G → Type 0} (what : Input S D K G C) (old new : Engine S L D K G C) (answer : Result Bool E)
+      → GoesOn same elect bytes_of is_signature (subject_in bytes_of what) old.core new.core → TakesVotes (votes_of_input what) old.batcher new.batcher → KeepsVotes what old.batcher new.batcher
+      → IsBackedInput same elect bytes_of is_signature (length (keys_of old.batcher.scheme)) what old.batcher old.core new.core
       → StaysBounded keys_of old.core old.batcher new.core new.batcher
       → IfOk answer (λ is_of_use. IsFalse is_of_use → HoldsAllTheSame old.batcher new.batcher) → OnOk answer (KeepsDuties old new)
       → OnOk answer (ComesWith same elect bytes bytes_of now (came_in bytes_of old.batcher what) old new)
       → (IsFalse (is_input_admitted bytes_of (facts_of old) what) → IfOk answer (λ is_of_use. IsFalse is_of_use × IsTurnedAway what old new))
       → (IsTrue (is_input_admitted bytes_of (facts_of old) what)
       → IfOk answer (IsActedOn same elect bytes_of IsMadeOf keys_of now what old (facts_of new) new.batcher new.plan.steps.items))
-      → IsInputTaken same elect bytes bytes_of IsMadeOf keys_of now what old old new answer
+      → IsInputTaken same elect bytes bytes_of is_signature IsMadeOf keys_of now what old old new answer
   taken what old new answer went votes held backed bounded kept duties comes unadmitted acted = record {
     goes_on = went;
     votes = votes;
@@ -204,21 +204,21 @@ module _ {S L D K G C : Type 0} (same : D → D → Bool) (elect : Elect L) (byt
       by_test false is = IfOk-weaker answer _ _ (λ is_of_use turned vain. turned_left what old new turned.1) (unadmitted is)
 
   -- an input of which no vote is taken
-  pub taken_alone : {E : Type 0} (told what : Input S D K G C) (old new : Engine S L D K G C) (answer : Result Bool E) → told ≡ what
-      → GoesOn same elect bytes_of (subject_in bytes_of what) old.core new.core → new.batcher ≡ old.batcher
-      → IsBackedInput same elect bytes_of (length (keys_of old.batcher.scheme)) what old.batcher old.core new.core → OnOk answer (KeepsDuties old new)
+  pub taken_alone : {E : Type 0} {is_signature : K → Subject D → G → Type 0} (told what : Input S D K G C) (old new : Engine S L D K G C) (answer : Result Bool E) → told ≡ what
+      → GoesOn same elect bytes_of is_signature (subject_in bytes_of what) old.core new.core → new.batcher ≡ old.batcher
+      → IsBackedInput same elect bytes_of is_signature (length (keys_of old.batcher.scheme)) what old.batcher old.core new.core → OnOk answer (KeepsDuties old new)
       → OnOk answer (ComesWith same elect bytes bytes_of now (came_in bytes_of old.batcher what) old new)
       → (IsFalse (is_input_admitted bytes_of (facts_of old) what) → IfOk answer (λ is_of_use. IsFalse is_of_use × IsTurnedAway what old new))
       → (IsTrue (is_input_admitted bytes_of (facts_of old) what)
       → IfOk answer (IsActedOn same elect bytes_of IsMadeOf keys_of now what old (facts_of new) new.batcher new.plan.steps.items))
-      → IsInputTaken same elect bytes bytes_of IsMadeOf keys_of now told old old new answer
-  taken_alone told what old new answer is went kept backed duties comes unadmitted acted =
-      subst (λ input. IsInputTaken same elect bytes bytes_of IsMadeOf keys_of now input old old new answer) (sym is)
+      → IsInputTaken same elect bytes bytes_of is_signature IsMadeOf keys_of now told old old new answer
+  taken_alone {is_signature = is_signature} told what old new answer is went kept backed duties comes unadmitted acted =
+      subst (λ input. IsInputTaken same elect bytes bytes_of is_signature IsMadeOf keys_of now input old old new answer) (sym is)
       (taken what old new answer went (takes_anyway (takes_same kept)) (keeps_votes what old.batcher new.batcher kept) backed (bounded_still keys_of went (takes_same kept))
       (always_ok answer (λ is_of_use vain. held_same old.batcher new.batcher kept)) duties comes unadmitted acted)
 
   -- a vote that is counted
-  pub taken_counted : {E : Type 0} (law : (d e : D) → same d e ≡ true → d ≡ e) (vote : Vote D G) (old new : Engine S L D K G C) (answer : Result Bool E)
+  pub taken_counted : {E : Type 0} {is_signature : K → Subject D → G → Type 0} (law : (d e : D) → same d e ≡ true → d ≡ e) (vote : Vote D G) (old new : Engine S L D K G C) (answer : Result Bool E)
       (batcher : Batcher S D K G C) (counted : Counted S D K G C)
       → IsTrue (is_so (λ x. admits_votes x (subject_round vote.subject)) (facts_of old))
       → ((given : List (Vote D G)) → AreGiven given old.batcher → AreGiven (given ++ vote ∷ []) batcher)
@@ -226,11 +226,11 @@ module _ {S L D K G C : Type 0} (same : D → D → Bool) (elect : Elect L) (byt
       → HoldsUpTo (length (keys_of old.batcher.scheme)) highest old.batcher → HoldsUpTo (length (keys_of old.batcher.scheme)) highest batcher)
       → batcher.scheme ≡ old.batcher.scheme
       → IsCounted same (IsMadeOf old.batcher.scheme) (length (keys_of old.batcher.scheme)) true old.batcher vote batcher counted
-      → GoesOn same elect bytes_of (subject_made bytes_of counted) old.core new.core → new.batcher ≡ batcher
+      → GoesOn same elect bytes_of is_signature (subject_made bytes_of counted) old.core new.core → new.batcher ≡ batcher
       → IfOk answer (IsCountFollowed same elect bytes_of now counted old.plan.steps.items (facts_of old) new.plan.steps.items (facts_of new))
       → OnOk answer (KeepsDuties old new)
       → OnOk answer (ComesWith same elect bytes bytes_of now (came_in bytes_of old.batcher (input.Vote vote)) old new)
-      → IsInputTaken same elect bytes bytes_of IsMadeOf keys_of now (input.Vote vote) old old new answer
+      → IsInputTaken same elect bytes bytes_of is_signature IsMadeOf keys_of now (input.Vote vote) old old new answer
   taken_counted law vote old new answer batcher counted admits given_by within scheme counts went kept followed duties comes =
       let made = IsMadeOf old.batcher.scheme in
       let members = length (keys_of old.batcher.scheme) in
@@ -248,8 +248,8 @@ module _ {S L D K G C : Type 0} (same : D → D → Bool) (elect : Elect L) (byt
       }) followed)
 
   -- where it is not of no use, it was not turned away
-  pub taken_otherwise : {E : Type 0} (what : Input S D K G C) (old passed new : Engine S L D K G C) (answer : Result Bool E) → answer ≢ Ok false
-      → IsInputTaken same elect bytes bytes_of IsMadeOf keys_of now what old old new answer → IsInputTaken same elect bytes bytes_of IsMadeOf keys_of now what old passed new answer
+  pub taken_otherwise : {E : Type 0} {is_signature : K → Subject D → G → Type 0} (what : Input S D K G C) (old passed new : Engine S L D K G C) (answer : Result Bool E) → answer ≢ Ok false
+      → IsInputTaken same elect bytes bytes_of is_signature IsMadeOf keys_of now what old old new answer → IsInputTaken same elect bytes bytes_of is_signature IsMadeOf keys_of now what old passed new answer
   taken_otherwise what old passed new answer otherwise turns = record {
     goes_on = turns.goes_on;
     votes = turns.votes;
@@ -285,11 +285,11 @@ module _ {S L D K G C : Type 0} (same : D → D → Bool) (elect : Elect L) (byt
   turned_ignored (input.GivenUp view reason) old new turned = ap ignoring turned
 
   -- that it was not, which is counted
-  pub taken_of_no_use : {E : Type 0} (what : Input S D K G C) (old mid new : Engine S L D K G C) (answer : Result Bool E) → answer ≡ Ok false → new ≡ ignoring mid → IsInputTaken same elect bytes bytes_of IsMadeOf keys_of now what old old mid answer
-      → IsInputTaken {E = E} same elect bytes bytes_of IsMadeOf keys_of now what old (ignoring old) new (Ok false)
-  taken_of_no_use {E = E} what old mid new answer is ignored was =
-      let taken = subst (IsInputTaken same elect bytes bytes_of IsMadeOf keys_of now what old old mid) is was in
-      subst (λ engine. IsInputTaken {E = E} same elect bytes bytes_of IsMadeOf keys_of now what old (ignoring old) engine (Ok false)) (sym ignored)
+  pub taken_of_no_use : {E : Type 0} {is_signature : K → Subject D → G → Type 0} (what : Input S D K G C) (old mid new : Engine S L D K G C) (answer : Result Bool E) → answer ≡ Ok false → new ≡ ignoring mid → IsInputTaken same elect bytes bytes_of is_signature IsMadeOf keys_of now what old old mid answer
+      → IsInputTaken {E = E} same elect bytes bytes_of is_signature IsMadeOf keys_of now what old (ignoring old) new (Ok false)
+  taken_of_no_use {E = E} {is_signature = is_signature} what old mid new answer is ignored was =
+      let taken = subst (IsInputTaken same elect bytes bytes_of is_signature IsMadeOf keys_of now what old old mid) is was in
+      subst (λ engine. IsInputTaken {E = E} same elect bytes bytes_of is_signature IsMadeOf keys_of now what old (ignoring old) engine (Ok false)) (sym ignored)
       (record {
         goes_on = taken.goes_on;
         votes = taken.votes;

@@ -82,8 +82,8 @@ module _ {S L D K G C : Type 0} where
       among_further (among_behind (work_in b.core.outbox.queue.items) (work_planned b.plan.steps.items)) (among_behind work (work_ahead b))
 
   -- the member waits for the same
-  pub tells_same : {same : D → D → Bool} {elect : Elect L} {bytes_of : C → List ℕ} {taken : Option (Subject D)} (a b : Engine S L D K G C)
-      → b.core.member.facts.outstanding_work ≡ a.core.member.facts.outstanding_work → GoesOn same elect bytes_of taken a.core b.core
+  pub tells_same : {same : D → D → Bool} {elect : Elect L} {bytes_of : C → List ℕ} {is_signature : K → Subject D → G → Type 0} {taken : Option (Subject D)} (a b : Engine S L D K G C)
+      → b.core.member.facts.outstanding_work ≡ a.core.member.facts.outstanding_work → GoesOn same elect bytes_of is_signature taken a.core b.core
       → (HasComeTo a.core.member.facts a.plan → HasComeTo b.core.member.facts b.plan) → KeepsPlannedThen a.plan b.plan → KeepsDuties a b
   tells_same a b waits goes come plans = record {
     stays = λ work told.
@@ -99,9 +99,9 @@ module _ {S L D K G C : Type 0} where
   }
 
   -- besides, its state and the plan are the same
-  pub tells_beside : {same : D → D → Bool} {elect : Elect L} {bytes_of : C → List ℕ} {taken : Option (Subject D)} (a b : Engine S L D K G C)
+  pub tells_beside : {same : D → D → Bool} {elect : Elect L} {bytes_of : C → List ℕ} {is_signature : K → Subject D → G → Type 0} {taken : Option (Subject D)} (a b : Engine S L D K G C)
       → b.core.member.facts.outstanding_work ≡ a.core.member.facts.outstanding_work → b.core.member.facts.life ≡ a.core.member.facts.life
-      → GoesOn same elect bytes_of taken a.core b.core → b.plan ≡ a.plan → KeepsDuties a b
+      → GoesOn same elect bytes_of is_signature taken a.core b.core → b.plan ≡ a.plan → KeepsDuties a b
   tells_beside a b waits life goes plan =
       tells_same a b waits goes (come_same a b life (ap (λ (p : Plan S D K G C). p.views) plan)) (keeps_own a.plan b.plan (plans_same a.plan b.plan plan))
 
@@ -125,8 +125,8 @@ module _ {S L D K G C : Type 0} where
       queue = work_in a.core.outbox.queue.items
 
   -- a task was asked of the member, and what its answer asks of the application is planned
-  pub tells_called : {same : D → D → Bool} {elect : Elect L} {bytes_of : C → List ℕ} {taken : Option (Subject D)} (a b : Engine S L D K G C) (asked : Task D) (now : ℕ) (told : Told K D)
-      → IsCall same elect a.core.member.facts (call_of asked now) told b.core.member.facts → GoesOn same elect bytes_of taken a.core b.core → HasComeTo b.core.member.facts b.plan → PlansAnswerThen asked told a.plan b.plan → KeepsDuties a b
+  pub tells_called : {same : D → D → Bool} {elect : Elect L} {bytes_of : C → List ℕ} {is_signature : K → Subject D → G → Type 0} {taken : Option (Subject D)} (a b : Engine S L D K G C) (asked : Task D) (now : ℕ) (told : Told K D)
+      → IsCall same elect a.core.member.facts (call_of asked now) told b.core.member.facts → GoesOn same elect bytes_of is_signature taken a.core b.core → HasComeTo b.core.member.facts b.plan → PlansAnswerThen asked told a.plan b.plan → KeepsDuties a b
   tells_called {same = same} {elect = elect} a b asked now told called goes come plans = record {
     stays = λ work is.
         let ahead = work_ahead a in
@@ -159,8 +159,8 @@ module _ {S L D K G C : Type 0} where
   }
 
   -- a certificate was handed in
-  pub tells_handed : {same : D → D → Bool} {elect : Elect L} {bytes_of : C → List ℕ} {taken : Option (Subject D)} (a b : Engine S L D K G C) (certificate : CertificateFacts D) (now : ℕ) (told : Told K D)
-      → IsCall same elect a.core.member.facts (hands_in certificate now) told b.core.member.facts → GoesOn same elect bytes_of taken a.core b.core → HasComeTo b.core.member.facts b.plan → KeepsPlannedThen a.plan b.plan → KeepsDuties a b
+  pub tells_handed : {same : D → D → Bool} {elect : Elect L} {bytes_of : C → List ℕ} {is_signature : K → Subject D → G → Type 0} {taken : Option (Subject D)} (a b : Engine S L D K G C) (certificate : CertificateFacts D) (now : ℕ) (told : Told K D)
+      → IsCall same elect a.core.member.facts (hands_in certificate now) told b.core.member.facts → GoesOn same elect bytes_of is_signature taken a.core b.core → HasComeTo b.core.member.facts b.plan → KeepsPlannedThen a.plan b.plan → KeepsDuties a b
   tells_handed {same = same} {elect = elect} a b certificate now told called goes come plans =
       elim (waits_as_before same elect a.core.member.facts b.core.member.facts (hands_in certificate now) told (plain certificate) called) [
         | inl waits ↦ tells_same a b waits goes (λ before. come) plans

@@ -9,8 +9,9 @@ use Rattle.simplex_types.specs.declared.types.messages.Proposal.{Proposal}
 use Rattle.simplex_resolver.specs.Steps.{Call}
 use Rattle.simplex_voter.specs.Facts.{Elect}
 use Rattle.simplex_voter.specs.Windows.{min_active}
-use Rattle.simplex_member.specs.Calls.{CallFacts, SetProposal, told}
+use Rattle.simplex_member.specs.Calls.{CallFacts, Certified, SetProposal, told}
 use Rattle.simplex_member.specs.Lives.{MemberFacts}
+use Rattle.simplex_member.specs.OutstandingWork.{is_offered}
 use Rattle.simplex_member.specs.Runs.{StepFacts, Calls, Prunes, Restarts, IsStep}
 use Rattle.simplex_member.specs.declared.member.calls.Reply.{Reply}
 use Rattle.simplex_batcher.specs.Batching.{held, kind_of}
@@ -82,11 +83,22 @@ module _ {S L D K G C : Type 0} where
   abbrev pub forgettable : MemberFacts K L D → List (Matter S D K G C)
   forgettable m = option_map_or (λ x. Duty (Forget (min_active x)) ∷ []) m.life []
 
+-- the task passes a verdict on a proposal
+abbrev pub is_verdict : {D : Type 0} → Task D → Bool
+is_verdict (task.Certified _ _) = true
+is_verdict _ = false
+
+-- a verdict is on a proposal that the member offered and that has none; any other call may be made
+abbrev pub IsOnOffer : {K L D : Type 0} → MemberFacts K L D → CallFacts D → Type 0
+IsOnOffer m (Certified view _ _) = is_offered m.outstanding_work view ≡ true
+IsOnOffer m _ = Unit {0}
+
 module _ {S L D K G C : Type 0} (now : ℕ) where
-  -- a call comes of what is at hand: of a task, a proposal of its view's leader that the member admits, or a certificate
+  -- a call comes of what is at hand: of a task, where a verdict is on an offer; a proposal of its view's leader that the member admits; or
+  -- a certificate
   abbrev pub IsMeant : List (Matter S D K G C) → MemberFacts K L D → CallFacts D → Type 0
   IsMeant matters m call =
-      ((asked : Task D) × (call ≡ call_of asked now) × AreAmong (of_task asked) matters)
+      ((asked : Task D) × (call ≡ call_of asked now) × AreAmong (of_task asked) matters × IsOnOffer m call)
       ⊎ ((from : ℕ) × (proposal : Proposal D) × (call ≡ SetProposal proposal.round.view proposal) × IsIn (Arrival from proposal) matters
       × (is_so (λ x. admits_proposal x from proposal.round) m ≡ true))
       ⊎ ((certificate : CertificateFacts D) × (call ≡ hands_in certificate now) × IsIn (Quorum (certificate_subject certificate)) matters)

@@ -16,12 +16,12 @@ use Rattle.simplex_engine.specs.Inputs.{subject_in}
 
 -- what `Engine::handle` says of an engine before and after, by its answer; an input that is turned away leaves it as it passed
 pub record IsInputTaken {S L D K G C E : Type 0} (same : D → D → Bool) (elect : Elect L) (bytes : D → List ℕ) (bytes_of : C → List ℕ)
-    (IsMadeOf : S → Subject D → List (ℕ × G) → C → Type 0) (keys_of : S → List K) (now : ℕ) (what : Input S D K G C)
+    (is_signature : K → Subject D → G → Type 0) (IsMadeOf : S → Subject D → List (ℕ × G) → C → Type 0) (keys_of : S → List K) (now : ℕ) (what : Input S D K G C)
     (old passed new : Engine S L D K G C) (answer : Result Bool E) : Type 0 where
-  pub goes_on : GoesOn same elect bytes_of (subject_in bytes_of what) old.core new.core
+  pub goes_on : GoesOn same elect bytes_of is_signature (subject_in bytes_of what) old.core new.core
   pub votes : TakesVotes (votes_of_input what) old.batcher new.batcher
   pub held : KeepsVotes what old.batcher new.batcher
-  pub backed : IsBackedInput same elect bytes_of (length (keys_of old.batcher.scheme)) what old.batcher old.core new.core
+  pub backed : IsBackedInput same elect bytes_of is_signature (length (keys_of old.batcher.scheme)) what old.batcher old.core new.core
   pub dropped : IfOk answer (λ is_of_use. IsFalse is_of_use → IsDropped now what old new)
   pub unadmitted : IsFalse (is_input_admitted bytes_of old.core.member.facts what) → IfOk answer (λ is_of_use. IsFalse is_of_use × IsTurnedAway what passed new)
   pub bounded : StaysBounded keys_of old.core old.batcher new.core new.batcher

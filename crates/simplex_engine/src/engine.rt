@@ -3,7 +3,7 @@
 //! It holds no network, clock or disk, and no key but the scheme's. Moments are milliseconds; they do not go back.
 #![tactic(auto, using(simplex_outbox::proofs::Going::stays, simplex_outbox::proofs::Going::goes_further, crate::proofs::Backing::takes_nothing, crate::proofs::Backing::takes_no_more, crate::proofs::Backing::takes_anyway))]
 
-ghost use Rattle.std.specs.Prelude.{◌≡◌, ◌++◌, [], length, None, Err, if◌then◌else◌, IfOk, IfErr, IfSome, OnOk, OnErr, IsNone, IsFalse, IsTrue, true, false};
+ghost use Rattle.std.specs.Prelude.{◌≡◌, ◌++◌, [], length, Contains, None, Err, if◌then◌else◌, IfOk, IfErr, IfSome, OnOk, OnErr, IsNone, IsFalse, IsTrue, true, false};
 ghost use Rattle.std.specs.Option.{option_copied};
 ghost use Rattle.simplex_types.specs.declared.types.fault.Fault.TheVariants.{OutOfMemory, Failed};
 ghost use Rattle.simplex_engine.specs.Failing.{IsFailure};
@@ -57,8 +57,10 @@ impl<S: Assembly<D>, L: Elector<S>, D: Digest> Engine<S, L, D> {
     ghost use Rattle.simplex_outbox.specs.Leaving.{AllLeave};
     ghost use Rattle.simplex_outbox.specs.Reaching.{IsShort};
     ghost use Rattle.simplex_outbox.specs.Going.{IsKept, IsTraced, IsWhole, GoesOn, EmitsOn, DoesMoreOn, HasGivenOut, has_failed};
+    ghost use Rattle.simplex_outbox.specs.Signatures.{IsSignedBy};
     ghost use Rattle.simplex_outbox.specs.Stops.{EachStopIsLawful};
-    ghost use Rattle.simplex_engine.specs.Settled.{IsSettled};
+    ghost use Rattle.simplex_outbox.specs.declared.output.Output.TheVariants as output;
+    ghost use Rattle.simplex_engine.specs.Settled.{IsSettled, ReturnsFirst};
     ghost use Rattle.simplex_plan.specs.PlannedWork.{constants_of, AreAmong};
     ghost use Rattle.simplex_plan.specs.Planning.{IsIdle, IsWake};
     ghost use Rattle.simplex_engine.specs.Inputs.{subject_in, given_out};
@@ -83,7 +85,8 @@ impl<S: Assembly<D>, L: Elector<S>, D: Digest> Engine<S, L, D> {
     /// kind and view; a certificate of a kind and view that has one; a verification or a block that was not asked for; a verdict on a
     /// proposal that was not offered, or that has its verdict.
     ///
-    /// - `goes_on`: the member accepts no certificate but the one that is passed, or one on what the passed vote is on. A finalization
+    /// - `goes_on`: the member accepts no certificate but the one that is passed, or one on what the passed vote is on; votes that are
+    ///   stored stay signed under its key. A finalization
     ///   that it accepts is queued to be reported where its view is above all that were reported.
     /// - `votes`, `held`: the votes that are held were all passed in; an input that is no vote changes none of them.
     /// - `backed`: votes of n - f different members, each passed in, back a certificate that a vote completes.
@@ -109,10 +112,10 @@ impl<S: Assembly<D>, L: Elector<S>, D: Digest> Engine<S, L, D> {
     ///   accepted.
     /// - `Failed`: it had failed before.
     pub fn handle(&mut self, input: Input<S, D>, now: u64) -> Result<bool, Fault>
-        ensures goes_on { GoesOn D.eq L.elect S.certificate_bytes (subject_in S.certificate_bytes input) self.old.core self.new.core }
+        ensures goes_on { GoesOn D.eq L.elect S.certificate_bytes S.IsSignature (subject_in S.certificate_bytes input) self.old.core self.new.core }
         ensures votes { TakesVotes (votes_of_input input) self.old.batcher self.new.batcher }
         ensures held { KeepsVotes input self.old.batcher self.new.batcher }
-        ensures backed { IsBackedInput D.eq L.elect S.certificate_bytes (length (S.participants self.old.batcher.scheme))
+        ensures backed { IsBackedInput D.eq L.elect S.certificate_bytes S.IsSignature (length (S.participants self.old.batcher.scheme))
             input self.old.batcher self.old.core self.new.core }
         ensures dropped { IfOk result (λ is_of_use. IsFalse is_of_use → IsDropped now input self.old self.new) }
         ensures unadmitted { IsFalse (is_input_admitted S.certificate_bytes self.old.core.member.facts input) → IfOk result (λ is_of_use.
@@ -146,7 +149,10 @@ impl<S: Assembly<D>, L: Elector<S>, D: Digest> Engine<S, L, D> {
     /// Returns the next output to carry out, at a moment in milliseconds. `None`: there is none before another input, or before the moment
     /// that `wake` returns.
     ///
-    /// - `given`, `traced`: the returned output is appended to the list of outputs, which stays traced by what the member has done.
+    /// - `front`: until the engine fails, an output that is queued is returned before anything else is done: the first one, with no other
+    ///   change.
+    /// - `given`, `traced`: the returned output is appended to the list of outputs, which stays traced by what the member has done, and its
+    ///   votes signed under the member's key.
     /// - `does`, `told`: the member accepts no certificate, and nothing more is queued to be reported as final.
     /// - `held`, `lowest`: only votes of views below the lowest retained one are forgotten; after `None` none of those is left.
     /// - `votes`, `bounded`, `failed`, `error`, `refused`, `ignored`, `constants`: as of `handle`; no input is counted.
@@ -173,9 +179,11 @@ impl<S: Assembly<D>, L: Elector<S>, D: Digest> Engine<S, L, D> {
     ///
     /// As of `handle`.
     pub fn poll(&mut self, now: u64) -> Result<Option<Output<S, D, Stored>>, Fault>
+        ensures front { has_failed self.old.core ≡ false
+            → ReturnsFirst self.old.core.outbox.queue.items result self.old self.new }
         ensures given { HasGivenOut S.certificate_bytes (given_out result) self.old.core self.new.core }
         ensures does { DoesMoreOn D.eq L.elect None self.old.core.member.facts self.new.core.member.facts }
-        ensures traced { EmitsOn D.eq L.elect S.certificate_bytes None (given_out result) self.old.core self.new.core }
+        ensures traced { EmitsOn D.eq L.elect S.certificate_bytes S.IsSignature None (given_out result) self.old.core self.new.core }
         ensures told { TellsNoMore (given_out result) self.old.core.outbox self.new.core.outbox }
         ensures none { IfOk result (λ out. IsNone out → IsSettled D.eq L.elect S.certificate_bytes self.new.core) }
         ensures idle { IfOk result (λ out. IsNone out → IsIdle now self.new.plan) }
@@ -218,7 +226,7 @@ impl<S: Assembly<D>, L: Elector<S>, D: Digest> Engine<S, L, D> {
     fn poll_after_work(&mut self, now: u64) -> Result<Option<Output<S, D, Stored>>, Fault>
         ensures given { HasGivenOut S.certificate_bytes (given_out result) self.old.core self.new.core }
         ensures does { DoesMoreOn D.eq L.elect None self.old.core.member.facts self.new.core.member.facts }
-        ensures traced { EmitsOn D.eq L.elect S.certificate_bytes None (given_out result) self.old.core self.new.core }
+        ensures traced { EmitsOn D.eq L.elect S.certificate_bytes S.IsSignature None (given_out result) self.old.core self.new.core }
         ensures told { TellsNoMore (given_out result) self.old.core.outbox self.new.core.outbox }
         ensures none { IfOk result (λ out. IsNone out → IsSettled D.eq L.elect S.certificate_bytes self.new.core) }
         ensures idle { IfOk result (λ out. IsNone out → IsIdle now self.new.plan) }
@@ -314,6 +322,7 @@ impl<S: Assembly<D>, L: Elector<S>, D: Digest> Engine<S, L, D> {
     /// - `stops`: until it fails, a host may stop after any output. Its journal is then the record of a member that the engine's member
     ///   was, and that member had signed each vote among these outputs (`stops_are_resumed`).
     /// - `finals`: the member accepted the finalization of each proposal that was reported as final.
+    /// - `signed`: each vote that was returned is the member's own, with a signature on the vote's own subject under the member's key.
     /// - `rising`: the views of these proposals rise.
     /// - `last`: the last of them, returned or queued, is of the member's last finalized view.
     /// - `lawful`: the member keeps the voting rules over all its lifetimes.
@@ -332,6 +341,8 @@ impl<S: Assembly<D>, L: Elector<S>, D: Digest> Engine<S, L, D> {
             → EachStopIsLawful D.eq L.elect S.certificate_bytes term_length i earlier all (given ++ self.now.core.outbox.queue.items) }
         ensures finals { (term_length i : _) (earlier given all : _)
             → IsTraced D.eq L.elect S.certificate_bytes term_length i earlier given all self.now.core → WereAccepted all (finals_in given) }
+        ensures signed { (i key given vote : _) → IsSignedBy S.IsSignature i key given self.now.core → AreBehind [] given
+            → Contains given (output.Vote vote) → (vote.signer ≡ i) × S.IsSignature key vote.subject vote.signature }
         ensures rising { (given : _) → IsKept S.certificate_bytes given self.now.core → RiseByView (finals_in given) }
         ensures last { (given : _) → IsKept S.certificate_bytes given self.now.core → IfSome self.now.core.member.facts.life (λ x.
             EndsAt x.finalized (finals_in (given ++ self.now.core.outbox.queue.items))) }

@@ -2,3 +2,4 @@ pub mod Told
 pub mod Nullifying
 pub mod Examples
 pub mod Votes
+pub mod Offers

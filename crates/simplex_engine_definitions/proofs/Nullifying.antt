@@ -77,7 +77,7 @@ no_certificate now view (Finalized c) is = cc
 
 module _ {S L D K G C : Type 0} (now : ℕ) where
   nullify_meant : (matters : List (Matter S D K G C)) (m : MemberFacts K L D) (view : ℕ) → IsMeant now matters m (ConstructNullify view) → list_any is_expiry matters ≡ true
-  nullify_meant matters m view (inl (asked, is, of_these)) = of_these.found is_expiry (rw (task_expires {S = S} {K = K} {G = G} {C = C} now view asked is) refl)
+  nullify_meant matters m view (inl (asked, is, of_these, on_offer)) = of_these.found is_expiry (rw (task_expires {S = S} {K = K} {G = G} {C = C} now view asked is) refl)
   nullify_meant matters m view (inr (inl (from, proposal, is, in_these, admits))) = absurd (cc)
   nullify_meant matters m view (inr (inr (certificate, is, in_these))) = absurd (no_certificate now view certificate is)
 

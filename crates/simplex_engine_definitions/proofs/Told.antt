@@ -132,7 +132,7 @@ module _ {S D K G C : Type 0} where
 
 module _ {S L D K G C : Type 0} (now : ℕ) where
   meant_told : (matters : List (Matter S D K G C)) (m : MemberFacts K L D) (call : CallFacts D) → IsMeant now matters m call → IsToldBy matters call
-  meant_told matters m call (inl (asked, is, of_these)) = subst (IsToldBy matters) (sym is) (task_told matters now asked of_these)
+  meant_told matters m call (inl (asked, is, of_these, on_offer)) = subst (IsToldBy matters) (sym is) (task_told matters now asked of_these)
   meant_told matters m call (inr (inl (from, proposal, is, in_these, admits))) = subst (IsToldBy matters) (sym is) (inr (from, in_these))
   meant_told matters m call (inr (inr (certificate, is, in_these))) = subst (IsToldBy matters) (sym is) (certificate_told matters now certificate in_these)
 

@@ -2,6 +2,7 @@
 //! `S` are the schemes, `L` the elector, `D` the payloads, `K` the members' keys, `G` signatures and `C` certificates.
 
 ghost use Rattle.simplex_engine_definitions.specs.Laws.{CallsWereToldBefore, NullifiesOnceDue, WorkWasGiven};
+ghost use Rattle.simplex_engine_definitions.specs.Offers.{EnginesRunOnOffers, LifetimesRunOnOffers, RunsOnOffersJoin};
 
 /// An engine that goes on as `comes` says tells its member no verdict, block, proposal or certificate, and gives no leader up,
 /// but what came in, or was at hand before.
@@ -18,4 +19,16 @@ pub fn work_was_given<S, L, D, K, G, C>()
 /// It votes to nullify no view, unless the moment of a timeout had come, by a reply, or by what was planned before.
 pub fn nullifies_once_due<S, L, D, K, G, C>()
     ensures { NullifiesOnceDue S L D K G C }
+{}
+
+/// Each verdict that it passes to its member is on a proposal that the member offered and that has no verdict.
+///
+/// - `runs`: the steps of a call that returns `Ok`, as `comes` says them, are a run on offers.
+/// - `lifetimes`: so are the steps of all calls of a lifetime that return `Ok`, one after another.
+/// - `join`: where one such run ends, another may go on, as after a restart. `verdicts_on_offers_await_parents` of `simplex_chains` says
+///   what follows for a network.
+pub fn engines_run_on_offers<S, L, D, K, G, C>()
+    ensures runs { EnginesRunOnOffers S L D K G C }
+    ensures lifetimes { LifetimesRunOnOffers S L D K G C }
+    ensures join { RunsOnOffersJoin L D K }
 {}

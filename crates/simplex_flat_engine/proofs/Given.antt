@@ -3,7 +3,7 @@ use Rattle.std.proofs.Common.{◌≡◌, ℕ, List, [], ◌∷◌, ◌++◌, Non
 use Rattle.std.specs.Prelude.{option_to_list}
 use Rattle.std.proofs.lemmas.Bool.{false≢true}
 use Rattle.simplex_codec.specs.Digests.{bytes_in_digest}
-use Rattle.simplex_host.specs.Host.{certificate_bytes}
+use Rattle.simplex_host.specs.Host.{certificate_bytes, IsOrder}
 use Rattle.simplex_plan.specs.PlannedWork.{AreAmong}
 use Rattle.simplex_outbox.specs.Outputs.{work_in}
 use Rattle.simplex_engine.specs.Causes.{forgettable, held_by, Comes}
@@ -37,10 +37,10 @@ tells_no_more out before r old new tells (inr it) alive = absurd (false≢true (
 
 -- what is given out is traced by what the member has done
 pub traced_given : (out : HostOutput) (before : FlatStored) (r : FlatOutput) (old new : HeldEngine)
-    → EmitsOn same_host_payload host_leader certificate_bytes None (out ∷ []) old.engine.core new.engine.core → IsGivenOut out before r new
-    → new.is_lost ≡ false → EmitsOn same_host_payload host_leader certificate_bytes None (option_to_list new.last) old.engine.core new.engine.core
+    → EmitsOn same_host_payload host_leader certificate_bytes (IsOrder bytes_in_digest) None (out ∷ []) old.engine.core new.engine.core → IsGivenOut out before r new
+    → new.is_lost ≡ false → EmitsOn same_host_payload host_leader certificate_bytes (IsOrder bytes_in_digest) None (option_to_list new.last) old.engine.core new.engine.core
 traced_given out before r old new traced (inl it) alive =
-    subst (λ last. EmitsOn same_host_payload host_leader certificate_bytes None (option_to_list last) old.engine.core new.engine.core) (sym it.0.last) traced
+    subst (λ last. EmitsOn same_host_payload host_leader certificate_bytes (IsOrder bytes_in_digest) None (option_to_list last) old.engine.core new.engine.core) (sym it.0.last) traced
 traced_given out before r old new traced (inr it) alive = absurd (false≢true (sym alive ∙ it.0))
 
 -- what the member waits for stays told

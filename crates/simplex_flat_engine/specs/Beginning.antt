@@ -2,7 +2,7 @@
 use Rattle.std.specs.Prelude.{◌≡◌, ◌≢◌, ◌⊎◌, ◌≤◌, ℕ, List, [], length}
 use Rattle.simplex_host.specs.Electing.{host_terms}
 use Rattle.simplex_codec.specs.Digests.{bytes_in_digest}
-use Rattle.simplex_host.specs.Host.{certificate_bytes, host_keys, host_signer}
+use Rattle.simplex_host.specs.Host.{certificate_bytes, host_keys, host_signer, IsOrder}
 use Rattle.simplex_record.specs.Entries.{entries_of}
 use Rattle.simplex_record.specs.Votes.{votes_of}
 use Rattle.simplex_member.specs.Journal.{IsNotResumed, IsResumed}
@@ -21,6 +21,7 @@ use Rattle.simplex_flat.specs.declared.settings.SettingsError.TheVariants as set
 use Rattle.simplex_plan.specs.declared.plan.Options.{Options}
 use Rattle.simplex_engine.specs.Bounds.{HoldsNoneAhead}
 use Rattle.simplex_outbox.specs.Going.{BeginsTraced, IsWhole, TellsNothing}
+use Rattle.simplex_outbox.specs.Signatures.{BeginsSigned}
 use Rattle.simplex_outbox.specs.Journals.{BeginsWith}
 use Rattle.simplex_flat.specs.declared.flat.FlatSettings.{FlatSettings}
 use Rattle.simplex_flat.specs.declared.opening.NotResumed.TheVariants as not_resumed
@@ -49,6 +50,7 @@ options_of f = record { retry = f.retry; on_its_way = f.on_its_way; long_record 
 pub record HasGivenNothing (f : FlatSettings) (held : HeldEngine) : Type 0 where
   pub kept : IsAllGiven [] held
   pub traced : BeginsTraced same_host_payload host_leader certificate_bytes held.engine.core.member held.engine.core
+  pub signed : BeginsSigned (IsOrder bytes_in_digest) held.engine.core.member held.engine.core
   pub whole : IsWhole certificate_bytes held.engine.core
   pub queued : BeginsWith certificate_bytes held.engine.core.member held.engine.core.outbox.queue.items
   pub told : TellsNothing held.engine.core

@@ -9,7 +9,7 @@ use Rattle.simplex_host.specs.declared.scheme.HostCertificate.{HostCertificate}
 use Rattle.simplex_host.specs.declared.scheme.HostScheme.{HostScheme}
 use Rattle.simplex_host.specs.declared.scheme.Order.{Order}
 use Rattle.simplex_host.specs.Assembling.{signed_bytes}
-use Rattle.simplex_host.specs.Host.{certificate_bytes, host_keys}
+use Rattle.simplex_host.specs.Host.{certificate_bytes, host_keys, IsOrder}
 use Rattle.simplex_engine.specs.Acting.{IsActedOn}
 use Rattle.simplex_outbox.specs.declared.output.Output.TheVariants as output
 use Rattle.simplex_engine.specs.Admitting.{IsTurnedAway, ignoring, is_input_admitted, one_more}
@@ -79,12 +79,13 @@ pub record IsTaken (now : ℕ) (input : HostInput) (old : HeldEngine) (r : FlatT
   pub acted : IsTrue (is_input_admitted certificate_bytes old.engine.core.member.facts input) → IfOk answer
       (IsActedOn same_host_payload host_leader certificate_bytes AreTheSignatures host_keys now input old.engine
       new.engine.core.member.facts new.engine.batcher new.engine.plan.steps.items)
-  pub goes_on : GoesOn same_host_payload host_leader certificate_bytes (subject_in certificate_bytes input) old.engine.core new.engine.core
+  pub goes_on : GoesOn same_host_payload host_leader certificate_bytes (IsOrder bytes_in_digest) (subject_in certificate_bytes input)
+      old.engine.core new.engine.core
   pub votes : TakesVotes (votes_of_input input) old.engine.batcher new.engine.batcher
   -- but for a vote, the same votes are held
   pub held : KeepsVotes input old.engine.batcher new.engine.batcher
-  pub backed : IsBackedInput same_host_payload host_leader certificate_bytes (length (host_keys old.engine.batcher.scheme)) input old.engine.batcher
-      old.engine.core new.engine.core
+  pub backed : IsBackedInput same_host_payload host_leader certificate_bytes (IsOrder bytes_in_digest) (length (host_keys old.engine.batcher.scheme))
+      input old.engine.batcher old.engine.core new.engine.core
   pub bounded : StaysBounded host_keys old.engine.core old.engine.batcher new.engine.core new.engine.batcher
   -- each proposal and block that the application is to be told of stays told
   pub duties : OnOk answer (KeepsTelling old.engine new.engine)
@@ -208,7 +209,7 @@ pub record IsAsked (now : ℕ) (old : HeldEngine) (r : FlatOutput) (new : HeldEn
   pub told : new.is_lost ≡ false → TellsNoMore (option_to_list new.last) old.engine.core.outbox new.engine.core.outbox
   -- what is given out is traced by what the member has done
   pub traced : new.is_lost ≡ false
-      → EmitsOn same_host_payload host_leader certificate_bytes None (option_to_list new.last) old.engine.core new.engine.core
+      → EmitsOn same_host_payload host_leader certificate_bytes (IsOrder bytes_in_digest) None (option_to_list new.last) old.engine.core new.engine.core
   -- no certificate is accepted, and no vote is taken
   pub does : DoesMoreOn same_host_payload host_leader None old.engine.core.member.facts new.engine.core.member.facts
   pub votes : TakesNone old.engine.batcher new.engine.batcher

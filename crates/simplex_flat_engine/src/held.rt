@@ -1,6 +1,6 @@
 //! An engine behind a handle, with what it gave out last: its bytes are read of it, and never lack memory.
 
-ghost use Rattle.std.specs.Prelude.{◌≡◌, ◌++◌, ◌+◌, ◌-◌, ◌^◌, [], true, false, min, length, None, OnOk};
+ghost use Rattle.std.specs.Prelude.{◌≡◌, ◌++◌, ◌+◌, ◌-◌, ◌^◌, [], true, false, min, length, Contains, None, OnOk};
 ghost use Rattle.simplex_flat.specs.Journals.{framed};
 ghost use Rattle.simplex_flat.specs.Opening.{IsFlatStored};
 ghost use Rattle.simplex_flat.specs.Statuses.{not_written_number};
@@ -54,8 +54,11 @@ impl HeldEngine {
     ghost use Rattle.simplex_outbox.specs.Outputs.{AreBehind};
     ghost use Rattle.simplex_outbox.specs.Finals.{finals_in, RiseByView, WereAccepted};
     ghost use Rattle.simplex_outbox.specs.Going.{IsTraced};
+    ghost use Rattle.simplex_codec.specs.Digests.{bytes_in_digest};
+    ghost use Rattle.simplex_outbox.specs.Signatures.{IsSignedBy};
+    ghost use Rattle.simplex_outbox.specs.declared.output.Output.TheVariants as output;
     ghost use Rattle.simplex_outbox.specs.Stops.{EachStopIsLawful};
-    ghost use Rattle.simplex_host.specs.Host.{certificate_bytes};
+    ghost use Rattle.simplex_host.specs.Host.{certificate_bytes, IsOrder};
     ghost use Rattle.simplex_flat.specs.Serving.{host_leader, same_host_payload};
     ghost use Rattle.simplex_host.specs.declared.scheme.HostKey.{HostKey};
 
@@ -228,6 +231,7 @@ impl HeldEngine {
     /// - `stops`: until it fails, a host may stop after each output that was given out: the journal is then the record of a member that
     ///   the engine's member was, which had signed each vote among these outputs.
     /// - `finals`: of each proposal that it reported as final, its member accepted the finalization.
+    /// - `signed`: each vote that it gave out is its member's, an order to sign just the vote's own bytes with the member's key.
     /// - `rising`: the views of the proposals rise that it told as final.
     /// - `lawful`: what its member has done keeps the voting rules, over all its lives.
     /// - `ran`: a network of `agreement` may have it as member `i`.
@@ -244,6 +248,8 @@ impl HeldEngine {
         ensures finals { (term_length i : _) (earlier given all : _)
             → IsTraced same_host_payload host_leader certificate_bytes term_length i earlier given all self.now.engine.core
             → WereAccepted all (finals_in given) }
+        ensures signed { (i key given vote : _) → IsSignedBy (IsOrder bytes_in_digest) i key given self.now.engine.core → AreBehind [] given
+            → Contains given (output.Vote vote) → (vote.signer ≡ i) × IsOrder bytes_in_digest key vote.subject vote.signature }
         ensures rising { (given : _) → IsAllGiven given self.now → self.now.is_lost ≡ false → RiseByView (finals_in given) }
         ensures lawful { OfAllDone same_host_payload host_leader self.now.engine.core.member.facts (λ term_length i all. IsLawful term_length all) }
         ensures ran { OfAllDone same_host_payload host_leader self.now.engine.core.member.facts (MayBeDoneBy HostKey same_host_payload host_leader) }

@@ -21,6 +21,7 @@ use Rattle.simplex_outbox.specs.Doing.{IsDoneOn}
 use Rattle.simplex_outbox.specs.Finals.{TellsRising, TellsNoMore, finals_by}
 use Rattle.simplex_outbox.specs.declared.output.Output.{Output}
 use Rattle.simplex_outbox.specs.Going.{IsKept, IsTraced, StaysTraced, EmitsTraced, EmitsOn, GoesOn, DoesMoreOn, HasGivenOut, HasRisen}
+use Rattle.simplex_outbox.specs.Signatures.{EmitsSigned, IsSignedBy}
 use Rattle.simplex_outbox.proofs.Finals.{finalized_by-append, none_finalized, tells_none, tells_further, tells_no_more, tells_nothing}
 use Rattle.simplex_batcher.specs.Counting.{certificate_of}
 use Rattle.simplex_outbox.proofs.Queued.{queues_none, queues_further}
@@ -52,13 +53,13 @@ module _ {K L D : Type 0} where
 traced_still : {S L D K G C : Type 0} (same : D → D → Bool) (elect : Elect L) (bytes_of : C → List ℕ) (a : Journaled S L D K G C) → StaysTraced same elect bytes_of [] a a
 traced_still same elect bytes_of a term_length i earlier given all is = subst (λ xs. IsTraced same elect bytes_of term_length i earlier given xs a) (sym (append-nil all)) is
 
-module _ {S L D K G C : Type 0} {same : D → D → Bool} {elect : Elect L} {bytes_of : C → List ℕ} {taken : Option (Subject D)} where
+module _ {S L D K G C : Type 0} {same : D → D → Bool} {elect : Elect L} {bytes_of : C → List ℕ} {is_signature : K → Subject D → G → Type 0} {taken : Option (Subject D)} where
   -- nothing has changed
-  pub stays : (a : Journaled S L D K G C) → GoesOn same elect bytes_of taken a a
-  stays a = record { kept = λ given kept. kept; more = []; on_this = All-nil (IsDoneOn taken); done = does_nothing a.member.facts; traced = traced_still same elect bytes_of a; told = tells_none a.outbox a.outbox refl refl; queued = queues_none a.outbox; risen = risen_not a.member.facts }
+  pub stays : (a : Journaled S L D K G C) → GoesOn same elect bytes_of is_signature taken a a
+  stays a = record { kept = λ given kept. kept; more = []; on_this = All-nil (IsDoneOn taken); done = does_nothing a.member.facts; traced = traced_still same elect bytes_of a; signed = λ i key given is. is; told = tells_none a.outbox a.outbox refl refl; queued = queues_none a.outbox; risen = risen_not a.member.facts }
 
   -- from one moment to a later one, and on to one later still
-  pub goes_further : {a b c : Journaled S L D K G C} → GoesOn same elect bytes_of taken a b → GoesOn same elect bytes_of taken b c → GoesOn same elect bytes_of taken a c
+  pub goes_further : {a b c : Journaled S L D K G C} → GoesOn same elect bytes_of is_signature taken a b → GoesOn same elect bytes_of is_signature taken b c → GoesOn same elect bytes_of is_signature taken a c
   goes_further {a = a} {b = b} {c = c} first second = record {
     kept = λ given kept. second.kept given (first.kept given kept);
     more = first.more ++ second.more;
@@ -69,6 +70,7 @@ module _ {S L D K G C : Type 0} {same : D → D → Bool} {elect : Elect L} {byt
     traced = λ term_length i earlier given all is.
         subst (λ xs. IsTraced same elect bytes_of term_length i earlier given xs c) (append_assoc all first.more second.more)
         (second.traced term_length i earlier given (all ++ first.more) (first.traced term_length i earlier given all is));
+    signed = λ i key given is. second.signed i key given (first.signed i key given is);
     told =
         subst (λ ps. TellsRising ps a.outbox c.outbox) (sym (finalized_by-append first.more second.more))
         (tells_further (finals_by first.more) (finals_by second.more) a.outbox b.outbox c.outbox first.told second.told);
@@ -77,22 +79,22 @@ module _ {S L D K G C : Type 0} {same : D → D → Bool} {elect : Elect L} {byt
   }
 
   -- where no certificate is accepted
-  pub goes_on_anyway : {a b : Journaled S L D K G C} → GoesOn same elect bytes_of None a b → GoesOn same elect bytes_of taken a b
-  goes_on_anyway went = record { kept = went.kept; more = went.more; on_this = λ k d less. anyway _ (went.on_this k d less); done = went.done; traced = went.traced; told = went.told; queued = went.queued; risen = went.risen }
+  pub goes_on_anyway : {a b : Journaled S L D K G C} → GoesOn same elect bytes_of is_signature None a b → GoesOn same elect bytes_of is_signature taken a b
+  goes_on_anyway went = record { kept = went.kept; more = went.more; on_this = λ k d less. anyway _ (went.on_this k d less); done = went.done; traced = went.traced; signed = went.signed; told = went.told; queued = went.queued; risen = went.risen }
     where
       anyway : (event : TraceEvent D) → IsDoneOn None event → IsDoneOn taken event
       anyway (Signs _ _) is = tt
       anyway (Accepts _) is = absurd is
 
 -- what a member has done by a call
-pub does_more : {S L D K G C : Type 0} {same : D → D → Bool} {elect : Elect L} {bytes_of : C → List ℕ} {taken : Option (Subject D)}
-    (a b c : Journaled S L D K G C) → GoesOn same elect bytes_of taken a b → c.member ≡ b.member → DoesMoreOn same elect taken a.member.facts c.member.facts
+pub does_more : {S L D K G C : Type 0} {same : D → D → Bool} {elect : Elect L} {bytes_of : C → List ℕ} {is_signature : K → Subject D → G → Type 0} {taken : Option (Subject D)}
+    (a b c : Journaled S L D K G C) → GoesOn same elect bytes_of is_signature taken a b → c.member ≡ b.member → DoesMoreOn same elect taken a.member.facts c.member.facts
 does_more {same = same} {elect = elect} {taken = taken} a b c went is =
     subst (λ member. DoesMoreOn same elect taken a.member.facts member.facts) (sym is) (record { more = went.more; on_this = went.on_this; done = went.done })
 
 -- where nothing is given out
-pub gives_nothing : {S L D K G C : Type 0} {same : D → D → Bool} {elect : Elect L} {bytes_of : C → List ℕ} {taken : Option (Subject D)}
-    {a b : Journaled S L D K G C} → GoesOn same elect bytes_of taken a b → HasGivenOut bytes_of [] a b
+pub gives_nothing : {S L D K G C : Type 0} {same : D → D → Bool} {elect : Elect L} {bytes_of : C → List ℕ} {is_signature : K → Subject D → G → Type 0} {taken : Option (Subject D)}
+    {a b : Journaled S L D K G C} → GoesOn same elect bytes_of is_signature taken a b → HasGivenOut bytes_of [] a b
 gives_nothing {bytes_of = bytes_of} {b = b} went given kept = subst (λ outs. IsKept bytes_of outs b) (sym (append-nil given)) (went.kept given kept)
 
 -- nothing is done
@@ -103,7 +105,7 @@ does_nothing_more {same = same} {elect = elect} {taken = taken} a b is =
     (record { more = []; on_this = All-nil (IsDoneOn taken); done = does_nothing a.member.facts })
 
 -- no more is told as final than was queued, where no certificate is accepted
-module _ {S L D K G C : Type 0} {same : D → D → Bool} {elect : Elect L} {bytes_of : C → List ℕ} (a b : Journaled S L D K G C) (went : GoesOn same elect bytes_of None a b) where
+module _ {S L D K G C : Type 0} {same : D → D → Bool} {elect : Elect L} {bytes_of : C → List ℕ} {is_signature : K → Subject D → G → Type 0} (a b : Journaled S L D K G C) (went : GoesOn same elect bytes_of is_signature None a b) where
   pub tells_no_other : TellsNoMore [] a.outbox b.outbox
   tells_no_other = tells_nothing (finals_by went.more) a.outbox b.outbox (none_finalized went.more went.on_this) went.told
 
@@ -121,29 +123,33 @@ made_on S K G bytes_of (subject.Notarize _) c = refl
 made_on S K G bytes_of (subject.Nullify _) c = refl
 made_on S K G bytes_of (subject.Finalize _) c = refl
 
-module _ {S L D K G C : Type 0} {same : D → D → Bool} {elect : Elect L} {bytes_of : C → List ℕ} {taken : Option (Subject D)} where
+module _ {S L D K G C : Type 0} {same : D → D → Bool} {elect : Elect L} {bytes_of : C → List ℕ} {is_signature : K → Subject D → G → Type 0} {taken : Option (Subject D)} where
   -- what it has done, and then what is given out
-  pub gives_then : {a b : Journaled S L D K G C} (c : Journaled S L D K G C) (out : List (Output S D Stored K G C)) → GoesOn same elect bytes_of taken a b
-      → EmitsTraced same elect bytes_of out b c → c.member ≡ b.member → EmitsOn same elect bytes_of taken out a c
-  gives_then {a = a} c out went gives is = record {
+  pub gives_then : {a b : Journaled S L D K G C} (c : Journaled S L D K G C) (out : List (Output S D Stored K G C)) → GoesOn same elect bytes_of is_signature taken a b
+      → EmitsTraced same elect bytes_of out b c → EmitsSigned is_signature out b c → c.member ≡ b.member → EmitsOn same elect bytes_of is_signature taken out a c
+  gives_then {a = a} c out went gives signs is = record {
     more = went.more;
     on_this = went.on_this;
     done = subst (λ member. DoesMore same elect a.member.facts went.more member.facts) (sym is) went.done;
     traced = λ term_length i earlier given all traced. gives term_length i earlier given (all ++ went.more) (went.traced term_length i earlier given all traced);
+    signed = λ i key given signed. signs i key given (went.signed i key given signed);
   }
 
   -- nothing is given out
-  pub gives_none : {a b : Journaled S L D K G C} → GoesOn same elect bytes_of taken a b → EmitsOn same elect bytes_of taken [] a b
+  pub gives_none : {a b : Journaled S L D K G C} → GoesOn same elect bytes_of is_signature taken a b → EmitsOn same elect bytes_of is_signature taken [] a b
   gives_none {b = b} went = gives_then b [] went
-      (λ term_length i earlier given all traced. subst (λ outs. IsTraced same elect bytes_of term_length i earlier outs all b) (sym (append-nil given)) traced) refl
+      (λ term_length i earlier given all traced. subst (λ outs. IsTraced same elect bytes_of term_length i earlier outs all b) (sym (append-nil given)) traced)
+      (λ i key given signed. subst (λ outs. IsSignedBy is_signature i key outs b) (sym (append-nil given)) signed) refl
 
   -- nothing was queued any more, and so it goes on
-  pub gives_later : {a b c : Journaled S L D K G C} (out : List (Output S D Stored K G C)) → EmitsTraced same elect bytes_of [] a b → b.member ≡ a.member
-      → EmitsOn same elect bytes_of taken out b c → EmitsOn same elect bytes_of taken out a c
-  gives_later {a = a} {b = b} {c = c} out none is gives = record {
+  pub gives_later : {a b c : Journaled S L D K G C} (out : List (Output S D Stored K G C)) → EmitsTraced same elect bytes_of [] a b → EmitsSigned is_signature [] a b → b.member ≡ a.member
+      → EmitsOn same elect bytes_of is_signature taken out b c → EmitsOn same elect bytes_of is_signature taken out a c
+  gives_later {a = a} {b = b} {c = c} out none unsigned is gives = record {
     more = gives.more;
     on_this = gives.on_this;
     done = subst (λ member. DoesMore same elect member.facts gives.more c.member.facts) is gives.done;
     traced = λ term_length i earlier given all traced. gives.traced term_length i earlier given all
         (subst (λ outs. IsTraced same elect bytes_of term_length i earlier outs all b) (append-nil given) (none term_length i earlier given all traced));
+    signed = λ i key given signed. gives.signed i key given
+        (subst (λ outs. IsSignedBy is_signature i key outs b) (append-nil given) (unsigned i key given signed));
   }

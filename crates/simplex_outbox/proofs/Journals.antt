@@ -1,10 +1,11 @@
 -- For the code of the engine.
 -- What a journal holds that carries outputs out.
-use Rattle.std.proofs.Common.{◌≡◌, ◌≤◌, ℕ, suc, List, [], ◌∷◌, ◌++◌, map, length, take, drop, filter, Option, Some, Vec, refl, ap, sym, ◌∙◌, append_assoc, append-nil, arith, length-append}
+use Rattle.std.proofs.Common.{◌≡◌, ◌≤◌, ℕ, ◌+◌, suc, List, [], ◌∷◌, ◌++◌, map, length, take, drop, filter, Option, Some, Vec, refl, ap, sym, ◌∙◌, append_assoc, append-nil, arith, length-append}
 use Rattle.std.specs.declared.alloc.Global.{Global}
 use Rattle.std.proofs.Math.Seq.{take-append_seam, drop-append_seam}
 use Rattle.std.proofs.lemmas.Grind.{flat_map-append}
 use Rattle.std.proofs.lemmas.List.{map-append, length-map, drop_all}
+use Rattle.std.proofs.lemmas.List.Elements.{filter-append}
 use Rattle.simplex_types.specs.Certificates.{ArtifactFacts, NotarizeVote, NullifyVote, FinalizeVote, artifact_facts, signature_in}
 use Rattle.simplex_types.specs.declared.types.messages.Artifact.{Artifact}
 use Rattle.simplex_types.specs.declared.types.messages.Artifact.TheVariants as artifact
@@ -87,7 +88,7 @@ module _ {S L D K G C : Type 0} (bytes_of : C → List ℕ) (m : SignedMember K 
   held = entries_of bytes_of journal.entries
 
   -- a member whose record has grown
-  pub still_begun : (next : SignedMember K L D G) (more : List (ArtifactFacts D)) (votes : List (SignedVote D G)) → next.facts.entries ≡ m.facts.entries ++ more → next.votes ≡ m.votes ++ votes → stored_of next.facts ≡ stored_of m.facts → IsBeginningOf bytes_of next count journal
+  abbrev pub still_begun : (next : SignedMember K L D G) (more : List (ArtifactFacts D)) (votes : List (SignedVote D G)) → next.facts.entries ≡ m.facts.entries ++ more → next.votes ≡ m.votes ++ votes → stored_of next.facts ≡ stored_of m.facts → IsBeginningOf bytes_of next count journal
   still_begun next more votes grown voted same = record {
     rest = begun.rest ++ more;
     votes_left = begun.votes_left ++ votes;
@@ -113,7 +114,26 @@ module _ {S L D K G C : Type 0} (bytes_of : C → List ℕ) (m : SignedMember K 
       ∙ ap (drop (length (votes_of journal.entries))) begun.votes
       ∙ drop-append_seam (votes_of journal.entries) begun.votes_left
 
+  -- with all that is behind it is the record
+  pub with_all_behind : (copies : List (Artifact S D K G C)) → entries_of bytes_of copies ≡ drop count m.facts.entries → votes_of copies ≡ votes_since count m
+      → IsRecordOf bytes_of m (record { entries = journal.entries ++ copies; beside = journal.beside })
+  with_all_behind copies copied voted = record {
+    entries = map-append (artifact_facts bytes_of) journal.entries copies ∙ ap (λ es. held ++ es) (copied ∙ entries_left) ∙ sym begun.entries;
+    votes = flat_map-append signed_vote journal.entries copies ∙ ap (λ vs. votes_of journal.entries ++ vs) (voted ∙ votes_behind) ∙ sym begun.votes;
+    beside = begun.beside;
+  }
+
   module _ (all : List (Artifact S D K G C)) (all_entries : entries_of bytes_of all ≡ m.facts.entries) (all_votes : votes_of all ≡ m.votes) where
+    -- as many of what is behind are votes
+    pub votes_behind_counted : length (filter is_vote begun.rest) ≡ length begun.votes_left
+    votes_behind_counted =
+        let held_votes = votes_counted bytes_of journal.entries in
+        let all_counted : length (filter is_vote held) + length (filter is_vote begun.rest) ≡ length (votes_of journal.entries) + length begun.votes_left =
+        sym (length-append (filter is_vote held) (filter is_vote begun.rest))
+        ∙ ap length (sym (filter-append is_vote held begun.rest)) ∙ ap (λ es. length (filter is_vote es)) (sym begun.entries ∙ sym all_entries)
+        ∙ votes_counted bytes_of all ∙ ap length (all_votes ∙ begun.votes) ∙ length-append (votes_of journal.entries) begun.votes_left in
+        omega (arith, held_votes, all_counted)
+
     -- what was behind is stored too
     pub stored_too : (copies : List (Artifact S D K G C)) → entries_of bytes_of copies ≡ drop count m.facts.entries → votes_of copies ≡ votes_since count m
         → IsBeginningOf bytes_of m (length all) (record { entries = journal.entries ++ copies; beside = journal.beside })

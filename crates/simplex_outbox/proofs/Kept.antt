@@ -26,6 +26,7 @@ use Rattle.simplex_outbox.specs.Finals.{TellsRising}
 use Rattle.simplex_outbox.specs.Outboxes.{IsLawfulOutbox, HasBecome, HasStayed, IsStored, IsReplaced, IsRepeated, IsToldWhere, IsTold, QueuesMore}
 use Rattle.simplex_outbox.specs.Outputs.{entries_in, storing}
 use Rattle.simplex_outbox.specs.Journals.{journal_of, IsRecordOf, IsBeginningOf}
+use Rattle.simplex_outbox.specs.Signatures.{StaysSigned}
 use Rattle.simplex_outbox.specs.Going.{IsKept, StaysTraced, GoesOn, HasRisen}
 use Rattle.simplex_outbox.proofs.Finals.{stayed_tells, become_tells, storing_tells_none}
 use Rattle.simplex_outbox.proofs.Going.{does_nothing, risen_not}
@@ -195,13 +196,14 @@ module _ {S L D K G C : Type 0} (bytes_of : C → List ℕ) (old new : Journaled
   ended failed reaches lawful last given kept = record { lawful = lawful given kept.lawful; stored = λ lives. cc; leaving = λ lives. cc; told = last kept.told; reaching = reaches kept.reaching }
 
 -- nothing is done
-pub does_no_more : {S L D K G C : Type 0} {same : D → D → Bool} {elect : Elect L} {bytes_of : C → List ℕ} {taken : Option (Subject D)} (old new : Journaled S L D K G C) → new.member ≡ old.member → Keeps bytes_of old new → StaysTraced same elect bytes_of [] old new → TellsRising [] old.outbox new.outbox → QueuesMore old.outbox new.outbox → GoesOn same elect bytes_of taken old new
-does_no_more {same = same} {elect = elect} {taken = taken} old new same_member keeps traces tells queues = record {
+pub does_no_more : {S L D K G C : Type 0} {same : D → D → Bool} {elect : Elect L} {bytes_of : C → List ℕ} {is_signature : K → Subject D → G → Type 0} {taken : Option (Subject D)} (old new : Journaled S L D K G C) → new.member ≡ old.member → Keeps bytes_of old new → StaysTraced same elect bytes_of [] old new → StaysSigned is_signature old new → TellsRising [] old.outbox new.outbox → QueuesMore old.outbox new.outbox → GoesOn same elect bytes_of is_signature taken old new
+does_no_more {same = same} {elect = elect} {taken = taken} old new same_member keeps traces signs tells queues = record {
   kept = keeps;
   more = [];
   on_this = All-nil (IsDoneOn taken);
   done = subst (λ m. DoesMore same elect old.member.facts [] m.facts) (sym same_member) (does_nothing old.member.facts);
   traced = traces;
+  signed = signs;
   told = tells;
   queued = queues;
   risen = subst (λ m. WhileAlive HasRisen old.member.facts.life m.facts.life) (sym same_member) (risen_not old.member.facts);

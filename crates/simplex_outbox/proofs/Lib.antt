@@ -13,6 +13,7 @@ pub mod Going
 pub mod Journals
 pub mod Doing
 pub mod Kept
+pub mod Torn
 pub mod TracedOutputs
 pub mod Signatures
 pub mod Resumes

@@ -33,7 +33,7 @@ use Rattle.simplex_outbox.specs.Outputs.{stored_in, storing}
 use Rattle.simplex_outbox.specs.Signatures.{SignsBy, AreSigned, StaysSigned}
 use Rattle.simplex_outbox.specs.Stops.{votes_recorded}
 use Rattle.simplex_outbox.proofs.Behind.{votes_in-append, stored_in-append, stored_by}
-use Rattle.simplex_outbox.proofs.TracedOutputs.{among_last}
+use Rattle.simplex_outbox.proofs.Torn.{among_last}
 use Rattle.simplex_outbox.proofs.Journals.{copied_votes}
 use Rattle.simplex_outbox.proofs.Leaving.{all_signed, among_all}
 use Rattle.simplex_outbox.proofs.Stops.{recorded_more}

@@ -1,5 +1,5 @@
 -- For the code of the engine.
--- That a host may stop behind each output that is queued, one behind the other.
+-- That a host may stop behind each output that is queued, one behind the other, and amid each `Store`.
 use Rattle.std.proofs.Common.{◌≡◌, ◌∙◌, ◌⊎◌, inl, inr, refl, ap, sym, subst, ℕ, Bool, true, false, nat_lt, List, [], ◌∷◌, ◌++◌, map, filter, Option, Some, None, Vec, append_assoc, append-nil, arith}
 use Rattle.std.specs.Prelude.{Contains}
 use Rattle.std.specs.declared.alloc.Global.{Global}
@@ -23,8 +23,8 @@ use Rattle.simplex_outbox.specs.Entries.{votes_of_entries}
 use Rattle.simplex_outbox.specs.Journals.{journal_of, written, IsRecordOf}
 use Rattle.simplex_outbox.specs.Outboxes.{IsTold, IsToldWhere}
 use Rattle.simplex_outbox.specs.Outputs.{entries_in, stored_in, storing, IsBehind, AreBehind}
-use Rattle.simplex_outbox.specs.Stops.{votes_recorded, WereSigned, MayStopAfter, MayStopAfterEach, EachStopIsLawful}
-use Rattle.simplex_outbox.proofs.Behind.{votes_in-append, stored_in-append, beginning}
+use Rattle.simplex_outbox.specs.Stops.{votes_recorded, WereSigned, IsTorn, MayBeCarriedOut, MayStopAfter, MayStopAfterEach, MayStopAmid, EachStopIsLawful}
+use Rattle.simplex_outbox.proofs.Behind.{votes_in-append, stored_in-append, beginning, joined}
 use Rattle.simplex_outbox.proofs.Journals.{behind_others}
 use Rattle.simplex_outbox.proofs.Leaving.{all_signed, among_all, flat_append}
 
@@ -40,6 +40,24 @@ one_longer {X} (y ∷ xs) (f ∷ front) back x e =
       | inl is ↦ inl (is.0, cc)
       | inr is ↦ inr (cc)
     ]
+
+-- an element of a list that grew by one is of what it was, or is the new one
+one_inside : {X : Type 0} (xs front back : List X) (x y : X) → xs ++ x ∷ [] ≡ front ++ y ∷ back → ((rest : List X) × (xs ≡ front ++ y ∷ rest)) ⊎ ((xs ≡ front) × (x ≡ y))
+one_inside [] [] back x y e = inr (refl, cc)
+one_inside [] (f ∷ []) back x y e = absurd (cc)
+one_inside [] (f ∷ (g ∷ front)) back x y e = absurd (cc)
+one_inside (z ∷ xs) [] back x y e = let head : z ≡ y = cc in inl (xs, ap (λ w. w ∷ xs) head)
+one_inside {X} (z ∷ xs) (f ∷ front) back x y e =
+    let head : z ≡ f = cc in
+    let tail : xs ++ x ∷ [] ≡ front ++ y ∷ back = cc in
+    elim (one_inside xs front back x y tail) [
+      | inl is ↦ inl (is.0, cc)
+      | inr is ↦ inr (cc, is.1)
+    ]
+
+no_front : {X : Type 0} (xs ys : List X) → xs ++ ys ≡ [] → xs ≡ []
+no_front [] ys e = refl
+no_front (x ∷ xs) ys e = absurd (cc)
 
 module _ {D G : Type 0} where
   -- what was signed stays signed
@@ -83,22 +101,67 @@ module _ {S L D K G C : Type 0} (same : D → D → Bool) (elect : Elect L) (byt
 
   pub stops_still : (all more : List (TraceEvent D)) (outs : List (Output S D Stored K G C)) → MayStopAfterEach same elect bytes_of term_length i earlier all outs → MayStopAfterEach same elect bytes_of term_length i earlier (all ++ more) outs
   stops_still all more [] may = absurd may
-  stops_still all more (first ∷ rest) may = λ front back is. stop_still all more (first ∷ front) (may front back is)
+  stops_still all more (first ∷ rest) may = λ carried was. stop_still all more (first ∷ carried) (may carried was)
+
+  -- with another list of outputs that write the same
+  pub stop_alike : (all : List (TraceEvent D)) (outs others : List (Output S D Stored K G C)) → journal_of outs ≡ journal_of others → stored_in outs ≡ stored_in others
+      → MayStopAfter same elect bytes_of term_length i earlier all outs → MayStopAfter same elect bytes_of term_length i earlier all others
+  stop_alike all outs others same_journal same_stored may = record {
+    member = may.member;
+    since = may.since;
+    later = may.later;
+    is_all = may.is_all;
+    done = may.done;
+    holds = subst (IsRecordOf bytes_of may.member) same_journal may.holds;
+    signed = subst (λ es. WereSigned (earlier ++ may.since) (votes_of_entries es)) same_stored may.signed;
+  }
+
+  -- so it is with one more behind these
+  pub stop_alike_then : (all : List (TraceEvent D)) (outs others : List (Output S D Stored K G C)) (out : Output S D Stored K G C) → journal_of outs ≡ journal_of others
+      → stored_in outs ≡ stored_in others → MayStopAfter same elect bytes_of term_length i earlier all (outs ++ out ∷ []) → MayStopAfter same elect bytes_of term_length i earlier all (others ++ out ∷ [])
+  stop_alike_then all outs others out same_journal same_stored =
+      stop_alike all (outs ++ out ∷ []) (others ++ out ∷ [])
+      (behind_others outs (out ∷ []) ∙ ap (λ j. written j out) same_journal ∙ sym (behind_others others (out ∷ [])))
+      (stored_in-append outs (out ∷ []) ∙ ap (λ es. es ++ (entries_in out ++ [])) same_stored ∙ sym (stored_in-append others (out ∷ [])))
 
   module _ (all : List (TraceEvent D)) where
     -- behind all of them
     pub stop_last : (outs : List (Output S D Stored K G C)) → MayStopAfterEach same elect bytes_of term_length i earlier all outs → MayStopAfter same elect bytes_of term_length i earlier all outs
     stop_last [] may = absurd may
-    stop_last (first ∷ rest) may = may rest [] (sym (append-nil rest))
+    stop_last (first ∷ rest) may = may rest (inl ([], sym (append-nil rest)))
+
+    -- amid one more, if it is a `Store`
+    abbrev pub StopsIn : List (Output S D Stored K G C) → Output S D Stored K G C → Type 0
+    StopsIn outs out =
+        (entries part : Vec (Artifact S D K G C) Global) (rest : List (Artifact S D K G C)) → out ≡ output.Store entries → entries.items ≡ part.items ++ rest
+        → MayStopAfter same elect bytes_of term_length i earlier all (outs ++ output.Store part ∷ [])
 
     -- behind one more
     pub stops_further : (outs : List (Output S D Stored K G C)) (out : Output S D Stored K G C) → MayStopAfterEach same elect bytes_of term_length i earlier all outs
-        → MayStopAfter same elect bytes_of term_length i earlier all (outs ++ out ∷ []) → MayStopAfterEach same elect bytes_of term_length i earlier all (outs ++ out ∷ [])
-    stops_further [] out before may = absurd before
-    stops_further (first ∷ rest) out before may = λ front back is. elim (one_longer rest front back out is) [
-      | inl part ↦ before front part.0 part.1
-      | inr whole ↦ subst (λ outs. MayStopAfter same elect bytes_of term_length i earlier all (first ∷ outs)) (sym whole) may
-    ]
+        → MayStopAfter same elect bytes_of term_length i earlier all (outs ++ out ∷ []) → StopsIn outs out → MayStopAfterEach same elect bytes_of term_length i earlier all (outs ++ out ∷ [])
+    stops_further [] out before may within = absurd before
+    stops_further (first ∷ rest) out before may within = by_cut
+      where
+        by_cut : (carried : List (Output S D Stored K G C)) → MayBeCarriedOut (rest ++ out ∷ []) carried → MayStopAfter same elect bytes_of term_length i earlier all (first ∷ carried)
+        by_cut carried (inl (back, is)) = elim (one_longer rest carried back out is) [
+          | inl part ↦ before carried (inl part)
+          | inr whole ↦ subst (λ outs. MayStopAfter same elect bytes_of term_length i earlier all (first ∷ outs)) (sym whole) may
+        ]
+        by_cut carried (inr torn) = elim (one_inside rest torn.front torn.back out (output.Store torn.entries) torn.outs_are) [
+          | inl inside ↦ before carried (inr (record {
+            front = torn.front;
+            back = inside.0;
+            entries = torn.entries;
+            part = torn.part;
+            rest = torn.rest;
+            outs_are = inside.1;
+            entries_are = torn.entries_are;
+            carried_is = torn.carried_is;
+          }))
+          | inr last ↦
+              subst (λ outs. MayStopAfter same elect bytes_of term_length i earlier all (first ∷ outs)) (ap (λ outs. outs ++ output.Store torn.part ∷ []) last.0 ∙ sym torn.carried_is)
+              (within torn.entries torn.part torn.rest last.1 torn.entries_are)
+        ]
 
     -- one that stores nothing
     stop_plain : (outs : List (Output S D Stored K G C)) (out : Output S D Stored K G C) → entries_in out ≡ [] → written (journal_of outs) out ≡ journal_of outs
@@ -114,9 +177,18 @@ module _ {S L D K G C : Type 0} (same : D → D → Bool) (elect : Elect L) (byt
           (sym (stored_in-append outs (out ∷ []) ∙ ap (λ es. stored_in outs ++ (es ++ [])) none ∙ append-nil (stored_in outs))) may.signed;
     }
 
+    -- a `Store` of nothing
+    pub stop_empty : (outs : List (Output S D Stored K G C)) (part : Vec (Artifact S D K G C) Global) → part.items ≡ [] → MayStopAfter same elect bytes_of term_length i earlier all outs
+        → MayStopAfter same elect bytes_of term_length i earlier all (outs ++ output.Store part ∷ [])
+    stop_empty outs part none may =
+        stop_plain outs (output.Store part) none
+        (ap (λ es. record (journal_of outs) { entries = (journal_of outs).entries ++ es }) none ∙ ap (λ es. record (journal_of outs) { entries = es }) (append-nil (journal_of outs).entries)) may
+
     pub stops_plain : (outs : List (Output S D Stored K G C)) (out : Output S D Stored K G C) → entries_in out ≡ [] → written (journal_of outs) out ≡ journal_of outs
         → MayStopAfterEach same elect bytes_of term_length i earlier all outs → MayStopAfterEach same elect bytes_of term_length i earlier all (outs ++ out ∷ [])
-    stops_plain outs out none unwritten before = stops_further outs out before (stop_plain outs out none unwritten (stop_last outs before))
+    stops_plain outs out none unwritten before =
+        stops_further outs out before (stop_plain outs out none unwritten (stop_last outs before))
+        (λ entries part rest is parted. stop_empty outs part (no_front part.items rest (sym parted ∙ sym (ap (λ o. entries_in o) is) ∙ none)) (stop_last outs before))
 
     -- votes
     stops_votes : (votes : List (Vote D G)) (outs : List (Output S D Stored K G C)) → MayStopAfterEach same elect bytes_of term_length i earlier all outs
@@ -143,7 +215,7 @@ module _ {S L D K G C : Type 0} (same : D → D → Bool) (elect : Elect L) (byt
     }
 
     -- so it does behind others that one may stop behind
-    stop_anew : (outs : List (Output S D Stored K G C)) (out : Output S D Stored K G C) (member : SignedMember K L D G) → MayStopAfter same elect bytes_of term_length i earlier all outs
+    pub stop_anew : (outs : List (Output S D Stored K G C)) (out : Output S D Stored K G C) (member : SignedMember K L D G) → MayStopAfter same elect bytes_of term_length i earlier all outs
         → HasDone same elect term_length i all member.facts → IsRecordOf bytes_of member (journal_of (outs ++ out ∷ [])) → WereSigned all (votes_of_entries (entries_in out)) → MayStopAfter same elect bytes_of term_length i earlier all (outs ++ out ∷ [])
     stop_anew outs out member may done holds new =
         stop_now (may.since ++ may.later) (may.is_all ∙ append_assoc earlier may.since may.later) outs out member done holds
@@ -152,12 +224,12 @@ module _ {S L D K G C : Type 0} (same : D → D → Bool) (elect : Elect L) (byt
     -- what the record has grown by is stored, and the votes in it leave
     pub stops_stored : (outs : List (Output S D Stored K G C)) (entries : Vec (Artifact S D K G C) Global) (member : SignedMember K L D G)
         → HasDone same elect term_length i all member.facts → IsRecordOf bytes_of member (journal_of (outs ++ output.Store entries ∷ [])) → WereSigned all (votes_of_entries entries.items)
-        → MayStopAfterEach same elect bytes_of term_length i earlier all outs → MayStopAfterEach same elect bytes_of term_length i earlier all (outs ++ storing entries)
-    stops_stored outs entries member done holds signed before =
+        → StopsIn outs (output.Store entries) → MayStopAfterEach same elect bytes_of term_length i earlier all outs → MayStopAfterEach same elect bytes_of term_length i earlier all (outs ++ storing entries)
+    stops_stored outs entries member done holds signed within before =
         subst (MayStopAfterEach same elect bytes_of term_length i earlier all) (append_assoc outs (output.Store entries ∷ []) (map output.Vote (votes_of_entries entries.items)))
         (stops_votes (votes_of_entries entries.items) (outs ++ output.Store entries ∷ [])
         (stops_further outs (output.Store entries) before
-        (stop_anew outs (output.Store entries) member (stop_last outs before) done holds signed)))
+        (stop_anew outs (output.Store entries) member (stop_last outs before) done holds signed) within))
 
     -- a record is stored in place of all
     module _ (entries : Vec (Artifact S D K G C) Global) (member : SignedMember K L D G) (done : HasDone same elect term_length i all member.facts)
@@ -175,6 +247,7 @@ module _ {S L D K G C : Type 0} (same : D → D → Bool) (elect : Elect L) (byt
       stops_replaced outs before =
           stops_further outs (output.Replace entries (stored_of member.facts)) before
           (stop_anew outs (output.Replace entries (stored_of member.facts)) member (stop_last outs before) done (replaced_now outs) signed_in_all)
+          (λ others part rest is parted. absurd (cc))
 
     -- a proposal is told as final, or nothing is
     told_where : (given : List (Output S D Stored K G C)) (old new : Outbox S D Stored K G C) (p : Proposal D) (is_above : Bool) → IsToldWhere is_above p old new
@@ -190,19 +263,28 @@ module _ {S L D K G C : Type 0} (same : D → D → Bool) (elect : Elect L) (byt
     stops_told given old new (Some p) is before = told_where given old new p (nat_lt old.told p.round.view) is before
 
     stops_within : (outs : List (Output S D Stored K G C)) → MayStopAfterEach same elect bytes_of term_length i earlier all outs
-        → (first : Output S D Stored K G C) (front back : List (Output S D Stored K G C)) → outs ≡ (first ∷ front) ++ back → MayStopAfter same elect bytes_of term_length i earlier all (first ∷ front)
-    stops_within [] may first front back is = absurd may
-    stops_within (out ∷ rest) may first front back is =
+        → (first : Output S D Stored K G C) (rest carried : List (Output S D Stored K G C)) → outs ≡ first ∷ rest → MayBeCarriedOut rest carried
+        → MayStopAfter same elect bytes_of term_length i earlier all (first ∷ carried)
+    stops_within [] may first rest carried is was = absurd may
+    stops_within (out ∷ others) may first rest carried is was =
         let head : out ≡ first = cc in
-        let tail : rest ≡ front ++ back = cc in
-        subst (λ o. MayStopAfter same elect bytes_of term_length i earlier all (o ∷ front)) head (may front back tail)
+        let tail : others ≡ rest = cc in
+        subst (λ o. MayStopAfter same elect bytes_of term_length i earlier all (o ∷ carried)) head (may carried (subst (λ outs. MayBeCarriedOut outs carried) (sym tail) was))
+
+    -- what was carried out is behind what stores it
+    carried_behind : (first : Output S D Stored K G C) (rest carried : List (Output S D Stored K G C)) → AreBehind [] (first ∷ rest) → MayBeCarriedOut rest carried → AreBehind [] (first ∷ carried)
+    carried_behind first rest carried behind (inl (back, is)) = beginning [] (first ∷ carried) back (subst (λ outs. AreBehind [] (first ∷ outs)) is behind)
+    carried_behind first rest carried behind (inr torn) =
+        subst (λ outs. AreBehind [] (first ∷ outs)) (sym torn.carried_is)
+        (joined [] (first ∷ torn.front) (output.Store torn.part ∷ [])
+        (beginning [] (first ∷ torn.front) (output.Store torn.entries ∷ torn.back) (subst (λ outs. AreBehind [] (first ∷ outs)) torn.outs_are behind)) (tt, tt))
 
     pub lawful_stops : (outs : List (Output S D Stored K G C)) → AreBehind [] outs → MayStopAfterEach same elect bytes_of term_length i earlier all outs → EachStopIsLawful same elect bytes_of term_length i earlier all outs
-    lawful_stops outs behind may first front back is =
-        let stop = stops_within outs may first front back is in
+    lawful_stops outs behind may first rest carried is was =
+        let stop = stops_within outs may first rest carried is was in
         record {
           may = stop;
-          votes = λ vote has. stop.signed vote (left_stored [] (first ∷ front) (beginning [] (first ∷ front) back (subst (AreBehind []) is behind)) vote has);
+          votes = λ vote has. stop.signed vote (left_stored [] (first ∷ carried) (carried_behind first rest carried (subst (AreBehind []) is behind) was) vote has);
         }
 
 -- a life begins with a whole record
@@ -210,15 +292,19 @@ module _ {S L D K G C : Type 0} (same : D → D → Bool) (elect : Elect L) (byt
   pub stops_begun : (entries : Vec (Artifact S D K G C) Global) (member : SignedMember K L D G) → HasDone same elect term_length i earlier member.facts → WereSigned earlier (votes_recorded member.votes)
       → entries_of bytes_of entries.items ≡ member.facts.entries → votes_of entries.items ≡ member.votes
       → MayStopAfterEach same elect bytes_of term_length i earlier earlier (output.Replace entries (stored_of member.facts) ∷ [])
-  stops_begun entries member done signed same_entries same_votes = λ front back is.
-      subst (λ outs. MayStopAfter same elect bytes_of term_length i earlier earlier (output.Replace entries (stored_of member.facts) ∷ outs)) (no_front front back is)
+  stops_begun entries member done signed same_entries same_votes = λ carried was.
+      subst (λ outs. MayStopAfter same elect bytes_of term_length i earlier earlier (output.Replace entries (stored_of member.facts) ∷ outs)) (sym (none_carried carried was))
       (stop_now same elect bytes_of term_length i earlier earlier [] (sym (append-nil earlier)) [] (output.Replace entries (stored_of member.facts)) member done
       (replaced_now same elect bytes_of term_length i earlier earlier entries member done signed same_entries same_votes []) (λ vote has. none vote has)
       (signed_in_all same elect bytes_of term_length i earlier earlier entries member done signed same_entries same_votes))
     where
-      no_front : (front back : List (Output S D Stored K G C)) → [] ≡ front ++ back → [] ≡ front
-      no_front [] back is = refl
-      no_front (f ∷ front) back is = absurd (cc)
+      none_carried : (carried : List (Output S D Stored K G C)) → MayBeCarriedOut [] carried → carried ≡ []
+      none_carried carried (inl (back, is)) = no_front carried back (sym is)
+      none_carried carried (inr torn) = by_front torn.front torn.outs_are
+        where
+          by_front : (front : List (Output S D Stored K G C)) → [] ≡ front ++ output.Store torn.entries ∷ torn.back → carried ≡ []
+          by_front [] is = absurd (cc)
+          by_front (f ∷ front) is = absurd (cc)
 
       none : {P : Type 0} (vote : Vote D G) → Contains [] vote → P
       none vote has = absurd (omega (arith, has.1))

@@ -12,7 +12,8 @@ use Rattle.simplex_outbox.specs.declared.journaled.Journaled.{Journaled}
 use Rattle.simplex_outbox.specs.declared.output.Output.{Output}
 use Rattle.simplex_outbox.specs.Finals.{finals_in, finals_by, WereAccepted, TellsRising}
 use Rattle.simplex_outbox.specs.Leaving.{AllLeave}
-use Rattle.simplex_outbox.specs.Stops.{votes_recorded, WereSigned, MayStopAfterEach}
+use Rattle.simplex_outbox.specs.Signatures.{StaysSigned, EmitsSigned}
+use Rattle.simplex_outbox.specs.Stops.{votes_recorded, WereSigned, MayStopAfterEach, MayStopAmid}
 use Rattle.simplex_outbox.specs.Outboxes.{HasStayed, IsLawfulOutbox, QueuesMore}
 use Rattle.simplex_outbox.specs.Journals.{journal_of, IsRecordOf, IsBeginningOf}
 use Rattle.simplex_outbox.specs.Doing.{IsDoneOn}
@@ -63,7 +64,7 @@ module _ {S L D K G C : Type 0} (bytes_of : C → List ℕ) where
 module _ {S L D K G C : Type 0} (same : D → D → Bool) (elect : Elect L) (bytes_of : C → List ℕ) where
   -- besides, in a lifetime that began when the member had done `earlier`, `all` is what it has done so far, as member `i`: it has signed
   -- each vote of its record, and accepted each finalization that was reported or is queued to be; and until the engine fails, a host may
-  -- stop after each output that was given out or is queued
+  -- stop after each output that was given out or is queued, and amid each `Store`, also of what the record has grown by since
   pub record IsTraced (term_length i : ℕ) (earlier : List (TraceEvent D)) (given : List (Output S D Stored K G C)) (all : List (TraceEvent D))
       (member : Journaled S L D K G C) : Type 0 where
     pub kept : IsKept bytes_of given member
@@ -71,6 +72,8 @@ module _ {S L D K G C : Type 0} (same : D → D → Bool) (elect : Elect L) (byt
     pub signed : WereSigned all (votes_recorded member.member.votes)
     pub finals : WereAccepted all (finals_in (given ++ member.outbox.queue.items))
     pub stops : member.failed ≡ false → MayStopAfterEach same elect bytes_of term_length i earlier all (given ++ member.outbox.queue.items)
+    pub amid : member.failed ≡ false
+        → MayStopAmid same elect bytes_of term_length i earlier all (given ++ member.outbox.queue.items) member.member member.stored
 
   -- it stays traced, with this done besides
   abbrev pub StaysTraced : List (TraceEvent D) → Journaled S L D K G C → Journaled S L D K G C → Type 0
@@ -99,9 +102,10 @@ pub record HasRisen {K L D : Type 0} (first last : StateFacts K L D) : Type 0 wh
   pub terms : last.terms ≡ first.terms
   pub views : NeverFalls first last
 
-module _ {S L D K G C : Type 0} (same : D → D → Bool) (elect : Elect L) (bytes_of : C → List ℕ) (taken : Option (Subject D)) where
+module _ {S L D K G C : Type 0} (same : D → D → Bool) (elect : Elect L) (bytes_of : C → List ℕ) (is_signature : K → Subject D → G → Type 0)
+    (taken : Option (Subject D)) where
   -- what was kept stays kept, what was queued stays queued, and what the member has done stays done; besides it accepts certificates
-  -- on this subject alone, and signs votes; of the finalizations that it accepts each of a view above all that were told is told; and
+  -- on this subject alone, and signs votes, under its key; of the finalizations that it accepts each of a view above all that were told is told; and
   -- while it has not failed, its views do not fall
   pub record GoesOn (old new : Journaled S L D K G C) : Type 0 where
     pub kept : (given : List (Output S D Stored K G C)) → IsKept bytes_of given old → IsKept bytes_of given new
@@ -109,6 +113,7 @@ module _ {S L D K G C : Type 0} (same : D → D → Bool) (elect : Elect L) (byt
     pub on_this : All (IsDoneOn taken) more
     pub done : DoesMore same elect old.member.facts more new.member.facts
     pub traced : StaysTraced same elect bytes_of more old new
+    pub signed : StaysSigned is_signature old new
     pub told : TellsRising (finals_by more) old.outbox new.outbox
     pub queued : QueuesMore old.outbox new.outbox
     pub risen : WhileAlive HasRisen old.member.facts.life new.member.facts.life
@@ -125,8 +130,9 @@ module _ {L D K : Type 0} (same : D → D → Bool) (elect : Elect L) (taken : O
     pub on_this : All (IsDoneOn taken) more
     pub done : DoesMore same elect old more new
 
-module _ {S L D K G C : Type 0} (same : D → D → Bool) (elect : Elect L) (bytes_of : C → List ℕ) (taken : Option (Subject D)) where
-  -- besides, these are given out, and it stays traced by what it has done so
+module _ {S L D K G C : Type 0} (same : D → D → Bool) (elect : Elect L) (bytes_of : C → List ℕ) (is_signature : K → Subject D → G → Type 0)
+    (taken : Option (Subject D)) where
+  -- besides, these are given out, and it stays traced by what it has done so, and its votes signed under its key
   pub record EmitsOn (out : List (Output S D Stored K G C)) (old new : Journaled S L D K G C) : Type 0 where
     pub more : List (TraceEvent D)
     pub on_this : All (IsDoneOn taken) more
@@ -134,3 +140,4 @@ module _ {S L D K G C : Type 0} (same : D → D → Bool) (elect : Elect L) (byt
     pub traced : (term_length i : ℕ) (earlier : List (TraceEvent D)) (given : List (Output S D Stored K G C)) (all : List (TraceEvent D))
         → IsTraced same elect bytes_of term_length i earlier given all old
         → IsTraced same elect bytes_of term_length i earlier (given ++ out) (all ++ more) new
+    pub signed : EmitsSigned is_signature out old new

@@ -1,10 +1,14 @@
--- When a host stops between two outputs: the journal that the outputs so far have written is the record of a member.
-use Rattle.std.specs.Prelude.{◌≡◌, ℕ, Bool, List, [], ◌∷◌, ◌++◌, Contains}
+-- When a host stops between two outputs, or amid a `Store`: the journal that was written so far is the record of a member.
+use Rattle.std.specs.Prelude.{◌≡◌, ◌⊎◌, ℕ, Bool, List, [], ◌∷◌, ◌++◌, drop, Contains, Vec}
 use Rattle.std.specs.List.{flat_map}
+use Rattle.std.specs.declared.alloc.Global.{Global}
 use Rattle.simplex_types.specs.Certificates.{ArtifactFacts, NotarizeVote, NullifyVote, FinalizeVote}
 use Rattle.simplex_types.specs.declared.types.messages.Subject.TheVariants as subject
-use Rattle.simplex_record.specs.Votes.{SignedVote}
+use Rattle.simplex_types.specs.declared.types.messages.Artifact.{Artifact}
+use Rattle.simplex_record.specs.Entries.{entries_of}
+use Rattle.simplex_record.specs.Votes.{SignedVote, votes_of}
 use Rattle.simplex_voter.specs.Facts.{Elect}
+use Rattle.simplex_member.specs.Journal.{votes_since}
 use Rattle.simplex_member.specs.Lives.{SignedMember}
 use Rattle.simplex_member.specs.declared.member.journal.Stored.{Stored}
 use Rattle.simplex_laws.specs.Traces.{TraceEvent, Signs}
@@ -32,6 +36,22 @@ module _ {D G : Type 0} where
 abbrev pub WereSigned : {D G : Type 0} → List (TraceEvent D) → List (Vote D G) → Type 0
 WereSigned {D} {G} all votes = (vote : Vote D G) → Contains votes vote → Contains all (Signs vote.signer vote.subject)
 
+module _ {S D J K G C : Type 0} where
+  -- of these outputs the first ones were carried out, and of the `Store` behind them the first entries
+  pub record IsTorn (outs carried : List (Output S D J K G C)) : Type 0 where
+    pub front : List (Output S D J K G C)
+    pub back : List (Output S D J K G C)
+    pub entries : Vec (Artifact S D K G C) Global
+    pub part : Vec (Artifact S D K G C) Global
+    pub rest : List (Artifact S D K G C)
+    pub outs_are : outs ≡ front ++ output.Store entries ∷ back
+    pub entries_are : entries.items ≡ part.items ++ rest
+    pub carried_is : carried ≡ front ++ output.Store part ∷ []
+
+  -- a host that stops may have carried these out of the outputs: the first ones, or besides a part of a `Store`
+  abbrev pub MayBeCarriedOut : List (Output S D J K G C) → List (Output S D J K G C) → Type 0
+  MayBeCarriedOut outs carried = ((back : List (Output S D J K G C)) × (outs ≡ carried ++ back)) ⊎ IsTorn outs carried
+
 module _ {S L D K G C : Type 0} (same : D → D → Bool) (elect : Elect L) (bytes_of : C → List ℕ)
     (term_length i : ℕ) (earlier : List (TraceEvent D)) where
   -- a host may stop after these outputs, of a lifetime that began when the member had done `earlier`, and in which it has done `all` so
@@ -46,18 +66,26 @@ module _ {S L D K G C : Type 0} (same : D → D → Bool) (elect : Elect L) (byt
     pub holds : IsRecordOf bytes_of member (journal_of outs)
     pub signed : WereSigned (earlier ++ since) (votes_of_entries (stored_in outs))
 
-  -- it may after each of these outputs; before the first output of a lifetime nothing of it was written
+  -- it may after each of these outputs, and amid each `Store`; before the first output of a lifetime nothing of it was written
   abbrev pub MayStopAfterEach : List (TraceEvent D) → List (Output S D Stored K G C) → Type 0
   MayStopAfterEach all [] = ⊥
-  MayStopAfterEach all (first ∷ rest) = (front back : List (Output S D Stored K G C)) → rest ≡ front ++ back → MayStopAfter all (first ∷ front)
+  MayStopAfterEach all (first ∷ rest) = (carried : List (Output S D Stored K G C)) → MayBeCarriedOut rest carried → MayStopAfter all (first ∷ carried)
+
+  -- it may after these outputs and the first entries by which the record has grown since it had so many, however many of them
+  abbrev pub MayStopAmid : List (TraceEvent D) → List (Output S D Stored K G C) → SignedMember K L D G → ℕ → Type 0
+  MayStopAmid all outs member count =
+      (part : Vec (Artifact S D K G C) Global) (rest : List (Artifact S D K G C))
+      → entries_of bytes_of (part.items ++ rest) ≡ drop count member.facts.entries
+      → votes_of (part.items ++ rest) ≡ votes_since count member
+      → MayStopAfter all (outs ++ output.Store part ∷ [])
 
   -- a host that stops after these outputs: besides, each vote that it carried out was signed by then
   pub record IsLawfulStop (all : List (TraceEvent D)) (outs : List (Output S D Stored K G C)) : Type 0 where
     pub may : MayStopAfter all outs
     pub votes : (vote : Vote D G) → Contains outs (output.Vote vote) → Contains (earlier ++ may.since) (Signs vote.signer vote.subject)
 
-  -- each stop is lawful, after one or more of these outputs
+  -- each stop is lawful, once the first of these outputs was carried out
   abbrev pub EachStopIsLawful : List (TraceEvent D) → List (Output S D Stored K G C) → Type 0
   EachStopIsLawful all outs =
-      (first : Output S D Stored K G C) (front back : List (Output S D Stored K G C)) → outs ≡ (first ∷ front) ++ back
-      → IsLawfulStop all (first ∷ front)
+      (first : Output S D Stored K G C) (rest carried : List (Output S D Stored K G C)) → outs ≡ first ∷ rest → MayBeCarriedOut rest carried
+      → IsLawfulStop all (first ∷ carried)

@@ -113,9 +113,9 @@ impl<S: Scheme<D>, L: Elector<S>, D: Digest> Journaled<S, L, D> {
     /// - `signed`: the votes that are stored stay signed under the member's key.
     pub fn call(&mut self, call: Call<S, D>) -> Reply<S, D>
         ensures goes_on { (taken : _) → All (IsDoneOn taken) (certificates_in call) → finals_by (certificates_in call) ≡ []
-            → GoesOn D.eq L.elect S.certificate_bytes taken self.old self.new }
+            → GoesOn D.eq L.elect S.certificate_bytes S.IsSignature taken self.old self.new }
         ensures signed { StaysSigned S.IsSignature self.old self.new }
-        ensures quiet { certificates_in call ≡ [] → GoesOn D.eq L.elect S.certificate_bytes None self.old self.new }
+        ensures quiet { certificates_in call ≡ [] → GoesOn D.eq L.elect S.certificate_bytes S.IsSignature None self.old self.new }
         ensures answered { IsCall D.eq L.elect self.old.member.facts (asked S.certificate_bytes call)
             (told S.certificate_bytes result) self.new.member.facts }
         ensures refused { IsTrue (is_refused (told S.certificate_bytes result)) → self.new.member.facts ≡ self.old.member.facts }
@@ -123,6 +123,7 @@ impl<S: Scheme<D>, L: Elector<S>, D: Digest> Journaled<S, L, D> {
             → IsLeftByCall (asked S.certificate_bytes call) self.old.member.facts self.new.member.facts }
         ensures outbox { self.new.outbox ≡ self.old.outbox }
     {
+        let _record = self.member.record();
         self.member.call(call)
     }
 
@@ -138,7 +139,7 @@ impl<S: Scheme<D>, L: Elector<S>, D: Digest> Journaled<S, L, D> {
         certificate: Certificate<S, D>,
         now: u64,
     ) -> Result<Reply<S, D>, AllocError>
-        ensures goes_on { GoesOn D.eq L.elect S.certificate_bytes
+        ensures goes_on { GoesOn D.eq L.elect S.certificate_bytes S.IsSignature
             (Some (certificate_subject (certificate_facts S.certificate_bytes certificate))) self.old self.new }
         ensures signed { StaysSigned S.IsSignature self.old self.new }
         ensures answered { IfOk result (λ reply. IsCall D.eq L.elect self.old.member.facts
@@ -157,7 +158,7 @@ impl<S: Scheme<D>, L: Elector<S>, D: Digest> Journaled<S, L, D> {
     /// Hands a certificate in, and tells the proposal as final that it finalizes, where it is accepted.
     fn take(&mut self, certificate: Certificate<S, D>, now: u64) -> Reply<S, D>
         requires { HasRoom self.old.outbox }
-        ensures goes_on { GoesOn D.eq L.elect S.certificate_bytes
+        ensures goes_on { GoesOn D.eq L.elect S.certificate_bytes S.IsSignature
             (Some (certificate_subject (certificate_facts S.certificate_bytes certificate))) self.old self.new }
         ensures signed { StaysSigned S.IsSignature self.old self.new }
         ensures answered { IsCall D.eq L.elect self.old.member.facts
@@ -165,6 +166,7 @@ impl<S: Scheme<D>, L: Elector<S>, D: Digest> Journaled<S, L, D> {
         ensures refused { IsTrue (is_refused (told S.certificate_bytes result)) → self.new.member.facts ≡ self.old.member.facts }
         ensures no_work { QueuesNoWork self.old.outbox self.new.outbox }
     {
+        let _record = self.member.record();
         let finalized = finalized_by(&certificate);
         let reply = self.member.call(handing_in(certificate, now));
         self.outbox.tell(final_by(finalized, &reply));
@@ -177,7 +179,7 @@ impl<S: Scheme<D>, L: Elector<S>, D: Digest> Journaled<S, L, D> {
     /// - `no_work`: as of `hand_in`.
     /// - `signed`: the votes that are stored stay signed under the member's key.
     pub fn store(&mut self) -> Result<(), AllocError>
-        ensures goes_on { GoesOn D.eq L.elect S.certificate_bytes None self.old self.new }
+        ensures goes_on { GoesOn D.eq L.elect S.certificate_bytes S.IsSignature None self.old self.new }
         ensures signed { StaysSigned S.IsSignature self.old self.new }
         ensures whole { OnOk result (IsWhole S.certificate_bytes self.new) }
         ensures holds { OnOk result (StoresRecord S.certificate_bytes self.new) }
@@ -206,7 +208,7 @@ impl<S: Scheme<D>, L: Elector<S>, D: Digest> Journaled<S, L, D> {
     /// - `no_work`: as of `hand_in`.
     /// - `signed`: the votes that are stored stay signed under the member's key.
     pub fn prune_record(&mut self) -> Result<(), AllocError>
-        ensures goes_on { GoesOn D.eq L.elect S.certificate_bytes None self.old self.new }
+        ensures goes_on { GoesOn D.eq L.elect S.certificate_bytes S.IsSignature None self.old self.new }
         ensures signed { StaysSigned S.IsSignature self.old self.new }
         ensures waiting { self.new.member.facts.outstanding_work ≡ self.old.member.facts.outstanding_work }
         ensures whole { OnOk result (IsWhole S.certificate_bytes self.new) }
@@ -221,7 +223,7 @@ impl<S: Scheme<D>, L: Elector<S>, D: Digest> Journaled<S, L, D> {
     /// Prunes the record, of which all is queued to be stored or was, and queues what is left in place of all that is stored.
     fn replace(&mut self) -> Result<(), AllocError>
         requires { StoresRecord S.certificate_bytes self.old }
-        ensures goes_on { GoesOn D.eq L.elect S.certificate_bytes None self.old self.new }
+        ensures goes_on { GoesOn D.eq L.elect S.certificate_bytes S.IsSignature None self.old self.new }
         ensures signed { StaysSigned S.IsSignature self.old self.new }
         ensures whole { OnOk result (IsWhole S.certificate_bytes self.new) }
         ensures pruned { self.new.member.facts ≡ pruned_member self.old.member.facts }
@@ -247,7 +249,7 @@ impl<S: Scheme<D>, L: Elector<S>, D: Digest> Journaled<S, L, D> {
     ///
     /// - `signed`: the votes that are stored stay signed under the member's key.
     pub fn push(&mut self, work: Work<S, D>) -> Result<(), AllocError>
-        ensures goes_on { GoesOn D.eq L.elect S.certificate_bytes None self.old self.new }
+        ensures goes_on { GoesOn D.eq L.elect S.certificate_bytes S.IsSignature None self.old self.new }
         ensures signed { StaysSigned S.IsSignature self.old self.new }
         ensures member { self.new.member ≡ self.old.member }
         ensures queued { OnOk result (self.new.outbox.queue.items ≡ self.old.outbox.queue.items ++ output.Work work ∷ []) }
@@ -260,7 +262,7 @@ impl<S: Scheme<D>, L: Elector<S>, D: Digest> Journaled<S, L, D> {
     ///
     /// - `signed`: the votes that are stored stay signed under the member's key.
     pub fn repeat(&mut self, view: View) -> Result<bool, AllocError>
-        ensures goes_on { GoesOn D.eq L.elect S.certificate_bytes None self.old self.new }
+        ensures goes_on { GoesOn D.eq L.elect S.certificate_bytes S.IsSignature None self.old self.new }
         ensures signed { StaysSigned S.IsSignature self.old self.new }
         ensures member { self.new.member ≡ self.old.member }
         ensures repeated { IfOk result (λ sent. IsRepeated view self.old.outbox.repeat sent self.old.outbox self.new.outbox) }
@@ -300,7 +302,7 @@ impl<S: Scheme<D>, L: Elector<S>, D: Digest> Journaled<S, L, D> {
     ///
     /// - `signed`: the votes that are stored stay signed under the member's key.
     pub fn fail(&mut self)
-        ensures goes_on { GoesOn D.eq L.elect S.certificate_bytes None self.old self.new }
+        ensures goes_on { GoesOn D.eq L.elect S.certificate_bytes S.IsSignature None self.old self.new }
         ensures signed { StaysSigned S.IsSignature self.old self.new }
         ensures failed { self.new ≡ record self.old { failed = true } }
     {
@@ -353,8 +355,9 @@ impl<S: Scheme<D>, L: Elector<S>, D: Digest> Journaled<S, L, D> {
     ///   the record.
     /// - `leaving`: until it fails, each vote that is stored was given out or is queued, but those of the record that the life began
     ///   with, which the first output stores.
-    /// - `stops`: until it fails, a host may stop after each output that was given out or is queued. The journal is then the record of a
-    ///   member that this one was at some moment of this lifetime, and that member had signed each vote among these outputs.
+    /// - `stops`: until it fails, a host may stop after each output that was given out or is queued, and amid each `Store`, of which only
+    ///   the first entries were written. The journal is then the record of a member that this one was at some moment of this lifetime, and
+    ///   that member had signed each vote among these outputs.
     /// - `finals`: of each proposal that it reported as final, its member accepted the finalization.
     /// - `signed`: each vote that it gave out is its member's, with a signature on the vote's own subject under the member's key.
     /// - `rising`: the views of the proposals rise that it told as final.

@@ -30,7 +30,7 @@ impl<S: Assembly<D>, L: Elector<S>, D: Digest> Engine<S, L, D> {
 
     /// Asks the member for work of the application. Returns whether there is none.
     pub(super) fn ask_for_work(&mut self, now: u64) -> Result<bool, Fault>
-        ensures alone { GoesOnAlone D.eq L.elect S.certificate_bytes self.old self.new }
+        ensures alone { GoesOnAlone D.eq L.elect S.certificate_bytes S.IsSignature self.old self.new }
         ensures nothing { IfOk result (λ nothing. IsTrue nothing
             → AnswerNothing D.eq L.elect self.old.core.member.facts for_work self.new.core.member.facts) }
         ensures duties { OnOk result (KeepsDuties self.old self.new) }
@@ -76,7 +76,7 @@ impl<S: Assembly<D>, L: Elector<S>, D: Digest> Engine<S, L, D> {
 
     /// Asks for work, and follows the reply. Returns whether that has nothing new.
     fn ask_for(&mut self, task: Task<D>, now: u64) -> Result<bool, Fault>
-        ensures alone { GoesOnAlone D.eq L.elect S.certificate_bytes self.old self.new }
+        ensures alone { GoesOnAlone D.eq L.elect S.certificate_bytes S.IsSignature self.old self.new }
         ensures nothing { IfOk result (λ nothing. IsTrue nothing
             → AnswersNothing D.eq L.elect self.old.core.member.facts (call_of task now) self.new.core.member.facts) }
         ensures duties { OnOk result (KeepsDuties self.old self.new) }
@@ -92,7 +92,7 @@ impl<S: Assembly<D>, L: Elector<S>, D: Digest> Engine<S, L, D> {
 
     /// Makes a call of the member, and follows its answer. Whether it was of use.
     pub(super) fn ask(&mut self, task: Task<D>, now: u64) -> Result<bool, Fault>
-        ensures goes_on { GoesOn D.eq L.elect S.certificate_bytes None self.old.core self.new.core }
+        ensures goes_on { GoesOn D.eq L.elect S.certificate_bytes S.IsSignature None self.old.core self.new.core }
         ensures batcher { self.new.batcher ≡ self.old.batcher }
         ensures acted { IfOk result (HasDoneTask D.eq L.elect task now self.old.core.member.facts self.new.core.member.facts) }
         ensures duties { OnOk result (KeepsDuties self.old self.new) }

@@ -10,6 +10,7 @@ ghost use Rattle.simplex_engine.specs.Beginning.{with_a_retry, IsPlanOf, IsCompa
 ghost use Rattle.simplex_record.specs.Votes.{votes_of};
 ghost use Rattle.simplex_outbox.specs.Going.{IsKept, IsWhole, TellsNothing, BeginsTraced};
 ghost use Rattle.simplex_outbox.specs.Journals.{BeginsWith};
+ghost use Rattle.simplex_outbox.specs.Signatures.{BeginsSigned};
 
 use super::Engine;
 use simplex_assembly::assembly::Assembly;
@@ -94,6 +95,7 @@ impl<S: Assembly<D>, L: Elector<S>, D: Digest> Engine<S, L, D> {
     /// - `started`, `votes`: its member is the one that `LawfulMember::start` makes, with no vote in its record.
     /// - `begins`: the member has accepted the floor's finalization, if there is one, and done nothing else.
     /// - `traced`: the empty list of outputs is traced by what the member did before (`IsTraced`).
+    /// - `signed`: the votes that are stored are signed under the member's key, where those of its record are (`IsSignedBy`).
     /// - `kept`, `whole`, `queued`, `told`, `bounded`, `duties`: no output was returned. The whole record is queued, in place of all that is
     ///   stored, and nothing else is; nothing is to be reported as final, and the member waits for nothing.
     /// - `begun`: no vote is held; certificates are made by the number of the scheme's participants; the resolver has received the record,
@@ -114,6 +116,7 @@ impl<S: Assembly<D>, L: Elector<S>, D: Digest> Engine<S, L, D> {
         requires { L.members start.settings.elector ≡ length (S.participants start.settings.scheme) }
         ensures kept { IfOk result (λ engine. IsKept S.certificate_bytes [] engine.core) }
         ensures traced { IfOk result (λ engine. BeginsTraced D.eq L.elect S.certificate_bytes engine.core.member engine.core) }
+        ensures signed { IfOk result (λ engine. BeginsSigned S.IsSignature engine.core.member engine.core) }
         ensures whole { IfOk result (λ engine. IsWhole S.certificate_bytes engine.core) }
         ensures queued { IfOk result (λ engine. BeginsWith S.certificate_bytes engine.core.member engine.core.outbox.queue.items) }
         ensures told { IfOk result (λ engine. TellsNothing engine.core) }
@@ -152,7 +155,7 @@ impl<S: Assembly<D>, L: Elector<S>, D: Digest> Engine<S, L, D> {
     /// - `resumed`, `votes`: its member is the one that `LawfulMember::resume` makes, with the votes of the entries.
     /// - `goes_on`: in terms of the same length, and with the key of the same member or none, the member has done what it had done before,
     ///   and has accepted the floor's finalization.
-    /// - `kept`, `traced`, `whole`, `queued`, `told`, `bounded`, `duties`, `begun`, `nothing`, `heights`, `no_retry`, `refused`: as of `start`.
+    /// - `kept`, `traced`, `signed`, `whole`, `queued`, `told`, `bounded`, `duties`, `begun`, `nothing`, `heights`, `no_retry`, `refused`: as of `start`.
     ///
     /// # Errors
     ///
@@ -168,6 +171,7 @@ impl<S: Assembly<D>, L: Elector<S>, D: Digest> Engine<S, L, D> {
         requires { L.members start.settings.elector ≡ length (S.participants start.settings.scheme) }
         ensures kept { IfOk result (λ engine. IsKept S.certificate_bytes [] engine.core) }
         ensures traced { IfOk result (λ engine. BeginsTraced D.eq L.elect S.certificate_bytes engine.core.member engine.core) }
+        ensures signed { IfOk result (λ engine. BeginsSigned S.IsSignature engine.core.member engine.core) }
         ensures whole { IfOk result (λ engine. IsWhole S.certificate_bytes engine.core) }
         ensures queued { IfOk result (λ engine. BeginsWith S.certificate_bytes engine.core.member engine.core.outbox.queue.items) }
         ensures told { IfOk result (λ engine. TellsNothing engine.core) }
@@ -236,6 +240,7 @@ fn begin<S: Assembly<D>, L: Elector<S>, D: Digest>(
 ) -> Result<Engine<S, L, D>, StartError>
     ensures kept { IfOk result (λ engine. IsKept S.certificate_bytes [] engine.core) }
     ensures traced { IfOk result (λ engine. BeginsTraced D.eq L.elect S.certificate_bytes engine.core.member engine.core) }
+    ensures signed { IfOk result (λ engine. BeginsSigned S.IsSignature engine.core.member engine.core) }
     ensures whole { IfOk result (λ engine. IsWhole S.certificate_bytes engine.core) }
     ensures told { IfOk result (λ engine. TellsNothing engine.core) }
     ensures member { IfOk result (λ engine. engine.core.member ≡ member) }

@@ -48,7 +48,8 @@ impl<S: Assembly<D>, L: Elector<S>, D: Digest> Engine<S, L, D> {
 
     /// Counts a vote whose round takes votes.
     pub(super) fn count(&mut self, vote: Vote<D, S::Signature>, now: u64) -> Result<bool, Fault>
-        ensures { IsInputTaken D.eq L.elect D.bytes S.certificate_bytes S.IsMadeOf S.participants now (input.Vote vote) self.old self.old self.new result }
+        ensures { IsInputTaken D.eq L.elect D.bytes S.certificate_bytes S.IsSignature S.IsMadeOf S.participants now (input.Vote vote)
+            self.old self.old self.new result }
     {
         if !self.admits_votes(round_of(&vote.subject)) {
             return Ok(false);
@@ -59,7 +60,8 @@ impl<S: Assembly<D>, L: Elector<S>, D: Digest> Engine<S, L, D> {
     /// Counts a vote whose round takes votes, and takes the certificate that it completes.
     fn count_admitted(&mut self, vote: Vote<D, S::Signature>, now: u64) -> Result<bool, Fault>
         requires { IsTrue (is_so (λ x. admits_votes x (subject_round vote.subject)) self.old.core.member.facts) }
-        ensures { IsInputTaken D.eq L.elect D.bytes S.certificate_bytes S.IsMadeOf S.participants now (input.Vote vote) self.old self.old self.new result }
+        ensures { IsInputTaken D.eq L.elect D.bytes S.certificate_bytes S.IsSignature S.IsMadeOf S.participants now (input.Vote vote)
+            self.old self.old self.new result }
     {
         match self.batcher.count(vote, true) {
             Ok(counted) => self.follow_counted(counted, now),
@@ -69,7 +71,7 @@ impl<S: Assembly<D>, L: Elector<S>, D: Digest> Engine<S, L, D> {
 
     /// Follows what a vote came to. Whether that was of use.
     fn follow_counted(&mut self, counted: Counted<S, D>, now: u64) -> Result<bool, Fault>
-        ensures goes_on { GoesOn D.eq L.elect S.certificate_bytes (subject_made S.certificate_bytes counted) self.old.core self.new.core }
+        ensures goes_on { GoesOn D.eq L.elect S.certificate_bytes S.IsSignature (subject_made S.certificate_bytes counted) self.old.core self.new.core }
         ensures batcher { self.new.batcher ≡ self.old.batcher }
         ensures followed { IfOk result (IsCountFollowed D.eq L.elect S.certificate_bytes now counted self.old.plan.steps.items
             self.old.core.member.facts self.new.plan.steps.items self.new.core.member.facts) }
@@ -96,7 +98,7 @@ impl<S: Assembly<D>, L: Elector<S>, D: Digest> Engine<S, L, D> {
         certificate: &Certificate<S, D>,
         now: u64,
     ) -> Result<bool, Fault>
-        ensures goes_on { GoesOn D.eq L.elect S.certificate_bytes
+        ensures goes_on { GoesOn D.eq L.elect S.certificate_bytes S.IsSignature
             (Some (certificate_subject (certificate_facts S.certificate_bytes certificate.now))) self.old.core self.new.core }
         ensures votes { TakesNone self.old.batcher self.new.batcher }
         ensures batcher { self.new.batcher ≡ self.old.batcher }

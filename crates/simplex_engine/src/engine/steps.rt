@@ -2,6 +2,7 @@
 #![tactic(auto)]
 
 ghost use Rattle.std.specs.Prelude.{◌≡◌, ℕ, [], ◌∷◌, None, Some, OnOk, IfOk, IfSome, IsOk, IsTrue, false, ◌==◌, ◌||◌, option_map};
+ghost use Rattle.simplex_engine.specs.Causes.{is_verdict};
 
 use super::Engine;
 use simplex_assembly::assembly::Assembly;
@@ -11,7 +12,7 @@ use simplex_plan::task::Task;
 use simplex_types::types::{Digest, Elector, Fault, View};
 
 impl<S: Assembly<D>, L: Elector<S>, D: Digest> Engine<S, L, D> {
-    ghost use Rattle.simplex_outbox.specs.Going.{IsKept, IsWhole};
+    ghost use Rattle.simplex_outbox.specs.Going.{GoesOn, IsKept, IsWhole};
     ghost use Rattle.simplex_outbox.specs.Reaching.{IsShort};
     ghost use Rattle.simplex_engine.specs.Alone.{GoesOnAlone, GoesOnForgetting};
     ghost use Rattle.simplex_engine.specs.Quiet.{HasNothingNew};
@@ -22,7 +23,7 @@ impl<S: Assembly<D>, L: Elector<S>, D: Digest> Engine<S, L, D> {
     ghost use Rattle.simplex_engine.specs.Causes.{held_by, is_final, ComesAlone, ComesForgetting, ComesWith};
     ghost use Rattle.simplex_engine.specs.Duties.{KeepsDuties, KeepsTaken};
     ghost use Rattle.simplex_plan.specs.Asking.{KeepsAsking};
-    ghost use Rattle.simplex_plan.specs.Matters.{of_step, of_work, planned_matters};
+    ghost use Rattle.simplex_plan.specs.Matters.{of_step, of_task, of_work, planned_matters};
     ghost use Rattle.simplex_plan.specs.PlannedWork.{work_planned, AreAmong, KeepsPlanned};
     ghost use Rattle.simplex_voter.specs.Windows.{min_active};
     ghost use Rattle.simplex_outbox.specs.declared.output.Work.TheVariants as work;
@@ -36,7 +37,7 @@ impl<S: Assembly<D>, L: Elector<S>, D: Digest> Engine<S, L, D> {
     /// - `comes`: all comes of what was at hand, and of the member's answers, but that views may be forgotten below the lowest one that
     ///   the member keeps then; and what is lacking is asked for still.
     pub(super) fn work(&mut self, now: u64) -> Result<(), Fault>
-        ensures alone { GoesOnForgetting D.eq L.elect S.certificate_bytes self.old self.new }
+        ensures alone { GoesOnForgetting D.eq L.elect S.certificate_bytes S.IsSignature self.old self.new }
         ensures whole { OnOk result (IsWhole S.certificate_bytes self.new.core) }
         ensures quiet { OnOk result (HasNothingNew D.eq L.elect self.new.core.member.facts) }
         ensures idle { OnOk result (IsIdle now self.new.plan) }
@@ -54,7 +55,7 @@ impl<S: Assembly<D>, L: Elector<S>, D: Digest> Engine<S, L, D> {
 
     /// Takes all steps, lets go what is kept of views that are not, and queues what the record has grown by.
     fn finish(&mut self, now: u64) -> Result<(), Fault>
-        ensures alone { GoesOnForgetting D.eq L.elect S.certificate_bytes self.old self.new }
+        ensures alone { GoesOnForgetting D.eq L.elect S.certificate_bytes S.IsSignature self.old self.new }
         ensures whole { OnOk result (IsWhole S.certificate_bytes self.new.core) }
         ensures quiet { OnOk result (HasNothingNew D.eq L.elect self.new.core.member.facts) }
         ensures idle { OnOk result (IsIdle now self.new.plan) }
@@ -73,7 +74,7 @@ impl<S: Assembly<D>, L: Elector<S>, D: Digest> Engine<S, L, D> {
 
     /// Takes all steps, and prunes the record where more views of it go than stay, until nothing of both is left.
     fn run_to_short(&mut self, now: u64) -> Result<(), Fault>
-        ensures alone { GoesOnAlone D.eq L.elect S.certificate_bytes self.old self.new }
+        ensures alone { GoesOnAlone D.eq L.elect S.certificate_bytes S.IsSignature self.old self.new }
         ensures quiet { OnOk result (HasNothingNew D.eq L.elect self.new.core.member.facts) }
         ensures idle { OnOk result (IsIdle now self.new.plan) }
         ensures ahead { OnOk result (BuildsAhead self.new.core self.new.plan) }
@@ -94,7 +95,7 @@ impl<S: Assembly<D>, L: Elector<S>, D: Digest> Engine<S, L, D> {
 
     /// Queues the new entries of the record to be stored. Returns whether the record is short.
     fn store_and_measure(&mut self) -> Result<bool, Fault>
-        ensures alone { GoesOnAlone D.eq L.elect S.certificate_bytes self.old self.new }
+        ensures alone { GoesOnAlone D.eq L.elect S.certificate_bytes S.IsSignature self.old self.new }
         ensures member { self.new.core.member ≡ self.old.core.member }
         ensures plan { self.new.plan ≡ self.old.plan }
         ensures short { (given : _) → IsKept S.certificate_bytes given self.old.core
@@ -108,7 +109,7 @@ impl<S: Assembly<D>, L: Elector<S>, D: Digest> Engine<S, L, D> {
 
     /// Lets go what is held of views that are not kept, and queues what the record has grown by.
     fn settle(&mut self) -> Result<(), Fault>
-        ensures alone { GoesOnForgetting D.eq L.elect S.certificate_bytes self.old self.new }
+        ensures alone { GoesOnForgetting D.eq L.elect S.certificate_bytes S.IsSignature self.old self.new }
         ensures member { self.new.core.member ≡ self.old.core.member }
         ensures idle { (now : ℕ) → IsIdle now self.old.plan → IsIdle now self.new.plan }
         ensures builds { self.new.plan.builds.buildings.items ≡ self.old.plan.builds.buildings.items }
@@ -125,7 +126,7 @@ impl<S: Assembly<D>, L: Elector<S>, D: Digest> Engine<S, L, D> {
 
     /// Takes steps until none is due and the member has nothing new.
     fn run_all(&mut self, now: u64) -> Result<(), Fault>
-        ensures alone { GoesOnAlone D.eq L.elect S.certificate_bytes self.old self.new }
+        ensures alone { GoesOnAlone D.eq L.elect S.certificate_bytes S.IsSignature self.old self.new }
         ensures quiet { OnOk result (HasNothingNew D.eq L.elect self.new.core.member.facts) }
         ensures idle { OnOk result (IsIdle now self.new.plan) }
         ensures ahead { OnOk result (BuildsAhead self.new.core self.new.plan) }
@@ -142,7 +143,7 @@ impl<S: Assembly<D>, L: Elector<S>, D: Digest> Engine<S, L, D> {
 
     /// Takes steps until none is due, then asks once for work, blocks and votes. Returns whether nothing new came of it.
     fn run_and_ask(&mut self, now: u64) -> Result<bool, Fault>
-        ensures alone { GoesOnAlone D.eq L.elect S.certificate_bytes self.old self.new }
+        ensures alone { GoesOnAlone D.eq L.elect S.certificate_bytes S.IsSignature self.old self.new }
         ensures quiet { IfOk result (λ settled. IsTrue settled → HasNothingNew D.eq L.elect self.new.core.member.facts) }
         ensures idle { IfOk result (λ settled. IsTrue settled → IsIdle now self.new.plan) }
         ensures ahead { IfOk result (λ settled. IsTrue settled → BuildsAhead self.new.core self.new.plan) }
@@ -174,7 +175,7 @@ impl<S: Assembly<D>, L: Elector<S>, D: Digest> Engine<S, L, D> {
 
     /// Takes steps until none is due. A run that had no end would be one of 2^64 steps.
     fn run(&mut self, now: u64) -> Result<(), Fault>
-        ensures alone { GoesOnAlone D.eq L.elect S.certificate_bytes self.old self.new }
+        ensures alone { GoesOnAlone D.eq L.elect S.certificate_bytes S.IsSignature self.old self.new }
         ensures duties { OnOk result (KeepsDuties self.old self.new) }
         ensures comes { OnOk result (ComesAlone D.eq L.elect D.bytes S.certificate_bytes now self.old self.new) }
     {
@@ -188,7 +189,7 @@ impl<S: Assembly<D>, L: Elector<S>, D: Digest> Engine<S, L, D> {
 
     /// Takes the next step, where one is due.
     fn step(&mut self, now: u64) -> Result<bool, Fault>
-        ensures alone { GoesOnAlone D.eq L.elect S.certificate_bytes self.old self.new }
+        ensures alone { GoesOnAlone D.eq L.elect S.certificate_bytes S.IsSignature self.old self.new }
         ensures duties { OnOk result (KeepsDuties self.old self.new) }
         ensures comes { OnOk result (ComesAlone D.eq L.elect D.bytes S.certificate_bytes now self.old self.new) }
     {
@@ -200,12 +201,12 @@ impl<S: Assembly<D>, L: Elector<S>, D: Digest> Engine<S, L, D> {
 
     /// Takes a step.
     fn take_step(&mut self, step: Step<S, D>, now: u64) -> Result<bool, Fault>
-        ensures alone { GoesOnAlone D.eq L.elect S.certificate_bytes self.old self.new }
+        ensures alone { GoesOnAlone D.eq L.elect S.certificate_bytes S.IsSignature self.old self.new }
         ensures duties { OnOk result (KeepsTaken (work_planned (step ∷ [])) self.old self.new) }
         ensures comes { OnOk result (ComesWith D.eq L.elect D.bytes S.certificate_bytes now (of_step step) self.old self.new) }
     {
         match step {
-            Step::Ask(task) => taken(self.ask(task, now)),
+            Step::Ask(task) => taken(self.ask_planned(task, now)),
             Step::Offer(from, proposal) => taken(self.offer(from, proposal, now)),
             Step::Resolve(kind, view, proposal) => taken(self.resolve(kind, view, proposal, now)),
             Step::Repeat(view) => self.repeat(view),
@@ -213,9 +214,22 @@ impl<S: Assembly<D>, L: Elector<S>, D: Digest> Engine<S, L, D> {
         }
     }
 
+    /// Makes a planned call of the member. No verdict is planned; one would be ignored: the offer that it is on may be closed by now.
+    fn ask_planned(&mut self, task: Task<D>, now: u64) -> Result<bool, Fault>
+        ensures goes_on { GoesOn D.eq L.elect S.certificate_bytes S.IsSignature None self.old.core self.new.core }
+        ensures batcher { self.new.batcher ≡ self.old.batcher }
+        ensures duties { OnOk result (KeepsDuties self.old self.new) }
+        ensures comes { OnOk result (ComesWith D.eq L.elect D.bytes S.certificate_bytes now (of_task task) self.old self.new) }
+    {
+        if is_verdict(&task) {
+            return Ok(false);
+        }
+        self.ask(task, now)
+    }
+
     /// Sends the newest vote to nullify once more, where it is one of the view.
     fn repeat(&mut self, view: View) -> Result<bool, Fault>
-        ensures alone { GoesOnAlone D.eq L.elect S.certificate_bytes self.old self.new }
+        ensures alone { GoesOnAlone D.eq L.elect S.certificate_bytes S.IsSignature self.old self.new }
         ensures duties { OnOk result (KeepsDuties self.old self.new) }
         ensures comes { OnOk result ((now : ℕ) → ComesAlone D.eq L.elect D.bytes S.certificate_bytes now self.old self.new) }
     {
@@ -225,7 +239,7 @@ impl<S: Assembly<D>, L: Elector<S>, D: Digest> Engine<S, L, D> {
 
     /// Queues work to be carried out.
     fn push(&mut self, work: Work<S, D>) -> Result<bool, Fault>
-        ensures alone { GoesOnAlone D.eq L.elect S.certificate_bytes self.old self.new }
+        ensures alone { GoesOnAlone D.eq L.elect S.certificate_bytes S.IsSignature self.old self.new }
         ensures duties { OnOk result (KeepsTaken (work ∷ []) self.old self.new) }
         ensures comes { OnOk result ((now : ℕ) → ComesWith D.eq L.elect D.bytes S.certificate_bytes now (of_work work) self.old self.new) }
     {
@@ -235,7 +249,7 @@ impl<S: Assembly<D>, L: Elector<S>, D: Digest> Engine<S, L, D> {
 
     /// Lets go what is held of views that are not kept: votes here and elsewhere; and fetches of what is not lacking.
     fn drop_unretained(&mut self) -> Result<(), Fault>
-        ensures alone { GoesOnForgetting D.eq L.elect S.certificate_bytes self.old self.new }
+        ensures alone { GoesOnForgetting D.eq L.elect S.certificate_bytes S.IsSignature self.old self.new }
         ensures member { self.new.core.member ≡ self.old.core.member }
         ensures idle { (now : ℕ) → IsIdle now self.old.plan → IsIdle now self.new.plan }
         ensures builds { self.new.plan.builds.buildings.items ≡ self.old.plan.builds.buildings.items }
@@ -281,7 +295,7 @@ impl<S: Assembly<D>, L: Elector<S>, D: Digest> Engine<S, L, D> {
 
     /// Others are told that the views below may be forgotten, where more may than before.
     fn report_forgotten(&mut self, lowest: View) -> Result<(), Fault>
-        ensures alone { GoesOnAlone D.eq L.elect S.certificate_bytes self.old self.new }
+        ensures alone { GoesOnAlone D.eq L.elect S.certificate_bytes S.IsSignature self.old self.new }
         ensures member { self.new.core.member ≡ self.old.core.member }
         ensures plan { self.new.plan ≡ self.old.plan }
         ensures duties { OnOk result (KeepsDuties self.old self.new) }
@@ -298,7 +312,7 @@ impl<S: Assembly<D>, L: Elector<S>, D: Digest> Engine<S, L, D> {
     /// Prunes the record. The member drops the views that are over first: the entries of a view stay as long as it is tracked, and at
     /// the begin of a life all views of the record are.
     fn prune_record(&mut self, now: u64) -> Result<(), Fault>
-        ensures alone { GoesOnAlone D.eq L.elect S.certificate_bytes self.old self.new }
+        ensures alone { GoesOnAlone D.eq L.elect S.certificate_bytes S.IsSignature self.old self.new }
         ensures duties { OnOk result (KeepsDuties self.old self.new) }
         ensures comes { OnOk result (ComesAlone D.eq L.elect D.bytes S.certificate_bytes now self.old self.new) }
     {
@@ -306,6 +320,13 @@ impl<S: Assembly<D>, L: Elector<S>, D: Digest> Engine<S, L, D> {
         self.core.prune_record()?;
         Ok(())
     }
+}
+
+/// Returns whether a task passes a verdict on a proposal.
+fn is_verdict<D: Digest>(task: &Task<D>) -> bool
+    ensures { result ≡ is_verdict task.now }
+{
+    matches!(task, Task::Certified(_, _))
 }
 
 /// A step was taken, whatever came of it, unless it has failed.

@@ -19,15 +19,15 @@ use Rattle.simplex_engine.proofs.engine.Engine.accept.Goals as goal
 
 pub returns-in_err-reply-clause-goes_on : goal.returns-in_err-reply-clause-goes_on
 returns-in_err-reply-clause-goes_on g c =
-    subst (λ facts. GoesOn g.D.PartialEq.eq g.L.Elector.elect g.S.CertificateScheme.certificate_bytes (Some (certificate_subject facts)) c.args.self.now.core c.hand_in.new.self)
+    subst (λ facts. GoesOn g.D.PartialEq.eq g.L.Elector.elect g.S.CertificateScheme.certificate_bytes g.S.Scheme.IsSignature (Some (certificate_subject facts)) c.args.self.now.core c.hand_in.new.self)
     c.in_ok-copy.ensures.same c.hand_in.ensures.goes_on
 
 pub returns-clause-goes_on : goal.returns-clause-goes_on
 returns-clause-goes_on g c =
     let bytes_of = g.S.CertificateScheme.certificate_bytes in
     let taken = Some (certificate_subject (certificate_facts bytes_of c.args.certificate.now)) in
-    subst (GoesOn g.D.PartialEq.eq g.L.Elector.elect bytes_of taken c.args.self.now.core) (sym c.follow_certificate.ensures.core)
-    (subst (λ facts. GoesOn g.D.PartialEq.eq g.L.Elector.elect bytes_of (Some (certificate_subject facts)) c.args.self.now.core c.hand_in.new.self) c.in_ok-copy.ensures.same
+    subst (GoesOn g.D.PartialEq.eq g.L.Elector.elect bytes_of g.S.Scheme.IsSignature taken c.args.self.now.core) (sym c.follow_certificate.ensures.core)
+    (subst (λ facts. GoesOn g.D.PartialEq.eq g.L.Elector.elect bytes_of g.S.Scheme.IsSignature (Some (certificate_subject facts)) c.args.self.now.core c.hand_in.new.self) c.in_ok-copy.ensures.same
     c.hand_in.ensures.goes_on)
 
 pub returns-clause-dropped : goal.returns-clause-dropped
@@ -58,7 +58,7 @@ returns-clause-duties g c =
     on_ok_both c.follow_certificate.result c.follow_certificate.ensures.seen c.follow_certificate.ensures.planned
     (tells_handed c.args.self.now c.follow_certificate.new.self handed c.args.now answer
     (handed_as same elect c.args.self.now.core.member.facts answer c.args.now c.in_ok-copy.ensures.same c.follow_certificate.ensures.core c.in_ok-reply.ensures.answered)
-    (subst (GoesOn same elect bytes_of (Some (certificate_subject (certificate_facts bytes_of c.in_ok-copy.copy))) c.args.self.now.core) (sym c.follow_certificate.ensures.core)
+    (subst (GoesOn same elect bytes_of g.S.Scheme.IsSignature (Some (certificate_subject (certificate_facts bytes_of c.in_ok-copy.copy))) c.args.self.now.core) (sym c.follow_certificate.ensures.core)
     c.hand_in.ensures.goes_on))
 
 pub returns-then-not-admits-clause-duties : goal.returns-then-not-admits-clause-duties

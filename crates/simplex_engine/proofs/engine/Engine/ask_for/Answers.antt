@@ -15,7 +15,7 @@ use Rattle.simplex_engine.proofs.engine.Engine.ask_for.Goals as goal
 pub returns-in_err-follow-clause-alone : goal.returns-in_err-follow-clause-alone
 returns-in_err-follow-clause-alone g c =
     alone_with c.args.self.now c.follow.new.self
-    (subst (GoesOn g.D.PartialEq.eq g.L.Elector.elect g.S.CertificateScheme.certificate_bytes None c.args.self.now.core) (sym c.follow.ensures.core)
+    (subst (GoesOn g.D.PartialEq.eq g.L.Elector.elect g.S.CertificateScheme.certificate_bytes g.S.Scheme.IsSignature None c.args.self.now.core) (sym c.follow.ensures.core)
     (c.call-reply.ensures.quiet c.call.ensures.plain)) c.follow.ensures.batcher
 
 pub returns : goal.returns
@@ -25,7 +25,7 @@ returns g c =
     let bytes_of = g.S.CertificateScheme.certificate_bytes in
     let before = c.args.self.now.core.member.facts in
     let answer = told bytes_of c.call-reply.result in
-    let goes = subst (GoesOn same elect bytes_of None c.args.self.now.core) (sym c.follow.ensures.core) (c.call-reply.ensures.quiet c.call.ensures.plain) in
+    let goes = subst (GoesOn same elect bytes_of g.S.Scheme.IsSignature None c.args.self.now.core) (sym c.follow.ensures.core) (c.call-reply.ensures.quiet c.call.ensures.plain) in
     let answered = subst (λ core. IsCall same elect before (call_of c.args.task c.args.now) answer core.member.facts) (sym c.follow.ensures.core)
     (subst (λ call. IsCall same elect before call answer c.call-reply.new.self.member.facts) c.call.ensures.asked c.call-reply.ensures.answered) in
     record {

@@ -29,6 +29,6 @@ returns-clause-duties g c = tells_further c.in_ok-has_none.ensures.duties (tells
 pub returns-clause-comes : goal.returns-clause-comes
 returns-clause-comes g c =
     comes_on
-    (comes_on (c.in_ok-has_none.ensures.comes [] (λ kind view. refl) (inl (task.Verify, refl, among_none _))) c.in_ok-has_none-2.ensures.duties.risen
-    (c.in_ok-has_none-2.ensures.comes [] (λ kind view. refl) (inl (task.Propose, refl, among_none _))))
-    c.in_ok-has_none-3.ensures.duties.risen (c.in_ok-has_none-3.ensures.comes [] (λ kind view. refl) (inl (task.Candidates, refl, among_none _)))
+    (comes_on (c.in_ok-has_none.ensures.comes [] (λ kind view. refl) (inl (task.Verify, refl, among_none _, tt))) c.in_ok-has_none-2.ensures.duties.risen
+    (c.in_ok-has_none-2.ensures.comes [] (λ kind view. refl) (inl (task.Propose, refl, among_none _, tt))))
+    c.in_ok-has_none-3.ensures.duties.risen (c.in_ok-has_none-3.ensures.comes [] (λ kind view. refl) (inl (task.Candidates, refl, among_none _, tt)))

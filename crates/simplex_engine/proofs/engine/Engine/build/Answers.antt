@@ -37,5 +37,5 @@ returns g c =
           subst (λ is_asked. IsBlockTaken g.D.PartialEq.eq g.L.Elector.elect is_asked c.args.context.now.round.view c.args.payload c.args.now before after is_of_use)
           (sym c.if-not-is_building.false ∙ c.is_building.ensures) done) c.ask.ensures.acted;
       duties = c.ask.ensures.duties;
-      comes = on_ok c.ask.result c.ask.ensures.comes (λ comes. comes (Message asked ∷ []) (λ kind view. refl) (inl (asked, refl, among_more (Message asked ∷ []) (at_hand c.args.self.now))));
+      comes = on_ok c.ask.result c.ask.ensures.comes (λ comes. comes (Message asked ∷ []) (λ kind view. refl) (inl (asked, refl, among_more (Message asked ∷ []) (at_hand c.args.self.now), tt)));
     }

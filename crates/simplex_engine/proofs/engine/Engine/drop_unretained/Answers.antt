@@ -40,7 +40,7 @@ returns g c =
     let core = c.report_forgotten.new.self.core in
     record {
       alone = record {
-        goes_on = subst (GoesOn g.D.PartialEq.eq g.L.Elector.elect g.S.CertificateScheme.certificate_bytes None c.args.self.now.core) (sym c.drop_final_fetches.ensures.core)
+        goes_on = subst (GoesOn g.D.PartialEq.eq g.L.Elector.elect g.S.CertificateScheme.certificate_bytes g.S.Scheme.IsSignature None c.args.self.now.core) (sym c.drop_final_fetches.ensures.core)
             c.report_forgotten.ensures.alone.goes_on;
         votes = subst (TakesNone c.args.self.now.batcher) (sym c.drop_final_fetches.ensures.batcher)
             (takes_no_more (takes_same c.report_forgotten.ensures.alone.batcher)

@@ -39,7 +39,7 @@ pub returns-in-Ok : goal.returns-in-Ok
 returns-in-Ok g c =
     let engine = c.args.self.now in
     let taken =
-    subst (IsInputTaken g.D.PartialEq.eq g.L.Elector.elect g.D.Digest.bytes g.S.CertificateScheme.certificate_bytes g.S.Assembly.IsMadeOf g.S.CertificateScheme.participants c.args.now
+    subst (IsInputTaken g.D.PartialEq.eq g.L.Elector.elect g.D.Digest.bytes g.S.CertificateScheme.certificate_bytes g.S.Scheme.IsSignature g.S.Assembly.IsMadeOf g.S.CertificateScheme.participants c.args.now
     c.args.input engine (ignoring engine) c.take.new.self) c.in-Ok.is c.take.ensures
     in
     record {

@@ -31,5 +31,5 @@ returns g c =
       unadmitted = λ no. absurd (false≢true (sym no ∙ sym c.awaits_verdict.ensures ∙ c.if-not-awaits_verdict.false));
       acted = λ _. c.ask.ensures.acted;
       duties = c.ask.ensures.duties;
-      comes = on_ok c.ask.result c.ask.ensures.comes (λ comes. comes (Message asked ∷ []) (λ kind view. refl) (inl (asked, refl, among_more (Message asked ∷ []) (at_hand c.args.self.now))));
+      comes = on_ok c.ask.result c.ask.ensures.comes (λ comes. comes (Message asked ∷ []) (λ kind view. refl) (inl (asked, refl, among_more (Message asked ∷ []) (at_hand c.args.self.now), sym c.awaits_verdict.ensures ∙ c.if-not-awaits_verdict.false)));
     }

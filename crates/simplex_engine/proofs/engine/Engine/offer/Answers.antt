@@ -39,7 +39,7 @@ returns-then-admits_proposal g c = record {
 
 pub returns-in_err-keep_early-clause-goes_on : goal.returns-in_err-keep_early-clause-goes_on
 returns-in_err-keep_early-clause-goes_on g c =
-    subst (GoesOn g.D.PartialEq.eq g.L.Elector.elect g.S.CertificateScheme.certificate_bytes None c.args.self.now.core)
+    subst (GoesOn g.D.PartialEq.eq g.L.Elector.elect g.S.CertificateScheme.certificate_bytes g.S.Scheme.IsSignature None c.args.self.now.core)
     (sym (ap (λ engine. engine.core) c.keep_early.ensures.same)) (stays c.args.self.now.core)
 
 pub returns-in_err-keep_early-clause-batcher : goal.returns-in_err-keep_early-clause-batcher
@@ -51,7 +51,7 @@ returns g c =
     let kept = subst (AreAmong old) (sym c.in_ok-keep_early.ensures.kept.kept)
     (cond_both (keeps_early c.args.self.now c.args.proposal) _ _ (AreAmong old) (λ _. among_more old _) (λ _. among_still old)) in
     record {
-      goes_on = subst (GoesOn g.D.PartialEq.eq g.L.Elector.elect g.S.CertificateScheme.certificate_bytes None c.args.self.now.core)
+      goes_on = subst (GoesOn g.D.PartialEq.eq g.L.Elector.elect g.S.CertificateScheme.certificate_bytes g.S.Scheme.IsSignature None c.args.self.now.core)
           (sym (ap (λ engine. engine.core) c.keep_early.ensures.same)) (stays c.args.self.now.core);
       batcher = ap (λ engine. engine.batcher) c.keep_early.ensures.same;
       unadmitted = λ _. (refl, c.in_ok-keep_early.ensures.kept);

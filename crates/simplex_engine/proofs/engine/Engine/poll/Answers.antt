@@ -1,16 +1,20 @@
 -- That nothing is done where nothing but the next output is taken, and that each vote which is held is of a view that takes votes.
-use Rattle.std.proofs.Common.{refl, sym, subst, [], ◌∷◌, ◌++◌, ◌≡◌, ◌∙◌, ap, if◌then◌else◌}
-use Rattle.std.specs.Prelude.{option_to_list, IfErr}
+use Rattle.std.proofs.Common.{refl, sym, subst, [], ◌∷◌, ◌++◌, ◌≡◌, ◌∙◌, ap, if◌then◌else◌, Some, Ok}
+use Rattle.std.specs.Prelude.{option_to_list, IfErr, IsNone}
+use Rattle.std.proofs.lemmas.Bool.{true≢false}
+use Rattle.simplex_types.specs.declared.types.fault.Fault.{Fault}
 use Rattle.simplex_types.specs.declared.types.fault.Fault.TheVariants.{OutOfMemory, Failed}
 use Rattle.simplex_outbox.specs.Finals.{TellsNoMore}
 use Rattle.simplex_engine.specs.Failing.{IsFailure}
 use Rattle.simplex_engine.specs.Inputs.{given_out}
+use Rattle.simplex_engine.specs.Settled.{ReturnsFirst}
 use Rattle.simplex_outbox.proofs.Finals.{tells_still}
 use Rattle.simplex_engine.proofs.Alone.{forgets_nothing}
 use Rattle.simplex_engine.proofs.Building.{come_beside, early_anyway, near_same}
 use Rattle.simplex_engine.proofs.Bounds.{bounded_same, bounded_admitted}
 use Rattle.simplex_outbox.proofs.Going.{stays, gives_then, gives_none, gives_later, does_nothing_more, where_ok}
 use Rattle.simplex_outbox.specs.Going.{EmitsTraced}
+use Rattle.simplex_outbox.specs.Signatures.{EmitsSigned}
 use Rattle.simplex_engine.proofs.Tells.{tells_given, still_told, works_given}
 use Rattle.simplex_plan.proofs.Matters.{among_last}
 use Rattle.simplex_plan.proofs.PlannedWork.{among_further, among_still}
@@ -149,6 +153,7 @@ returns-in-Some-clause-traced g c =
     let old = c.args.self.now.core in
     gives_then {a = old} {b = old} c.next.new.self (c.in-Some.output ∷ []) (stays old)
     (subst (λ out. EmitsTraced g.D.PartialEq.eq g.L.Elector.elect g.S.CertificateScheme.certificate_bytes (option_to_list out) old c.next.new.self) c.in-Some.is c.next.ensures.traced)
+    (subst (λ out. EmitsSigned g.S.Scheme.IsSignature (option_to_list out) old c.next.new.self) c.in-Some.is c.next.ensures.signed)
     c.next.ensures.same.0
 
 pub returns-in-None-clause-traced : goal.returns-in-None-clause-traced
@@ -156,4 +161,23 @@ returns-in-None-clause-traced g c =
     let old = c.args.self.now.core in
     gives_later {a = old} {b = c.next.new.self} {c = c.poll_after_work.new.self.core} (given_out c.poll_after_work.result)
     (subst (λ out. EmitsTraced g.D.PartialEq.eq g.L.Elector.elect g.S.CertificateScheme.certificate_bytes (option_to_list out) old c.next.new.self) c.in-None.is c.next.ensures.traced)
+    (subst (λ out. EmitsSigned g.S.Scheme.IsSignature (option_to_list out) old c.next.new.self) c.in-None.is c.next.ensures.signed)
     c.next.ensures.same.0 c.poll_after_work.ensures.traced
+
+pub returns-then-has_failed-clause-front : goal.returns-then-has_failed-clause-front
+returns-then-has_failed-clause-front g c lives = absurd (true≢false (sym c.if-has_failed.true ∙ c.has_failed.ensures ∙ lives))
+
+pub returns-in-Some-clause-front : goal.returns-in-Some-clause-front
+returns-in-Some-clause-front g c lives =
+    let old = c.args.self.now in
+    let new = record old { core = c.next.new.self } in
+    subst (λ queue. ReturnsFirst {E = Fault} queue (Ok (Some c.in-Some.output)) old new)
+    (sym (subst (λ out. old.core.outbox.queue.items ≡ option_to_list out ++ c.next.new.self.outbox.queue.items) c.in-Some.is c.next.ensures.front))
+    (refl, refl, c.next.ensures.same.0, refl, refl)
+
+pub returns-in-None-clause-front : goal.returns-in-None-clause-front
+returns-in-None-clause-front g c lives =
+    let old = c.args.self.now in
+    subst (λ queue. ReturnsFirst queue c.poll_after_work.result old c.poll_after_work.new.self)
+    (sym (subst (λ out. old.core.outbox.queue.items ≡ option_to_list out ++ c.next.new.self.outbox.queue.items) c.in-None.is c.next.ensures.front
+    ∙ c.next.ensures.none (subst IsNone (sym c.in-None.is) refl))) tt

@@ -133,7 +133,7 @@ returns-in-Ok-clause-comes g c =
     (hand_given c.work.new.self (record (c.work.new.self) { core = c.next.new.self }) (option_to_list c.next.result) c.next.ensures.front refl))
 
 pub returns-in-Ok-clause-traced : goal.returns-in-Ok-clause-traced
-returns-in-Ok-clause-traced g c = gives_then c.next.new.self (option_to_list c.next.result) c.work.ensures.alone.goes_on c.next.ensures.traced c.next.ensures.same.0
+returns-in-Ok-clause-traced g c = gives_then c.next.new.self (option_to_list c.next.result) c.work.ensures.alone.goes_on c.next.ensures.traced c.next.ensures.signed c.next.ensures.same.0
 
 pub returns-in-Err-clause-traced : goal.returns-in-Err-clause-traced
 returns-in-Err-clause-traced g c = gives_none (goes_further c.work.ensures.alone.goes_on c.fail.ensures.goes_on)

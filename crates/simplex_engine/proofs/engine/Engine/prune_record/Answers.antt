@@ -22,6 +22,6 @@ returns g c = record {
       let keeps = tells_further c.in_ok-ask.ensures.duties
       (tells_beside c.ask.new.self (record (c.ask.new.self) { core = c.prune_record.new.self }) c.prune_record.ensures.waiting (ap (λ m. m.life) c.in_ok-prune_record.ensures.pruned) c.prune_record.ensures.goes_on refl) in
       record { stays = keeps.stays; works = keeps.works; near = keeps.near; seen = keeps.seen; early = keeps.early; risen = keeps.risen; constants = keeps.constants; ignored = keeps.ignored };
-  comes = comes_on (c.in_ok-ask.ensures.comes [] (λ kind view. refl) (inl (task.Prune, refl, among_none _))) c.prune_record.ensures.goes_on.risen (comes_pruned c.in_ok-prune_record.ensures.pruned refl
+  comes = comes_on (c.in_ok-ask.ensures.comes [] (λ kind view. refl) (inl (task.Prune, refl, among_none _, tt))) c.prune_record.ensures.goes_on.risen (comes_pruned c.in_ok-prune_record.ensures.pruned refl
       (hand_alone c.ask.new.self (record (c.ask.new.self) { core = c.prune_record.new.self }) c.prune_record.ensures.no_work (among_still (planned_matters c.ask.new.self.plan))));
 }

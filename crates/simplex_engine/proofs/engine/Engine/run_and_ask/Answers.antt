@@ -61,7 +61,7 @@ returns g c =
     let is = c.plan_due_votes.ensures in
     record {
       alone = alone_further c.run.ensures.alone (alone_further c.ask_for_work.ensures.alone
-          (alone_with asked left (subst (GoesOn same elect g.S.CertificateScheme.certificate_bytes None asked.core) (sym is.core) (stays asked.core)) is.batcher));
+          (alone_with asked left (subst (GoesOn same elect g.S.CertificateScheme.certificate_bytes g.S.Scheme.IsSignature None asked.core) (sym is.core) (stays asked.core)) is.batcher));
       quiet = IfOk-weaker c.plan_due_votes.result _ _ (λ nothing holds none. record {
         before = before;
         asked = subst (λ core. AnswerNothing same elect before for_work core.member.facts) (sym is.core) (c.in_ok-ask_for_work.ensures.nothing c.if-not-branch.false);

@@ -6,7 +6,7 @@ use Rattle.simplex_engine.proofs.engine.Engine.run_to_short.Given as goal
 
 abbrev pub invariant-loop : goal.invariant-loop
 invariant-loop g l = record {
-  alone : GoesOnAlone g.D.PartialEq.eq g.L.Elector.elect g.S.CertificateScheme.certificate_bytes l.initial.self l.self;
+  alone : GoesOnAlone g.D.PartialEq.eq g.L.Elector.elect g.S.CertificateScheme.certificate_bytes g.S.Scheme.IsSignature l.initial.self l.self;
   duties : KeepsDuties l.initial.self l.self;
   comes : ComesAlone g.D.PartialEq.eq g.L.Elector.elect g.D.Digest.bytes g.S.CertificateScheme.certificate_bytes l.now l.initial.self l.self;
 }

@@ -23,7 +23,7 @@ returns-in-Proposal g c =
 
 pub returns-in-Vote : goal.returns-in-Vote
 returns-in-Vote g c =
-    subst (λ what. IsInputTaken g.D.PartialEq.eq g.L.Elector.elect g.D.Digest.bytes g.S.CertificateScheme.certificate_bytes g.S.Assembly.IsMadeOf g.S.CertificateScheme.participants c.args.now what
+    subst (λ what. IsInputTaken g.D.PartialEq.eq g.L.Elector.elect g.D.Digest.bytes g.S.CertificateScheme.certificate_bytes g.S.Scheme.IsSignature g.S.Assembly.IsMadeOf g.S.CertificateScheme.participants c.args.now what
     c.args.self.now c.args.self.now c.count.new.self c.count.result) (sym c.in-Vote.is) c.count.ensures
 
 pub returns-in-Certificate : goal.returns-in-Certificate
@@ -57,5 +57,5 @@ returns-in-GivenUp g c =
     let asked = task.GiveUp c.in-GivenUp.view c.in-GivenUp.reason in
     taken_alone g.D.PartialEq.eq g.L.Elector.elect g.D.Digest.bytes g.S.CertificateScheme.certificate_bytes g.S.Assembly.IsMadeOf g.S.CertificateScheme.participants c.args.now
     c.args.input (input.GivenUp c.in-GivenUp.view c.in-GivenUp.reason) c.args.self.now c.ask-in-GivenUp.new.self c.ask-in-GivenUp.result c.in-GivenUp.is c.ask-in-GivenUp.ensures.goes_on c.ask-in-GivenUp.ensures.batcher tt c.ask-in-GivenUp.ensures.duties
-    (on_ok c.ask-in-GivenUp.result c.ask-in-GivenUp.ensures.comes (λ comes. comes (Message asked ∷ []) (λ kind view. refl) (inl (asked, refl, among_more (Message asked ∷ []) (at_hand c.args.self.now)))))
+    (on_ok c.ask-in-GivenUp.result c.ask-in-GivenUp.ensures.comes (λ comes. comes (Message asked ∷ []) (λ kind view. refl) (inl (asked, refl, among_more (Message asked ∷ []) (at_hand c.args.self.now), tt))))
     (λ no. absurd (false≢true (sym no))) (λ _. c.ask-in-GivenUp.ensures.acted)

@@ -1,5 +1,5 @@
 -- That each step is taken by what is for it.
-use Rattle.std.proofs.Common.{None, refl, ◌∷◌, [], sym, subst, ap, inl}
+use Rattle.std.proofs.Common.{None, refl, ◌∷◌, [], sym, subst, ap}
 use Rattle.simplex_engine.specs.Duties.{KeepsTaken}
 use Rattle.simplex_plan.specs.PlannedWork.{work_planned}
 use Rattle.simplex_outbox.specs.Going.{GoesOn}
@@ -9,21 +9,20 @@ use Rattle.simplex_outbox.proofs.Going.{stays}
 use Rattle.simplex_plan.proofs.Planning.{on_ok}
 use Rattle.simplex_engine.proofs.Tells.{on_any, passed_on, tells_other, tells_planned}
 use Rattle.simplex_outbox.specs.Outputs.{work_in}
-use Rattle.simplex_plan.specs.Matters.{Lack, of_step, of_task}
-use Rattle.simplex_plan.proofs.PlannedWork.{among_more}
-use Rattle.simplex_engine.specs.Causes.{at_hand, ComesWith}
-use Rattle.simplex_engine.proofs.Causes.{comes_same, hand_with, task_lacks_none}
+use Rattle.simplex_plan.specs.Matters.{Lack, of_step}
+use Rattle.simplex_engine.specs.Causes.{ComesWith}
+use Rattle.simplex_engine.proofs.Causes.{comes_same, hand_with}
 use Rattle.simplex_plan.proofs.StillAsking.{asks_over}
 use Rattle.simplex_engine.proofs.engine.Engine.take_step.Goals as goal
 
 pub returns-in-Ask : goal.returns-in-Ask
 returns-in-Ask g c = record {
-  alone = alone_with c.args.self.now c.ask.new.self c.ask.ensures.goes_on c.ask.ensures.batcher;
-  duties = passed_on _ c.ask.result c.taken.result c.taken.ensures
-      (on_ok c.ask.result c.ask.ensures.duties (tells_other c.args.self.now c.ask.new.self c.args.step (step.Ask c.in-Ask.task) c.in-Ask.is refl));
-  comes = passed_on _ c.ask.result c.taken.result c.taken.ensures (on_ok c.ask.result c.ask.ensures.comes
-      (λ comes. subst (λ it. ComesWith g.D.PartialEq.eq g.L.Elector.elect g.D.Digest.bytes g.S.CertificateScheme.certificate_bytes c.args.now (of_step it) c.args.self.now c.ask.new.self) (sym c.in-Ask.is)
-      (comes (of_task c.in-Ask.task) (task_lacks_none g.row.S.Denot g.row.S-PublicKey.Denot g.row.S-Signature.Denot g.row.S-Certificate.Denot c.in-Ask.task) (inl (c.in-Ask.task, refl, among_more (of_task c.in-Ask.task) (at_hand c.args.self.now))))));
+  alone = alone_with c.args.self.now c.ask_planned.new.self c.ask_planned.ensures.goes_on c.ask_planned.ensures.batcher;
+  duties = passed_on _ c.ask_planned.result c.taken.result c.taken.ensures
+      (on_ok c.ask_planned.result c.ask_planned.ensures.duties (tells_other c.args.self.now c.ask_planned.new.self c.args.step (step.Ask c.in-Ask.task) c.in-Ask.is refl));
+  comes = passed_on _ c.ask_planned.result c.taken.result c.taken.ensures (on_ok c.ask_planned.result c.ask_planned.ensures.comes
+      (λ comes. subst (λ it. ComesWith g.D.PartialEq.eq g.L.Elector.elect g.D.Digest.bytes g.S.CertificateScheme.certificate_bytes c.args.now (of_step it) c.args.self.now c.ask_planned.new.self) (sym c.in-Ask.is)
+      comes));
 }
 
 pub returns-in-Offer : goal.returns-in-Offer
@@ -38,7 +37,7 @@ returns-in-Offer g c = record {
 pub returns-in-Resolve : goal.returns-in-Resolve
 returns-in-Resolve g c = record {
   alone = alone_with c.args.self.now c.resolve.new.self
-      (subst (GoesOn g.D.PartialEq.eq g.L.Elector.elect g.S.CertificateScheme.certificate_bytes None c.args.self.now.core) (sym c.resolve.ensures.core) (stays c.args.self.now.core))
+      (subst (GoesOn g.D.PartialEq.eq g.L.Elector.elect g.S.CertificateScheme.certificate_bytes g.S.Scheme.IsSignature None c.args.self.now.core) (sym c.resolve.ensures.core) (stays c.args.self.now.core))
       c.resolve.ensures.batcher;
   duties = on_any c.taken-in-Resolve.result
       (tells_other c.args.self.now c.resolve.new.self c.args.step (step.Resolve c.in-Resolve.kind c.in-Resolve.view c.in-Resolve.proposal) c.in-Resolve.is refl

@@ -2,6 +2,7 @@
 use Rattle.std.proofs.Common.{ap, refl, sym, subst}
 use Rattle.std.proofs.lemmas.Result.{err_from_is_err_and}
 use Rattle.simplex_outbox.specs.Going.{BeginsTraced}
+use Rattle.simplex_outbox.specs.Signatures.{BeginsSigned}
 use Rattle.simplex_engine.specs.Beginning.{with_a_retry, IsPlanOf}
 use Rattle.simplex_engine.proofs.Beginning.{begun_with}
 use Rattle.simplex_engine.proofs.engine.begin.begin.Goals as goal
@@ -23,3 +24,6 @@ pub returns-clause-traced : goal.returns-clause-traced
 returns-clause-traced g c =
     subst (λ m. BeginsTraced g.D.PartialEq.eq g.L.Elector.elect g.S.CertificateScheme.certificate_bytes m c.in_ok-core.core)
     (sym c.in_ok-core.ensures.member) c.in_ok-core.ensures.traced
+
+pub returns-clause-signed : goal.returns-clause-signed
+returns-clause-signed g c = subst (λ m. BeginsSigned g.S.Scheme.IsSignature m c.in_ok-core.core) (sym c.in_ok-core.ensures.member) c.in_ok-core.ensures.signed

@@ -3,7 +3,7 @@ use Rattle.std.proofs.Common.{List, [], None, ap, inl, inr, refl, sym, subst, �
 use Rattle.std.specs.Prelude.{◌++◌, IsOk, option_to_list}
 use Rattle.std.proofs.lemmas.Bool.{false≢true}
 use Rattle.simplex_codec.specs.Digests.{bytes_in_digest}
-use Rattle.simplex_host.specs.Host.{certificate_bytes}
+use Rattle.simplex_host.specs.Host.{certificate_bytes, IsOrder}
 use Rattle.simplex_plan.specs.PlannedWork.{AreAmong}
 use Rattle.simplex_outbox.specs.Outputs.{work_in}
 use Rattle.simplex_engine.specs.Causes.{forgettable, held_by, Comes}
@@ -67,7 +67,7 @@ returns-in-Ok-None c =
               (sym c.requires.last) (given before (all going));
           told = λ alive. subst (λ last. TellsNoMore (option_to_list last) c.args.self.now.engine.core.outbox c.poll.new.self.core.outbox)
               (sym c.requires.last) (rw none at c.in-Ok-None.ensures.told);
-          traced = λ alive. subst (λ last. EmitsOn same_host_payload host_leader certificate_bytes None (option_to_list last) c.args.self.now.engine.core c.poll.new.self.core)
+          traced = λ alive. subst (λ last. EmitsOn same_host_payload host_leader certificate_bytes (IsOrder bytes_in_digest) None (option_to_list last) c.args.self.now.engine.core c.poll.new.self.core)
               (sym c.requires.last) (rw none at c.in-Ok-None.ensures.traced);
           does = c.in-Ok-None.ensures.does;
           votes = c.in-Ok-None.ensures.votes;
@@ -118,7 +118,7 @@ returns-in-Err c =
               (sym c.requires.last) (c.in-Err.ensures.given before (all going));
           told = λ alive. subst (λ last. TellsNoMore (option_to_list last) c.args.self.now.engine.core.outbox c.poll.new.self.core.outbox)
               (sym c.requires.last) c.in-Err.ensures.told;
-          traced = λ alive. subst (λ last. EmitsOn same_host_payload host_leader certificate_bytes None (option_to_list last) c.args.self.now.engine.core c.poll.new.self.core)
+          traced = λ alive. subst (λ last. EmitsOn same_host_payload host_leader certificate_bytes (IsOrder bytes_in_digest) None (option_to_list last) c.args.self.now.engine.core c.poll.new.self.core)
               (sym c.requires.last) c.in-Err.ensures.traced;
           does = c.in-Err.ensures.does;
           votes = c.in-Err.ensures.votes;

@@ -31,6 +31,7 @@ returns-in-Ok-resume-clause-resumed c =
       nothing = record {
         kept = λ _. rw c.new.ensures.engine c.in-Ok-resume.ensures.kept;
         traced = rw c.new.ensures.engine c.in-Ok-resume.ensures.traced;
+        signed = rw c.new.ensures.engine c.in-Ok-resume.ensures.signed;
         whole = rw c.new.ensures.engine c.in-Ok-resume.ensures.whole;
         queued = rw c.new.ensures.engine c.in-Ok-resume.ensures.queued;
         told = rw c.new.ensures.engine c.in-Ok-resume.ensures.told;

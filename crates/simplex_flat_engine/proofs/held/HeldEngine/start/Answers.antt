@@ -22,6 +22,7 @@ returns-in-Ok-start-clause-begun c = record {
   nothing = record {
     kept = λ _. rw c.new.ensures.engine c.in-Ok-start.ensures.kept;
     traced = rw c.new.ensures.engine c.in-Ok-start.ensures.traced;
+    signed = rw c.new.ensures.engine c.in-Ok-start.ensures.signed;
     whole = rw c.new.ensures.engine c.in-Ok-start.ensures.whole;
     queued = rw c.new.ensures.engine c.in-Ok-start.ensures.queued;
     told = rw c.new.ensures.engine c.in-Ok-start.ensures.told;

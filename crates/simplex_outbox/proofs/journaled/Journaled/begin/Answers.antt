@@ -10,7 +10,8 @@ use Rattle.simplex_outbox.proofs.Journals.{copied_votes}
 use Rattle.simplex_outbox.proofs.Kept.{counted}
 use Rattle.simplex_outbox.proofs.Reaching.{reaches_whole}
 use Rattle.simplex_outbox.specs.Stops.{MayStopAfterEach}
-use Rattle.simplex_outbox.proofs.Stops.{stops_begun}
+use Rattle.simplex_outbox.proofs.Stops.{stop_last, stops_begun}
+use Rattle.simplex_outbox.proofs.Torn.{amid_none}
 use Rattle.std.proofs.lemmas.List.{append-nil}
 use Rattle.simplex_outbox.specs.Entries.{votes_of_entries}
 use Rattle.simplex_outbox.specs.Outputs.{stored_in}
@@ -58,13 +59,17 @@ pub returns-clause-traced : goal.returns-clause-traced
 returns-clause-traced g c = λ term_length i all done signed.
     let bytes_of = g.S.CertificateScheme.certificate_bytes in
     let begins = returns-clause-begins g c in
+    let stops = subst (MayStopAfterEach g.D.PartialEq.eq g.L.Elector.elect bytes_of term_length i all all) (sym begins.outs_are)
+    (stops_begun g.D.PartialEq.eq g.L.Elector.elect bytes_of term_length i all begins.copies c.args.member done signed begins.entries begins.votes) in
     record {
       kept = returns-clause-kept g c;
       done = done;
       signed = signed;
       finals = λ p has. absurd (omega (arith, (subst (λ ps. Contains ps p) (returns-clause-told g c) has).1));
-      stops = λ lives. subst (MayStopAfterEach g.D.PartialEq.eq g.L.Elector.elect bytes_of term_length i all all) (sym begins.outs_are)
-          (stops_begun g.D.PartialEq.eq g.L.Elector.elect bytes_of term_length i all begins.copies c.args.member done signed begins.entries begins.votes);
+      stops = λ lives. stops;
+      amid = λ lives. amid_none g.D.PartialEq.eq g.L.Elector.elect bytes_of term_length i all all c.replace.new.self.queue.items c.args.member (length c.record-stored.result.now)
+          (omega (arith, counted bytes_of c.record-stored.result.now c.args.member.facts.entries c.record-stored.ensures.entries))
+          (stop_last g.D.PartialEq.eq g.L.Elector.elect bytes_of term_length i all all c.replace.new.self.queue.items stops);
     }
 
 pub returns-clause-signed : goal.returns-clause-signed

@@ -4,7 +4,7 @@ use Rattle.std.specs.Prelude.{IfSome, option_to_list}
 use Rattle.simplex_outbox.specs.Finals.{finals_in, WereAccepted}
 use Rattle.simplex_outbox.specs.Leaving.{AllLeave}
 use Rattle.simplex_outbox.specs.Journals.{journal_of, IsBeginningOf}
-use Rattle.simplex_outbox.specs.Stops.{MayStopAfterEach}
+use Rattle.simplex_outbox.specs.Stops.{MayStopAfterEach, MayStopAmid}
 use Rattle.simplex_outbox.specs.Entries.{votes_of_entries}
 use Rattle.simplex_outbox.specs.Outputs.{stored_in}
 use Rattle.simplex_outbox.specs.Signatures.{AreSigned}
@@ -40,6 +40,9 @@ returns-clause-traced g c = λ term_length i earlier given all is.
       stops = λ lives.
           subst (MayStopAfterEach g.D.PartialEq.eq g.L.Elector.elect g.S.CertificateScheme.certificate_bytes term_length i earlier all)
           (ap (λ queued. given ++ queued) c.next.ensures.front ∙ sym (append_assoc given out c.next.new.self.queue.items)) (is.stops lives);
+      amid = λ lives.
+          subst (λ outs. MayStopAmid g.D.PartialEq.eq g.L.Elector.elect g.S.CertificateScheme.certificate_bytes term_length i earlier all outs old.member old.stored)
+          (ap (λ queued. given ++ queued) c.next.ensures.front ∙ sym (append_assoc given out c.next.new.self.queue.items)) (is.amid lives);
     }
 
 pub returns-clause-signed : goal.returns-clause-signed

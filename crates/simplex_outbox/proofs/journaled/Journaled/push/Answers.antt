@@ -7,6 +7,14 @@ use Rattle.simplex_outbox.proofs.Lawfully.{by_result}
 use Rattle.simplex_outbox.proofs.Signatures.{same_plain, same_stayed}
 use Rattle.simplex_outbox.proofs.journaled.Journaled.push.Goals as goal
 
+pub returns-clause-signed : goal.returns-clause-signed
+returns-clause-signed g c =
+    let old = c.args.self.now in
+    let new = record old { outbox = c.push.new.self } in
+    by_result c.push.result c.push.ensures.queued c.push.ensures.kept
+    (λ is. same_plain g.S.Scheme.IsSignature old new refl (output.Work c.args.work) refl is.queue)
+    (same_stayed g.S.Scheme.IsSignature old new refl)
+
 pub returns-clause-goes_on : goal.returns-clause-goes_on
 returns-clause-goes_on g c =
     let bytes_of = g.S.CertificateScheme.certificate_bytes in
@@ -17,16 +25,9 @@ returns-clause-goes_on g c =
     (pushed bytes_of old new refl refl refl refl c.push.ensures.goes_on c.args.work)
     (kept_as_it_was bytes_of old new refl refl refl refl c.push.ensures.goes_on))
     (by_result c.push.result c.push.ensures.queued c.push.ensures.kept
-    (λ is. traced_pushed g.D.PartialEq.eq g.L.Elector.elect g.S.CertificateScheme.certificate_bytes old new refl refl (pushed bytes_of old new refl refl refl refl c.push.ensures.goes_on c.args.work is) c.args.work is)
-    (λ is. traced_stayed g.D.PartialEq.eq g.L.Elector.elect g.S.CertificateScheme.certificate_bytes old new refl refl (kept_as_it_was bytes_of old new refl refl refl refl c.push.ensures.goes_on is) is))
+    (λ is. traced_pushed g.D.PartialEq.eq g.L.Elector.elect g.S.CertificateScheme.certificate_bytes old new refl refl (pushed bytes_of old new refl refl refl refl c.push.ensures.goes_on c.args.work is) refl c.args.work is)
+    (λ is. traced_stayed g.D.PartialEq.eq g.L.Elector.elect g.S.CertificateScheme.certificate_bytes old new refl refl (kept_as_it_was bytes_of old new refl refl refl refl c.push.ensures.goes_on is) refl is))
+    (returns-clause-signed g c)
     (by_result c.push.result c.push.ensures.queued c.push.ensures.kept
     (become_tells (output.Work c.args.work ∷ []) old.outbox.repeat old.outbox new.outbox refl)
     (stayed_tells old.outbox new.outbox)) c.push.ensures.grown
-
-pub returns-clause-signed : goal.returns-clause-signed
-returns-clause-signed g c =
-    let old = c.args.self.now in
-    let new = record old { outbox = c.push.new.self } in
-    by_result c.push.result c.push.ensures.queued c.push.ensures.kept
-    (λ is. same_plain g.S.Scheme.IsSignature old new refl (output.Work c.args.work) refl is.queue)
-    (same_stayed g.S.Scheme.IsSignature old new refl)

@@ -28,6 +28,21 @@ still_told : {K L D : Type 0} (old new : MemberFacts K L D) → new ≡ pruned_m
 still_told old new is before after same last =
     subst (λ t. IfSome new.life (λ x. t ≡ x.finalized)) (sym same) (subst (λ m. IfSome m.life (λ x. before ≡ x.finalized)) (sym is) last)
 
+pub returns-in-Ok-clause-signed : goal.returns-in-Ok-clause-signed
+returns-in-Ok-clause-signed g c =
+    let bytes_of = g.S.CertificateScheme.certificate_bytes in
+    let old = c.args.self.now in
+    let new = record old { member = c.prune_record.new.self; outbox = c.replace.new.self; stored = length c.record.result.now; reach = c.lowest_of-self.result } in
+    pruned_replaced g.S.Scheme.IsSignature old new bytes_of (λ v. stays_within old.member.facts (entry_view v.vote)) c.prune_record.ensures.votes
+    (λ i key signs. subst (SignsBy i key) (sym c.prune_record.ensures.pruned) signs) c.record-3.result.now c.record-3.ensures.votes c.stored.result c.in-Ok.ensures.queued
+
+pub returns-in-Err-clause-signed : goal.returns-in-Err-clause-signed
+returns-in-Err-clause-signed g c =
+    let old = c.args.self.now in
+    let new = record old { member = c.prune_record.new.self; outbox = c.replace.new.self; stored = length c.record.result.now; reach = c.lowest_of-self.result; failed = true } in
+    signed_stayed g.S.Scheme.IsSignature old new (λ i key signs. subst (SignsBy i key) (sym c.prune_record.ensures.pruned) signs)
+    (λ i key _. pruned_signed g.S.Scheme.IsSignature old new (λ v. stays_within old.member.facts (entry_view v.vote)) c.prune_record.ensures.votes i key) c.in-Err.ensures.kept
+
 pub returns-in-Ok-clause-goes_on : goal.returns-in-Ok-clause-goes_on
 returns-in-Ok-clause-goes_on g c =
     let bytes_of = g.S.CertificateScheme.certificate_bytes in
@@ -48,10 +63,11 @@ returns-in-Ok-clause-goes_on g c =
     record {
       kept = keeps;
       traced = traced_replaced g.D.PartialEq.eq g.L.Elector.elect bytes_of old new refl keeps c.prune_record.ensures.goes_on (λ v. stays_within old.member.facts (entry_view v.vote)) c.prune_record.ensures.votes
-          all.result.now all.ensures.entries all.ensures.votes is_replaced (replaced_tells bytes_of old new all.result.now c.stored.result c.in-Ok.ensures.queued);
+          all.result.now same_length all.ensures.entries all.ensures.votes is_replaced (replaced_tells bytes_of old new all.result.now c.stored.result c.in-Ok.ensures.queued);
       more = [];
       on_this = All-nil (IsDoneOn None);
       done = c.prune_record.ensures.goes_on;
+      signed = returns-in-Ok-clause-signed g c;
       told = replaced_tells bytes_of old new all.result.now c.stored.result c.in-Ok.ensures.queued;
       queued = c.replace.ensures.grown;
       risen = subst (λ m. WhileAlive HasRisen old.member.facts.life m.life) (sym c.prune_record.ensures.pruned) (risen_not old.member.facts);
@@ -74,6 +90,7 @@ returns-in-Err-clause-goes_on g c =
       more = [];
       on_this = All-nil (IsDoneOn None);
       done = c.prune_record.ensures.goes_on;
+      signed = returns-in-Err-clause-signed g c;
       told = stayed_tells old.outbox c.replace.new.self c.in-Err.ensures.kept;
       queued = c.replace.ensures.grown;
       risen = subst (λ m. WhileAlive HasRisen old.member.facts.life m.life) (sym c.prune_record.ensures.pruned) (risen_not old.member.facts);
@@ -90,18 +107,3 @@ returns-in-Ok-clause-no_work g c =
 
 pub returns-in-Err-clause-no_work : goal.returns-in-Err-clause-no_work
 returns-in-Err-clause-no_work g c = stayed_no_work c.args.self.now.outbox c.replace.new.self c.in-Err.ensures.kept
-
-pub returns-in-Ok-clause-signed : goal.returns-in-Ok-clause-signed
-returns-in-Ok-clause-signed g c =
-    let bytes_of = g.S.CertificateScheme.certificate_bytes in
-    let old = c.args.self.now in
-    let new = record old { member = c.prune_record.new.self; outbox = c.replace.new.self; stored = length c.record.result.now; reach = c.lowest_of-self.result } in
-    pruned_replaced g.S.Scheme.IsSignature old new bytes_of (λ v. stays_within old.member.facts (entry_view v.vote)) c.prune_record.ensures.votes
-    (λ i key signs. subst (SignsBy i key) (sym c.prune_record.ensures.pruned) signs) c.record-3.result.now c.record-3.ensures.votes c.stored.result c.in-Ok.ensures.queued
-
-pub returns-in-Err-clause-signed : goal.returns-in-Err-clause-signed
-returns-in-Err-clause-signed g c =
-    let old = c.args.self.now in
-    let new = record old { member = c.prune_record.new.self; outbox = c.replace.new.self; stored = length c.record.result.now; reach = c.lowest_of-self.result; failed = true } in
-    signed_stayed g.S.Scheme.IsSignature old new (λ i key signs. subst (SignsBy i key) (sym c.prune_record.ensures.pruned) signs)
-    (λ i key _. pruned_signed g.S.Scheme.IsSignature old new (λ v. stays_within old.member.facts (entry_view v.vote)) c.prune_record.ensures.votes i key) c.in-Err.ensures.kept

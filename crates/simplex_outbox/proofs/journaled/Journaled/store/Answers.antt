@@ -11,6 +11,20 @@ use Rattle.simplex_outbox.proofs.Working.{stayed_no_work, stored_no_work}
 use Rattle.simplex_outbox.proofs.Signatures.{same_stored, same_stayed}
 use Rattle.simplex_outbox.proofs.journaled.Journaled.store.Goals as goal
 
+pub returns-clause-signed : goal.returns-clause-signed
+returns-clause-signed g c =
+    let old = c.args.self.now in
+    let new = record old { outbox = c.store.new.self; stored = length c.record-count.result.now; reach = c.lowest_of-reach.result } in
+    same_stored g.S.Scheme.IsSignature old new refl g.S.CertificateScheme.certificate_bytes c.record_since-2.result.now c.record_since-2.ensures.votes c.in_ok-store.ensures.queued
+
+pub returns-in_err-store-clause-signed : goal.returns-in_err-store-clause-signed
+returns-in_err-store-clause-signed g c =
+    let old = c.args.self.now in
+    same_stayed g.S.Scheme.IsSignature old (record old { outbox = c.store.new.self }) refl c.in_err-store.ensures.kept
+
+pub returns-then-count-self-clause-signed : goal.returns-then-count-self-clause-signed
+returns-then-count-self-clause-signed g c i key given is = is
+
 pub returns-clause-goes_on : goal.returns-clause-goes_on
 returns-clause-goes_on g c =
     let bytes_of = g.S.CertificateScheme.certificate_bytes in
@@ -23,7 +37,8 @@ returns-clause-goes_on g c =
     (counted bytes_of all.result.now old.member.facts.entries all.ensures.entries) (c.lowest_of-reach.ensures ∙ ap (lowest_of old.reach) c.record_since.ensures.entries))
     c.store.ensures.goes_on all.result.now fresh.result.now refl all.ensures.entries all.ensures.votes fresh.ensures.entries fresh.ensures.votes c.in_ok-store.ensures.queued in
     does_no_more old new refl keeps
-    (traced_stored g.D.PartialEq.eq g.L.Elector.elect g.S.CertificateScheme.certificate_bytes old new refl refl keeps all.result.now fresh.result.now all.ensures.entries all.ensures.votes fresh.ensures.entries fresh.ensures.votes c.in_ok-store.ensures.queued)
+    (traced_stored g.D.PartialEq.eq g.L.Elector.elect g.S.CertificateScheme.certificate_bytes old new refl refl keeps all.result.now fresh.result.now refl all.ensures.entries all.ensures.votes fresh.ensures.entries fresh.ensures.votes c.in_ok-store.ensures.queued)
+    (returns-clause-signed g c)
     (stored_tells bytes_of old new fresh.result.now c.in_ok-store.ensures.queued) c.store.ensures.grown
 
 pub returns-in_err-store-clause-goes_on : goal.returns-in_err-store-clause-goes_on
@@ -31,7 +46,8 @@ returns-in_err-store-clause-goes_on g c =
     let old = c.args.self.now in
     let new = record old { outbox = c.store.new.self } in
     does_no_more old new refl (kept_as_it_was g.S.CertificateScheme.certificate_bytes old new refl refl refl refl c.store.ensures.goes_on c.in_err-store.ensures.kept)
-    (traced_stayed g.D.PartialEq.eq g.L.Elector.elect g.S.CertificateScheme.certificate_bytes old new refl refl (kept_as_it_was g.S.CertificateScheme.certificate_bytes old new refl refl refl refl c.store.ensures.goes_on c.in_err-store.ensures.kept) c.in_err-store.ensures.kept)
+    (traced_stayed g.D.PartialEq.eq g.L.Elector.elect g.S.CertificateScheme.certificate_bytes old new refl refl (kept_as_it_was g.S.CertificateScheme.certificate_bytes old new refl refl refl refl c.store.ensures.goes_on c.in_err-store.ensures.kept) refl c.in_err-store.ensures.kept)
+    (returns-in_err-store-clause-signed g c)
     (stayed_tells old.outbox new.outbox c.in_err-store.ensures.kept) c.store.ensures.grown
 
 pub returns-then-count-self-clause-goes_on : goal.returns-then-count-self-clause-goes_on
@@ -67,17 +83,3 @@ returns-clause-no_work g c =
 
 pub returns-in_err-store-clause-no_work : goal.returns-in_err-store-clause-no_work
 returns-in_err-store-clause-no_work g c = stayed_no_work c.args.self.now.outbox c.store.new.self c.in_err-store.ensures.kept
-
-pub returns-clause-signed : goal.returns-clause-signed
-returns-clause-signed g c =
-    let old = c.args.self.now in
-    let new = record old { outbox = c.store.new.self; stored = length c.record-count.result.now; reach = c.lowest_of-reach.result } in
-    same_stored g.S.Scheme.IsSignature old new refl g.S.CertificateScheme.certificate_bytes c.record_since-2.result.now c.record_since-2.ensures.votes c.in_ok-store.ensures.queued
-
-pub returns-in_err-store-clause-signed : goal.returns-in_err-store-clause-signed
-returns-in_err-store-clause-signed g c =
-    let old = c.args.self.now in
-    same_stayed g.S.Scheme.IsSignature old (record old { outbox = c.store.new.self }) refl c.in_err-store.ensures.kept
-
-pub returns-then-count-self-clause-signed : goal.returns-then-count-self-clause-signed
-returns-then-count-self-clause-signed g c i key given is = is

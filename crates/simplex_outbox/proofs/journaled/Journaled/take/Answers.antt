@@ -16,12 +16,27 @@ use Rattle.simplex_outbox.proofs.Doing.{call_on}
 use Rattle.simplex_outbox.proofs.Dropping.{refused_left}
 use Rattle.simplex_outbox.proofs.Finalizing.{told_by_call, final_events}
 use Rattle.simplex_outbox.proofs.Finals.{told_tells}
+use Rattle.simplex_outbox.proofs.Torn.{call_grows}
 use Rattle.simplex_outbox.proofs.TracedOutputs.{traced_call, reply_signed}
 use Rattle.simplex_outbox.proofs.Going.{call_risen}
 use Rattle.simplex_outbox.proofs.Kept.{called}
 use Rattle.simplex_outbox.proofs.Working.{told_no_work}
 use Rattle.simplex_outbox.proofs.Signatures.{called_signed, call_signs, call_signed}
 use Rattle.simplex_outbox.proofs.journaled.Journaled.take.Goals as goal
+
+pub returns-clause-signed : goal.returns-clause-signed
+returns-clause-signed g c =
+    let bytes_of = g.S.CertificateScheme.certificate_bytes in
+    let same = g.D.PartialEq.eq in
+    let elect = g.L.Elector.elect in
+    let old = c.args.self.now in
+    let left = c.call-reply.new.self in
+    let tells = final_by c.finalized_by-finalized.result c.call-reply.result in
+    let is_told : IsTold tells old.outbox c.tell.new.self = subst (λ f. IsTold f old.outbox c.tell.new.self) c.final_by.ensures c.tell.ensures.told in
+    called_signed g.S.Scheme.IsSignature old (record old { member = left; outbox = c.tell.new.self }) (signed_reply c.call-reply.result) c.call-reply.ensures.votes
+    (λ i key. call_signs same elect i key old.member.facts _ _ left.facts c.call-reply.ensures.answered)
+    (λ i key. call_signed same elect g.S.Scheme.IsSignature i key bytes_of old.member.facts left.facts _ c.call-reply.result c.call-reply.ensures.answered c.call-reply.ensures.exact c.call-reply.ensures.signed)
+    tells is_told
 
 pub returns-clause-goes_on : goal.returns-clause-goes_on
 returns-clause-goes_on g c =
@@ -50,7 +65,11 @@ returns-clause-goes_on g c =
       on_this = call_on (Some on) call answer
           (subst (All (IsDoneOn (Some on))) (sym c.handing_in.ensures.hands) (All-cons (IsDoneOn (Some on)) (Accepts on) [] refl (All-nil (IsDoneOn (Some on)))));
       done = c.call-reply.ensures.goes_on;
-      traced = traced_call same elect bytes_of old new more refl keeps c.call-reply.ensures.goes_on (signed_reply answer) c.call-reply.ensures.votes (reply_signed call answer) tells is_told rising;
+      traced = traced_call same elect bytes_of old new more refl refl keeps c.call-reply.ensures.goes_on
+          c.record-record.result.now c.record-record.ensures.entries c.record-record.ensures.votes
+          (call_grows same elect old.member.facts c.call-reply.new.self.facts _ _ c.call-reply.ensures.answered) c.call-reply.ensures.stored
+          (signed_reply answer) c.call-reply.ensures.votes (reply_signed call answer) tells is_told rising;
+      signed = returns-clause-signed g c;
       told = rising;
       queued = c.tell.ensures.grown;
       risen = call_risen same elect old.member.facts _ _ c.call-reply.new.self.facts c.call-reply.ensures.answered;
@@ -70,17 +89,3 @@ returns-clause-refused g c refused =
 
 pub returns-clause-no_work : goal.returns-clause-no_work
 returns-clause-no_work g c = told_no_work c.final_by.result c.args.self.now.outbox c.tell.new.self c.tell.ensures.told
-
-pub returns-clause-signed : goal.returns-clause-signed
-returns-clause-signed g c =
-    let bytes_of = g.S.CertificateScheme.certificate_bytes in
-    let same = g.D.PartialEq.eq in
-    let elect = g.L.Elector.elect in
-    let old = c.args.self.now in
-    let left = c.call-reply.new.self in
-    let tells = final_by c.finalized_by-finalized.result c.call-reply.result in
-    let is_told : IsTold tells old.outbox c.tell.new.self = subst (λ f. IsTold f old.outbox c.tell.new.self) c.final_by.ensures c.tell.ensures.told in
-    called_signed g.S.Scheme.IsSignature old (record old { member = left; outbox = c.tell.new.self }) (signed_reply c.call-reply.result) c.call-reply.ensures.votes
-    (λ i key. call_signs same elect i key old.member.facts _ _ left.facts c.call-reply.ensures.answered)
-    (λ i key. call_signed same elect g.S.Scheme.IsSignature i key bytes_of old.member.facts left.facts _ c.call-reply.result c.call-reply.ensures.answered c.call-reply.ensures.exact c.call-reply.ensures.signed)
-    tells is_told

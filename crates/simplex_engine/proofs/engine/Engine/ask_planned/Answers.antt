@@ -1,0 +1,32 @@
+-- That a call which is planned passes no verdict.
+use Rattle.std.proofs.Common.{refl, sym, inl, ◌∙◌}
+use Rattle.simplex_outbox.proofs.Going.{stays}
+use Rattle.simplex_engine.proofs.Tells.{tells_still}
+use Rattle.simplex_plan.specs.Matters.{of_task}
+use Rattle.simplex_plan.proofs.Matters.{among_last}
+use Rattle.simplex_plan.proofs.PlannedWork.{among_more}
+use Rattle.simplex_plan.proofs.Planning.{on_ok}
+use Rattle.simplex_engine.specs.Causes.{at_hand}
+use Rattle.simplex_engine.proofs.Causes.{comes_still, needs_no_offer, task_lacks_none}
+use Rattle.simplex_engine.proofs.engine.Engine.ask_planned.Goals as goal
+
+pub returns-then-is_verdict : goal.returns-then-is_verdict
+returns-then-is_verdict g c = record {
+  goes_on = stays c.args.self.now.core;
+  batcher = refl;
+  duties = tells_still c.args.self.now;
+  comes = comes_still refl refl (task_lacks_none g.row.S.Denot g.row.S-PublicKey.Denot g.row.S-Signature.Denot g.row.S-Certificate.Denot c.args.task)
+      (among_last (of_task c.args.task) (at_hand c.args.self.now));
+}
+
+pub returns : goal.returns
+returns g c =
+    let own = needs_no_offer c.args.self.now.core.member.facts c.args.now c.args.task (sym c.is_verdict.ensures ∙ c.if-is_verdict.false) in
+    record {
+      goes_on = c.ask.ensures.goes_on;
+      batcher = c.ask.ensures.batcher;
+      duties = c.ask.ensures.duties;
+      comes = on_ok c.ask.result c.ask.ensures.comes (λ comes. comes (of_task c.args.task)
+          (task_lacks_none g.row.S.Denot g.row.S-PublicKey.Denot g.row.S-Signature.Denot g.row.S-Certificate.Denot c.args.task)
+          (inl (c.args.task, refl, among_more (of_task c.args.task) (at_hand c.args.self.now), own)));
+    }
