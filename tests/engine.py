@@ -24,7 +24,7 @@ from lib.program import ROOT
 
 ENGINE = ROOT / "engine"
 SKIPPED = 77
-LEAST_TESTS = 216
+LEAST_TESTS = 229
 # The words of the network that `./demo` runs.
 NETWORK = re.compile(r"words=\((--.*)\)")
 
@@ -32,12 +32,12 @@ NETWORK = re.compile(r"words=\((--.*)\)")
 WRONG_BODIES = (
     ("what is recorded is not stored", "replica.rs", "Output::Store(entries) => self.parts.journal.append(&entries)?,", "Output::Store(_) => {}"),
     ("votes are not verified", "peers/reader.rs", "let is_good = self.is_good(self.reader.keys.is_signed_vote(vote));", "let is_good = self.is_good(true);"),
-    ("a member may hold many connections", "peers/accept.rs", "if let Some(older) = place.replace(open) {",
+    ("a member may hold many connections", "../../net/src/accept.rs", "if let Some(older) = place.replace(open) {",
      "std::mem::forget(open); if let Some(older) = None::<Open> {"),
-    ("a greeting takes as long as it likes", "peers/session.rs", "pub const GREETING: Duration = Duration::from_secs(2);",
+    ("a greeting takes as long as it likes", "../../net/src/session.rs", "pub const GREETING: Duration = Duration::from_secs(2);",
      "pub const GREETING: Duration = Duration::from_secs(600);"),
-    ("a silent link stays", "peers/session.rs", "pub const SILENCE: Duration = Duration::from_secs(2);", "pub const SILENCE: Duration = Duration::from_secs(600);"),
-    ("the queue to a peer has no bound", "peers/outgoing.rs", "if bytes > MOST_BYTES {", "if bytes == usize::MAX {"),
+    ("a silent link stays", "../../net/src/session.rs", "pub const SILENCE: Duration = Duration::from_secs(2);", "pub const SILENCE: Duration = Duration::from_secs(600);"),
+    ("the queue to a peer has no bound", "../../net/src/outgoing.rs", "if bytes > MOST_BYTES {", "if bytes == usize::MAX {"),
     ("blocks that nobody asked for are passed on", "peers/reader.rs", "Message::Block(bytes) => horizon.wants(bytes),", "Message::Block(_) => true,"),
     ("a forger stays", "peers/reader.rs", "if self.forged > MOST_FORGED {", "if self.forged == u32::MAX {"),
     ("a block is not compared with its proposal", "peers/reader.rs", "digest(block) == payload || self.is_good(false)", "payload == payload"),
@@ -46,7 +46,7 @@ WRONG_BODIES = (
      "let is_due = |_: &Asking| now.as_millis() == u64::MAX;"),
     ("peers are served no final blocks", "archive/keeper.rs", "Behind::Blocks(range) => Message::Range(range),",
      "Behind::Blocks(_) => Message::NoRange(after, View::GENESIS),"),
-    ("peers are served all that they ask for", "peers.rs", "let is_left = locked(&peer.served).take(frame.len() as f64, Instant::now());",
+    ("peers are served all that they ask for", "../../net/src/peers.rs", "let is_left = locked(&peer.served).take(frame.len() as f64, Instant::now());",
      "let is_left = !frame.is_empty();"),
     ("a range of blocks is not compared with its certificate", "peers/reader.rs", "(it.is_linked() || self.is_good(false))", "!it.blocks.is_empty()"),
     ("a message has several texts", "../../wire/src/read.rs", "rest.is_empty().then_some((first, second))", "Some((first, second))"),
@@ -94,11 +94,15 @@ WRONG_BODIES = (
     ("what is signed in one network counts in another", "../../identity/src/network_name.rs", "[SIGNED, &self.prefixed(), text].concat()", "[SIGNED, text].concat()"),
     ("a journal of another network is taken", "../../identity/src/identity.rs", "if self.network != member.network {", "if false {"),
     ("genesis is the same in all networks", "../../identity/src/identity.rs", "text.extend_from_slice(&self.network.prefixed());", ""),
-    ("who answers at a member's address is taken for it", "peers/tls.rs",
-     "chain.error_depth() == 0 && key.is_some_and(|it| is_allowed(&keys, &it))", "chain.error_depth() == 0 || key.is_some_and(|it| is_allowed(&keys, &it))"),
-    ("a greeting's time begins anew with each read", "peers/tls.rs",
+    ("who answers at a member's address is taken for it", "../../net/src/tls.rs",
+     "chain.error_depth() == 0 && key.is_some_and(|it| is_allowed(&members, &it))", "chain.error_depth() == 0 || key.is_some_and(|it| is_allowed(&members, &it))"),
+    ("a greeting's time begins anew with each read", "../../net/src/tls.rs",
      "let left = until.checked_duration_since(Instant::now()).filter(|it| !it.is_zero());", "let left = (until.elapsed() < Duration::from_secs(600)).then_some(Duration::from_secs(2));"),
-    ("a member with other settings is taken", "peers/greeting.rs", 'differs("term_length", peer.term_length, self.term_length)?;', ""),
+    ("a member with other settings is taken", "peers.rs", '        ("term_length", &identity.term_length.to_string()),\n', ""),
+    ("settings are not compared", "../../net/src/greeting.rs", "there_name != name.as_bytes() || there != here.as_bytes()", "there_name != name.as_bytes()"),
+    ("any text is an address", "../../net/src/address.rs", "text.len() <= 253 && !is_number && text.split('.').all(is_part)", "!is_number || is_part(text)"),
+    ("a node listens where it is dialled", "settings.rs", "self.listen.as_ref().unwrap_or(&self.members[self.index as usize].address)",
+     "&self.members[self.index as usize].address"),
     ("events of what came are not traced", "replica.rs", "self.events.after(seen, is_of_use);", "drop(seen);"),
     ("a resume is traced as a start", "events.rs", "if entries == 0 {", "if entries < u64::MAX {"),
     ("traces of two runs are mixed", "bin/simplex-local/traced.rs", ".find(|it| it.exists())", ".find(|_| false)"),

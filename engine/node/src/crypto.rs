@@ -1,9 +1,10 @@
 //! Keys, signatures and certificates: ed25519 and SHA-256 of OpenSSL.
 
 use crate::settings::{Outcome, Settings};
-use openssl::pkey::{Id, PKey, PKeyRef, Private, Public};
+use openssl::pkey::{Id, PKey, Private, Public};
 use openssl::sign::{Signer, Verifier};
 use simplex_identity::NetworkName;
+use simplex_net::Members;
 use simplex_view_state::{Certificate, Participant, Vote};
 use std::fs;
 use std::io::Write;
@@ -54,15 +55,12 @@ impl Keys {
         })
     }
 
-    /// This node's secret key.
-    pub(crate) fn secret(&self) -> &PKeyRef<Private> {
-        &self.secret
-    }
-
-    /// The member whose key this is; `None` where it is nobody's.
-    pub(crate) fn member_of(&self, key: &PKeyRef<Public>) -> Option<Participant> {
-        let index = self.public.iter().position(|it| it.public_eq(key))?;
-        Some(Participant::new(index as u32))
+    /// The keys, for links to the members.
+    pub(crate) fn members(&self) -> Outcome<Members> {
+        let raw =
+            |key: &PKey<Public>| -> Outcome<[u8; 32]> { Ok(key.raw_public_key()?.try_into().map_err(|_| "an ed25519 key has 32 bytes")?) };
+        let public = self.public.iter().map(raw).collect::<Outcome<Vec<_>>>()?;
+        Ok(Members::new(self.me, self.secret.clone(), &public)?)
     }
 
     /// How many votes make a certificate: all members but a third of them, rounded down.

@@ -60,7 +60,7 @@ impl Network {
         for index in 0..plan.nodes {
             let key = crypto::make_key(&plan.folder.join(format!("{index}.pem")))?;
             members.push(Peer {
-                address: addresses[2 * index as usize],
+                address: addresses[2 * index as usize].into(),
                 key,
             });
         }
@@ -70,6 +70,7 @@ impl Network {
             index,
             data: PathBuf::from(index.to_string()),
             key: PathBuf::from(format!("{index}.pem")),
+            listen: None,
             metrics: Some(addresses[2 * index as usize + 1]),
             sync: plan.sync,
             trace: Some(PathBuf::from(format!("{index}.votes"))),

@@ -4,6 +4,7 @@ use crate::crypto::raw_key;
 use crate::faults::Trial;
 use serde::{Deserialize, Serialize};
 use simplex_identity::{Identity, NetworkName, members_digest};
+use simplex_net::Address;
 use simplex_view_state::{Config, Digest, Epoch, Floor, Participant, Skip, Terms, View, ViewDelta};
 use std::fs;
 use std::net::SocketAddr;
@@ -26,7 +27,9 @@ pub struct Settings {
     pub data: PathBuf,
     /// The file of its secret key, as `simplex-node keygen` makes it.
     pub key: PathBuf,
-    /// Where metrics are served, by HTTP; nowhere by default. An address of this machine alone.
+    /// Where this node listens; by default at its own address among the members. It differs where others dial it by another one.
+    pub listen: Option<Address>,
+    /// Where metrics are served, by HTTP, to whoever asks; nowhere by default.
     pub metrics: Option<SocketAddr>,
     /// Whether a vote waits until the disk has it. Without it, a machine that loses power may vote twice.
     #[serde(default = "yes")]
@@ -74,8 +77,8 @@ impl Default for Archived {
 #[derive(Clone, Debug, Deserialize, Serialize)]
 #[serde(deny_unknown_fields)]
 pub struct Peer {
-    /// Where it listens.
-    pub address: SocketAddr,
+    /// Where the others dial it: a host's address or name, and a port. A name is resolved each time.
+    pub address: Address,
     /// Its public key, in hexadecimal digits.
     pub key: String,
 }
@@ -148,11 +151,6 @@ impl Settings {
                 self.index
             ));
         }
-        if let Some(metrics) = self.metrics
-            && !metrics.ip().is_loopback()
-        {
-            return Err(format!("metrics are served to this machine alone, not at {metrics}"));
-        }
         self.test_members()
     }
 
@@ -173,6 +171,11 @@ impl Settings {
             }
         }
         Ok(())
+    }
+
+    /// Where this node listens.
+    pub fn listens_at(&self) -> &Address {
+        self.listen.as_ref().unwrap_or(&self.members[self.index as usize].address)
     }
 
     /// This node's index.
@@ -274,9 +277,24 @@ mod tests {
         let mut settings: Settings = toml::from_str(EXAMPLE).expect("settings");
         settings.index = 4;
         assert!(settings.test().is_err());
-        settings.index = 3;
-        settings.metrics = Some("10.0.0.1:9100".parse().expect("an address"));
-        assert!(settings.test().is_err());
+        for text in ["27100", "a b:27100", "10.0.0.300:27100"] {
+            let said = toml::from_str::<Settings>(&EXAMPLE.replacen("127.0.0.1:27100", text, 1)).expect_err("it is refused");
+            assert!(said.to_string().contains("a colon, and its port"), "{said}");
+        }
+    }
+
+    #[test]
+    fn names_are_taken_and_a_node_listens_where_it_is_told() {
+        let text = EXAMPLE.replacen("127.0.0.1:27100", "node-0.example.org:27100", 1);
+        let mut settings: Settings = toml::from_str(&text).expect("settings");
+        assert_eq!(settings.test(), Ok(()));
+        assert_eq!(settings.listens_at().to_string(), "node-0.example.org:27100");
+        settings.listen = Some("0.0.0.0:27100".to_owned().try_into().expect("an address"));
+        settings.metrics = Some("0.0.0.0:9100".parse().expect("an address"));
+        assert_eq!(
+            (settings.test(), settings.listens_at().to_string()),
+            (Ok(()), "0.0.0.0:27100".to_owned())
+        );
     }
 
     #[test]
@@ -284,7 +302,7 @@ mod tests {
         let settings = || toml::from_str::<Settings>(EXAMPLE).expect("settings");
         let (mut of_one_key, mut of_one_address, mut weak) = (settings(), settings(), settings());
         of_one_key.members[2].key = of_one_key.members[0].key.to_uppercase();
-        of_one_address.members[3].address = of_one_address.members[1].address;
+        of_one_address.members[3].address = of_one_address.members[1].address.clone();
         weak.members[1].key = format!("01{}", "00".repeat(31));
         let refused = [of_one_key, of_one_address, weak].map(|it| it.test().expect_err("it is refused"));
         assert!(refused[0].contains("members 0 and 2 have one key"), "{}", refused[0]);

@@ -5,7 +5,7 @@ mod members;
 use members::{Link, SOON, chain, hear, played, settings_of, stored_blocks};
 use simplex_node::crypto::{Keys, hex};
 use simplex_node::network::{Network, Plan, folder_of};
-use simplex_node::peers::Credentials;
+use simplex_node::peers;
 use simplex_node::settings::{Protocol, Settings};
 use simplex_view_state::{Certificate, Context, Digest, Epoch, FetchKind, Participant, Proposal, Round, Subject, View, Vote};
 use simplex_wire::{Block, Message, Range};
@@ -53,13 +53,13 @@ impl Others {
         let (keys, credentials) = played(&settings);
         let (told, heard) = channel();
         for (member, peer) in (0..).zip(&settings[0].members).skip(1) {
-            let (listener, told) = (TcpListener::bind(peer.address).expect("a free address"), told.clone());
-            let its_own = Credentials::new(&settings[member as usize], &keys[member as usize]).expect("a certificate");
+            let (listener, told) = (TcpListener::bind(&peer.address).expect("a free address"), told.clone());
+            let its_own = peers::credentials(&settings[member as usize], &keys[member as usize]).expect("a certificate");
             thread::spawn(move || hear(&listener, member, &its_own, &told));
         }
         network.begin(0).expect("a process");
         assert!(network.wait_until(&[0], "current_view", 1, SOON), "it does not begin");
-        let address = settings[0].members[0].address;
+        let address = &settings[0].members[0].address;
         let links: Vec<Link> = credentials[1..].iter().map(|it| Link::begin(it, address)).collect();
         links.iter().for_each(Link::show_life);
         assert!(network.wait_until(&[0], "connections", 3, SOON), "it does not connect");

@@ -3,15 +3,16 @@
 mod members;
 
 use members::{Link, SOON, chain, played, settings_of, stored_blocks};
+use simplex_net::{Address, Credentials, SILENCE};
 use simplex_node::crypto::Keys;
 use simplex_node::network::{Network, Plan, folder_of};
-use simplex_node::peers::{Credentials, SILENCE};
+use simplex_node::peers;
 use simplex_node::settings::{Protocol, Settings};
 use simplex_view_state::{Certificate, Context, Digest, Epoch, FetchKind, Participant, Proposal, Round, Subject, View, Vote};
 use simplex_wire::{Block, HEARTBEAT_FRAME, Message, Range};
 use std::fs;
 use std::io::{Read, Write};
-use std::net::{SocketAddr, TcpListener, TcpStream};
+use std::net::{TcpListener, TcpStream};
 use std::sync::Arc;
 use std::sync::atomic::{AtomicBool, Ordering::Relaxed};
 use std::thread::{self, sleep};
@@ -26,7 +27,7 @@ struct Attacked {
     settings: Vec<Settings>,
     keys: Vec<Arc<Keys>>,
     credentials: Vec<Credentials>,
-    addresses: Vec<SocketAddr>,
+    addresses: Vec<Address>,
     genesis: Digest,
 }
 
@@ -49,7 +50,7 @@ impl Attacked {
         let mut network = Network::new(plan).expect("keys and settings");
         let settings = settings_of(&network);
         let (keys, credentials) = played(&settings);
-        let addresses = settings[0].members.iter().map(|it| it.address).collect();
+        let addresses = settings[0].members.iter().map(|it| it.address.clone()).collect();
         network.begin(0).expect("a process");
         assert!(network.wait_until(&[0], "current_view", 1, SOON), "it does not begin");
         let genesis = settings[0].identity().expect("keys").genesis();
@@ -65,7 +66,7 @@ impl Attacked {
 
     /// A connection of a member to the node.
     fn link(&self, member: usize) -> Link {
-        Link::begin(&self.credentials[member], self.addresses[0])
+        Link::begin(&self.credentials[member], &self.addresses[0])
     }
 
     fn vote(&self, signer: usize, subject: Subject) -> Vote {
@@ -141,7 +142,7 @@ fn ends_within(mut stream: &TcpStream, within: Duration) {
 fn strangers_that_do_not_greet_keep_no_member_out() {
     let attacked = Attacked::begin("strangers");
     let strangers: Vec<TcpStream> = (0..120)
-        .map(|_| TcpStream::connect(attacked.addresses[0]).expect("it listens"))
+        .map(|_| TcpStream::connect(&attacked.addresses[0]).expect("it listens"))
         .collect();
     let link = attacked.link(1);
     attacked.goes_through(&link, 1..3);
@@ -153,7 +154,7 @@ fn strangers_that_do_not_greet_keep_no_member_out() {
 #[test]
 fn a_greeting_has_two_seconds_as_a_whole() {
     let attacked = Attacked::begin("drips");
-    let mut stream = TcpStream::connect(attacked.addresses[0]).expect("it listens");
+    let mut stream = TcpStream::connect(&attacked.addresses[0]).expect("it listens");
     // As if a long handshake came, byte by byte.
     stream.write_all(&[22, 3, 1, 16, 0]).expect("it reads");
     let dripping = thread::spawn({
@@ -205,7 +206,7 @@ fn a_connection_that_is_silent_is_ended_and_one_with_heartbeats_is_not() {
 #[test]
 fn a_link_without_heartbeats_is_begun_anew() {
     let attacked = Attacked::begin("anew");
-    let listener = TcpListener::bind(attacked.addresses[1]).expect("a free address");
+    let listener = TcpListener::bind(&attacked.addresses[1]).expect("a free address");
     listener.set_nonblocking(true).expect("a listener");
     let (mut accepted, begun) = (Vec::new(), Instant::now());
     while accepted.len() < 2 && begun.elapsed() < SOON {
@@ -347,9 +348,9 @@ fn a_stranger_with_a_key_of_its_own_is_refused() {
     settings.key = attacked.network.folder().join("9.pem");
     settings.members[1].key = simplex_node::crypto::make_key(&settings.key).expect("a key");
     let keys = Arc::new(Keys::read(&settings).expect("a key"));
-    let stranger = Credentials::new(&attacked.settings[1], &keys).expect("a certificate");
+    let stranger = peers::credentials(&attacked.settings[1], &keys).expect("a certificate");
     // Its own handshake may end before the node has looked at its key.
-    let session = stranger.connect(Participant::new(0), attacked.addresses[0]);
+    let session = stranger.connect(Participant::new(0), &attacked.addresses[0]);
     if let Ok(session) = &session {
         ends_within(session.tcp(), SOON);
     }
@@ -365,8 +366,8 @@ fn nothing_is_sent_to_who_answers_at_a_members_address_with_another_key() {
     settings.key = attacked.network.folder().join("9.pem");
     settings.members[1].key = simplex_node::crypto::make_key(&settings.key).expect("a key");
     let keys = Arc::new(Keys::read(&settings).expect("a key"));
-    let stranger = Credentials::new(&attacked.settings[1], &keys).expect("a certificate");
-    let listener = TcpListener::bind(attacked.addresses[1]).expect("a free address");
+    let stranger = peers::credentials(&attacked.settings[1], &keys).expect("a certificate");
+    let listener = TcpListener::bind(&attacked.addresses[1]).expect("a free address");
     for _ in 0..3 {
         let (stream, _) = listener.accept().expect("it connects");
         assert!(stranger.accept(stream).is_err(), "the node ends the handshake");
@@ -381,11 +382,11 @@ fn settings_that_differ_are_refused_by_name_at_both_ends() {
     let attacked = Attacked::begin("differ");
     let mut settings = attacked.settings[2].clone();
     settings.protocol.term_length = 4.try_into().expect("not 0");
-    let other = Credentials::new(&settings, &attacked.keys[2]).expect("a certificate");
-    let refused = refusal(|| other.connect(Participant::new(0), attacked.addresses[0]), |error| error);
+    let other = peers::credentials(&settings, &attacked.keys[2]).expect("a certificate");
+    let refused = refusal(|| other.connect(Participant::new(0), &attacked.addresses[0]), |error| error);
     assert!(refused.contains("`term_length` is 1 there and 4 here"), "{refused}");
     attacked.comes_to("refused_greetings", 1);
-    let listener = TcpListener::bind(attacked.addresses[2]).expect("a free address");
+    let listener = TcpListener::bind(&attacked.addresses[2]).expect("a free address");
     let refused = refusal(|| other.accept(listener.accept().expect("it connects").0), |(_, error)| error);
     assert!(refused.contains("`term_length`"), "{refused}");
     logs(&attacked, "`term_length` is 4 there and 1 here", 2);

@@ -160,7 +160,7 @@ fn a_journal_of_another_list_of_members_is_refused() {
     network
         .set(0, |it| {
             it.members.swap(2, 3);
-            it.members[3].address = listens;
+            it.members[3].address = listens.into();
         })
         .expect("settings");
     runs(&mut network, 0);

@@ -1,21 +1,20 @@
-//! What comes over a connection: it is read within a budget, verified here, and put into the peer's queue where it is of use.
+//! What comes over a connection: it is verified here, and put into the peer's queue where it is of use.
 //!
 //! Signatures are verified and blocks hashed on the thread of the connection, so that the thread which owns the engine has neither to do. A
 //! vote that was verified is remembered: the same one from another connection, or once more, costs a look-up.
 
-use super::budget::Budget;
 use crate::crypto::Keys;
 use crate::inbox::{Inbox, Put};
 use crate::metrics::Counters;
 use crate::settings::Turns;
 use crate::vote::{is_sound, kind_of};
+use simplex_net::{Bucket, Connection, Receiver};
 use simplex_view_state::{CertificateKind, Digest, Epoch, Participant, Subject, View, Vote};
-use simplex_wire::{Message, digest, read_frame};
+use simplex_wire::{Message, digest};
 use std::collections::{BTreeMap, HashMap, HashSet};
-use std::io::{self, Read};
+use std::io;
 use std::sync::atomic::{AtomicU64, Ordering::Relaxed};
 use std::sync::{Arc, Mutex, MutexGuard};
-use std::thread;
 use std::time::Instant;
 
 /// How far above the current view the signature of a vote or proposal is verified at all.
@@ -130,7 +129,11 @@ impl Horizon {
     }
 }
 
+/// How many requests of a peer are looked at: a second, and at once.
+const ASKS: (f64, f64) = (1e3, 2e3);
+
 /// What the reading threads share.
+#[derive(Clone)]
 pub struct Reader {
     pub(super) keys: Arc<Keys>,
     pub(super) horizon: Arc<Horizon>,
@@ -141,51 +144,48 @@ pub struct Reader {
 }
 
 /// One connection of a member.
-pub struct Link<'a> {
-    reader: &'a Reader,
+pub struct Link {
+    reader: Reader,
     from: Participant,
-    budget: Budget,
+    asks: Bucket,
     forged: u32,
 }
 
-impl Reader {
-    /// A new connection of a member.
-    pub fn link(&self, from: Participant) -> Link<'_> {
+impl Receiver for Reader {
+    type Connection = Link;
+
+    fn connection(&self, from: Participant) -> Link {
         Link {
-            reader: self,
+            reader: self.clone(),
             from,
-            budget: Budget::new(Instant::now()),
+            asks: Bucket::new(ASKS.0, ASKS.1, Instant::now()),
             forged: 0,
         }
     }
 }
 
-impl Link<'_> {
-    /// Reads a message, and puts it where it is of use. Returns whether messages are taken still. `PermissionDenied` after many forgeries.
-    pub fn read_one(&mut self, stream: &mut impl Read) -> io::Result<bool> {
-        let Some(bytes) = read_frame(stream)? else { return Ok(true) };
-        let begun = Instant::now();
-        let message = Message::decode(&bytes)?;
+impl Connection for Link {
+    type Message = Message;
+
+    fn verify(&mut self, frame: &[u8]) -> io::Result<Option<Message>> {
+        let message = Message::decode(frame)?;
         let is_of_use = self.is_of_use(&message);
-        let wait = self.budget.spend(bytes.len(), begun.elapsed(), Instant::now());
         if self.forged > MOST_FORGED {
             return Err(io::ErrorKind::PermissionDenied.into());
         }
-        let put = if is_of_use {
-            self.reader.inbox.put(self.from, message, bytes.len())
-        } else {
-            Put::Taken
-        };
+        Ok(is_of_use.then_some(message))
+    }
+
+    fn take(&mut self, message: Message, bytes: usize) -> bool {
+        let put = self.reader.inbox.put(self.from, message, bytes);
         if put == Put::Dropped {
             self.reader.counters.dropped_messages.fetch_add(1, Relaxed);
         }
-        if !wait.is_zero() {
-            self.reader.counters.slowed_readers.fetch_add(1, Relaxed);
-            thread::sleep(wait.min(super::link::HEARTBEAT));
-        }
-        Ok(put != Put::Closed)
+        put != Put::Closed
     }
+}
 
+impl Link {
     /// Whether a message is well formed and signed, and tells something new. What is certified already is not verified, but for a leader's
     /// vote to notarize: this node may hold its vote for another proposal.
     fn is_of_use(&mut self, message: &Message) -> bool {
@@ -216,7 +216,7 @@ impl Link<'_> {
                     && !horizon.knows(&subject)
                     && self.is_good(self.reader.keys.is_certificate(it))
             }
-            Message::AskCertificate(..) | Message::AskBlock(..) | Message::AskRange(..) => self.budget.may_ask(Instant::now()),
+            Message::AskCertificate(..) | Message::AskBlock(..) | Message::AskRange(..) => self.asks.take(1.0, Instant::now()),
             Message::Range(it) => {
                 is_sound(&it.certificate.subject(), epoch)
                     && horizon.wants_range(it.after)

@@ -1,14 +1,15 @@
 //! Members that a test plays.
 
+use simplex_net::{Address, Credentials, HEARTBEAT, Session};
 use simplex_node::crypto::Keys;
 use simplex_node::network::Network;
-use simplex_node::peers::{Credentials, HEARTBEAT, Session};
+use simplex_node::peers;
 use simplex_node::settings::Settings;
 use simplex_view_state::{Context, Digest, Epoch, Participant, Proposal, Round, View};
 use simplex_wire::{Block, HEARTBEAT_FRAME, Message, read_frame};
 use std::fs;
 use std::io::{self, BufReader, Write};
-use std::net::{SocketAddr, TcpListener, TcpStream};
+use std::net::{TcpListener, TcpStream};
 use std::path::Path;
 use std::sync::mpsc::Sender;
 use std::sync::{Arc, Mutex};
@@ -24,7 +25,7 @@ pub struct Link(Arc<Mutex<Session>>);
 
 impl Link {
     /// Begins a connection of a member to the node at an address.
-    pub fn begin(credentials: &Credentials, address: SocketAddr) -> Link {
+    pub fn begin(credentials: &Credentials, address: &Address) -> Link {
         let begun = Instant::now();
         // (a greeting has two seconds, which may be over on a slow machine)
         loop {
@@ -110,7 +111,7 @@ pub fn played(settings: &[Settings]) -> (Vec<Arc<Keys>>, Vec<Credentials>) {
     let credentials = settings
         .iter()
         .zip(&keys)
-        .map(|(it, keys)| Credentials::new(it, keys).expect("a certificate"));
+        .map(|(it, keys)| peers::credentials(it, keys).expect("a certificate"));
     (keys.clone(), credentials.collect())
 }
 

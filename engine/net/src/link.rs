@@ -1,17 +1,16 @@
 //! The link to another member: a thread that begins the connection, greets, and writes what waits.
 //!
-//! Where nothing waits, a heartbeat is written, and the other side answers heartbeats with single bytes. A link from which none has come for
+//! A name is resolved at each attempt. Where nothing waits, a heartbeat is written, and the other side answers heartbeats with single bytes. A link from which none has come for
 //! [`SILENCE`] is begun anew: packets that are dropped on the way end no connection by themselves.
 
-use super::outgoing::Outgoing;
-use super::session::{Credentials, SILENCE, Session};
-use crate::metrics::Counters;
+use crate::address::Address;
+use crate::outgoing::Outgoing;
+use crate::session::{Credentials, SILENCE, Session};
+use crate::watch::Watch;
 use simplex_view_state::Participant;
 use simplex_wire::HEARTBEAT_FRAME;
 use std::io::{self, Write};
-use std::net::SocketAddr;
 use std::sync::Arc;
-use std::sync::atomic::Ordering::Relaxed;
 use std::thread;
 use std::time::{Duration, Instant};
 use tracing::{debug, warn};
@@ -25,25 +24,30 @@ pub const HEARTBEAT: Duration = Duration::from_millis(500);
 /// How often the other side's heartbeats are looked for.
 const LOOK: Duration = Duration::from_millis(100);
 /// How often it is logged at most that a peer refuses, or is refused.
-pub(super) const LOGGED: Duration = Duration::from_secs(10);
+pub(crate) const LOGGED: Duration = Duration::from_secs(10);
 
 /// Begins the thread of a link. It ends once the queue is closed.
-pub fn begin(to: Participant, address: SocketAddr, credentials: &Arc<Credentials>, counters: &Arc<Counters>) -> io::Result<Arc<Outgoing>> {
+pub(crate) fn begin(
+    to: Participant,
+    address: &Address,
+    credentials: &Arc<Credentials>,
+    watch: &Arc<dyn Watch>,
+) -> io::Result<Arc<Outgoing>> {
     let queue = Arc::new(Outgoing::default());
-    let (credentials, counters, frames) = (credentials.clone(), counters.clone(), queue.clone());
+    let (address, credentials, watch, frames) = (address.clone(), credentials.clone(), watch.clone(), queue.clone());
     thread::Builder::new()
         .name(format!("to {}", to.get()))
-        .spawn(move || keep(to, address, &credentials, &counters, &frames))?;
+        .spawn(move || keep(to, &address, &credentials, &*watch, &frames))?;
     Ok(queue)
 }
 
-fn keep(to: Participant, address: SocketAddr, credentials: &Credentials, counters: &Counters, frames: &Outgoing) {
+fn keep(to: Participant, address: &Address, credentials: &Credentials, watch: &dyn Watch, frames: &Outgoing) {
     let (mut wait, mut logged) = (BACKOFF.0, None::<Instant>);
     while !frames.is_closed() {
         let begun = Instant::now();
         match credentials.connect(to, address) {
             Ok(mut session) => {
-                counters.connections.fetch_add(1, Relaxed);
+                watch.connected(to);
                 if let Err(error) = write_frames(&mut session, frames) {
                     debug!(peer = to.get(), %error, "a connection ended");
                 }
@@ -65,7 +69,7 @@ fn keep(to: Participant, address: SocketAddr, credentials: &Credentials, counter
 }
 
 /// Whether a connection ended since the two sides are not those that they have to be, or have settings that differ.
-pub(super) fn is_refusal(error: &io::Error) -> bool {
+pub(crate) fn is_refusal(error: &io::Error) -> bool {
     matches!(error.kind(), io::ErrorKind::PermissionDenied | io::ErrorKind::InvalidInput)
 }
 

@@ -1,12 +1,11 @@
 //! A connection between two members that have shown who they are and said what they share.
 
-use super::greeting::Greeting;
-use super::tls::{Encrypted, Tls};
-use crate::crypto::Keys;
-use crate::settings::{Outcome, Settings};
+use crate::greeting::Greeting;
+use crate::members::Members;
+use crate::tls::{Encrypted, Tls};
 use simplex_view_state::Participant;
 use std::io::{self, Read, Write};
-use std::net::{SocketAddr, TcpStream};
+use std::net::{TcpStream, ToSocketAddrs};
 use std::sync::Arc;
 use std::time::{Duration, Instant};
 
@@ -15,31 +14,60 @@ pub const SILENCE: Duration = Duration::from_secs(2);
 /// How long a new connection may take to greet, as a whole: the handshake and both greetings.
 pub const GREETING: Duration = Duration::from_secs(2);
 
-/// How this node begins connections and takes those of others.
+/// How a member begins connections and takes those of others.
 pub struct Credentials {
+    members: Arc<Members>,
     tls: Tls,
     greeting: Greeting,
 }
 
 impl Credentials {
-    /// Those of a node with these settings and keys.
-    pub fn new(settings: &Settings, keys: &Arc<Keys>) -> Outcome<Credentials> {
+    /// Those of a member with these keys, which greets so.
+    ///
+    /// # Errors
+    ///
+    /// Where OpenSSL refuses: an ed25519 key and TLS 1.3 are what it takes.
+    pub fn new(members: Members, greeting: Greeting) -> io::Result<Credentials> {
+        let members = Arc::new(members);
         Ok(Credentials {
-            tls: Tls::new(keys)?,
-            greeting: Greeting::of(settings)?,
+            tls: Tls::new(&members)?,
+            members,
+            greeting,
         })
     }
 
-    /// Begins a connection to a member. `PermissionDenied` where another one answers, `InvalidInput` where its settings differ.
-    pub fn connect(&self, to: Participant, address: SocketAddr) -> io::Result<Session> {
-        let until = Instant::now() + GREETING;
-        let stream = TcpStream::connect_timeout(&address, GREETING)?;
-        stream.set_nodelay(true)?;
-        self.greeted(self.tls.connect(to, stream, until)?)
+    /// The members.
+    pub fn members(&self) -> &Members {
+        &self.members
     }
 
-    /// Takes a connection, and says whose it is. `PermissionDenied` where that is no other member. With the member, `InvalidInput` where its
-    /// settings differ.
+    /// Begins a connection to a member. A name is resolved now, and its addresses are tried in turn.
+    ///
+    /// # Errors
+    ///
+    /// `PermissionDenied` where another one answers, `InvalidInput` where its settings differ, and those of the network.
+    pub fn connect(&self, to: Participant, address: impl ToSocketAddrs) -> io::Result<Session> {
+        let addresses = address.to_socket_addrs()?;
+        let until = Instant::now() + GREETING;
+        let mut refused = io::Error::new(io::ErrorKind::AddrNotAvailable, "the name has no address");
+        for address in addresses {
+            let left = until.saturating_duration_since(Instant::now()).max(Duration::from_millis(1));
+            match TcpStream::connect_timeout(&address, left) {
+                Ok(stream) => {
+                    stream.set_nodelay(true)?;
+                    return self.greeted(self.tls.connect(to, stream, until)?);
+                }
+                Err(error) => refused = error,
+            }
+        }
+        Err(refused)
+    }
+
+    /// Takes a connection, and says whose it is.
+    ///
+    /// # Errors
+    ///
+    /// `PermissionDenied` where it is no other member's. With the member, `InvalidInput` where its settings differ. And those of the network.
     pub fn accept(&self, stream: TcpStream) -> Result<(Participant, Session), (Option<Participant>, io::Error)> {
         let until = Instant::now() + GREETING;
         stream.set_nodelay(true).map_err(|error| (None, error))?;
@@ -68,7 +96,7 @@ impl Session {
     }
 
     /// Reads and drops what has come, without waiting. Returns whether anything has; an error where the connection has ended.
-    pub fn drain(&mut self) -> io::Result<bool> {
+    pub(crate) fn drain(&mut self) -> io::Result<bool> {
         self.tcp().set_nonblocking(true)?;
         let drained = self.drain_at_once();
         self.tcp().set_nonblocking(false)?;

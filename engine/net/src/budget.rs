@@ -1,11 +1,11 @@
-//! How much of this node one peer may take: bytes that are read from it, messages, asks, and processor time for its signatures.
+//! How much of this host one peer may take: bytes that are read from it, messages, and processor time for its signatures.
 //!
 //! Each is a bucket that fills at a steady rate up to a burst. A reader that finds one empty sleeps until it has filled, so TCP slows the
 //! peer down, and no other reader waits.
 
 use std::time::{Duration, Instant};
 
-/// A bucket: what is left of it, in units of its own.
+/// A bucket that fills at a steady rate up to a burst: what is left of it, in units of its own.
 #[derive(Debug)]
 pub struct Bucket {
     left: f64,
@@ -51,20 +51,18 @@ impl Bucket {
 
 /// What one peer may take of its reader.
 #[derive(Debug)]
-pub struct Budget {
+pub(crate) struct Budget {
     bytes: Bucket,
     messages: Bucket,
-    asks: Bucket,
     processor: Bucket,
 }
 
 impl Budget {
-    /// 16 MiB, 5,000 messages and 1,000 asks a second, and half of a processor; twice to four times as much at once.
+    /// 16 MB and 5,000 messages a second, and half of a processor; twice to four times as much at once.
     pub fn new(now: Instant) -> Budget {
         Budget {
             bytes: Bucket::new(16e6, 32e6, now),
             messages: Bucket::new(5e3, 10e3, now),
-            asks: Bucket::new(1e3, 2e3, now),
             processor: Bucket::new(0.5, 2.0, now),
         }
     }
@@ -77,11 +75,6 @@ impl Budget {
             self.processor.spend(took.as_secs_f64(), now),
         ];
         waits.into_iter().max().unwrap_or_default()
-    }
-
-    /// Whether the peer may ask once more now. What is refused is asked for again by whoever needs it.
-    pub fn may_ask(&mut self, now: Instant) -> bool {
-        self.asks.take(1.0, now)
     }
 }
 
@@ -114,8 +107,6 @@ mod tests {
         let mut budget = Budget::new(begun);
         let longest = (0..100).map(|_| budget.spend(1 << 20, Duration::ZERO, begun)).max();
         assert!(longest > Some(Duration::from_secs(4)), "100 MiB at once: {longest:?}");
-        let mut budget = Budget::new(begun);
-        assert_eq!((0..10_000).filter(|_| budget.may_ask(begun)).count(), 2000);
         let mut budget = Budget::new(begun);
         assert!(
             budget.spend(100, Duration::from_secs(3), begun) >= Duration::from_secs(2),

@@ -3,10 +3,10 @@
 //! A certificate is made at the start, signed by the member's own key, and says nothing but that key: there is no authority. The member list
 //! is what it is compared with, so its name, its dates and its extensions are not looked at.
 
-use crate::crypto::Keys;
-use crate::settings::Outcome;
+use crate::members::Members;
 use openssl::asn1::Asn1Time;
 use openssl::bn::BigNum;
+use openssl::error::ErrorStack;
 use openssl::hash::MessageDigest;
 use openssl::nid::Nid;
 use openssl::pkey::{PKeyRef, Private, Public};
@@ -23,13 +23,13 @@ pub type Encrypted = openssl::ssl::SslStream<Timed>;
 
 /// What handshakes take: this node's certificate, and the members' keys.
 pub struct Tls {
-    keys: Arc<Keys>,
+    members: Arc<Members>,
     context: SslContext,
 }
 
 impl Tls {
-    /// For a node with these keys.
-    pub fn new(keys: &Arc<Keys>) -> Outcome<Tls> {
+    /// For a member with these keys.
+    pub fn new(members: &Arc<Members>) -> Result<Tls, ErrorStack> {
         let mut context = SslContext::builder(SslMethod::tls())?;
         context.set_min_proto_version(Some(SslVersion::TLS1_3))?;
         context.set_sigalgs_list("ed25519")?;
@@ -39,47 +39,47 @@ impl Tls {
         // No session is resumed: each handshake proves the key anew.
         context.set_session_cache_mode(SslSessionCacheMode::OFF);
         context.set_options(SslOptions::NO_TICKET);
-        let certificate = certificate(keys.secret())?;
+        let certificate = certificate(members.secret())?;
         context.set_certificate(&certificate)?;
-        context.set_private_key(keys.secret())?;
+        context.set_private_key(members.secret())?;
         Ok(Tls {
-            keys: keys.clone(),
+            members: members.clone(),
             context: context.build(),
         })
     }
 
     /// Shakes hands with the member that this node has connected to. An error where another one answers, or none does until then.
     pub fn connect(&self, to: Participant, stream: TcpStream, until: Instant) -> io::Result<Encrypted> {
-        let session = self.session(move |keys, key| keys.member_of(key) == Some(to))?;
+        let session = self.session(move |members, key| members.member_of(key) == Some(to))?;
         session.connect(Timed::new(stream, until)).map_err(failed)
     }
 
     /// Shakes hands with whoever has connected to this node, which has to be another member.
     pub fn accept(&self, stream: TcpStream, until: Instant) -> io::Result<(Participant, Encrypted)> {
-        let is_another = |keys: &Keys, key: &PKeyRef<Public>| keys.member_of(key).is_some_and(|it| it != keys.me);
+        let is_another = |members: &Members, key: &PKeyRef<Public>| members.member_of(key).is_some_and(|it| it != members.me);
         let encrypted = self.session(is_another)?.accept(Timed::new(stream, until)).map_err(failed)?;
         let certificate = encrypted.ssl().peer_certificate();
         let key = certificate.and_then(|it| it.public_key().ok());
-        let from = key.and_then(|it| self.keys.member_of(&it)).filter(|it| *it != self.keys.me);
+        let from = key.and_then(|it| self.members.member_of(&it)).filter(|it| *it != self.members.me);
         Ok((from.ok_or(io::ErrorKind::PermissionDenied)?, encrypted))
     }
 
     /// A session with whoever shows a certificate of a key that is allowed.
-    fn session(&self, is_allowed: impl Fn(&Keys, &PKeyRef<Public>) -> bool + Send + Sync + 'static) -> io::Result<Ssl> {
+    fn session(&self, is_allowed: impl Fn(&Members, &PKeyRef<Public>) -> bool + Send + Sync + 'static) -> io::Result<Ssl> {
         let mut session = Ssl::new(&self.context)?;
-        let keys = self.keys.clone();
+        let members = self.members.clone();
         session.set_verify_callback(SslVerifyMode::PEER | SslVerifyMode::FAIL_IF_NO_PEER_CERT, move |_, chain| {
             let key = chain.current_cert().and_then(|it| it.public_key().ok());
-            chain.error_depth() == 0 && key.is_some_and(|it| is_allowed(&keys, &it))
+            chain.error_depth() == 0 && key.is_some_and(|it| is_allowed(&members, &it))
         });
         Ok(session)
     }
 }
 
 /// The certificate of a key, signed by itself.
-fn certificate(secret: &PKeyRef<Private>) -> Outcome<X509> {
+fn certificate(secret: &PKeyRef<Private>) -> Result<X509, ErrorStack> {
     let mut name = X509NameBuilder::new()?;
-    name.append_entry_by_nid(Nid::COMMONNAME, "simplex-node")?;
+    name.append_entry_by_nid(Nid::COMMONNAME, "simplex")?;
     let name = name.build();
     let mut certificate = X509::builder()?;
     certificate.set_version(2)?;

@@ -13,7 +13,7 @@ const BATCH: usize = 64 << 10;
 
 /// Frames, each with the moment from which it may leave: a link that is slow in a trial holds it back until then.
 #[derive(Debug, Default)]
-pub struct Outgoing {
+pub(crate) struct Outgoing {
     waiting: Mutex<Waiting>,
     arrival: Condvar,
 }

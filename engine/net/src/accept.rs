@@ -4,11 +4,13 @@
 //! oldest one goes. A member's newer connection takes the place of its older one, which may be what is left of a process or of a path that
 //! is gone. A member that sent forgeries is refused for a time that doubles.
 
-use super::link::{HEARTBEAT, LOGGED, is_refusal};
-use super::reader::Reader;
-use super::session::{Credentials, Session};
-use crate::metrics::Counters;
+use crate::budget::Budget;
+use crate::link::{HEARTBEAT, LOGGED, is_refusal};
+use crate::receive::{Connection, Receiver};
+use crate::session::{Credentials, Session};
+use crate::watch::Watch;
 use simplex_view_state::Participant;
+use simplex_wire::read_frame;
 use std::collections::VecDeque;
 use std::io::{self, Write};
 use std::net::{Shutdown, TcpListener, TcpStream};
@@ -40,7 +42,7 @@ struct Offence {
 }
 
 /// The connections that are open.
-pub struct Doors {
+pub(crate) struct Doors {
     greeting: Mutex<VecDeque<Open>>,
     members: Mutex<Vec<Option<Open>>>,
     offences: Mutex<Vec<Option<Offence>>>,
@@ -48,7 +50,8 @@ pub struct Doors {
     room: usize,
     next: AtomicU64,
     credentials: Arc<Credentials>,
-    counters: Arc<Counters>,
+    refused: AtomicU64,
+    watch: Arc<dyn Watch>,
 }
 
 fn locked<T>(it: &Mutex<T>) -> MutexGuard<'_, T> {
@@ -57,7 +60,8 @@ fn locked<T>(it: &Mutex<T>) -> MutexGuard<'_, T> {
 
 impl Doors {
     /// Of a network of so many members; none is open.
-    pub fn new(members: usize, credentials: &Arc<Credentials>, counters: &Arc<Counters>) -> Doors {
+    pub(crate) fn new(credentials: &Arc<Credentials>, watch: &Arc<dyn Watch>) -> Doors {
+        let members = credentials.members().count();
         Doors {
             greeting: Mutex::default(),
             members: Mutex::new((0..members).map(|_| None).collect()),
@@ -66,7 +70,8 @@ impl Doors {
             room: GREETING_ROOM + 2 * members,
             next: AtomicU64::new(0),
             credentials: credentials.clone(),
-            counters: counters.clone(),
+            refused: AtomicU64::new(0),
+            watch: watch.clone(),
         }
     }
 
@@ -136,7 +141,7 @@ impl Doors {
             at: Instant::now(),
             penalty,
         });
-        self.counters.offences.fetch_add(1, Relaxed);
+        self.watch.offended(from);
         warn!(
             peer = from.get(),
             seconds = penalty.as_secs(),
@@ -146,7 +151,8 @@ impl Doors {
 
     /// Counts a connection that was refused, and logs it if none was logged for a while.
     fn refused(&self, why: &str) {
-        let count = self.counters.refused_connections.fetch_add(1, Relaxed) + 1;
+        let count = self.refused.fetch_add(1, Relaxed) + 1;
+        self.watch.refused_connection();
         if self.is_to_be_logged() {
             warn!(count, why, "connections are refused");
         }
@@ -154,7 +160,7 @@ impl Doors {
 
     /// Counts a greeting that was refused: of a stranger, or of a member whose settings differ.
     fn refused_greeting(&self, from: Option<Participant>, error: &io::Error) {
-        self.counters.refused_greetings.fetch_add(1, Relaxed);
+        self.watch.refused_greeting();
         if self.is_to_be_logged() {
             let peer = from.map(Participant::get);
             warn!(peer, %error, "a greeting is refused");
@@ -172,7 +178,7 @@ impl Doors {
 }
 
 /// Accepts connections for ever, each with a thread of its own.
-pub fn listen(listener: &TcpListener, reader: &Arc<Reader>, doors: &Arc<Doors>) {
+pub(crate) fn listen<R: Receiver>(listener: &TcpListener, receiver: &Arc<R>, doors: &Arc<Doors>) {
     loop {
         let accepted = listener
             .accept()
@@ -185,10 +191,10 @@ pub fn listen(listener: &TcpListener, reader: &Arc<Reader>, doors: &Arc<Doors>) 
                 continue;
             }
         };
-        let (reader, its_doors) = (reader.clone(), doors.clone());
+        let (receiver, its_doors) = (receiver.clone(), doors.clone());
         let begun = thread::Builder::new()
             .name("from".into())
-            .spawn(move || serve(stream, id, &reader, &its_doors));
+            .spawn(move || serve(stream, id, &*receiver, &its_doors));
         if let Err(error) = begun {
             doors.leave(id);
             warn!(%error, "no thread for a connection");
@@ -196,10 +202,10 @@ pub fn listen(listener: &TcpListener, reader: &Arc<Reader>, doors: &Arc<Doors>) 
     }
 }
 
-fn serve(stream: TcpStream, id: u64, reader: &Reader, doors: &Doors) {
+fn serve<R: Receiver>(stream: TcpStream, id: u64, receiver: &R, doors: &Doors) {
     let ended = match doors.credentials.accept(stream) {
         Ok((from, mut session)) if doors.admit(id, from) => {
-            let ended = read_all(&mut session, from, reader);
+            let ended = read_all(&mut session, from, receiver.connection(from), &*doors.watch);
             if ended.as_ref().is_err_and(|it| it.kind() == io::ErrorKind::PermissionDenied) {
                 doors.offended(from);
             }
@@ -221,18 +227,27 @@ fn serve(stream: TcpStream, id: u64, reader: &Reader, doors: &Doors) {
     }
 }
 
-/// Reads a member's messages until the connection ends, and answers with heartbeats. `PermissionDenied` where it sends forgeries.
-fn read_all(session: &mut Session, from: Participant, reader: &Reader) -> io::Result<()> {
-    let mut link = reader.link(from);
-    let mut shown = Instant::now();
-    let mut bytes = io::BufReader::new(session);
+/// Reads a member's frames until the connection ends, within the member's budget, and answers with heartbeats. `PermissionDenied` where it
+/// sends forgeries.
+fn read_all(session: &mut Session, from: Participant, mut connection: impl Connection, watch: &dyn Watch) -> io::Result<()> {
+    let (mut budget, mut shown) = (Budget::new(Instant::now()), Instant::now());
+    let mut stream = io::BufReader::new(session);
     loop {
-        if !link.read_one(&mut bytes)? {
-            return Ok(());
+        if let Some(frame) = read_frame(&mut stream)? {
+            let begun = Instant::now();
+            let message = connection.verify(&frame)?;
+            let wait = budget.spend(frame.len(), begun.elapsed(), Instant::now());
+            if message.is_some_and(|it| !connection.take(it, frame.len())) {
+                return Ok(());
+            }
+            if !wait.is_zero() {
+                watch.slowed(from);
+                thread::sleep(wait.min(HEARTBEAT));
+            }
         }
         if shown.elapsed() >= HEARTBEAT / 2 {
             shown = Instant::now();
-            bytes.get_mut().write_all(&[0])?;
+            stream.get_mut().write_all(&[0])?;
         }
     }
 }
