@@ -85,7 +85,7 @@ def main():
             subprocess.run([ROOT / "bindings/build", "--unproved", "--out", archive], check=True)
         target = given.target or room / "target"
         surroundings = {**os.environ, "SIMPLEX_ARCHIVE": str(archive), "CARGO_TARGET_DIR": str(target), "CARGO_NET_OFFLINE": "true"}
-        run(["cargo", "build", "--release", "--offline", "--quiet", "-p", "simplex-sim", "-p", "simplex-view"], cwd=ROOT / "engine", env=surroundings)
+        run(["cargo", "build", "--release", "--offline", "--quiet", "-p", "simplex-sim", "-p", "simplex-view"], cwd=ROOT / "node", env=surroundings)
         simulator(target / "release", room)
         page(target / "release", room, given.views)
 

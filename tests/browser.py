@@ -286,17 +286,17 @@ def tried(binary, programs, room, screenshots=None):
 def wrong_bodies(binary, surroundings, room, only):
     """Those that the test did not find, of the wrong bodies whose name holds a word."""
     copy = room / "copy"
-    shutil.copytree(ROOT / "engine", copy / "engine", ignore=shutil.ignore_patterns("target"))
+    shutil.copytree(ROOT / "node", copy / "node", ignore=shutil.ignore_patterns("target"))
     shutil.copytree(ROOT / "bindings", copy / "bindings", ignore=shutil.ignore_patterns("target", "*.a"))
     for name, file, old, new in (it for it in WRONG_BODIES if only in it[0]):
-        path = copy / "engine/view" / file
+        path = copy / "node/view" / file
         right = path.read_text()
         if right.count(old) != 1:
             yield f"{name}: its text is {right.count(old)} times in {file}"
             continue
         path.write_text(right.replace(old, new))
         with tempfile.TemporaryDirectory() as scratch:
-            found = tried(binary, build(copy / "engine", surroundings), Path(scratch))
+            found = tried(binary, build(copy / "node", surroundings), Path(scratch))
         path.write_text(right)
         print(f"{name}: {found[0][:160] if found else 'nothing'}", flush=True)
         if not found:
@@ -327,7 +327,7 @@ def main():
         if given.wrong:
             found = list(wrong_bodies(binary, surroundings, room, given.only))
         else:
-            found = tried(binary, build(ROOT / "engine", surroundings), room, given.screenshots)
+            found = tried(binary, build(ROOT / "node", surroundings), room, given.screenshots)
     for it in found:
         print(it)
     print(f"browser: {len(found)} not as they have to be")

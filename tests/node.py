@@ -1,14 +1,14 @@
 #!/usr/bin/env python3
-"""That the engine in `engine/` goes on through what is done to it.
+"""That the node in `node/` continues through what is done to it.
 
 Its layout, its lints and its tests: networks of processes that are killed, parted, slowed, lied to and run out of disk, after which all
 finalized chains agree, no honest node signed two votes that contradict each other, and views go on being finalized; and one node among
 members that a test plays. Then a network as a newcomer begins it, with a faulty node and some that are killed.
 
-    tests/engine.py [--archive PATH] [--long]     without an archive one is built, unproved, in a minute or two
-    tests/engine.py --wrong                       each wrong body of a table, in a copy: a test has to fail
+    tests/node.py [--archive PATH] [--long]     without an archive one is built, unproved, in a minute or two
+    tests/node.py --wrong                       each wrong body of a table, in a copy: a test has to fail
 
-It ends with status 1 where something is not as it has to be. Where packages are lacking it has `engine/setup` install them; where they
+It ends with status 1 where something is not as it has to be. Where packages are lacking it has `node/setup` install them; where they
 can't be had it says so in one line, and ends with status 77: skipped."""
 
 import argparse
@@ -22,7 +22,7 @@ from pathlib import Path
 
 from lib.program import ROOT
 
-ENGINE = ROOT / "engine"
+NODE = ROOT / "node"
 SKIPPED = 77
 LEAST_TESTS = 229
 # The words of the network that `./demo` runs.
@@ -153,11 +153,11 @@ WRONG_BODIES = (
 def is_ready():
     """Whether all packages are there, or could be installed."""
     if not shutil.which("cargo"):
-        print("engine: skipped, since there is no cargo")
+        print("node: skipped, since there is no cargo")
         return False
-    tried = subprocess.run([ENGINE / "setup"], capture_output=True, text=True)
+    tried = subprocess.run([NODE / "setup"], capture_output=True, text=True)
     if tried.returncode:
-        print(f"engine: skipped, since Debian's packages can't be had: {(tried.stderr.strip() or tried.stdout.strip()).splitlines()[-1]}")
+        print(f"node: skipped, since Debian's packages can't be had: {(tried.stderr.strip() or tried.stdout.strip()).splitlines()[-1]}")
     return tried.returncode == 0
 
 
@@ -168,13 +168,13 @@ def cargo(folder, surroundings, *words):
 def faults(surroundings, target):
     """What is not as it has to be."""
     for name, file, old, _ in WRONG_BODIES:
-        if (count := (ENGINE / "node/src" / file).read_text().count(old)) != 1:
+        if (count := (NODE / "node/src" / file).read_text().count(old)) != 1:
             yield f"{name}: its text stands {count} times in {file}"
     passed = 0
     # Built alone first, as a newcomer does: the tests' build would bring what a command lacks.
     yield from newcomers_faults(surroundings, target)
     for words in (("fmt", "--check"), ("clippy", "--offline", "--quiet", "--all-targets", "--", "-D", "warnings"), ("test", "--offline")):
-        done = cargo(ENGINE, surroundings, *words)
+        done = cargo(NODE, surroundings, *words)
         passed += sum(int(count) for count in re.findall(r"test result: \w+\. (\d+) passed", done.stdout))
         if done.returncode:
             yield f"cargo {' '.join(words)}:\n{(done.stdout + done.stderr)[-4000:]}"
@@ -185,7 +185,7 @@ def faults(surroundings, target):
 def newcomers_faults(surroundings, target):
     """What is not as it has to be of the network that `./demo` runs, in a build for trying."""
     words = NETWORK.search((ROOT / "demo").read_text())[1].split()
-    built = cargo(ENGINE, surroundings, "build", "--offline")
+    built = cargo(NODE, surroundings, "build", "--offline")
     if built.returncode:
         yield f"cargo build:\n{built.stderr[-4000:]}"
         return
@@ -200,16 +200,16 @@ def newcomers_faults(surroundings, target):
 def wrong_bodies(surroundings, room, only):
     """Those that no test found, of the wrong bodies whose name holds a word."""
     copy = room / "copy"
-    shutil.copytree(ENGINE, copy / "engine", ignore=shutil.ignore_patterns("target"))
+    shutil.copytree(NODE, copy / "node", ignore=shutil.ignore_patterns("target"))
     shutil.copytree(ROOT / "bindings", copy / "bindings", ignore=shutil.ignore_patterns("target", "*.a"))
     for name, file, old, new in (it for it in WRONG_BODIES if only in it[0]):
-        path = copy / "engine/node/src" / file
+        path = copy / "node/node/src" / file
         right = path.read_text()
         if right.count(old) != 1:
             yield f"{name}: its text stands {right.count(old)} times in {file}"
             continue
         path.write_text(right.replace(old, new))
-        done = cargo(copy / "engine", surroundings, "test", "--offline", "--quiet", "--no-fail-fast")
+        done = cargo(copy / "node", surroundings, "test", "--offline", "--quiet", "--no-fail-fast")
         path.write_text(right)
         failed = sorted(set(re.findall(r"^    (\w[\w:]*)$", done.stdout, re.M)))
         print(f"{name}: {', '.join(failed) if failed else done.stderr[-300:]}", flush=True)
@@ -237,7 +237,7 @@ def main():
         found = list(wrong_bodies(surroundings, room, given.only) if given.wrong else faults(surroundings, target))
     for it in found:
         print(it)
-    print(f"engine: {len(found)} not as they have to be")
+    print(f"node: {len(found)} not as they have to be")
     sys.exit(1 if found else 0)
 
 

@@ -30,7 +30,7 @@
 //! }
 //!
 //! fn main() -> Outcome {
-//!     let settings = Settings::read("node.toml".as_ref())?;              // engine/node.toml explains them
+//!     let settings = Settings::read("node.toml".as_ref())?;              // node/node.toml explains them
 //!     run(settings, |start| Ok(Greetings { last: start.block, count: 0 }))
 //! }
 //! ```

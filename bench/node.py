@@ -1,11 +1,11 @@
 #!/usr/bin/env python3
-"""Measures the engine in `engine/`: views a second and how long a block takes to be final, and where the time of a node's thread goes; or
+"""Measures the node in `node/`: views a second and how long a block takes to be final, and where the time of a node's thread goes; or
 how its memory goes over some minutes.
 
-    bench/engine.py [--seconds N]            networks of four and of ten nodes, with the disk waited for and without
-    bench/engine.py --soak MINUTES [--svg FILE]    a network of four, its memory and its record each ten seconds, drawn
+    bench/node.py [--seconds N]            networks of four and of ten nodes, with the disk waited for and without
+    bench/node.py --soak MINUTES [--svg FILE]    a network of four, its memory and its record each ten seconds, drawn
 
-Both build with optimizations what stands in `engine/`, over `bindings/libsimplex.a`; which of the two that is, proved or not, is said by
+Both build with optimizations what stands in `node/`, over `bindings/libsimplex.a`; which of the two that is, proved or not, is said by
 whoever built it."""
 
 import argparse
@@ -14,7 +14,7 @@ import subprocess
 from pathlib import Path
 
 ROOT = Path(__file__).resolve().parent.parent
-ENGINE = ROOT / "engine"
+NODE = ROOT / "node"
 LINE = re.compile(r"^ *(\d+) s  view (\d+), (\d+) a second, .*?, at most (\d+) kB and (\d+) entries a node$")
 LIFE = re.compile(r"^node \d+, last lifetime: ([\d.]+) % in the core, ([\d.]+) % signing, ([\d.]+) % waiting for the disk \((\d+) times\), "
                   r"([\d.]+) % for the application, ([\d.]+) % for events")
@@ -23,7 +23,7 @@ ROW = re.compile(r"^node \d+: (\d+) blocks, the last of view (\d+), (\d+) a seco
 
 def run(*arguments):
     """The lines that a network prints as they come."""
-    with subprocess.Popen([ENGINE / "target/release/simplex-local", *arguments], stdout=subprocess.PIPE, text=True) as running:
+    with subprocess.Popen([NODE / "target/release/simplex-local", *arguments], stdout=subprocess.PIPE, text=True) as running:
         for line in running.stdout:
             yield line.rstrip("\n")
     if running.returncode:
@@ -84,7 +84,7 @@ def main():
     parser.add_argument("--soak", type=int, metavar="MINUTES", help="one network's memory over so many minutes")
     parser.add_argument("--svg", type=Path, help="draws the soak into this file")
     given = parser.parse_args()
-    subprocess.run(["cargo", "build", "--offline", "--quiet", "--release"], cwd=ENGINE, check=True)
+    subprocess.run(["cargo", "build", "--offline", "--quiet", "--release"], cwd=NODE, check=True)
     if given.soak:
         soak(given.soak, given.svg)
     else:

@@ -1,4 +1,4 @@
-//! What a node is told at its start: a TOML file. `engine/node.toml` is one, with reasons.
+//! What a node is told at its start: a TOML file. `node/node.toml` is one, with reasons.
 
 use crate::crypto::raw_key;
 use crate::faults::Trial;
