@@ -31,7 +31,7 @@ NETWORK = re.compile(r"words=\((--.*)\)")
 # A file, what stands there, what is put in its place, and what fails then.
 WRONG_BODIES = (
     ("what is recorded is not stored", "replica.rs", "Output::Store(entries) => self.parts.journal.append(&entries)?,", "Output::Store(_) => {}"),
-    ("votes are not verified", "peers/reader.rs", "let is_good = self.is_good(self.reader.keys.is_signed_vote(vote));", "let is_good = self.is_good(true);"),
+    ("votes are not verified", "peers/reader.rs", "let is_good = self.count(self.reader.keys.is_signed_vote(vote));", "let is_good = self.count(true);"),
     ("a member may hold many connections", "../../net/src/accept.rs", "if let Some(older) = place.replace(open) {",
      "std::mem::forget(open); if let Some(older) = None::<Open> {"),
     ("a greeting takes as long as it likes", "../../net/src/session.rs", "pub const GREETING: Duration = Duration::from_secs(2);",
@@ -40,7 +40,7 @@ WRONG_BODIES = (
     ("the queue to a peer has no bound", "../../net/src/outgoing.rs", "if bytes > MOST_BYTES {", "if bytes == usize::MAX {"),
     ("blocks that nobody asked for are passed on", "peers/reader.rs", "Message::Block(bytes) => horizon.wants(bytes),", "Message::Block(_) => true,"),
     ("a forger stays", "peers/reader.rs", "if self.forged > MOST_FORGED {", "if self.forged == u32::MAX {"),
-    ("a block is not compared with its proposal", "peers/reader.rs", "digest(block) == payload || self.is_good(false)", "payload == payload"),
+    ("a block is not compared with its proposal", "peers/reader.rs", "digest(block) == payload || self.count(false)", "payload == payload"),
     ("certificates that are lacking are not asked for", "replica.rs", "Output::Fetch(it) => self.fetch(&it),", "Output::Fetch(_) => {}"),
     ("blocks that are lacking are not asked for", "waiting.rs", "let is_due = |asking: &Asking| asking.next <= now;",
      "let is_due = |_: &Asking| now.as_millis() == u64::MAX;"),
@@ -48,7 +48,7 @@ WRONG_BODIES = (
      "Behind::Blocks(_) => Message::NoRange(after, View::GENESIS),"),
     ("peers are served all that they ask for", "../../net/src/peers.rs", "let is_left = locked(&peer.served).take(frame.len() as f64, Instant::now());",
      "let is_left = !frame.is_empty();"),
-    ("a range of blocks is not compared with its certificate", "peers/reader.rs", "(it.is_linked() || self.is_good(false))", "!it.blocks.is_empty()"),
+    ("a range of blocks is not compared with its certificate", "peers/reader.rs", "(it.is_linked() || self.count(false))", "!it.blocks.is_empty()"),
     ("a message has several texts", "../../wire/src/read.rs", "rest.is_empty().then_some((first, second))", "Some((first, second))"),
     ("a signature has any length", "../../wire/src/read.rs", ".filter(|_| length <= LONGEST_SIGNATURE)?", "?"),
     ("a frame has any length", "../../wire/src/frame.rs", "if length > LONGEST {", "if length == usize::MAX {"),

@@ -112,7 +112,7 @@ impl Network {
             self.now = Moment::from_millis(self.now.as_millis() + 1);
         }
         match self.sent.pop_front() {
-            Some(sent) if !self.is_lost(&sent) => {
+            Some(sent) if !self.draw_loss(&sent) => {
                 let to = &mut self.nodes[sent.to.get() as usize];
                 to.receive(sent.from, sent.message, self.now, &mut self.sent)
             }
@@ -138,7 +138,7 @@ impl Network {
         Ok(())
     }
 
-    fn is_lost(&mut self, sent: &Sent) -> bool {
+    fn draw_loss(&mut self, sent: &Sent) -> bool {
         self.chance = self.chance.wrapping_mul(6364136223846793005).wrapping_add(1442695040888963407);
         sent.from != sent.to && (self.chance >> 33) % 100 < self.loss
     }

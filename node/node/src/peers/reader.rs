@@ -169,7 +169,7 @@ impl Connection for Link {
 
     fn verify(&mut self, frame: &[u8]) -> io::Result<Option<Message>> {
         let message = Message::decode(frame)?;
-        let is_of_use = self.is_of_use(&message);
+        let is_of_use = self.admit(&message);
         if self.forged > MOST_FORGED {
             return Err(io::ErrorKind::PermissionDenied.into());
         }
@@ -186,9 +186,9 @@ impl Connection for Link {
 }
 
 impl Link {
-    /// Whether a message is well formed and signed, and tells something new. What is certified already is not verified, but for a leader's
+    /// Verifies a message, and returns whether it is well formed, signed and new. What is certified already is not verified, but for a leader's
     /// vote to notarize: this node may hold its vote for another proposal.
-    fn is_of_use(&mut self, message: &Message) -> bool {
+    fn admit(&mut self, message: &Message) -> bool {
         let (epoch, horizon) = (self.reader.epoch, self.reader.horizon.clone());
         match message {
             Message::Proposal(vote, block) => {
@@ -197,8 +197,8 @@ impl Link {
                 is_sound(&vote.subject, epoch)
                     && horizon.admits(view)
                     && vote.signer == self.reader.turns.leader(view)
-                    && self.is_signed(vote)
-                    && self.has_payload(block, proposal.payload)
+                    && self.verify_vote(vote)
+                    && self.verify_payload(block, proposal.payload)
                     && horizon.takes_proposal(view, proposal.payload)
             }
             Message::Vote(vote) => {
@@ -207,45 +207,46 @@ impl Link {
                 is_sound(&vote.subject, epoch)
                     && horizon.admits(view)
                     && (is_proposal || !horizon.knows(&vote.subject))
-                    && self.is_signed(vote)
+                    && self.verify_vote(vote)
             }
             Message::Certificate(it) => {
                 let subject = it.subject();
                 is_sound(&subject, epoch)
                     && horizon.is_kept(subject.round().view)
                     && !horizon.knows(&subject)
-                    && self.is_good(self.reader.keys.is_certificate(it))
+                    && self.count(self.reader.keys.is_certificate(it))
             }
             Message::AskCertificate(..) | Message::AskBlock(..) | Message::AskRange(..) => self.asks.take(1.0, Instant::now()),
             Message::Range(it) => {
                 is_sound(&it.certificate.subject(), epoch)
                     && horizon.wants_range(it.after)
-                    && self.is_good(self.reader.keys.is_certificate(&it.certificate))
-                    && (it.is_linked() || self.is_good(false))
+                    && self.count(self.reader.keys.is_certificate(&it.certificate))
+                    && (it.is_linked() || self.count(false))
             }
             Message::NoRange(after, _) => horizon.wants_range(*after),
             Message::Block(bytes) => horizon.wants(bytes),
         }
     }
 
-    /// Whether a vote's signature is good. One that was verified before is not verified again.
-    fn is_signed(&mut self, vote: &Vote) -> bool {
+    /// Returns whether a vote's signature is good. One that was verified before is not verified again.
+    fn verify_vote(&mut self, vote: &Vote) -> bool {
         if self.reader.horizon.was_verified(vote) {
             return true;
         }
-        let is_good = self.is_good(self.reader.keys.is_signed_vote(vote));
+        let is_good = self.count(self.reader.keys.is_signed_vote(vote));
         if is_good {
             self.reader.horizon.verified(vote);
         }
         is_good
     }
 
-    /// Whether a block is the one that its proposal names. A block under another name is as bad as a forged signature.
-    fn has_payload(&mut self, block: &[u8], payload: Digest) -> bool {
-        digest(block) == payload || self.is_good(false)
+    /// Returns whether a block is the one that its proposal names. A block under another name counts as a forged signature.
+    fn verify_payload(&mut self, block: &[u8], payload: Digest) -> bool {
+        digest(block) == payload || self.count(false)
     }
 
-    fn is_good(&mut self, is_good: bool) -> bool {
+    /// Counts a verification, and returns its result.
+    fn count(&mut self, is_good: bool) -> bool {
         let counters = &self.reader.counters;
         let counter = if is_good { &counters.verified } else { &counters.forged };
         counter.fetch_add(1, Relaxed);
