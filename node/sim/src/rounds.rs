@@ -12,7 +12,7 @@ use simplex_trace::Line;
 use simplex_view_state::Participant;
 
 /// After how many rounds a network counts as stuck.
-pub const MOST_ROUNDS: u64 = 2000;
+pub const MOST_ROUNDS: u64 = 20_000;
 
 /// What one seed's network took.
 #[derive(Clone, PartialEq, Eq, Debug)]
