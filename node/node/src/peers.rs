@@ -1,4 +1,4 @@
-//! The other members: messages over the links of `simplex_net`, and what is read from them, verified on the reading threads ([`reader`]).
+//! The other members: messages over the links of `simplex_net`, and what is read from them, verified on the reading threads.
 
 mod reader;
 

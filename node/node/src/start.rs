@@ -64,24 +64,8 @@ pub fn run<A: Application>(settings: Settings, application: impl FnOnce(&Start) 
 /// As of [`run`], of a node that must not begin.
 pub fn open<A: Application>(settings: Settings, application: impl FnOnce(&Start) -> Outcome<A>) -> Outcome<(Replica, Arc<Inbox>)> {
     let identity = settings.identity()?;
-    let (mut journal, recovered) = Journal::open(&settings.data, &identity, settings.sync)?;
-    test_journal(&settings.data, recovered.as_ref())?;
-    let keys = Arc::new(Keys::read(&settings)?);
-    let floor = floor::read(&settings, &keys)?;
-    let mut engine = engine(&settings.config(floor.clone()), recovered.as_ref())?;
-    let views = engine.views().ok_or(EngineError::Failed)?;
-    let start = Start {
-        folder: settings.data.clone(),
-        block: first_block(&identity, &floor),
-        me: settings.me(),
-    };
-    let mut application = application(&start)?;
-    test_application(&settings.data, &application, recovered.as_ref(), views.last_finalized)?;
-    let archive = open_archive(&settings, &identity, &mut application)?;
-    test_archive(&settings.data, archive.tail(), views.last_finalized)?;
-    let tail = archive.tail();
-    let clock = Clock::start();
-    begin_journal(&mut engine, &mut journal, clock.now())?;
+    let stored = Stored::open(&settings, &identity, application)?;
+    let (views, tail) = (stored.views, stored.archive.tail());
     let counters = Arc::new(Counters::default());
     if let Some(address) = settings.metrics {
         metrics::serve(address, counters.clone()).map_err(|error| format!("metrics at {address}: {error}"))?;
@@ -89,26 +73,70 @@ pub fn open<A: Application>(settings: Settings, application: impl FnOnce(&Start)
     let horizon = Arc::new(Horizon::default());
     horizon.moved(views.current, views.min_active);
     let inbox = Arc::new(Inbox::new(settings.members.len()));
-    let peers = Arc::new(Peers::start(&settings, &keys, &horizon, &counters, &inbox)?);
-    let keeper = Keeper::begin(archive, peers.clone(), inbox.clone(), counters.clone())?;
-    let application = Worker::begin(application, inbox.clone(), counters.clone())?;
-    tell(recovered.as_ref(), &views);
+    let peers = Arc::new(Peers::start(&settings, &stored.keys, &horizon, &counters, &inbox)?);
+    let keeper = Keeper::begin(stored.archive, peers.clone(), inbox.clone(), counters.clone())?;
+    let application = Worker::begin(stored.application, inbox.clone(), counters.clone())?;
+    tell(stored.recovered.as_ref(), &views);
     let replica = Replica::new(Parts {
         blocks: Blocks::open(&settings.data, *identity.genesis().bytes(), settings.sync)?,
         keeper,
         tail,
         settings,
-        keys,
+        keys: stored.keys,
         horizon,
         counters,
         peers,
         inbox: inbox.clone(),
-        engine,
-        journal,
+        engine: stored.engine,
+        journal: stored.journal,
         application,
-        clock,
+        clock: stored.clock,
     })?;
     Ok((replica, inbox))
+}
+
+/// What a node goes on from: all that it stored, which was tested against each other.
+struct Stored<A> {
+    keys: Arc<Keys>,
+    recovered: Option<Recovered>,
+    journal: Journal,
+    engine: Engine,
+    views: Views,
+    application: A,
+    archive: Archive,
+    clock: Clock,
+}
+
+impl<A: Application> Stored<A> {
+    fn open(settings: &Settings, identity: &Identity, application: impl FnOnce(&Start) -> Outcome<A>) -> Outcome<Stored<A>> {
+        let (mut journal, recovered) = Journal::open(&settings.data, identity, settings.sync)?;
+        test_journal(&settings.data, recovered.as_ref())?;
+        let keys = Arc::new(Keys::read(settings)?);
+        let floor = floor::read(settings, &keys)?;
+        let mut engine = engine(&settings.config(floor.clone()), recovered.as_ref())?;
+        let views = engine.views().ok_or(EngineError::Failed)?;
+        let start = Start {
+            folder: settings.data.clone(),
+            block: first_block(identity, &floor),
+            me: settings.me(),
+        };
+        let mut application = application(&start)?;
+        test_application(&settings.data, &application, recovered.as_ref(), views.last_finalized)?;
+        let archive = open_archive(settings, identity, &mut application)?;
+        test_archive(&settings.data, archive.tail(), views.last_finalized)?;
+        let clock = Clock::start();
+        begin_journal(&mut engine, &mut journal, clock.now())?;
+        Ok(Stored {
+            keys,
+            recovered,
+            journal,
+            engine,
+            views,
+            application,
+            archive,
+            clock,
+        })
+    }
 }
 
 /// Refuses to begin anew where files of the node are here and the journal is not: it is lost, and without it the node would vote a second

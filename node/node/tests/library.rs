@@ -36,9 +36,19 @@ fn four_nodes_order_the_blocks_of_an_application_of_thirty_lines() {
         folder: folder_of("library"),
     };
     let mut network = Network::new(plan).expect("keys and settings");
+    // The application has nothing on the disk, so the archive drops no block, however long it gets.
+    for index in 0..4 {
+        let small = |it: &mut simplex_node::Settings| {
+            it.archive.segment_bytes = 2000;
+            it.archive.most_bytes = Some(5000);
+        };
+        network.set(index, small).expect("settings");
+    }
     network.begin_all().expect("processes");
     let log = |network: &Network| fs::read_to_string(network.log(0)).unwrap_or_default();
-    assert!(network.wait_until(&[0, 1, 2, 3], "height", 12, SOON), "{}", log(&network));
+    assert!(network.wait_until(&[0, 1, 2, 3], "height", 60, SOON), "{}", log(&network));
+    let archive = network.metric(0, "archive_bytes").expect("it answers");
+    assert!(archive > 10_000, "{archive} bytes");
     // It stores nothing, so its next lifetime prints the chain from the first block on.
     network.kill(0).expect("a process");
     let before = printed(&network, 0);
@@ -54,7 +64,7 @@ fn four_nodes_order_the_blocks_of_an_application_of_thirty_lines() {
     for index in 1..4 {
         let other = printed(&network, index);
         let both = other.len().min(again.len());
-        assert!(both >= 12 && other[..both] == again[..both], "node {index}: {other:?}");
+        assert!(both >= 60 && other[..both] == again[..both], "node {index}: {other:?}");
     }
     fs::remove_dir_all(network.folder()).expect("a folder");
 }
