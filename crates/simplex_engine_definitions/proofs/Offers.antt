@@ -1,5 +1,5 @@
 -- Each verdict that an engine passes is on an offer.
-use Rattle.std.proofs.Common.{◌≡◌, ap, sym, subst, ℕ, inl, inr, Bool, true, List, [], ◌∷◌, ◌++◌, map}
+use Rattle.std.proofs.Common.{◌≡◌, ap, sym, subst, ℕ, inl, inr, Bool, List, [], ◌∷◌, ◌++◌, map}
 use Rattle.simplex_types.specs.Certificates.{CertificateFacts, Notarized, Nullified, Finalized}
 use Rattle.simplex_voter.specs.Facts.{Elect}
 use Rattle.simplex_member.specs.Calls.{CallFacts, Certified, Told, told}
@@ -54,7 +54,7 @@ module _ {L D K : Type 0} (same : D → D → Bool) (elect : Elect L) where
 pub lifetime_on_offers : {S L D K G C : Type 0} (same : D → D → Bool) (elect : Elect L) (bytes : D → List ℕ) (bytes_of : C → List ℕ) (first last : Engine S L D K G C) (calls : List (CallOf S L D K G C))
     → GoesOnBy same elect bytes bytes_of first calls last → (steps : List (StepFacts K L D)) × (replies : List (Told K D)) × IsRunOnOffers same elect first.core.member.facts steps replies last.core.member.facts
 lifetime_on_offers same elect bytes bytes_of first last [] is = ([], [], ap (λ (e : Engine _ _ _ _ _ _). e.core.member.facts) is)
-lifetime_on_offers {K = K} {L = L} {D = D} same elect bytes bytes_of first last (call ∷ calls) (it, rest) =
+lifetime_on_offers {L = L} {D = D} {K = K} same elect bytes bytes_of first last (call ∷ calls) (it, rest) =
     let later = lifetime_on_offers same elect bytes bytes_of call.left last calls rest in
     let steps : List (StepFacts K L D) = map (λ e. e.0) it.steps in
     let replies : List (Told K D) = map (λ e. told bytes_of e.1) it.steps in (
