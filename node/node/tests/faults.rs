@@ -233,6 +233,9 @@ fn records_that_are_made_short_within_a_life() {
     for index in 0..4 {
         assert!(network.metric(index, "compactions").is_some_and(|it| it > 0), "node {index}");
         assert!(network.metric(index, "record_entries").is_some_and(|it| it < 3000), "node {index}");
+        // What is on the disk gets short too.
+        let bytes = fs::metadata(simplex_journal::path(&network.data(index))).expect("a journal").len();
+        assert!(bytes < 600_000, "node {index}: {bytes} bytes");
     }
     for victim in 0..4 {
         network.kill(victim).expect("a process");

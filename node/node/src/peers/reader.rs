@@ -254,3 +254,33 @@ impl Link {
         is_good
     }
 }
+
+#[cfg(test)]
+mod tests {
+    use super::*;
+    use crate::settings::Settings;
+
+    #[test]
+    fn a_block_that_nobody_asked_for_is_of_no_use() {
+        let mut settings: Settings = toml::from_str(include_str!("../../../node.toml")).expect("settings");
+        settings.key = crate::trace::scratch("reader").join("0.pem");
+        settings.members[0].key = crate::crypto::make_key(&settings.key).expect("a key");
+        let reader = Reader {
+            keys: Arc::new(Keys::read(&settings).expect("a key")),
+            horizon: Arc::default(),
+            counters: Arc::default(),
+            inbox: Arc::new(Inbox::new(4)),
+            epoch: Epoch::new(1),
+            turns: settings.turns(),
+        };
+        let block = vec![7; 100];
+        let frame = Message::Block(block.clone()).frame();
+        let is_of_use = |wanted: &[Digest]| {
+            reader.horizon.want(wanted.iter().copied().collect());
+            let verified = reader.connection(Participant::new(1)).verify(&frame[4..]);
+            verified.expect("a message").is_some()
+        };
+        assert!(!is_of_use(&[]) && !is_of_use(&[digest(b"another")]));
+        assert!(is_of_use(&[digest(&block), digest(b"another")]));
+    }
+}
