@@ -1,18 +1,19 @@
-//! Nodes with an application of their own: the program of `examples/thirty_lines.rs`.
+//! The examples: nodes with an application of thirty lines, and a host made of the parts.
 
 use simplex_node::network::{Network, Plan, folder_of};
 use simplex_node::settings::Protocol;
 use std::fs;
 use std::path::{Path, PathBuf};
+use std::process::Command;
 use std::time::Duration;
 
 /// Within what time something has to be seen, on a machine that does much else.
 const SOON: Duration = Duration::from_secs(120);
 
-/// The example's program, which `cargo test` builds beside the others.
-fn program() -> PathBuf {
+/// An example's program, which `cargo test` builds beside the others.
+fn program(name: &str) -> PathBuf {
     let beside = Path::new(env!("CARGO_BIN_EXE_simplex-node")).with_file_name("examples");
-    let program = beside.join("thirty_lines");
+    let program = beside.join(name);
     assert!(program.exists(), "{}: build it by `cargo build --examples`", program.display());
     program
 }
@@ -32,7 +33,7 @@ fn four_nodes_order_the_blocks_of_an_application_of_thirty_lines() {
         sync: true,
         faults: Vec::new(),
         delay_ms: 0,
-        program: program(),
+        program: program("thirty_lines"),
         folder: folder_of("library"),
     };
     let mut network = Network::new(plan).expect("keys and settings");
@@ -67,4 +68,18 @@ fn four_nodes_order_the_blocks_of_an_application_of_thirty_lines() {
         assert!(both >= 60 && other[..both] == again[..both], "node {index}: {other:?}");
     }
     fs::remove_dir_all(network.folder()).expect("a folder");
+}
+
+#[test]
+fn four_hosts_of_parts_deliver_the_same_blocks() {
+    let folder = std::env::temp_dir().join(format!("simplex-parts-{}", std::process::id()));
+    let run = || Command::new(program("with_parts")).arg(&folder).output().expect("a program");
+    let done = run();
+    let (printed, said) = (String::from_utf8_lossy(&done.stdout), String::from_utf8_lossy(&done.stderr));
+    assert!(done.status.success() && printed.lines().count() == 20, "{printed}{said}");
+    assert!((0..4).all(|index| folder.join(index.to_string()).join("journal").is_file()));
+    // Its blocks are gone with the process, so it takes no folder twice, and leaves that as it is.
+    let again = run();
+    assert!(!again.status.success() && String::from_utf8_lossy(&again.stderr).contains("name a folder"));
+    fs::remove_dir_all(folder).expect("a folder");
 }
