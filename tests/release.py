@@ -156,6 +156,8 @@ def reference_faults(folder, room):
 def debian_faults(folder, room):
     """What is wrong with Debian's packages, where they can be built here."""
     missing = [tool for tool in ("dpkg-buildpackage", "dh", "pkg-config") if not shutil.which(tool)]
+    if not missing and subprocess.run(["dpkg-checkbuilddeps"], cwd=folder, capture_output=True).returncode:
+        missing = ["a package that Debian's tools ask for"]
     if missing:
         print(f"release: not tried: Debian's packages, since {' and '.join(missing)} is missing (bindings/setup installs it)")
         return
