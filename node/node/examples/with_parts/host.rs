@@ -6,7 +6,7 @@ use simplex_chain::{FinalChain, Tail};
 use simplex_identity::{Identity, members_digest};
 use simplex_journal::Journal;
 use simplex_net::{Credentials, Greeting, Members, Peers, Places};
-use simplex_view_state::{Config, Digest, Engine, Epoch, Input, Moment, Options, Output, Participant, View};
+use simplex_view_state::{Config, Digest, Engine, Epoch, Input, Moment, Options, Order, Output, Participant, View};
 use simplex_wire::{Block, Message};
 use std::collections::HashMap;
 use std::path::Path;
@@ -32,15 +32,8 @@ pub struct Host {
 
 impl Host {
     /// Takes the folder, and starts the member or resumes it from its journal.
-    pub fn begin(
-        me: Participant,
-        secret: &[u8; 32],
-        public: &[[u8; 32]],
-        keys: Arc<Keys>,
-        places: &Places,
-        folder: &Path,
-    ) -> Outcome<Host> {
-        let (network, key) = (keys.network.clone(), public[me.get() as usize]);
+    pub fn begin(me: Participant, secret: &[u8; 32], public: &[[u8; 32]], keys: Keys, places: &Places, folder: &Path) -> Outcome<Host> {
+        let (network, key, members) = (keys.network.clone(), public[me.get() as usize], public.len() as u32);
         let identity = Identity {
             network,
             key,
@@ -48,31 +41,22 @@ impl Host {
             term_length: 1,
             members: members_digest(public),
         };
-        let config = Config::new((public.len() as u32).try_into()?, Some(me), Epoch::new(1), identity.genesis());
-        let (options, now) = (Options::default(), Moment::from_millis(0));
-        let (journal, recovered) = Journal::open(folder, &identity, true)?;
-        let engine = match recovered {
-            Some(it) => Engine::resume(&config, &options, now, &it.stored, &it.frames)?,
-            None => Engine::start(&config, &options, now)?,
-        };
+        let (journal, engine) = opened(me, members, &identity, folder)?;
         let (to_host, inbox) = mpsc::channel();
+        let keys = Arc::new(keys);
         let greeting = Greeting::new(&[("network", &keys.network.to_string()), ("epoch", "1")]);
         let credentials = Credentials::new(Members::of_raw_key(me, secret, public)?, greeting)?;
-        let peers = Peers::start(
-            places,
-            credentials,
-            Inboxes {
-                keys: keys.clone(),
-                to_host,
-            },
-            Arc::new(()),
-        )?;
+        let inboxes = Inboxes {
+            keys: keys.clone(),
+            to_host,
+        };
+        let peers = Peers::start(places, credentials, inboxes, Arc::new(()))?;
         let tail = Tail {
             height: 0,
             view: View::GENESIS,
             payload: identity.genesis(),
         }; // or the application's last block
-        let (members, chain, begun) = (public.len() as u32, FinalChain::new(tail), Instant::now());
+        let (blocks, chain, begun, delivered) = (HashMap::new(), FinalChain::new(tail), Instant::now(), Vec::new());
         Ok(Host {
             me,
             members,
@@ -81,10 +65,10 @@ impl Host {
             journal,
             peers,
             inbox,
-            blocks: HashMap::new(),
+            blocks,
             chain,
             begun,
-            delivered: Vec::new(),
+            delivered,
         })
     }
 
@@ -104,21 +88,12 @@ impl Host {
         Ok(())
     }
 
-    /// Carries out one output. A vote leaves once the journal is on the disk.
+    /// Carries out one output.
     fn carry_out(&mut self, output: Output) -> Outcome {
         match output {
             Output::Store(entries) => self.journal.append(&entries)?,
             Output::Replace(entries) => self.journal.replace(&entries)?,
-            Output::Vote(order) => {
-                self.journal.sync()?;
-                let vote = order.signed(self.keys.sign(&order.text)?);
-                let is_leader = self.engine.leader(vote.subject.round().view) == Some(self.me);
-                let block = vote.proposal().and_then(|it| self.blocks.get(&it.payload)).filter(|_| is_leader);
-                self.send_to_others(&block.map_or(Message::Vote(vote.clone()), |it| {
-                    Message::Proposal(vote.clone(), it.bytes().to_vec())
-                }));
-                self.pass(Input::Vote(vote))?;
-            }
+            Output::Vote(order) => self.vote(&order)?,
             Output::Broadcast(certificate) => self.send_to_others(&Message::Certificate(certificate)),
             Output::Fetch(fetch) => fetch
                 .of
@@ -148,6 +123,20 @@ impl Host {
             Output::StopBuilding(_) | Output::ProposedTwice(..) | Output::Equivocated(..) | Output::Forget(_) => {}
         }
         Ok(())
+    }
+
+    /// Signs a vote and sends it, with the block where it is this leader's proposal. The journal is on the disk before.
+    fn vote(&mut self, order: &Order) -> Outcome {
+        self.journal.sync()?;
+        let vote = order.signed(self.keys.sign(&order.text)?);
+        let is_leader = self.engine.leader(vote.subject.round().view) == Some(self.me);
+        let block = vote.proposal().and_then(|it| self.blocks.get(&it.payload)).filter(|_| is_leader);
+        let message = match block {
+            Some(block) => Message::Proposal(vote.clone(), block.bytes().to_vec()),
+            None => Message::Vote(vote.clone()),
+        };
+        self.send_to_others(&message);
+        self.pass(Input::Vote(vote))
     }
 
     /// Passes what came, verified, to the engine.
@@ -214,4 +203,16 @@ impl Host {
             .filter(|to| *to != self.me)
             .for_each(|to| self.send(to, message));
     }
+}
+
+/// Takes the folder's journal, and starts the engine or resumes it.
+fn opened(me: Participant, members: u32, identity: &Identity, folder: &Path) -> Outcome<(Journal, Engine)> {
+    let config = Config::new(members.try_into()?, Some(me), Epoch::new(1), identity.genesis());
+    let (options, now) = (Options::default(), Moment::from_millis(0));
+    let (journal, recovered) = Journal::open(folder, identity, true)?;
+    let engine = match recovered {
+        Some(it) => Engine::resume(&config, &options, now, &it.stored, &it.frames)?,
+        None => Engine::start(&config, &options, now)?,
+    };
+    Ok((journal, engine))
 }

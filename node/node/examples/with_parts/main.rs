@@ -12,9 +12,9 @@ use openssl::pkey::{Id, PKey};
 use simplex_identity::NetworkName;
 use simplex_net::{Address, Places};
 use simplex_view_state::Participant;
+use simplex_wire::Block;
 use std::net::TcpListener;
 use std::path::PathBuf;
-use std::sync::Arc;
 use std::sync::atomic::{AtomicU32, Ordering};
 use std::time::Duration;
 use std::{fs, thread};
@@ -38,6 +38,40 @@ fn address() -> Outcome<Address> {
     Ok(Address::try_from(format!("127.0.0.1:{port}"))?)
 }
 
+/// What all members share.
+struct Network {
+    name: NetworkName,
+    keys: Vec<[u8; 32]>,
+    members: Vec<Address>,
+    folder: PathBuf,
+    /// How many members have delivered all blocks.
+    done: AtomicU32,
+}
+
+impl Network {
+    /// Runs a member until all have delivered all blocks; returns its own.
+    fn run(&self, index: u32) -> Outcome<Vec<Block>> {
+        let (me, folder) = (Participant::new(index), self.folder.join(index.to_string()));
+        fs::create_dir(&folder)?;
+        let (listen, members) = (self.members[index as usize].clone(), self.members.clone());
+        let places = Places {
+            listen,
+            members,
+            delay: Duration::ZERO,
+        };
+        let own = Keys::new(self.name.clone(), &secret(index), &self.keys)?;
+        let mut host = Host::begin(me, &secret(index), &self.keys, own, &places, &folder)?;
+        let mut is_counted = false;
+        host.run(|host| {
+            if host.delivered.len() >= BLOCKS && !std::mem::replace(&mut is_counted, true) {
+                self.done.fetch_add(1, Ordering::Relaxed);
+            }
+            self.done.load(Ordering::Relaxed) == MEMBERS
+        })?;
+        Ok(host.delivered)
+    }
+}
+
 fn main() -> Outcome {
     let folder = PathBuf::from(
         std::env::args()
@@ -45,38 +79,30 @@ fn main() -> Outcome {
             .ok_or("name a folder that is not there yet: it gets the members' journals")?,
     );
     fs::create_dir(&folder).map_err(|error| format!("{}: {error}; name a folder that is not there yet", folder.display()))?;
-    let network = NetworkName::try_from("with-parts".to_owned())?;
     let keys = (0..MEMBERS).map(public).collect::<Outcome<Vec<_>>>()?;
     let members = (0..MEMBERS).map(|_| address()).collect::<Outcome<Vec<_>>>()?;
-    let done = AtomicU32::new(0);
-    let run = |index: u32| -> Outcome<Host> {
-        let (me, folder) = (Participant::new(index), folder.join(index.to_string()));
-        fs::create_dir_all(&folder)?;
-        let places = Places {
-            listen: members[index as usize].clone(),
-            members: members.clone(),
-            delay: Duration::ZERO,
-        };
-        let own = Arc::new(Keys::new(network.clone(), &secret(index), &keys)?);
-        let mut host = Host::begin(me, &secret(index), &keys, own, &places, &folder)?;
-        let mut is_counted = false;
-        host.run(|host| {
-            if host.delivered.len() >= BLOCKS && !std::mem::replace(&mut is_counted, true) {
-                done.fetch_add(1, Ordering::Relaxed);
-            }
-            done.load(Ordering::Relaxed) == MEMBERS
-        })?;
-        Ok(host)
+    let (name, done) = (NetworkName::try_from("with-parts".to_owned())?, AtomicU32::new(0));
+    let network = Network {
+        name,
+        keys,
+        members,
+        folder,
+        done,
     };
-    let hosts = thread::scope(|scope| {
+    let chains = thread::scope(|scope| {
         let all: Vec<_> = (0..MEMBERS)
-            .map(|index| scope.spawn(move || run(index).map(|it| it.delivered)))
+            .map(|index| {
+                scope.spawn({
+                    let network = &network;
+                    move || network.run(index)
+                })
+            })
             .collect();
         all.into_iter()
             .map(|it| it.join().expect("no host panics"))
             .collect::<Outcome<Vec<_>>>()
     })?;
-    for block in &hosts[0][..BLOCKS] {
+    for block in &chains[0][..BLOCKS] {
         println!(
             "view {:>3}  block {}  {}",
             block.view,
@@ -84,7 +110,7 @@ fn main() -> Outcome {
             String::from_utf8_lossy(block.content())
         );
     }
-    if hosts.iter().any(|it| it[..BLOCKS] != hosts[0][..BLOCKS]) {
+    if chains.iter().any(|it| it[..BLOCKS] != chains[0][..BLOCKS]) {
         return Err("two members delivered different blocks".into());
     }
     Ok(())
