@@ -15,14 +15,13 @@ const KINDS: [VoteKind; 3] = [VoteKind::Notarize, VoteKind::Nullify, VoteKind::F
 /// Member 3 of four, which leads no view of the first three terms.
 fn config(length: u32, optimistic: u64) -> Config {
     let members = 4.try_into().expect("not 0");
-    Config {
-        terms: Terms {
-            length: length.try_into().expect("not 0"),
-            optimistic_views: ViewDelta::new(optimistic),
-            stall_timeout: None,
-        },
-        ..Config::new(members, Some(Participant::new(3)), Epoch::new(1), Digest::default())
-    }
+    let mut config = Config::new(members, Some(Participant::new(3)), Epoch::new(1), Digest::default());
+    config.terms = Terms {
+        length: length.try_into().expect("not 0"),
+        optimistic_views: ViewDelta::new(optimistic),
+        stall_timeout: None,
+    };
+    config
 }
 
 fn round(view: u64) -> Round {
@@ -162,10 +161,8 @@ fn views_below_in_the_term_withhold_a_vote() -> Tested {
 
 #[test]
 fn a_member_without_a_key_withholds_each_vote() -> Tested {
-    let config = Config {
-        signer: None,
-        ..config(1, 0)
-    };
+    let mut config = config(1, 0);
+    config.signer = None;
     let mut it = Asked::new(&config)?;
     it.propose(1, 1)?;
     it.verify(1)?;
