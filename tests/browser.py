@@ -21,7 +21,7 @@ import sys
 import tempfile
 from pathlib import Path
 
-from engine import is_ready
+from node import is_ready
 from lib import chromium
 from lib.program import ROOT
 from lib.traced import Traced

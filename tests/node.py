@@ -24,7 +24,7 @@ from lib.program import ROOT
 
 NODE = ROOT / "node"
 SKIPPED = 77
-LEAST_TESTS = 231
+LEAST_TESTS = 233
 # The words of the network that `./demo` runs.
 NETWORK = re.compile(r"words=\((--.*)\)")
 
@@ -60,6 +60,8 @@ WRONG_BODIES = (
     ("a block that was missing changes nothing", "../../chain/src/final_chain.rs", "self.mark(block.view(), block.digest(), store)?;", ""),
     ("two final blocks on one parent are taken", "../../chain/src/final_chain.rs", "Some(same) if same == payload => return Ok(()),", "Some(_) => return Ok(()),"),
     ("fetched blocks of no chain are kept", "../../chain/src/final_chain.rs", "self.drop_taken();", ""),
+    ("a segment that was begun loses the blocks before it", "archive.rs", "for number in self.numbers().into_iter().rev() {\n            let mut found = None;",
+     "for number in self.numbers().into_iter().rev().take(1) {\n            let mut found = None;"),
     ("all lacking blocks are asked of one member", "../../chain/src/catch_up.rs", "self.next = self.following(of);", ""),
     ("nobody says which block all others have pruned", "replica/finality.rs", "let is_nowhere = others > 0 && pruned == others;",
      "let is_nowhere = others > 0 && pruned > others;"),

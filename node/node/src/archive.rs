@@ -103,17 +103,25 @@ impl Archive {
                 Ok(false)
             })?;
         }
-        if let Some(last) = archive.numbers().pop() {
+        if let Some(entry) = archive.last()? {
+            archive.tail = tail_of(&entry);
+        }
+        Ok((archive, cut))
+    }
+
+    /// Its last block. A process that ended as it began a segment left that one without a block: then it is in the segment before.
+    fn last(&self) -> io::Result<Option<Entry>> {
+        for number in self.numbers().into_iter().rev() {
             let mut found = None;
-            archive.segments.each_from(last, HEAD, |_, body| {
+            self.segments.each_from(number, HEAD, |_, body| {
                 found = Some(body.to_vec());
                 Ok(true)
             })?;
-            if let Some(entry) = found.map(|it| parse(&it)).transpose()? {
-                archive.tail = tail_of(&entry);
+            if let Some(body) = found {
+                return parse(&body).map(Some);
             }
         }
-        Ok((archive, cut))
+        Ok(None)
     }
 
     fn numbers(&self) -> Vec<u64> {
@@ -144,6 +152,7 @@ impl Archive {
                     entry.height, self.tail.height
                 )));
             }
+            self.test_empty_segment(entry.height)?;
             let (segment, at) = self.segments.append(entry.height, &record(entry))?;
             let view = entry.block.view;
             self.firsts.entry(segment).or_insert((view, entry.block.parent.0));
@@ -157,6 +166,20 @@ impl Archive {
             self.tail = tail_of(entry);
         }
         Ok(())
+    }
+
+    /// Refuses to append a block to a segment that has none and is named after another one.
+    fn test_empty_segment(&self, height: u64) -> io::Result<()> {
+        match self.segments.lengths().last_key_value() {
+            Some((number, length)) if *length <= HEAD && *number != height => {
+                let path = self.segments.path(*number);
+                let path = path.display();
+                Err(io::Error::other(format!(
+                    "{path} has no block, and the next one has the height {height}: move this file away, and begin again"
+                )))
+            }
+            _ => Ok(()),
+        }
     }
 
     /// Waits until the disk has all blocks.
@@ -289,6 +312,7 @@ mod tests {
     use super::*;
     use crate::trace::scratch;
     use simplex_view_state::{Context, Epoch, Participant, Proposal, Round};
+    use std::fs;
 
     const START: Tail = Tail {
         height: 0,
@@ -371,6 +395,50 @@ mod tests {
             }
             assert!(matches!(it.behind(View::new(400), View::new(500), 1 << 20), Ok(Behind::Nothing)));
         }
+    }
+
+    #[test]
+    fn a_process_that_ends_as_it_begins_a_segment_loses_no_block() {
+        let (folder, entries) = (scratch("archive-begun"), chain(60));
+        let mut archive = open(&folder);
+        archive.append(&entries).expect("a disk");
+        archive.sync().expect("a disk");
+        let last = *archive.numbers().last().expect("some");
+        assert!(last > 1 && last < 60);
+        drop(archive);
+        let segment = fs::OpenOptions::new()
+            .write(true)
+            .open(path(&folder).join(format!("{last:020}")))
+            .expect("a segment");
+        segment.set_len(HEAD).expect("a disk");
+        let mut again = open(&folder);
+        assert_eq!(
+            again.tail(),
+            tail_of(&entries[last as usize - 2]),
+            "the last block of the segment before"
+        );
+        again.append(&entries[last as usize - 1..]).expect("it goes on there");
+        assert_eq!(open(&folder).tail(), tail_of(&entries[59]));
+        assert_eq!(
+            again.block(View::new(120), entries[59].block.payload()).expect("a disk").as_ref(),
+            Some(&entries[59].block)
+        );
+    }
+
+    #[test]
+    fn an_empty_segment_of_another_block_is_refused() {
+        let folder = scratch("archive-empty");
+        open(&folder).append(&chain(1)).expect("a disk");
+        let (one, other) = (path(&folder).join(format!("{:020}", 1)), path(&folder).join(format!("{:020}", 9)));
+        fs::OpenOptions::new()
+            .write(true)
+            .open(&one)
+            .expect("a segment")
+            .set_len(HEAD)
+            .expect("a disk");
+        fs::rename(one, &other).expect("a disk");
+        let error = open(&folder).append(&chain(1)).expect_err("it is of block 9").to_string();
+        assert!(error.contains("move this file away") && other.is_file(), "{error}");
     }
 
     #[test]
