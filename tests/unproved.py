@@ -21,6 +21,8 @@ from lib.floors import lacking
 from lib.program import ROOT
 
 LEAST = {"tests": 70}
+# How long a test may take: those that read and write byte by byte take half a minute beside other work.
+SECONDS = "300"
 ENDED = re.compile(r"(\d+) passed")
 
 
@@ -42,7 +44,7 @@ def crates_with_tests():
 
 def ran(crate):
     """What `rt try --test` printed of a crate, and its status."""
-    tried = subprocess.run(["rt", "try", "--test"], cwd=ROOT / "crates" / crate, capture_output=True, text=True, check=False, stdin=subprocess.DEVNULL)
+    tried = subprocess.run(["rt", "try", "--test", "--seconds", SECONDS], cwd=ROOT / "crates" / crate, capture_output=True, text=True, check=False, stdin=subprocess.DEVNULL)
     return crate, tried.returncode, tried.stdout + tried.stderr
 
 
