@@ -3,11 +3,11 @@
 use std::error::Error;
 use std::fmt;
 
-/// Why a call has no answer. But for want of memory, nothing has changed.
+/// Why a call returns no reply. Except when memory runs out, nothing has changed.
 #[derive(Clone, Copy, PartialEq, Eq, Hash, Debug)]
 #[non_exhaustive]
 pub enum Refusal {
-    /// Memory is wanting: nothing has changed, or the member has failed and answers [`Refusal::Failed`] from now on.
+    /// Out of memory: nothing has changed, or the member has failed and answers [`Refusal::Failed`] from now on.
     OutOfMemory,
     /// The member has failed. Its record is left: [`Member::restart`](crate::Member::restart), or store it and resume.
     Failed,
@@ -41,7 +41,7 @@ impl Refusal {
 impl fmt::Display for Refusal {
     fn fmt(&self, f: &mut fmt::Formatter<'_>) -> fmt::Result {
         f.write_str(match self {
-            Refusal::OutOfMemory => "memory is wanting",
+            Refusal::OutOfMemory => "out of memory",
             Refusal::Failed => "the member has failed",
             Refusal::ViewTooLarge => "a view is above 2^63 - 1",
             Refusal::TimeOverflow => "a deadline is above 2^64 - 1 milliseconds",
@@ -58,7 +58,7 @@ impl Error for Refusal {}
 #[derive(Clone, Copy, PartialEq, Eq, Hash, Debug)]
 #[non_exhaustive]
 pub enum EngineError {
-    /// Memory is wanting.
+    /// Out of memory.
     OutOfMemory,
     /// It failed before, or its member has.
     Failed,
@@ -95,7 +95,7 @@ impl EngineError {
 impl fmt::Display for EngineError {
     fn fmt(&self, f: &mut fmt::Formatter<'_>) -> fmt::Result {
         f.write_str(match self {
-            EngineError::OutOfMemory => "memory is wanting",
+            EngineError::OutOfMemory => "out of memory",
             EngineError::Failed => "the engine has failed",
             EngineError::ViewTooLarge => "a view is above 2^63 - 1",
             EngineError::TimeOverflow => "a deadline is above 2^64 - 1 milliseconds",
@@ -235,7 +235,7 @@ impl Error for RecoverError {}
 pub enum OpenError {
     /// The library has another version than this package.
     OtherVersion,
-    /// Memory is wanting.
+    /// Out of memory.
     OutOfMemory,
     /// The settings are none of a member.
     Settings(SettingsError),
@@ -309,7 +309,7 @@ impl fmt::Display for OpenError {
     fn fmt(&self, f: &mut fmt::Formatter<'_>) -> fmt::Result {
         match self {
             OpenError::OtherVersion => f.write_str("the library has another version than this package"),
-            OpenError::OutOfMemory => f.write_str("memory is wanting"),
+            OpenError::OutOfMemory => f.write_str("out of memory"),
             OpenError::Settings(error) => write!(f, "the settings are refused: {error}"),
             OpenError::EntriesLost => f.write_str("the journal has fewer entries than were stored"),
             OpenError::Damaged => f.write_str("the journal is damaged or cut"),
@@ -333,7 +333,7 @@ impl Error for OpenError {
 #[derive(Clone, Copy, PartialEq, Eq, Hash, Debug)]
 #[non_exhaustive]
 pub enum EntriesError {
-    /// Memory is wanting.
+    /// Out of memory.
     OutOfMemory,
     /// An entry has 2^32 bytes or more: a certificate is too long.
     EntryTooLong,
@@ -342,7 +342,7 @@ pub enum EntriesError {
 impl fmt::Display for EntriesError {
     fn fmt(&self, f: &mut fmt::Formatter<'_>) -> fmt::Result {
         f.write_str(match self {
-            EntriesError::OutOfMemory => "memory is wanting",
+            EntriesError::OutOfMemory => "out of memory",
             EntriesError::EntryTooLong => "an entry has 2^32 bytes or more",
         })
     }

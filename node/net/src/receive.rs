@@ -17,8 +17,8 @@ pub trait Connection {
     /// What a frame is, once it is verified.
     type Message;
 
-    /// Reads and verifies a frame. The time that this takes counts against what the member may take of this host. `None` where the frame is
-    /// of no use.
+    /// Reads and verifies a frame. The time that this takes counts against what the member may take of this host. `None` where it is
+    /// to be ignored.
     ///
     /// # Errors
     ///
