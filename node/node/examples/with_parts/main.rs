@@ -49,6 +49,18 @@ struct Network {
 }
 
 impl Network {
+    /// A network whose members have no journal yet, in a folder that must not be there.
+    fn new(folder: PathBuf) -> Outcome<Network> {
+        fs::create_dir(&folder).map_err(|error| format!("{}: {error}; name a folder that is not there yet", folder.display()))?;
+        Ok(Network {
+            name: NetworkName::try_from("with-parts".to_owned())?,
+            keys: (0..MEMBERS).map(public).collect::<Outcome<_>>()?,
+            members: (0..MEMBERS).map(|_| address()).collect::<Outcome<_>>()?,
+            folder,
+            done: AtomicU32::new(0),
+        })
+    }
+
     /// Runs a member until all have delivered all blocks; returns its own.
     fn run(&self, index: u32) -> Outcome<Vec<Block>> {
         let (me, folder) = (Participant::new(index), self.folder.join(index.to_string()));
@@ -73,22 +85,10 @@ impl Network {
 }
 
 fn main() -> Outcome {
-    let folder = PathBuf::from(
-        std::env::args()
-            .nth(1)
-            .ok_or("name a folder that is not there yet: it gets the members' journals")?,
-    );
-    fs::create_dir(&folder).map_err(|error| format!("{}: {error}; name a folder that is not there yet", folder.display()))?;
-    let keys = (0..MEMBERS).map(public).collect::<Outcome<Vec<_>>>()?;
-    let members = (0..MEMBERS).map(|_| address()).collect::<Outcome<Vec<_>>>()?;
-    let (name, done) = (NetworkName::try_from("with-parts".to_owned())?, AtomicU32::new(0));
-    let network = Network {
-        name,
-        keys,
-        members,
-        folder,
-        done,
-    };
+    let folder = std::env::args()
+        .nth(1)
+        .ok_or("name a folder that is not there yet: it gets the members' journals")?;
+    let network = Network::new(PathBuf::from(folder))?;
     let chains = thread::scope(|scope| {
         let all: Vec<_> = (0..MEMBERS)
             .map(|index| {
