@@ -18,24 +18,24 @@ from lib.program import ROOT
 PAGE = ROOT / "docs" / "GUARANTEES.md"
 
 # What the laws of networks take and the engine's contracts give.
-EXECUTIONS = [("simplex_laws", "Executions", name) for name in ("Execution", "IsExecution", "trace_of")]
+EXECUTIONS = [("laws_safety", "Executions", name) for name in ("Execution", "IsExecution", "trace_of")]
 
 # Each statement: its name, what it is made of, and what cancels.
 STATEMENTS = [
     (
         "the first three clauses",
         [
-            ("simplex_laws", "Replicas", "OfEachNetwork"),
-            ("simplex_laws", "Agreement", "OneProposal"),
-            ("simplex_laws", "Agreement", "FinalizedUncovered"),
-            ("simplex_laws", "Agreement", "ParentNotBelow"),
-            ("simplex_laws", "Shown", "shown_trace"),
+            ("laws_safety", "Replicas", "OfEachNetwork"),
+            ("laws_safety", "Agreement", "OneProposal"),
+            ("laws_safety", "Agreement", "FinalizedUncovered"),
+            ("laws_safety", "Agreement", "ParentNotBelow"),
+            ("laws_safety", "Shown", "shown_trace"),
         ],
         EXECUTIONS,
     ),
-    ("no network is stuck", [("simplex_progress", "Going", "NoNetworkIsStuck")], [*EXECUTIONS, ("simplex_progress", "Living", "LivesWith")]),
-    ("chains reach genesis", [("simplex_chains", "Chains", "FinalizedReachGenesis")], EXECUTIONS),
-    ("exactness", [("simplex_laws", "Exactly", "ExactAt")], []),
+    ("no network is stuck", [("laws_progress", "Going", "NoNetworkIsStuck")], [*EXECUTIONS, ("laws_progress", "Living", "LivesWith")]),
+    ("chains reach genesis", [("laws_chains", "Chains", "FinalizedReachGenesis")], EXECUTIONS),
+    ("exactness", [("laws_safety", "Exactly", "ExactAt")], []),
 ]
 
 DEFINITION = re.compile(r"^ {0,2}(?:(?:abbrev|unfoldable) (?:pub )?|pub (?:record|data) |record |data )([\w'-]+)")

@@ -3,7 +3,7 @@
 
 The program is deterministic: the same lines behind the same arguments have the same reply wherever they are written, in the pages
 of `tests/scripts`, in `docs/PROGRAM.md`, the program's own run and the stored schedules. The tables of
-`crates/simplex_program_tests/src/program` are those that `tests/lib/tables.py` writes from these pages. And copies of source,
+`crates/tests_program/src/program` are those that `tests/lib/tables.py` writes from these pages. And copies of source,
 output, numbers and names in the docs are those of what they are copied from. A must-fail edit names a text of the source, which
 still stands there.
 
@@ -26,7 +26,7 @@ from lib.program import ROOT
 from lib.scripts import ANY
 from refusals import USAGE
 
-SAMPLE = "crates/simplex_member_tests/src/member/sample.rt"
+SAMPLE = "crates/tests_member/src/member/sample.rt"
 PACKAGE = "bindings/rust/src/lib.rs"
 DRAWN = "skipped-by-one"
 LEAST = {"lines with replies": 2500, "wrong bodies": 15, "must-fail edits": 310}

@@ -33,9 +33,9 @@ The rows of a file are in its order. A row without a sentence goes with the one 
 # The files of the calls whose clauses the page is about.
 CALLS = [
     ("simplex_member", "src/member/**/*.rt"),
-    ("simplex_lawful", "src/lawful/**/*.rt"),
-    ("simplex_laws", "src/laws/network.rt"),
-    ("simplex_laws", "src/laws/contradictions.rt"),
+    ("lawful_member", "src/lawful/**/*.rt"),
+    ("laws_safety", "src/laws/network.rt"),
+    ("laws_safety", "src/laws/contradictions.rt"),
     ("simplex_resolver", "src/replay/lawful.rt"),
 ]
 BROUGHT_IN = re.compile(r"ghost use Rattle\.(\w+)\.specs\.([\w.]+?)\.\{(.*)\};")

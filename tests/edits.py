@@ -36,7 +36,7 @@ TRIED_BY_THE_GATE = (
     "simplex_voter/never_votes_to_finalize",
     "simplex_voter/finalize_votes_without_the_gate",
     "simplex_voter/a_replayed_vote_to_notarize_is_forgotten",
-    "simplex_sorted/covered_by_a_later_view_of_its_term",
+    "simplex_view_maps/covered_by_a_later_view_of_its_term",
     "simplex_round/certificate_keeps_voted_proposal",
     "simplex_record/a_recovery_that_enters_nothing_after_a_true_verdict",
     "simplex_voter/pruning_drops_later_nullify_votes",

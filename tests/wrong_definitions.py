@@ -46,20 +46,20 @@ class Examples(NamedTuple):
 
 
 EXAMPLES = {
-    "simplex_definitions": Examples(tuple(f"Examples.{name}" for name in (
+    "laws_voter": Examples(tuple(f"Examples.{name}" for name in (
         "Configurations", "Definitions", "Votes", "Terms", "Parents", "Windows", "Timing", "Hostile", "Mixed"))),
     "simplex_record": Examples(("Examples", "RecoveryExamples")),
     "simplex_member": Examples(("RestartExamples", "CallExamples")),
     "simplex_resolver": Examples(("Examples",), ("resolver::laws",)),
-    "simplex_laws": Examples(
+    "laws_safety": Examples(
         tuple(f"networks.{name}" for name in ("Scripts", "ChangingLives", "AheadNetwork", "Rivals", "PlainNetwork")),
         ("laws::instances", "laws::plain", "laws::rivals")),
-    "simplex_histories": Examples((), ("histories::histories_are_shown",)),
-    "simplex_progress": Examples((), ("progress::continuations", "progress::instances")),
-    "simplex_chains": Examples((), tuple(f"chains::{name}" for name in (
+    "laws_history": Examples((), ("histories::histories_are_shown",)),
+    "laws_progress": Examples((), ("progress::continuations", "progress::instances")),
+    "laws_chains": Examples((), tuple(f"chains::{name}" for name in (
         "finalized_parents_are_certified", "finalized_chains_reach_genesis", "views_ahead_reach_genesis", "chains_need_offers",
         "parents_need_one_elector", "votes_may_be_on_another_parent", "verdicts_on_offers_await_parents"))),
-    "simplex_engine_definitions": Examples(("Examples", "Votes"), (
+    "laws_engine": Examples(("Examples", "Votes"), (
         "laws::calls_were_told_before", "laws::nullifies_once_due", "laws::work_was_given", "laws::engines_run_on_offers")),
 }
 VOTER, RECORD, MEMBER, RESOLVER, LAWS, HISTORIES, PROGRESS, CHAINS, ENGINE = (
@@ -139,42 +139,42 @@ WRONG_DEFINITIONS = (
           "if nat_lt (last_finalized x) v then Settled OfNotarization v v ∷ [] else []"),), RESOLVER,
     ),
     Wrong(
-        "a refused certificate counts as accepted", "simplex_laws/specs/Traces.antt",
+        "a refused certificate counts as accepted", "laws_safety/specs/Traces.antt",
         (("  accepted_by call _ = []", "  accepted_by call _ = handed_in call"),), LAWS,
     ),
     Wrong(
-        "a refused restart accepts its floor", "simplex_laws/specs/Traces.antt",
+        "a refused restart accepts its floor", "laws_safety/specs/Traces.antt",
         (("  accepted_at (Restarts r) _ = []", "  accepted_at (Restarts r) _ = of_floor r.start.floor"),), LAWS,
     ),
     Wrong(
-        "a nullification contradicts no finalization", "simplex_laws/specs/Accountability.antt",
+        "a nullification contradicts no finalization", "laws_safety/specs/Accountability.antt",
         (("Contradicts term_length (Nullify round) (Finalize final) = covers term_length round.view final.round.view ≡ true", "Contradicts term_length (Nullify round) (Finalize final) = ⊥"),
          ("Contradicts term_length (Finalize final) (Nullify round) = covers term_length round.view final.round.view ≡ true", "Contradicts term_length (Finalize final) (Nullify round) = ⊥")), LAWS,
     ),
     Wrong(
-        "two proposals of a view don't contradict", "simplex_laws/specs/Accountability.antt",
+        "two proposals of a view don't contradict", "laws_safety/specs/Accountability.antt",
         (("  Contradicts term_length (Notarize p) (Notarize q) = AreRivals p q", "  Contradicts term_length (Notarize p) (Notarize q) = ⊥"),), LAWS,
     ),
     Wrong(
-        "a skipped finalized view is no contradiction", "simplex_laws/specs/Accountability.antt",
+        "a skipped finalized view is no contradiction", "laws_safety/specs/Accountability.antt",
         (("Contradicts term_length (Notarize p) (Finalize final) = AreRivals p final ⊎ ((p.parent < final.round.view) × (final.round.view < p.round.view))",
           "Contradicts term_length (Notarize p) (Finalize final) = AreRivals p final"),
          ("Contradicts term_length (Finalize final) (Notarize p) = AreRivals p final ⊎ ((p.parent < final.round.view) × (final.round.view < p.round.view))",
           "Contradicts term_length (Finalize final) (Notarize p) = AreRivals p final")), LAWS,
     ),
     Wrong(
-        "no two votes are evidence", "simplex_laws/specs/Accountability.antt",
+        "no two votes are evidence", "laws_safety/specs/Accountability.antt",
         (("  IsEvidence (Notarize p) (Notarize q) = AreRivals p q", "  IsEvidence (Notarize p) (Notarize q) = ⊥"),
          ("  IsEvidence (Finalize p) (Finalize q) = AreRivals p q", "  IsEvidence (Finalize p) (Finalize q) = ⊥"),
          ("  IsEvidence (Nullify round) (Finalize p) = round.view ≡ p.round.view", "  IsEvidence (Nullify round) (Finalize p) = ⊥"),
          ("  IsEvidence (Finalize p) (Nullify round) = round.view ≡ p.round.view", "  IsEvidence (Finalize p) (Nullify round) = ⊥")), LAWS,
     ),
     Wrong(
-        "a start accepts no floor", "simplex_laws/specs/Executions.antt",
+        "a start accepts no floor", "laws_safety/specs/Executions.antt",
         (("trace_of s = of_floor s.start.floor ++ trace_of_steps s.steps s.replies", "trace_of s = trace_of_steps s.steps s.replies"),), LAWS,
     ),
     Wrong(
-        "a quorum has one vote less", "simplex_laws/specs/Replicas.antt",
+        "a quorum has one vote less", "laws_safety/specs/Replicas.antt",
         (("quorum n = n - max_faults n", "quorum n = n - max_faults n - 1"),), LAWS,
     ),
     Wrong(
@@ -305,127 +305,127 @@ WRONG_DEFINITIONS = (
         (("skip_budget_of skip.Disabled participants = 0", "skip_budget_of skip.Disabled participants = participants"),), RECORD,
     ),
     Wrong(
-        "a finalization enters its own view", "simplex_histories/specs/HistoryFolds.antt",
+        "a finalization enters its own view", "laws_history/specs/HistoryFolds.antt",
         (("entered_by term_length is_notarized (AddFinalization c _) = c.proposal.round.view + 1",
           "entered_by term_length is_notarized (AddFinalization c _) = c.proposal.round.view"),), HISTORIES,
     ),
     Wrong(
-        "a view may be finalized again", "simplex_laws/specs/Continuations.antt",
+        "a view may be finalized again", "laws_safety/specs/Continuations.antt",
         (("→ Backed network (Finalize p) → p.round.view < final.round.view", "→ ⊤"),), PROGRESS,
     ),
     Wrong(
-        "a member that goes on may forget", "simplex_laws/specs/Continuations.antt",
+        "a member that goes on may forget", "laws_safety/specs/Continuations.antt",
         (("(later ≡ and_then s more)", "(more ≡ more)"),), PROGRESS,
     ),
     Wrong(
-        "a certificate may be made with faulty votes", "simplex_laws/specs/Continuations.antt",
+        "a certificate may be made with faulty votes", "laws_safety/specs/Continuations.antt",
         (("SomeHonest network (HasAccepted c) ⊎ HonestlyBacked later c)", "SomeHonest network (HasAccepted c) ⊎ Backed later c)"),), PROGRESS,
     ),
     Wrong(
-        "a proposal may come from a faulty member", "simplex_laws/specs/Continuations.antt",
+        "a proposal may come from a faulty member", "laws_safety/specs/Continuations.antt",
         (("SomeHonest later (HasBuilt p))", "⊤)"),), PROGRESS,
     ),
     Wrong(
-        "a proposal is built that nobody voted for", "simplex_laws/specs/Continuations.antt",
+        "a proposal is built that nobody voted for", "laws_safety/specs/Continuations.antt",
         (("(Proposed p.round.view p.payload now))) × HasSignedAs (Notarize p) i s", "(Proposed p.round.view p.payload now))) × ⊤"),), PROGRESS,
     ),
     Wrong(
-        "a vote is a proposal that was built", "simplex_laws/specs/Continuations.antt",
+        "a vote is a proposal that was built", "laws_safety/specs/Continuations.antt",
         (("HasBuilt p i s = ((now : ℕ) × Contains s.steps (Calls (Proposed p.round.view p.payload now))) ×", "HasBuilt p i s = ℕ ×"),), PROGRESS,
     ),
     Wrong(
-        "a finalization need not be signed", "simplex_laws/specs/Continuations.antt",
+        "a finalization need not be signed", "laws_safety/specs/Continuations.antt",
         (("HasSignedAs (Finalize final) i s × HasAccepted (Finalize final) i s", "⊤ × HasAccepted (Finalize final) i s"),), PROGRESS,
     ),
     Wrong(
-        "a finalization need not be accepted", "simplex_laws/specs/Continuations.antt",
+        "a finalization need not be accepted", "laws_safety/specs/Continuations.antt",
         (("HasSignedAs (Finalize final) i s × HasAccepted (Finalize final) i s", "HasSignedAs (Finalize final) i s × ⊤"),), PROGRESS,
     ),
     Wrong(
-        "the later members need not run", "simplex_laws/specs/Continuations.antt",
+        "the later members need not run", "laws_safety/specs/Continuations.antt",
         (("pub runs : IsNetworkOf same elect term_length later", "pub runs : IsNetworkOf same elect term_length network"),), PROGRESS,
     ),
     Wrong(
-        "one honest vote makes a certificate", "simplex_laws/specs/Continuations.antt",
+        "one honest vote makes a certificate", "laws_safety/specs/Continuations.antt",
         (("AtLeastFrom 0 (quorum (length network)) (IsHonestlySigned vote)", "AtLeastFrom 0 1 (IsHonestlySigned vote)"),), PROGRESS,
     ),
     Wrong(
-        "a faulty vote counts as an honest one", "simplex_laws/specs/Continuations.antt",
+        "a faulty vote counts as an honest one", "laws_safety/specs/Continuations.antt",
         (("IsHonestlySigned vote i Faulty = ⊥", "IsHonestlySigned vote i Faulty = ⊤"),), PROGRESS,
     ),
     Wrong(
-        "another member goes on in its place", "simplex_laws/specs/Continuations.antt",
+        "another member goes on in its place", "laws_safety/specs/Continuations.antt",
         (("(Honest t ∷ later) = ExecutionGoesOn s t × ReplicasGoOn network later", "(Honest t ∷ later) = ⊤ × ReplicasGoOn network later"),), PROGRESS,
     ),
     Wrong(
-        "nothing is asked of honest members", "simplex_laws/specs/Continuations.antt",
+        "nothing is asked of honest members", "laws_safety/specs/Continuations.antt",
         (("EachHonest network P = (i : ℕ) (s : Execution K L D) → slice_get network i ≡ Some (Honest s) → P i s", "EachHonest network P = ⊤"),), PROGRESS,
     ),
     Wrong(
-        "an exchange changes the members", "simplex_progress/specs/Soon.antt",
+        "an exchange changes the members", "laws_progress/specs/Soon.antt",
         (("    pub goes_on : ReplicasGoOn network later\n", "    pub goes_on : ReplicasGoOn network network\n"),), PROGRESS,
     ),
     Wrong(
-        "an exchange brings votes of its own", "simplex_progress/specs/Soon.antt",
+        "an exchange brings votes of its own", "laws_progress/specs/Soon.antt",
         (("⊎ HonestlyBacked network c)", "⊎ HonestlyBacked later c)"),), PROGRESS,
     ),
     Wrong(
-        "an exchange brings proposals of its own", "simplex_progress/specs/Soon.antt",
+        "an exchange brings proposals of its own", "laws_progress/specs/Soon.antt",
         (("⊎ SomeHonest network (HasBuilt p))", "⊎ SomeHonest later (HasBuilt p))"),), PROGRESS,
     ),
     Wrong(
-        "one exchange counts for two", "simplex_progress/specs/Soon.antt",
+        "one exchange counts for two", "laws_progress/specs/Soon.antt",
         (("(between : List (Replica K L D)) × IsExchange network between ×", "(half between : List (Replica K L D)) × IsExchange network half × IsExchange half between ×"),),
         PROGRESS,
     ),
     Wrong(
-        "no network may go on", "simplex_progress/specs/Going.antt",
+        "no network may go on", "laws_progress/specs/Going.antt",
         (("pub few_faulty : faults network ≤ max_faults (length network)", "pub few_faulty : ⊥"),), PROGRESS,
     ),
     Wrong(
-        "no faulty member is borne", "simplex_progress/specs/Going.antt",
+        "no faulty member is borne", "laws_progress/specs/Going.antt",
         (("pub few_faulty : faults network ≤ max_faults (length network)", "pub few_faulty : faults network ≤ 0"),), PROGRESS,
     ),
     Wrong(
-        "the next view alone may be finalized", "simplex_progress/specs/Going.antt",
+        "the next view alone may be finalized", "laws_progress/specs/Going.antt",
         (("(x.current < start))", "(start ≡ suc x.current))"),
          ("use Rattle.std.specs.Prelude.{◌≡◌, ℕ,", "use Rattle.std.specs.Prelude.{◌≡◌, ℕ, suc,")), PROGRESS,
     ),
     Wrong(
-        "a verdict is on whatever was offered", "simplex_chains/specs/Chains.antt",
+        "a verdict is on whatever was offered", "laws_chains/specs/Chains.antt",
         (("Contains s.replies (Candidates offers fetches) × Contains offers q", "Contains s.replies (Candidates offers fetches) × Unit {0}"),), CHAINS,
     ),
     Wrong(
-        "one honest member witnesses a handoff", "simplex_chains/specs/Parents.antt",
+        "one honest member witnesses a handoff", "laws_chains/specs/Parents.antt",
         (("TwoHonest network = faults network + 2 ≤ quorum (length network)", "TwoHonest network = faults network + 1 ≤ quorum (length network)"),), CHAINS,
     ),
     Wrong(
-        "a parent has to be finalized", "simplex_chains/specs/Parents.antt",
+        "a parent has to be finalized", "laws_chains/specs/Parents.antt",
         (("(Backed network (subject.Notarize q) × IsCertifiedByHonest network q)", "(Backed network (subject.Finalize q) × IsCertifiedByHonest network q)"),),
         CHAINS,
     ),
     Wrong(
-        "a proposal that was found bad is certified", "simplex_chains/specs/Parents.antt",
+        "a proposal that was found bad is certified", "laws_chains/specs/Parents.antt",
         (("Contains (judged_of s) (true, q)", "Contains (judged_of s) (false, q)"),), CHAINS,
     ),
     Wrong(
-        "a verdict is of an engine's own accord", "simplex_plan/specs/Matters.antt",
+        "a verdict is of an engine's own accord", "engine_planner/specs/Matters.antt",
         (("of_task (task.Verified view) = Message (task.Verified view) ∷ []", "of_task (task.Verified view) = []"),), ENGINE,
     ),
     Wrong(
-        "a view may be nullified before its timeout", "simplex_plan/specs/Matters.antt",
+        "a view may be nullified before its timeout", "engine_planner/specs/Matters.antt",
         (("if nat_le moment now then Expiry ∷ [] else []", "Expiry ∷ []"),), ENGINE,
     ),
     Wrong(
-        "a resolver hears once more of a certificate that is known", "simplex_plan/specs/Asking.antt",
+        "a resolver hears once more of a certificate that is known", "engine_planner/specs/Asking.antt",
         (("(reply.Added is_new _) asked = if is_new then heard_of bytes asked else []", "(reply.Added is_new _) asked = heard_of bytes asked"),), ENGINE,
     ),
     Wrong(
-        "a resolver hears of genesis", "simplex_plan/specs/Asking.antt",
+        "a resolver hears of genesis", "engine_planner/specs/Asking.antt",
         (("above_genesis view it = if view == 0 then [] else it ∷ []", "above_genesis view it = it ∷ []"),), ENGINE,
     ),
     Wrong(
-        "what is settled of a kind ends fetches of each", "simplex_plan/specs/Asking.antt",
+        "what is settled of a kind ends fetches of each", "engine_planner/specs/Asking.antt",
         (("same_kind (fetch_kind of) kind && nat_le start view", "nat_le start view"),), ENGINE,
     ),
     Wrong(
@@ -449,31 +449,31 @@ WRONG_DEFINITIONS = (
         (("(if had_failed then Failed else OutOfMemory)", "OutOfMemory"),), ENGINE,
     ),
     Wrong(
-        "all entries of a view are alike", "simplex_laws/specs/RecordsOnce.antt",
+        "all entries of a view are alike", "laws_safety/specs/RecordsOnce.antt",
         (("  are_of_one_kind _ _ = false", "  are_of_one_kind _ _ = true"),), ENGINE,
     ),
     Wrong(
-        "a pruning asks the state alone what stays", "simplex_outbox/specs/Reaching.antt",
+        "a pruning asks the state alone what stays", "engine_outbox/specs/Reaching.antt",
         (("lowest_left m x = min (min_active x) (finalized_in m.entries - m.retention)", "lowest_left m x = min_active x"),), ENGINE,
     ),
     Wrong(
-        "a member asks itself", "simplex_fetches/specs/Fetches.antt",
+        "a member asks itself", "engine_fetches/specs/Fetches.antt",
         (("member_at peers place = if nat_lt place peers.me then place else place + 1", "member_at peers place = place"),), ENGINE,
     ),
     Wrong(
-        "what is asked for is asked for twice", "simplex_fetches/specs/Fetches.antt",
+        "what is asked for is asked for twice", "engine_fetches/specs/Fetches.antt",
         (("if is_fetch_open kind view fetches then fetches else fetches ++ fresh kind view first moment ∷ []", "fetches ++ fresh kind view first moment ∷ []"),), ENGINE,
     ),
     Wrong(
-        "votes for two payloads are on the same", "simplex_batcher/specs/Subjects.antt",
+        "votes for two payloads are on the same", "engine_votes/specs/Subjects.antt",
         (("(subject.Notarize p) (subject.Notarize q) = same_proposal same p q", "(subject.Notarize p) (subject.Notarize q) = same_round p.round q.round"),), ENGINE,
     ),
     Wrong(
-        "a certificate has signatures on anything", "simplex_batcher/specs/Polls.antt",
+        "a certificate has signatures on anything", "engine_votes/specs/Polls.antt",
         (("if same_subject same ballot.subject subject then (member, ballot.signature) ∷ [] else []", "(member, ballot.signature) ∷ []"),), ENGINE,
     ),
     Wrong(
-        "a certificate has a signature less", "simplex_assembly/specs/Quorums.antt",
+        "a certificate has a signature less", "simplex_types/specs/Quorums.antt",
         (("quorum_of members = members - (members - 1) / 3", "quorum_of members = members - members / 3"),), ENGINE,
     ),
 )

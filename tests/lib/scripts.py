@@ -3,7 +3,7 @@
 Each page there has a title, and scripts below it: a name, the command behind `$`, and the lines that the program is given, each with
 the reply that it has to give behind ` => `, or `*` for any. A line without a reply is no call, and ends the program. `\\r`, `\\t` and
 `\\0` stand for these bytes, `\\s` for a space at a line's end or beginning, `\\e` for a line that is empty, and `\\c` for no line feed
-behind the last line. `tests/lib/tables.py` writes the tables of `crates/simplex_program_tests` from the same pages, and the Rust package
+behind the last line. `tests/lib/tables.py` writes the tables of `crates/tests_program` from the same pages, and the Rust package
 serves them (`bindings/rust/tests/scripts.rs`)."""
 
 import re

@@ -1,5 +1,5 @@
 #!/usr/bin/env python3
-"""Writes the tables of `crates/simplex_program_tests/src/program` from the pages of `tests/scripts`.
+"""Writes the tables of `crates/tests_program/src/program` from the pages of `tests/scripts`.
 
     tests/lib/tables.py
 
@@ -12,7 +12,7 @@ sys.path.insert(0, str(Path(__file__).resolve().parent.parent))
 from lib import scripts  # noqa: E402
 from lib.program import ROOT  # noqa: E402
 
-FOLDER = ROOT / "crates/simplex_program_tests/src/program"
+FOLDER = ROOT / "crates/tests_program/src/program"
 ESCAPES = {"\r": r"\r", "\t": r"\t", "\0": r"\0", '"': r"\"", "\\": r"\\"}
 WIDEST_PAIR = 60
 

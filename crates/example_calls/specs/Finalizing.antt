@@ -2,8 +2,8 @@
 use Rattle.std.specs.Prelude.{◌≡◌, List}
 use Rattle.simplex_types.specs.declared.types.messages.Proposal.{Proposal}
 use Rattle.simplex_types.specs.declared.types.messages.Subject.TheVariants.{Finalize}
-use Rattle.simplex_laws.specs.Traces.{TraceEvent}
-use Rattle.simplex_laws.specs.Lawful.{HasSigned}
+use Rattle.laws_safety.specs.Traces.{TraceEvent}
+use Rattle.laws_safety.specs.Lawful.{HasSigned}
 
 -- two that are of one view are for one proposal
 abbrev pub FinalizesOneProposal : {D : Type 0} → List (TraceEvent D) → Type 0

@@ -2,12 +2,12 @@
 
 ghost use Rattle.std.specs.Prelude.{◌≡◌, true};
 ghost use Rattle.simplex_types.specs.declared.types.messages.Subject.TheVariants.{Finalize};
-ghost use Rattle.simplex_laws.specs.Living.{OfAllDone};
-ghost use Rattle.simplex_laws.specs.Replicas.{OfEachNetwork, Backed};
+ghost use Rattle.laws_safety.specs.Living.{OfAllDone};
+ghost use Rattle.laws_safety.specs.Replicas.{OfEachNetwork, Backed};
 ghost use Rattle.example_calls.specs.Finalizing.{FinalizesOneProposal};
 
-use simplex_lawful::lawful::LawfulMember;
-use simplex_laws::laws::agreement;
+use lawful_member::lawful::LawfulMember;
+use laws_safety::laws::agreement;
 use simplex_types::types::{Digest, Elector, Proposal, Scheme};
 
 /// Votes to finalize one view that a member has signed, in whichever of its lives, are for one proposal. It does nothing: its

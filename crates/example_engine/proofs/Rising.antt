@@ -1,6 +1,6 @@
 -- Members by rising index are members.
 use Rattle.std.proofs.Common.{ℕ, zero, suc, ◌+◌, ◌<◌, List, [], ◌∷◌, length, get_or, arith}
-use Rattle.simplex_assembly.specs.Quorums.{AreRising}
+use Rattle.simplex_types.specs.Quorums.{AreRising}
 
 pub rising_below : {G : Type 0} (members lowest : ℕ) (signatures : List (ℕ × G)) (place : ℕ) (other : ℕ × G)
     → AreRising members lowest signatures → place < length signatures → (get_or signatures place other).0 < members

@@ -6,7 +6,7 @@ use Rattle.std.proofs.Math.Nat.{le_of_eq}
 use Rattle.std.proofs.lemmas.Bool.{le-leb, lt-ltb}
 use Rattle.std.proofs.lemmas.List.{length-map}
 use Rattle.simplex_types.specs.declared.types.messages.Subject.{Subject}
-use Rattle.simplex_assembly.specs.Quorums.{quorum_of, AreRising, IsSignedByQuorum}
+use Rattle.simplex_types.specs.Quorums.{quorum_of, AreRising, IsSignedByQuorum}
 use Rattle.example_engine.specs.declared.digest.BlockDigest.{BlockDigest}
 use Rattle.example_engine.specs.declared.scheme.Signature.{Signature}
 use Rattle.example_engine.specs.declared.scheme.Seal.{Seal}

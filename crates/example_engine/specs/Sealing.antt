@@ -3,7 +3,7 @@ use Rattle.std.specs.Prelude.{◌≡◌, ℕ, Bool, ◌&&◌, ◌==◌, List, �
 use Rattle.std.specs.Int.{w32, w64, to_be_bytes, from_be_bytes}
 use Rattle.simplex_types.specs.declared.types.messages.Subject.{Subject}
 use Rattle.simplex_types.specs.Encoding.{subject_bytes}
-use Rattle.simplex_assembly.specs.Quorums.{quorum_of}
+use Rattle.simplex_types.specs.Quorums.{quorum_of}
 use Rattle.example_engine.specs.declared.digest.BlockDigest.{BlockDigest}
 use Rattle.example_engine.specs.declared.scheme.MemberKey.{MemberKey}
 use Rattle.example_engine.specs.declared.scheme.Signature.{Signature}

@@ -1,12 +1,12 @@
 //! How certificates are made of votes.
 
 ghost use Rattle.std.specs.Prelude.{◌≡◌, ◌≤◌, IfOk};
-ghost use Rattle.simplex_assembly.specs.Quorums.{AreRising};
+ghost use Rattle.simplex_types.specs.Quorums.{AreRising};
 ghost use Rattle.example_engine.specs.Assembling.{signers_of};
 
 use crate::digest::BlockDigest;
 use crate::scheme::{Seal, SealScheme, Signature};
-use simplex_assembly::assembly::Assembly;
+use simplex_types::types::assembly::Assembly;
 use simplex_types::types::{CertificateScheme, Participant, Subject};
 use std::alloc::{AllocError, Global};
 

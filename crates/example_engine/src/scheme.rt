@@ -6,7 +6,7 @@ ghost use Rattle.example_engine.specs.Rising.{are_members};
 
 use crate::checksum::checksum;
 use crate::digest::BlockDigest;
-use simplex_assembly::assembly::quorum;
+use simplex_types::types::assembly::quorum;
 use simplex_types::types::{CertificateScheme, Participant, PublicKey, Scheme, Subject};
 use std::alloc::{AllocError, Global};
 

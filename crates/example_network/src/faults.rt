@@ -4,7 +4,7 @@ use crate::message::{Ballot, Message, proposal_of};
 use example_engine::digest::BlockDigest;
 use example_engine::parts::Block;
 use example_engine::scheme::SealScheme;
-use simplex_batcher::votes::Vote;
+use engine_votes::votes::Vote;
 use simplex_types::types::{Fault, Participant, Proposal, Scheme, Subject, View, Viewable};
 use std::alloc::Global;
 

@@ -4,8 +4,8 @@ use bytes::Bytes;
 use example_engine::digest::BlockDigest;
 use example_engine::parts::{Block, Proof};
 use example_engine::scheme::{SealScheme, Signature};
-use simplex_batcher::votes::Vote;
-use simplex_fetches::fetches::FetchKind;
+use engine_votes::votes::Vote;
+use engine_fetches::fetches::FetchKind;
 use simplex_types::types::{CertificateScheme, Fault, Subject, View};
 use std::alloc::Global;
 

@@ -6,14 +6,14 @@ use Rattle.simplex_types.specs.declared.types.messages.Subject.{Subject}
 use Rattle.simplex_voter.specs.Facts.{StateFacts, Elect}
 use Rattle.simplex_voter.specs.Windows.{min_active}
 use Rattle.simplex_member.specs.Lives.{SignedMember}
-use Rattle.simplex_batcher.specs.declared.batcher.Batcher.{Batcher}
-use Rattle.simplex_batcher.specs.Batching.{IsForgotten}
+use Rattle.engine_votes.specs.declared.batcher.Batcher.{Batcher}
+use Rattle.engine_votes.specs.Batching.{IsForgotten}
 use Rattle.simplex_engine.specs.declared.engine.Engine.{Engine}
 use Rattle.simplex_engine.specs.Alone.{ForgetsNoOther, GoesOnAlone, GoesOnForgetting}
-use Rattle.simplex_outbox.specs.declared.journaled.Journaled.{Journaled}
-use Rattle.simplex_outbox.specs.Going.{GoesOn}
+use Rattle.engine_outbox.specs.declared.journaled.Journaled.{Journaled}
+use Rattle.engine_outbox.specs.Going.{GoesOn}
 use Rattle.simplex_engine.proofs.Backing.{takes_no_more, takes_same}
-use Rattle.simplex_outbox.proofs.Going.{stays, goes_further}
+use Rattle.engine_outbox.proofs.Going.{stays, goes_further}
 
 always_some : {A : Type 0} (o : Option A) {P : A → Type 0} → ((x : A) → P x) → IfSome o P
 always_some (Some x) holds = holds x

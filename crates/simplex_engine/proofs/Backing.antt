@@ -5,23 +5,23 @@ use Rattle.std.proofs.lemmas.List.Elements.{All-append, All-cons, All-nil}
 use Rattle.simplex_types.specs.declared.types.messages.Subject.{Subject}
 use Rattle.simplex_types.specs.Viewed.{subject_view}
 use Rattle.simplex_voter.specs.Facts.{Elect}
-use Rattle.simplex_batcher.specs.declared.batcher.Batcher.{Batcher}
-use Rattle.simplex_batcher.specs.declared.batcher.Counted.TheVariants.{Certified}
-use Rattle.simplex_batcher.specs.declared.batcher.poll.Ballot.{Ballot}
-use Rattle.simplex_outbox.specs.declared.journaled.Journaled.{Journaled}
-use Rattle.simplex_batcher.specs.declared.votes.Vote.{Vote}
-use Rattle.simplex_batcher.specs.Subjects.{same_subject}
-use Rattle.simplex_batcher.specs.Polls.{ballot_of, signature_on, signatures_on}
-use Rattle.simplex_assembly.specs.Quorums.{quorum_of}
-use Rattle.simplex_batcher.specs.Batching.{kind_of, held, AreGiven, IsCounted}
+use Rattle.engine_votes.specs.declared.batcher.Batcher.{Batcher}
+use Rattle.engine_votes.specs.declared.batcher.Counted.TheVariants.{Certified}
+use Rattle.engine_votes.specs.declared.batcher.poll.Ballot.{Ballot}
+use Rattle.engine_outbox.specs.declared.journaled.Journaled.{Journaled}
+use Rattle.engine_votes.specs.declared.votes.Vote.{Vote}
+use Rattle.engine_votes.specs.Subjects.{same_subject}
+use Rattle.engine_votes.specs.Polls.{ballot_of, signature_on, signatures_on}
+use Rattle.simplex_types.specs.Quorums.{quorum_of}
+use Rattle.engine_votes.specs.Batching.{kind_of, held, AreGiven, IsCounted}
 use Rattle.simplex_engine.specs.Backing.{HasQuorum, TakesVotes, TakesNone, IsBacked, IsBackedInput}
 use Rattle.simplex_engine.specs.declared.input.Input.{Input}
 use Rattle.simplex_engine.specs.declared.input.Input.TheVariants as input
-use Rattle.simplex_outbox.specs.Going.{GoesOn}
-use Rattle.simplex_batcher.proofs.Contains.{contains_left}
-use Rattle.simplex_outbox.proofs.Going.{goes_further}
-use Rattle.simplex_batcher.proofs.Good.{same_subject-true}
-use Rattle.simplex_batcher.proofs.Polls.{rising_on}
+use Rattle.engine_outbox.specs.Going.{GoesOn}
+use Rattle.engine_votes.proofs.Contains.{contains_left}
+use Rattle.engine_outbox.proofs.Going.{goes_further}
+use Rattle.engine_votes.proofs.Good.{same_subject-true}
+use Rattle.engine_votes.proofs.Polls.{rising_on}
 
 module _ {S D K G C : Type 0} where
   -- votes that were handed in are among these and others

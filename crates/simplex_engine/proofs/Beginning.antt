@@ -7,11 +7,11 @@ use Rattle.simplex_resolver.specs.Steps.{Replayed}
 use Rattle.simplex_resolver.specs.Told.{HasBeenTold, LawfulResolverFacts}
 use Rattle.simplex_member.specs.Lives.{MemberFacts}
 use Rattle.simplex_member.specs.declared.member.resume.ResumeError.{ResumeError}
-use Rattle.simplex_batcher.specs.Batching.{AreGiven}
-use Rattle.simplex_fetches.specs.declared.fetches.Peers.{Peers}
-use Rattle.simplex_fetches.specs.declared.repair.Repair.{Repair}
-use Rattle.simplex_fetches.specs.Wanted.{wanting}
-use Rattle.simplex_plan.specs.declared.plan.Options.{Options}
+use Rattle.engine_votes.specs.Batching.{AreGiven}
+use Rattle.engine_fetches.specs.declared.fetches.Peers.{Peers}
+use Rattle.engine_fetches.specs.declared.repair.Repair.{Repair}
+use Rattle.engine_fetches.specs.Wanted.{wanting}
+use Rattle.engine_planner.specs.declared.plan.Options.{Options}
 use Rattle.simplex_engine.specs.declared.engine.Engine.{Engine}
 use Rattle.simplex_engine.specs.declared.engine.begin.Company.{Company}
 use Rattle.simplex_engine.specs.declared.engine.begin.StartError.{StartError}

@@ -5,18 +5,18 @@ use Rattle.std.specs.List.{list_any}
 use Rattle.std.proofs.lemmas.Bool.{false≢true, false_from_ne_true, lt-ltb, ltb-true, or_cases, or_left, or_right}
 use Rattle.simplex_types.specs.Terms.{next_term_start}
 use Rattle.simplex_voter.specs.Facts.{StateFacts}
-use Rattle.simplex_laws.specs.LifeLaws.{WhileAlive}
+use Rattle.laws_safety.specs.LifeLaws.{WhileAlive}
 use Rattle.simplex_member.specs.Lives.{SignedMember}
-use Rattle.simplex_outbox.specs.Going.{HasRisen}
-use Rattle.simplex_outbox.proofs.Going.{risen_not}
-use Rattle.simplex_plan.specs.declared.plan.building.Building.{Building}
-use Rattle.simplex_plan.specs.Blocks.{views_built, builds_above}
-use Rattle.simplex_plan.specs.declared.plan.Plan.{Plan}
-use Rattle.simplex_plan.specs.declared.plan.Views.{Views}
-use Rattle.simplex_plan.specs.declared.plan.early.Early.{Early}
-use Rattle.simplex_laws.proofs.lives.WithinLives.{alive_joined}
-use Rattle.simplex_plan.specs.PlannedWork.{AreAmong, is_early}
-use Rattle.simplex_plan.proofs.PlannedWork.{among_all, among_further, among_kept, any_either, kept_further}
+use Rattle.engine_outbox.specs.Going.{HasRisen}
+use Rattle.engine_outbox.proofs.Going.{risen_not}
+use Rattle.engine_planner.specs.declared.plan.building.Building.{Building}
+use Rattle.engine_planner.specs.Blocks.{views_built, builds_above}
+use Rattle.engine_planner.specs.declared.plan.Plan.{Plan}
+use Rattle.engine_planner.specs.declared.plan.Views.{Views}
+use Rattle.engine_planner.specs.declared.plan.early.Early.{Early}
+use Rattle.laws_safety.proofs.lives.WithinLives.{alive_joined}
+use Rattle.engine_planner.specs.PlannedWork.{AreAmong, is_early}
+use Rattle.engine_planner.proofs.PlannedWork.{among_all, among_further, among_kept, any_either, kept_further}
 use Rattle.simplex_engine.specs.declared.engine.Engine.{Engine}
 use Rattle.simplex_engine.specs.Building.{BuildsNear}
 use Rattle.simplex_engine.specs.Views.{HasComeTo, StaysEarly}

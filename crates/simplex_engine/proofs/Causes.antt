@@ -24,54 +24,54 @@ use Rattle.simplex_member.specs.Runs.{StepFacts, Calls, Prunes, Restarts}
 use Rattle.simplex_member.specs.declared.member.calls.Reply.{Reply}
 use Rattle.simplex_member.specs.declared.member.calls.Reply.TheVariants as reply
 use Rattle.simplex_member.specs.declared.member.journal.Stored.{Stored}
-use Rattle.simplex_batcher.specs.Batching.{held, kind_of, IsCounted}
-use Rattle.simplex_batcher.specs.Counting.{certificate_of}
-use Rattle.simplex_batcher.specs.Polls.{ballot_of}
-use Rattle.simplex_batcher.specs.declared.batcher.Batcher.{Batcher}
-use Rattle.simplex_batcher.specs.declared.batcher.Counted.{Counted}
-use Rattle.simplex_batcher.specs.declared.batcher.Counted.TheVariants as counted
-use Rattle.simplex_batcher.specs.declared.batcher.poll.Ballot.{Ballot}
-use Rattle.simplex_batcher.specs.declared.votes.Vote.{Vote}
-use Rattle.simplex_fetches.specs.declared.fetches.Fetch.{Fetch}
-use Rattle.simplex_fetches.specs.declared.fetches.FetchKind.{FetchKind}
-use Rattle.simplex_fetches.specs.Fetches.{opened, same_kind}
-use Rattle.simplex_fetches.specs.Repairing.{HasFetches, HasPassed}
-use Rattle.simplex_fetches.specs.Wanted.{wanting}
-use Rattle.simplex_fetches.proofs.Opening.{open_wanting}
-use Rattle.simplex_outbox.specs.declared.journaled.Journaled.{Journaled}
-use Rattle.simplex_outbox.specs.declared.output.Output.{Output}
-use Rattle.simplex_outbox.specs.declared.output.Output.TheVariants as output
-use Rattle.simplex_outbox.specs.declared.output.Work.{Work}
-use Rattle.simplex_outbox.specs.declared.output.Work.TheVariants as work
-use Rattle.simplex_outbox.specs.Journals.{BeginsWith}
-use Rattle.simplex_outbox.specs.Outputs.{work_in}
-use Rattle.simplex_outbox.proofs.Working.{work_in-append}
-use Rattle.simplex_plan.specs.declared.plan.Options.{Options}
-use Rattle.simplex_plan.specs.declared.plan.Plan.{Plan}
-use Rattle.simplex_plan.specs.declared.plan.Step.{Step}
-use Rattle.simplex_plan.specs.declared.plan.Step.TheVariants as step
-use Rattle.simplex_plan.specs.declared.plan.early.Early.{Early}
-use Rattle.simplex_plan.specs.declared.task.Task.{Task}
-use Rattle.simplex_plan.specs.declared.task.Task.TheVariants as task
+use Rattle.engine_votes.specs.Batching.{held, kind_of, IsCounted}
+use Rattle.engine_votes.specs.Counting.{certificate_of}
+use Rattle.engine_votes.specs.Polls.{ballot_of}
+use Rattle.engine_votes.specs.declared.batcher.Batcher.{Batcher}
+use Rattle.engine_votes.specs.declared.batcher.Counted.{Counted}
+use Rattle.engine_votes.specs.declared.batcher.Counted.TheVariants as counted
+use Rattle.engine_votes.specs.declared.batcher.poll.Ballot.{Ballot}
+use Rattle.engine_votes.specs.declared.votes.Vote.{Vote}
+use Rattle.engine_fetches.specs.declared.fetches.Fetch.{Fetch}
+use Rattle.engine_fetches.specs.declared.fetches.FetchKind.{FetchKind}
+use Rattle.engine_fetches.specs.Fetches.{opened, same_kind}
+use Rattle.engine_fetches.specs.Repairing.{HasFetches, HasPassed}
+use Rattle.engine_fetches.specs.Wanted.{wanting}
+use Rattle.engine_fetches.proofs.Opening.{open_wanting}
+use Rattle.engine_outbox.specs.declared.journaled.Journaled.{Journaled}
+use Rattle.engine_outbox.specs.declared.output.Output.{Output}
+use Rattle.engine_outbox.specs.declared.output.Output.TheVariants as output
+use Rattle.engine_outbox.specs.declared.output.Work.{Work}
+use Rattle.engine_outbox.specs.declared.output.Work.TheVariants as work
+use Rattle.engine_outbox.specs.Journals.{BeginsWith}
+use Rattle.engine_outbox.specs.Outputs.{work_in}
+use Rattle.engine_outbox.proofs.Working.{work_in-append}
+use Rattle.engine_planner.specs.declared.plan.Options.{Options}
+use Rattle.engine_planner.specs.declared.plan.Plan.{Plan}
+use Rattle.engine_planner.specs.declared.plan.Step.{Step}
+use Rattle.engine_planner.specs.declared.plan.Step.TheVariants as step
+use Rattle.engine_planner.specs.declared.plan.early.Early.{Early}
+use Rattle.engine_planner.specs.declared.task.Task.{Task}
+use Rattle.engine_planner.specs.declared.task.Task.TheVariants as task
 use Rattle.std.specs.List.{list_any}
 use Rattle.std.specs.Option.{option_map_or}
 use Rattle.std.proofs.lemmas.Bool.Decides.{nat_tests}
-use Rattle.simplex_plan.specs.Asking.{asks, ended_by, heard_by, is_lack, is_plain, is_resolve, with_lack, AreMade, IsStill, KeepsAsking}
-use Rattle.simplex_plan.proofs.StillAsking.{asks_beside, asks_where_same, ended_on, keeps_asking, made_on, AsksOn}
-use Rattle.simplex_laws.specs.LifeLaws.{WhileAlive}
-use Rattle.simplex_outbox.specs.Going.{HasRisen}
-use Rattle.simplex_outbox.proofs.Going.{risen_not}
+use Rattle.engine_planner.specs.Asking.{asks, ended_by, heard_by, is_lack, is_plain, is_resolve, with_lack, AreMade, IsStill, KeepsAsking}
+use Rattle.engine_planner.proofs.StillAsking.{asks_beside, asks_where_same, ended_on, keeps_asking, made_on, AsksOn}
+use Rattle.laws_safety.specs.LifeLaws.{WhileAlive}
+use Rattle.engine_outbox.specs.Going.{HasRisen}
+use Rattle.engine_outbox.proofs.Going.{risen_not}
 use Rattle.simplex_member.specs.Allowed.{is_allowed, fault_of}
 use Rattle.simplex_member.specs.CallSemantics.{answer}
 use Rattle.simplex_member.specs.OutstandingWork.{OutstandingWork}
 use Rattle.simplex_resolver.specs.Steps.{Call}
-use Rattle.simplex_outbox.specs.Handing.{hands_in}
-use Rattle.simplex_plan.specs.Matters.{Matter, Quorum, Duty, Lack, Arrival, Message, given_by, of_blocks, of_early, of_fetches, of_step, of_steps, of_work, of_works, planned_matters, of_task}
-use Rattle.simplex_plan.specs.PlannedWork.{AreAmong}
-use Rattle.simplex_plan.specs.Tasks.{call_of}
-use Rattle.simplex_plan.proofs.Giving.{repaired_alone}
-use Rattle.simplex_plan.proofs.Matters.{among_each, among_last, among_none, closes_some, each_part, fetches_by, in_early, in_steps, opens_one, same_plan, still_blocks, still_fetches}
-use Rattle.simplex_plan.proofs.PlannedWork.{among_all, among_both, among_further, among_more, among_still}
+use Rattle.engine_outbox.specs.Handing.{hands_in}
+use Rattle.engine_planner.specs.Matters.{Matter, Quorum, Duty, Lack, Arrival, Message, given_by, of_blocks, of_early, of_fetches, of_step, of_steps, of_work, of_works, planned_matters, of_task}
+use Rattle.engine_planner.specs.PlannedWork.{AreAmong}
+use Rattle.engine_planner.specs.Tasks.{call_of}
+use Rattle.engine_planner.proofs.Giving.{repaired_alone}
+use Rattle.engine_planner.proofs.Matters.{among_each, among_last, among_none, closes_some, each_part, fetches_by, in_early, in_steps, opens_one, same_plan, still_blocks, still_fetches}
+use Rattle.engine_planner.proofs.PlannedWork.{among_all, among_both, among_further, among_more, among_still}
 use Rattle.simplex_engine.specs.declared.engine.Engine.{Engine}
 use Rattle.simplex_engine.specs.declared.input.Input.{Input}
 use Rattle.simplex_engine.specs.declared.input.Input.TheVariants as input

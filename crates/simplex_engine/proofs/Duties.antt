@@ -21,18 +21,18 @@ use Rattle.simplex_member.specs.Calls.{CallFacts, Told}
 use Rattle.simplex_member.specs.CallSemantics.{answer, outstanding_work_after}
 use Rattle.simplex_member.specs.Lives.{MemberFacts, SignedMember, AnswersAlive, IsCall, unless_refused, unless_kept, with_call}
 use Rattle.simplex_member.specs.OutstandingWork.{OutstandingWork, no_outstanding_work, context_at, is_among, is_offered, is_verifying, with_offers, with_open_request, with_verification, without_context, without_offer, without_verification}
-use Rattle.simplex_laws.proofs.votes.OutstandingWork.{among_others, now_among}
-use Rattle.simplex_outbox.specs.declared.output.Work.{Work}
-use Rattle.simplex_outbox.specs.declared.output.Work.TheVariants as work
+use Rattle.laws_safety.proofs.votes.OutstandingWork.{among_others, now_among}
+use Rattle.engine_outbox.specs.declared.output.Work.{Work}
+use Rattle.engine_outbox.specs.declared.output.Work.TheVariants as work
 use Rattle.simplex_engine.specs.declared.engine.Engine.{Engine}
 use Rattle.simplex_engine.specs.Building.{BuildsAhead}
 use Rattle.simplex_engine.specs.Duties.{is_verify_of, is_certify_of, IsToldIn}
-use Rattle.simplex_plan.specs.Blocks.{builds_from}
-use Rattle.simplex_plan.specs.declared.plan.building.Building.{Building}
-use Rattle.simplex_plan.specs.declared.plan.Options.{Options}
-use Rattle.simplex_outbox.specs.Reaching.{IsShort}
-use Rattle.simplex_plan.specs.PlannedWork.{AreAmong, Beside, awaits, has_block, is_build_of, work_of}
-use Rattle.simplex_plan.proofs.PlannedWork.{any_either, any_left, any_right, among_more, has_further}
+use Rattle.engine_planner.specs.Blocks.{builds_from}
+use Rattle.engine_planner.specs.declared.plan.building.Building.{Building}
+use Rattle.engine_planner.specs.declared.plan.Options.{Options}
+use Rattle.engine_outbox.specs.Reaching.{IsShort}
+use Rattle.engine_planner.specs.PlannedWork.{AreAmong, Beside, awaits, has_block, is_build_of, work_of}
+use Rattle.engine_planner.proofs.PlannedWork.{any_either, any_left, any_right, among_more, has_further}
 
 module _ {S D K G C : Type 0} where
   -- in another order

@@ -23,13 +23,13 @@ use Rattle.simplex_member.specs.Calls.{Told}
 use Rattle.simplex_member.specs.CallSemantics.{answer, outstanding_work_after}
 use Rattle.simplex_member.specs.Lives.{MemberFacts, AnswersAlive, IsCall, unless_refused, unless_kept, with_call}
 use Rattle.simplex_member.specs.OutstandingWork.{OutstandingWork, context_at, with_open_request, with_verification, without_context}
-use Rattle.simplex_laws.proofs.votes.OutstandingWork.{now_open, still_open}
-use Rattle.simplex_laws.proofs.votes.Requests.{requested_ahead}
-use Rattle.simplex_plan.specs.declared.task.Task.{Task}
-use Rattle.simplex_plan.specs.declared.task.Task.TheVariants as task
-use Rattle.simplex_plan.specs.Following.{Nothing, Touched}
-use Rattle.simplex_plan.specs.PlannedWork.{ended_in, ends, views_requested}
-use Rattle.simplex_plan.specs.Tasks.{call_of}
+use Rattle.laws_safety.proofs.votes.OutstandingWork.{now_open, still_open}
+use Rattle.laws_safety.proofs.votes.Requests.{requested_ahead}
+use Rattle.engine_planner.specs.declared.task.Task.{Task}
+use Rattle.engine_planner.specs.declared.task.Task.TheVariants as task
+use Rattle.engine_planner.specs.Following.{Nothing, Touched}
+use Rattle.engine_planner.specs.PlannedWork.{ended_in, ends, views_requested}
+use Rattle.engine_planner.specs.Tasks.{call_of}
 
 -- nothing is ended
 touched : (D : Type 0) (is_taken : Bool) (view other : ℕ) → ended_in {D = D} (cond is_taken (Touched view) Nothing) other ≡ false

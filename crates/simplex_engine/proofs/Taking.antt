@@ -12,41 +12,41 @@ use Rattle.simplex_types.specs.declared.types.messages.Certificate.{Certificate}
 use Rattle.simplex_types.specs.declared.types.messages.Subject.{Subject}
 use Rattle.simplex_voter.specs.Facts.{Elect}
 use Rattle.simplex_member.specs.Lives.{MemberFacts}
-use Rattle.simplex_batcher.specs.declared.batcher.Batcher.{Batcher}
-use Rattle.simplex_batcher.specs.declared.batcher.Counted.{Counted}
-use Rattle.simplex_batcher.specs.declared.batcher.Counted.TheVariants.{Refused, Known, Taken, Certified, Equivocated}
+use Rattle.engine_votes.specs.declared.batcher.Batcher.{Batcher}
+use Rattle.engine_votes.specs.declared.batcher.Counted.{Counted}
+use Rattle.engine_votes.specs.declared.batcher.Counted.TheVariants.{Refused, Known, Taken, Certified, Equivocated}
 use Rattle.simplex_engine.specs.declared.engine.Engine.{Engine}
-use Rattle.simplex_plan.specs.declared.plan.Step.{Step}
-use Rattle.simplex_plan.specs.declared.task.Task.{Task}
-use Rattle.simplex_plan.specs.declared.task.Task.TheVariants as task
+use Rattle.engine_planner.specs.declared.plan.Step.{Step}
+use Rattle.engine_planner.specs.declared.task.Task.{Task}
+use Rattle.engine_planner.specs.declared.task.Task.TheVariants as task
 use Rattle.simplex_engine.specs.declared.input.Input.{Input}
 use Rattle.simplex_engine.specs.declared.input.Input.TheVariants as input
-use Rattle.simplex_outbox.specs.declared.journaled.Journaled.{Journaled}
-use Rattle.simplex_batcher.specs.declared.votes.Vote.{Vote}
+use Rattle.engine_outbox.specs.declared.journaled.Journaled.{Journaled}
+use Rattle.engine_votes.specs.declared.votes.Vote.{Vote}
 use Rattle.simplex_engine.specs.Acting.{verification_of, HasDoneTask, IsBlockTaken, IsHandedIn, IsCountFollowed, IsActedOn}
-use Rattle.simplex_outbox.specs.Handing.{hands_in}
+use Rattle.engine_outbox.specs.Handing.{hands_in}
 use Rattle.simplex_engine.specs.Admitting.{admits_votes, is_so, is_input_admitted, one_more, IsTurnedAway, ignoring}
 use Rattle.simplex_engine.specs.Backing.{votes_of_input, TakesVotes, IsBacked, IsBackedInput, KeepsVotes}
-use Rattle.simplex_batcher.specs.Batching.{AreGiven, HoldsAllTheSame, HoldsUpTo, held, IsCounted}
+use Rattle.engine_votes.specs.Batching.{AreGiven, HoldsAllTheSame, HoldsUpTo, held, IsCounted}
 use Rattle.simplex_engine.specs.Bounds.{StaysBounded}
-use Rattle.simplex_plan.specs.Blocks.{is_asked_in}
+use Rattle.engine_planner.specs.Blocks.{is_asked_in}
 use Rattle.simplex_engine.specs.Dropping.{IsLeftByInput}
-use Rattle.simplex_outbox.specs.Refusing.{is_refused, says_nothing, IsLeftByCall}
+use Rattle.engine_outbox.specs.Refusing.{is_refused, says_nothing, IsLeftByCall}
 use Rattle.simplex_engine.specs.Duties.{KeepsDuties}
-use Rattle.simplex_outbox.specs.Going.{GoesOn}
+use Rattle.engine_outbox.specs.Going.{GoesOn}
 use Rattle.simplex_engine.specs.Inputs.{subject_in, subject_made}
-use Rattle.simplex_batcher.specs.Polls.{ballot_of}
-use Rattle.simplex_batcher.specs.Subjects.{subject_round}
+use Rattle.engine_votes.specs.Polls.{ballot_of}
+use Rattle.engine_votes.specs.Subjects.{subject_round}
 use Rattle.simplex_engine.specs.Taking.{IsInputTaken}
 use Rattle.simplex_engine.specs.Causes.{came_in, ComesWith}
 use Rattle.simplex_engine.proofs.Causes.{both_ok}
-use Rattle.simplex_plan.specs.Tasks.{call_of}
-use Rattle.simplex_plan.proofs.Planning.{on_ok}
+use Rattle.engine_planner.specs.Tasks.{call_of}
+use Rattle.engine_planner.proofs.Planning.{on_ok}
 use Rattle.simplex_engine.proofs.Backing.{takes_same, takes_anyway, takes_then, backed_by_none, certified_given}
 use Rattle.simplex_engine.proofs.Bounds.{bounded_still, bounded_further, bounded_counted}
-use Rattle.simplex_outbox.proofs.Dropping.{refused_left, dropped_left}
-use Rattle.simplex_batcher.proofs.Given.{all_the_same}
-use Rattle.simplex_outbox.proofs.Going.{goes_on_anyway, made_on}
+use Rattle.engine_outbox.proofs.Dropping.{refused_left, dropped_left}
+use Rattle.engine_votes.proofs.Given.{all_the_same}
+use Rattle.engine_outbox.proofs.Going.{goes_on_anyway, made_on}
 
 always_ok : {X E : Type 0} (r : Result X E) {P : X → Type 0} → ((x : X) → P x) → IfOk r P
 always_ok (Ok x) holds = holds x

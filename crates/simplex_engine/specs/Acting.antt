@@ -7,24 +7,24 @@ use Rattle.simplex_types.specs.declared.types.messages.Subject.{Subject}
 use Rattle.simplex_voter.specs.Facts.{Elect}
 use Rattle.simplex_member.specs.Calls.{CallFacts, Told}
 use Rattle.simplex_member.specs.Lives.{MemberFacts, IsCall}
-use Rattle.simplex_batcher.specs.declared.batcher.Batcher.{Batcher}
-use Rattle.simplex_batcher.specs.declared.batcher.Counted.{Counted}
-use Rattle.simplex_batcher.specs.declared.batcher.Counted.TheVariants.{Taken, Certified, Equivocated}
+use Rattle.engine_votes.specs.declared.batcher.Batcher.{Batcher}
+use Rattle.engine_votes.specs.declared.batcher.Counted.{Counted}
+use Rattle.engine_votes.specs.declared.batcher.Counted.TheVariants.{Taken, Certified, Equivocated}
 use Rattle.simplex_engine.specs.declared.engine.Engine.{Engine}
-use Rattle.simplex_plan.specs.declared.plan.Step.{Step}
-use Rattle.simplex_plan.specs.declared.plan.Step.TheVariants.{Push}
-use Rattle.simplex_plan.specs.declared.task.Task.{Task}
-use Rattle.simplex_plan.specs.declared.task.Task.TheVariants as task
+use Rattle.engine_planner.specs.declared.plan.Step.{Step}
+use Rattle.engine_planner.specs.declared.plan.Step.TheVariants.{Push}
+use Rattle.engine_planner.specs.declared.task.Task.{Task}
+use Rattle.engine_planner.specs.declared.task.Task.TheVariants as task
 use Rattle.simplex_engine.specs.declared.input.Input.{Input}
 use Rattle.simplex_engine.specs.declared.input.Input.TheVariants as input
-use Rattle.simplex_outbox.specs.declared.output.Work.TheVariants as work
-use Rattle.simplex_batcher.specs.declared.votes.Vote.{Vote}
+use Rattle.engine_outbox.specs.declared.output.Work.TheVariants as work
+use Rattle.engine_votes.specs.declared.votes.Vote.{Vote}
 use Rattle.simplex_engine.specs.Admitting.{admits, is_so}
-use Rattle.simplex_batcher.specs.Batching.{IsCounted}
-use Rattle.simplex_plan.specs.Blocks.{is_asked_in}
-use Rattle.simplex_outbox.specs.Handing.{hands_in}
-use Rattle.simplex_outbox.specs.Refusing.{is_refused, says_nothing}
-use Rattle.simplex_plan.specs.Tasks.{call_of}
+use Rattle.engine_votes.specs.Batching.{IsCounted}
+use Rattle.engine_planner.specs.Blocks.{is_asked_in}
+use Rattle.engine_outbox.specs.Handing.{hands_in}
+use Rattle.engine_outbox.specs.Refusing.{is_refused, says_nothing}
+use Rattle.engine_planner.specs.Tasks.{call_of}
 
 -- the task of an answer of the application: whether it found the view's proposal valid
 abbrev pub verification_of : {D : Type 0} → Bool → ℕ → Task D

@@ -13,8 +13,8 @@ use Rattle.simplex_member.specs.OutstandingWork.{is_offered}
 use Rattle.simplex_engine.specs.declared.engine.Engine.{Engine}
 use Rattle.simplex_engine.specs.declared.input.Input.{Input}
 use Rattle.simplex_engine.specs.declared.input.Input.TheVariants as input
-use Rattle.simplex_batcher.specs.Subjects.{subject_round}
-use Rattle.simplex_plan.specs.Planning.{may_keep}
+use Rattle.engine_votes.specs.Subjects.{subject_round}
+use Rattle.engine_planner.specs.Planning.{may_keep}
 
 -- a number that stops at 2^64 - 1, and one more
 abbrev pub one_more : ℕ → ℕ

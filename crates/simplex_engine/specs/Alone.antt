@@ -3,12 +3,12 @@ use Rattle.std.specs.Prelude.{◌≡◌, ◌⊎◌, ℕ, Bool, List, None, IfSom
 use Rattle.simplex_types.specs.declared.types.messages.Subject.{Subject}
 use Rattle.simplex_voter.specs.Facts.{Elect}
 use Rattle.simplex_voter.specs.Windows.{min_active}
-use Rattle.simplex_batcher.specs.declared.batcher.Batcher.{Batcher}
-use Rattle.simplex_batcher.specs.Batching.{IsForgotten}
+use Rattle.engine_votes.specs.declared.batcher.Batcher.{Batcher}
+use Rattle.engine_votes.specs.Batching.{IsForgotten}
 use Rattle.simplex_engine.specs.declared.engine.Engine.{Engine}
 use Rattle.simplex_engine.specs.Backing.{TakesNone}
-use Rattle.simplex_outbox.specs.declared.journaled.Journaled.{Journaled}
-use Rattle.simplex_outbox.specs.Going.{GoesOn}
+use Rattle.engine_outbox.specs.declared.journaled.Journaled.{Journaled}
+use Rattle.engine_outbox.specs.Going.{GoesOn}
 
 -- the same votes are held, or those of the views below the lowest one that the member's state keeps are forgotten, and no others
 abbrev pub ForgetsNoOther : {S L D K G C : Type 0} → Journaled S L D K G C → Batcher S D K G C → Batcher S D K G C → Type 0

@@ -2,14 +2,14 @@
 use Rattle.std.specs.Prelude.{◌≡◌, ℕ, Bool, List, [], ◌∷◌, ◌++◌, length, All, Contains, None, ◌⊎◌}
 use Rattle.simplex_types.specs.declared.types.messages.Subject.{Subject}
 use Rattle.simplex_voter.specs.Facts.{Elect}
-use Rattle.simplex_batcher.specs.declared.batcher.Batcher.{Batcher}
+use Rattle.engine_votes.specs.declared.batcher.Batcher.{Batcher}
 use Rattle.simplex_engine.specs.declared.input.Input.{Input}
 use Rattle.simplex_engine.specs.declared.input.Input.TheVariants as input
-use Rattle.simplex_outbox.specs.declared.journaled.Journaled.{Journaled}
-use Rattle.simplex_batcher.specs.declared.votes.Vote.{Vote}
-use Rattle.simplex_batcher.specs.Batching.{AreGiven, HoldsNoOther}
-use Rattle.simplex_assembly.specs.Quorums.{quorum_of, AreRising}
-use Rattle.simplex_outbox.specs.Going.{GoesOn}
+use Rattle.engine_outbox.specs.declared.journaled.Journaled.{Journaled}
+use Rattle.engine_votes.specs.declared.votes.Vote.{Vote}
+use Rattle.engine_votes.specs.Batching.{AreGiven, HoldsNoOther}
+use Rattle.simplex_types.specs.Quorums.{quorum_of, AreRising}
+use Rattle.engine_outbox.specs.Going.{GoesOn}
 
 -- the votes that an input hands in
 abbrev pub votes_of_input : {S D K G C : Type 0} → Input S D K G C → List (Vote D G)

@@ -1,9 +1,9 @@
 -- Which blocks are to be built.
 use Rattle.std.specs.Prelude.{◌≡◌, true, false, IfSome}
 use Rattle.simplex_types.specs.Terms.{next_term_start}
-use Rattle.simplex_outbox.specs.declared.journaled.Journaled.{Journaled}
-use Rattle.simplex_plan.specs.declared.plan.Plan.{Plan}
-use Rattle.simplex_plan.specs.Blocks.{builds_above, builds_from}
+use Rattle.engine_outbox.specs.declared.journaled.Journaled.{Journaled}
+use Rattle.engine_planner.specs.declared.plan.Plan.{Plan}
+use Rattle.engine_planner.specs.Blocks.{builds_above, builds_from}
 
 module _ {S L D K G C : Type 0} where
   -- each is of a view above the member's current one, or of that one and the application was asked for it

@@ -14,28 +14,28 @@ use Rattle.simplex_member.specs.Lives.{MemberFacts}
 use Rattle.simplex_member.specs.OutstandingWork.{is_offered}
 use Rattle.simplex_member.specs.Runs.{StepFacts, Calls, Prunes, Restarts, IsStep}
 use Rattle.simplex_member.specs.declared.member.calls.Reply.{Reply}
-use Rattle.simplex_batcher.specs.Batching.{held, kind_of}
-use Rattle.simplex_batcher.specs.Polls.{ballot_of}
-use Rattle.simplex_batcher.specs.declared.batcher.Batcher.{Batcher}
-use Rattle.simplex_batcher.specs.declared.batcher.Counted.{Counted}
-use Rattle.simplex_batcher.specs.declared.batcher.Counted.TheVariants as counted
-use Rattle.simplex_batcher.specs.declared.batcher.poll.Ballot.{Ballot}
-use Rattle.simplex_batcher.specs.declared.votes.Vote.{Vote}
-use Rattle.simplex_fetches.specs.declared.fetches.FetchKind.{FetchKind}
-use Rattle.simplex_fetches.specs.Wanted.{holds}
+use Rattle.engine_votes.specs.Batching.{held, kind_of}
+use Rattle.engine_votes.specs.Polls.{ballot_of}
+use Rattle.engine_votes.specs.declared.batcher.Batcher.{Batcher}
+use Rattle.engine_votes.specs.declared.batcher.Counted.{Counted}
+use Rattle.engine_votes.specs.declared.batcher.Counted.TheVariants as counted
+use Rattle.engine_votes.specs.declared.batcher.poll.Ballot.{Ballot}
+use Rattle.engine_votes.specs.declared.votes.Vote.{Vote}
+use Rattle.engine_fetches.specs.declared.fetches.FetchKind.{FetchKind}
+use Rattle.engine_fetches.specs.Wanted.{holds}
 use Rattle.simplex_engine.specs.declared.engine.Engine.{Engine}
 use Rattle.simplex_engine.specs.declared.input.Input.{Input}
 use Rattle.simplex_engine.specs.declared.input.Input.TheVariants as input
-use Rattle.simplex_outbox.specs.Handing.{hands_in}
-use Rattle.simplex_outbox.specs.Outputs.{work_in}
-use Rattle.simplex_outbox.specs.declared.output.Work.{Work}
-use Rattle.simplex_outbox.specs.declared.output.Work.TheVariants.{Equivocated, Forget}
-use Rattle.simplex_plan.specs.declared.task.Task.{Task}
-use Rattle.simplex_plan.specs.declared.task.Task.TheVariants as task
-use Rattle.simplex_plan.specs.Matters.{Matter, Duty, Arrival, Quorum, Message, given_by, of_task, of_works, planned_matters}
-use Rattle.simplex_plan.specs.Asking.{asks, ended_by, heard_by, is_lack, with_lack, AreMade, IsStill}
-use Rattle.simplex_plan.specs.PlannedWork.{AreAmong}
-use Rattle.simplex_plan.specs.Tasks.{call_of}
+use Rattle.engine_outbox.specs.Handing.{hands_in}
+use Rattle.engine_outbox.specs.Outputs.{work_in}
+use Rattle.engine_outbox.specs.declared.output.Work.{Work}
+use Rattle.engine_outbox.specs.declared.output.Work.TheVariants.{Equivocated, Forget}
+use Rattle.engine_planner.specs.declared.task.Task.{Task}
+use Rattle.engine_planner.specs.declared.task.Task.TheVariants as task
+use Rattle.engine_planner.specs.Matters.{Matter, Duty, Arrival, Quorum, Message, given_by, of_task, of_works, planned_matters}
+use Rattle.engine_planner.specs.Asking.{asks, ended_by, heard_by, is_lack, with_lack, AreMade, IsStill}
+use Rattle.engine_planner.specs.PlannedWork.{AreAmong}
+use Rattle.engine_planner.specs.Tasks.{call_of}
 use Rattle.simplex_engine.specs.Acting.{verification_of}
 use Rattle.simplex_engine.specs.Admitting.{admits_proposal, is_so}
 

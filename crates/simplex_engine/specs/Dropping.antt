@@ -5,8 +5,8 @@ use Rattle.simplex_member.specs.Lives.{MemberFacts}
 use Rattle.simplex_engine.specs.declared.engine.Engine.{Engine}
 use Rattle.simplex_engine.specs.declared.input.Input.{Input}
 use Rattle.simplex_engine.specs.declared.input.Input.TheVariants as input
-use Rattle.simplex_batcher.specs.Batching.{HoldsAllTheSame}
-use Rattle.simplex_outbox.specs.Refusing.{IsLeftByCall}
+use Rattle.engine_votes.specs.Batching.{HoldsAllTheSame}
+use Rattle.engine_outbox.specs.Refusing.{IsLeftByCall}
 
 module _ {S L D K G C : Type 0} where
   -- what an input leaves of the member that was of no use: all as it was, but for what a reason to give a view up or a verdict leaves

@@ -5,15 +5,15 @@ use Rattle.std.specs.List.{list_any}
 use Rattle.simplex_member.specs.declared.member.journal.Stored.{Stored}
 use Rattle.simplex_member.specs.OutstandingWork.{OutstandingWork, context_at, is_verifying, is_offered}
 use Rattle.simplex_engine.specs.declared.engine.Engine.{Engine}
-use Rattle.simplex_plan.specs.PlannedWork.{AreAmong, Beside, beside_of, constants_of, has_block, work_planned}
+use Rattle.engine_planner.specs.PlannedWork.{AreAmong, Beside, beside_of, constants_of, has_block, work_planned}
 use Rattle.simplex_engine.specs.Building.{BuildsNear}
 use Rattle.simplex_engine.specs.Views.{HasComeTo, StaysEarly}
-use Rattle.simplex_laws.specs.LifeLaws.{WhileAlive}
-use Rattle.simplex_outbox.specs.Going.{HasRisen}
-use Rattle.simplex_outbox.specs.Outputs.{work_in}
-use Rattle.simplex_outbox.specs.declared.output.Output.{Output}
-use Rattle.simplex_outbox.specs.declared.output.Work.{Work}
-use Rattle.simplex_outbox.specs.declared.output.Work.TheVariants.{Verify, Certify}
+use Rattle.laws_safety.specs.LifeLaws.{WhileAlive}
+use Rattle.engine_outbox.specs.Going.{HasRisen}
+use Rattle.engine_outbox.specs.Outputs.{work_in}
+use Rattle.engine_outbox.specs.declared.output.Output.{Output}
+use Rattle.engine_outbox.specs.declared.output.Work.{Work}
+use Rattle.engine_outbox.specs.declared.output.Work.TheVariants.{Verify, Certify}
 
 module _ {S D K G C : Type 0} where
   -- the application is to verify the view's proposal

@@ -6,10 +6,10 @@ use Rattle.simplex_resolver.specs.Received.{greatest}
 use Rattle.simplex_voter.specs.Facts.{StateFacts, Elect}
 use Rattle.simplex_record.specs.Entries.{entry_view}
 use Rattle.simplex_member.specs.Lives.{MemberFacts}
-use Rattle.simplex_laws.specs.Living.{OfAllDone}
-use Rattle.simplex_plan.specs.declared.plan.Plan.{Plan}
-use Rattle.simplex_plan.specs.declared.plan.Step.{Step}
-use Rattle.simplex_plan.specs.declared.plan.Step.TheVariants.{Resolve}
+use Rattle.laws_safety.specs.Living.{OfAllDone}
+use Rattle.engine_planner.specs.declared.plan.Plan.{Plan}
+use Rattle.engine_planner.specs.declared.plan.Step.{Step}
+use Rattle.engine_planner.specs.declared.plan.Step.TheVariants.{Resolve}
 use Rattle.simplex_engine.specs.declared.engine.Engine.{Engine}
 
 -- the highest view that a member has heard of: of the entries of its record, or the first one of the next term

@@ -3,8 +3,8 @@ use Rattle.std.specs.Prelude.{ℕ, List, [], Option, Some, None, Result, Ok, Err
 use Rattle.simplex_types.specs.Certificates.{certificate_facts}
 use Rattle.simplex_types.specs.Encoding.{certificate_subject}
 use Rattle.simplex_types.specs.declared.types.messages.Subject.{Subject}
-use Rattle.simplex_batcher.specs.declared.batcher.Counted.{Counted}
-use Rattle.simplex_batcher.specs.declared.batcher.Counted.TheVariants.{Certified}
+use Rattle.engine_votes.specs.declared.batcher.Counted.{Counted}
+use Rattle.engine_votes.specs.declared.batcher.Counted.TheVariants.{Certified}
 use Rattle.simplex_engine.specs.declared.input.Input.{Input}
 use Rattle.simplex_engine.specs.declared.input.Input.TheVariants as input
 

@@ -1,8 +1,8 @@
 -- That an engine asks its peers for just what its member's state lacks.
 use Rattle.std.specs.Prelude.{IfSome}
-use Rattle.simplex_outbox.specs.declared.journaled.Journaled.{Journaled}
-use Rattle.simplex_fetches.specs.declared.repair.Repair.{Repair}
-use Rattle.simplex_fetches.specs.Wanted.{AsksForTheLacking}
+use Rattle.engine_outbox.specs.declared.journaled.Journaled.{Journaled}
+use Rattle.engine_fetches.specs.declared.repair.Repair.{Repair}
+use Rattle.engine_fetches.specs.Wanted.{AsksForTheLacking}
 
 module _ {S L D K G C : Type 0} where
   -- just what the member's state lacks is asked of peers

@@ -3,9 +3,9 @@ use Rattle.std.specs.Prelude.{◌≡◌, ℕ, Bool, List, [], ◌∷◌, Option,
 use Rattle.simplex_voter.specs.Facts.{Elect}
 use Rattle.simplex_member.specs.declared.member.journal.Stored.{Stored}
 use Rattle.simplex_engine.specs.declared.engine.Engine.{Engine}
-use Rattle.simplex_outbox.specs.declared.journaled.Journaled.{Journaled}
-use Rattle.simplex_outbox.specs.declared.output.Output.{Output}
-use Rattle.simplex_outbox.specs.Going.{IsWhole}
+use Rattle.engine_outbox.specs.declared.journaled.Journaled.{Journaled}
+use Rattle.engine_outbox.specs.declared.output.Output.{Output}
+use Rattle.engine_outbox.specs.Going.{IsWhole}
 use Rattle.simplex_engine.specs.Quiet.{HasNothingNew}
 
 -- nothing is queued, all of the record was given out to be stored, and the member has nothing new

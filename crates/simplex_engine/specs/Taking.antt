@@ -11,7 +11,7 @@ use Rattle.simplex_engine.specs.Bounds.{StaysBounded}
 use Rattle.simplex_engine.specs.Causes.{came_in, ComesWith}
 use Rattle.simplex_engine.specs.Dropping.{IsDropped}
 use Rattle.simplex_engine.specs.Duties.{KeepsTelling}
-use Rattle.simplex_outbox.specs.Going.{GoesOn}
+use Rattle.engine_outbox.specs.Going.{GoesOn}
 use Rattle.simplex_engine.specs.Inputs.{subject_in}
 
 -- what `Engine::handle` says of an engine before and after, by its answer; an input that is turned away leaves it as it passed

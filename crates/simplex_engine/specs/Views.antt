@@ -1,8 +1,8 @@
 -- That an engine has come to its member's views, and keeps the proposals that came before theirs.
 use Rattle.std.specs.Prelude.{◌≡◌, IfSome, filter}
 use Rattle.simplex_member.specs.Lives.{MemberFacts}
-use Rattle.simplex_plan.specs.declared.plan.Plan.{Plan}
-use Rattle.simplex_plan.specs.PlannedWork.{AreAmong, is_early}
+use Rattle.engine_planner.specs.declared.plan.Plan.{Plan}
+use Rattle.engine_planner.specs.PlannedWork.{AreAmong, is_early}
 
 -- its plan is of the member's current view and last finalized one: by these it keeps what comes early, and lets go what is over
 abbrev pub HasComeTo : {S L D K G C : Type 0} → MemberFacts K L D → Plan S D K G C → Type 0

@@ -1,7 +1,7 @@
 //! The engine of a member: it receives inputs, and returns outputs in the order in which the host carries them out.
 //!
 //! It holds no network, clock or disk, and no key but the scheme's. Moments are milliseconds; they do not go back.
-#![tactic(auto, using(simplex_outbox::proofs::Going::stays, simplex_outbox::proofs::Going::goes_further, crate::proofs::Backing::takes_nothing, crate::proofs::Backing::takes_no_more, crate::proofs::Backing::takes_anyway))]
+#![tactic(auto, using(engine_outbox::proofs::Going::stays, engine_outbox::proofs::Going::goes_further, crate::proofs::Backing::takes_nothing, crate::proofs::Backing::takes_no_more, crate::proofs::Backing::takes_anyway))]
 
 ghost use Rattle.std.specs.Prelude.{◌≡◌, ◌++◌, [], length, Contains, None, Err, if◌then◌else◌, IfOk, IfErr, IfSome, OnOk, OnErr, IsNone, IsFalse, IsTrue, true, false};
 ghost use Rattle.std.specs.Option.{option_copied};
@@ -16,14 +16,14 @@ mod steps;
 
 use crate::input::Input;
 pub use begin::StartError;
-use simplex_assembly::assembly::Assembly;
-use simplex_batcher::batcher::Batcher;
-use simplex_fetches::fetches::Fetches;
+use simplex_types::types::assembly::Assembly;
+use engine_votes::batcher::Batcher;
+use engine_fetches::fetches::Fetches;
 use simplex_member::member::Stored;
-use simplex_outbox::journaled::Journaled;
-use simplex_outbox::output::Output;
-pub use simplex_plan::plan::Options;
-use simplex_plan::plan::Plan;
+use engine_outbox::journaled::Journaled;
+use engine_outbox::output::Output;
+pub use engine_planner::plan::Options;
+use engine_planner::plan::Plan;
 use simplex_resolver::replay::LawfulResolver;
 use simplex_types::types::{Artifact, CertificateScheme, Digest, Elector, Fault, View};
 use simplex_voter::voter::State;
@@ -48,21 +48,21 @@ impl<S: Assembly<D>, L: Elector<S>, D: Digest> Engine<S, L, D> {
     ghost use Rattle.simplex_voter.specs.Refusals.{is_started};
     ghost use Rattle.simplex_record.specs.Entries.{entries_of};
     ghost use Rattle.simplex_record.specs.Votes.{votes_of};
-    ghost use Rattle.simplex_laws.specs.Lawful.{IsLawful};
-    ghost use Rattle.simplex_laws.specs.Living.{OfAllDone, MayBeDoneBy};
-    ghost use Rattle.simplex_laws.specs.RecordsOnce.{HoldsEachEntryOnce};
-    ghost use Rattle.simplex_outbox.specs.Outputs.{AreBehind};
-    ghost use Rattle.simplex_outbox.specs.Finals.{finals_in, RiseByView, EndsAt, TellsNoMore, WereAccepted};
-    ghost use Rattle.simplex_outbox.specs.Journals.{journal_of, IsRecordOf};
-    ghost use Rattle.simplex_outbox.specs.Leaving.{AllLeave};
-    ghost use Rattle.simplex_outbox.specs.Reaching.{IsShort};
-    ghost use Rattle.simplex_outbox.specs.Going.{IsKept, IsTraced, IsWhole, GoesOn, EmitsOn, DoesMoreOn, HasGivenOut, has_failed};
-    ghost use Rattle.simplex_outbox.specs.Signatures.{IsSignedBy};
-    ghost use Rattle.simplex_outbox.specs.Stops.{EachStopIsLawful};
-    ghost use Rattle.simplex_outbox.specs.declared.output.Output.TheVariants as output;
+    ghost use Rattle.laws_safety.specs.Lawful.{IsLawful};
+    ghost use Rattle.laws_safety.specs.Living.{OfAllDone, MayBeDoneBy};
+    ghost use Rattle.laws_safety.specs.RecordsOnce.{HoldsEachEntryOnce};
+    ghost use Rattle.engine_outbox.specs.Outputs.{AreBehind};
+    ghost use Rattle.engine_outbox.specs.Finals.{finals_in, RiseByView, EndsAt, TellsNoMore, WereAccepted};
+    ghost use Rattle.engine_outbox.specs.Journals.{journal_of, IsRecordOf};
+    ghost use Rattle.engine_outbox.specs.Leaving.{AllLeave};
+    ghost use Rattle.engine_outbox.specs.Reaching.{IsShort};
+    ghost use Rattle.engine_outbox.specs.Going.{IsKept, IsTraced, IsWhole, GoesOn, EmitsOn, DoesMoreOn, HasGivenOut, has_failed};
+    ghost use Rattle.engine_outbox.specs.Signatures.{IsSignedBy};
+    ghost use Rattle.engine_outbox.specs.Stops.{EachStopIsLawful};
+    ghost use Rattle.engine_outbox.specs.declared.output.Output.TheVariants as output;
     ghost use Rattle.simplex_engine.specs.Settled.{IsSettled, ReturnsFirst};
-    ghost use Rattle.simplex_plan.specs.PlannedWork.{constants_of, AreAmong};
-    ghost use Rattle.simplex_plan.specs.Planning.{IsIdle, IsWake};
+    ghost use Rattle.engine_planner.specs.PlannedWork.{constants_of, AreAmong};
+    ghost use Rattle.engine_planner.specs.Planning.{IsIdle, IsWake};
     ghost use Rattle.simplex_engine.specs.Inputs.{subject_in, given_out};
     ghost use Rattle.simplex_engine.specs.Alone.{ForgetsNoOther};
     ghost use Rattle.simplex_engine.specs.Backing.{votes_of_input, KeepsVotes, TakesVotes, TakesNone, IsBackedInput};
@@ -75,7 +75,7 @@ impl<S: Assembly<D>, L: Elector<S>, D: Digest> Engine<S, L, D> {
     ghost use Rattle.simplex_engine.specs.Admitting.{is_input_admitted, one_more, IsTurnedAway, ignoring};
     ghost use Rattle.simplex_engine.specs.Acting.{IsActedOn};
     ghost use Rattle.simplex_engine.specs.Causes.{came_in, forgettable, held_by, Comes, ComesWith};
-    ghost use Rattle.simplex_outbox.specs.Outputs.{work_in};
+    ghost use Rattle.engine_outbox.specs.Outputs.{work_in};
     ghost use Rattle.simplex_engine.specs.Duties.{work_ahead, KeepsTelling, HasToldAll, AllIsGivenOut};
 
     /// Takes an input at a moment in milliseconds, and returns whether it was of use. One that was not is ignored and counted.

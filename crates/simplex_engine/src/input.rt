@@ -1,6 +1,6 @@
 //! The inputs of an engine.
 
-use simplex_batcher::votes::Vote;
+use engine_votes::votes::Vote;
 use simplex_types::reasons::TimeoutReason;
 use simplex_types::types::{Certificate, CertificateScheme, Context, Participant, Proposal, View};
 

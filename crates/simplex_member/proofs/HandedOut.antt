@@ -5,7 +5,7 @@ use Rattle.std.specs.FinMap.Entries.{find, find-put}
 use Rattle.std.specs.Ordering.{nat_cmp}
 use Rattle.std.specs.Prelude.{is_some, option_map, option_and_then, IsNone}
 use Rattle.simplex_types.specs.Certificates.{CertificateFacts, Notarized, Nullified, Finalized}
-use Rattle.simplex_sorted.proofs.Maps.{is_eq-nat_cmp}
+use Rattle.simplex_view_maps.proofs.Maps.{is_eq-nat_cmp}
 use Rattle.simplex_round.specs.Round.{RoundFacts, once}
 use Rattle.simplex_voter.specs.Facts.{StateFacts, Elect, round_at, round_of, with_round, with_tracked}
 use Rattle.simplex_voter.specs.Serving.{broadcast_notarization_answer, after_broadcast_notarization, broadcast_nullification_answer, after_broadcast_nullification, broadcast_finalization_answer, after_broadcast_finalization}

@@ -6,7 +6,7 @@ use Rattle.std.specs.FinMap.Entries.{find, is_some-find}
 use Rattle.std.specs.List.{list_any}
 use Rattle.std.specs.Ordering.{nat_cmp, eq_by_cmp}
 use Rattle.std.proofs.lemmas.Bool.Decides.{nat_tests}
-use Rattle.simplex_sorted.proofs.Maps.{entries-remove}
+use Rattle.simplex_view_maps.proofs.Maps.{entries-remove}
 use Rattle.simplex_voter.proofs.RoundsKept.{filter-keys}
 use Rattle.simplex_member.specs.OutstandingWork.{all_but, is_among, views_of}
 

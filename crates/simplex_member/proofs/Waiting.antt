@@ -6,7 +6,7 @@ use Rattle.std.specs.Cmp.{nat_cmp_total}
 use Rattle.std.specs.FinMap as map
 use Rattle.std.specs.FinMap.Entries.{find, put}
 use Rattle.std.specs.Ordering.{nat_cmp}
-use Rattle.simplex_sorted.proofs.Maps.{same_maps, get-insert, is_eq-nat_cmp, entries-remove}
+use Rattle.simplex_view_maps.proofs.Maps.{same_maps, get-insert, is_eq-nat_cmp, entries-remove}
 use Rattle.simplex_member.specs.Waiting.{with_newest}
 
 module _ {V : Type 0} where

@@ -4,7 +4,7 @@ use Rattle.std.specs.List.{range_with_len}
 use Rattle.std.proofs.lemmas.Bool.Decides.{nat_tests}
 use Rattle.std.proofs.lemmas.Bool.{cond-true, cond-false, cases_lt}
 use Rattle.simplex_types.specs.Terms.{term_start, term_end, next_term_start}
-use Rattle.simplex_sorted.specs.ByTerm.{has_covering, ByTermFacts}
+use Rattle.simplex_view_maps.specs.ByTerm.{has_covering, ByTermFacts}
 use Rattle.simplex_types.specs.declared.reasons.FetchReason.TheVariants.{MissingNullification}
 use Rattle.simplex_resolver.specs.declared.resolver.effect.Effect.{Effect}
 use Rattle.simplex_resolver.specs.declared.resolver.effect.Effect.TheVariants.{Fetch}

@@ -7,8 +7,8 @@ use Rattle.std.specs.FinMap.{FinMap}
 use Rattle.std.proofs.lemmas.Bool.Decides.{nat_tests}
 use Rattle.std.proofs.lemmas.Bool.{cases_eq, eq-eqb, ne_eqb, false≢true}
 use Rattle.simplex_types.specs.Terms.{term_end}
-use Rattle.simplex_sorted.specs.Tracked.{at_or_above}
-use Rattle.simplex_sorted.proofs.Maps.{get-insert, get-kept}
+use Rattle.simplex_view_maps.specs.Tracked.{at_or_above}
+use Rattle.simplex_view_maps.proofs.Maps.{get-insert, get-kept}
 use Rattle.simplex_resolver.specs.Facts.{ResolverFacts, term_length, last_finalized, certified_encoding, starts_term}
 use Rattle.simplex_resolver.specs.Steps.{Call, Nullification, Notarization, Finalization, Verdict, Replayed, insert_new, with_kept_nullification, with_kept_finalization, without_finalized, before_scan}
 use Rattle.simplex_resolver.specs.Received.{is_true_verdict, is_false_verdict}

@@ -4,10 +4,10 @@ use Rattle.std.specs.Ordering.{nat_cmp}
 use Rattle.std.specs.FinMap as finmap
 use Rattle.std.specs.FinMap.{FinMap, find}
 use Rattle.std.proofs.lemmas.Bool.{cases_eq, cases_lt, false≢true}
-use Rattle.simplex_sorted.specs.Tracked.{last_entry}
-use Rattle.simplex_sorted.proofs.RisingEntries.{Rises, find_above}
-use Rattle.simplex_sorted.proofs.Maps.{map_rises, get-kept}
-use Rattle.simplex_sorted.proofs.Maps.{find_at_key, find_other}
+use Rattle.simplex_view_maps.specs.Tracked.{last_entry}
+use Rattle.simplex_view_maps.proofs.RisingEntries.{Rises, find_above}
+use Rattle.simplex_view_maps.proofs.Maps.{map_rises, get-kept}
+use Rattle.simplex_view_maps.proofs.Maps.{find_at_key, find_other}
 
 module _ {V : Type 0} where
   -- the last of entries whose views rise is found at its view, and no view there is above it

@@ -10,9 +10,9 @@ use Rattle.std.specs.FinMap.Entries.{by_order}
 use Rattle.std.proofs.lemmas.Option.{slice_get-get_or}
 use Rattle.std.proofs.lemmas.Bool.Decides.{nat_tests}
 use Rattle.simplex_types.specs.Terms.{term_end, term_start, covers}
-use Rattle.simplex_sorted.specs.Tracked.{at_or_above, last_entry}
-use Rattle.simplex_sorted.specs.ByTerm.{has_covering, ByTermFacts, not_ended, covering}
-use Rattle.simplex_sorted.proofs.Maps.{get-insert, get-kept, entries-retain_keys, is_eq-nat_cmp, made_empty}
+use Rattle.simplex_view_maps.specs.Tracked.{at_or_above, last_entry}
+use Rattle.simplex_view_maps.specs.ByTerm.{has_covering, ByTermFacts, not_ended, covering}
+use Rattle.simplex_view_maps.proofs.Maps.{get-insert, get-kept, entries-retain_keys, is_eq-nat_cmp, made_empty}
 use Rattle.simplex_resolver.specs.Steps.{insert_new}
 use Rattle.simplex_resolver.specs.Repair.{has}
 use Rattle.simplex_resolver.proofs.Terms.{terms, AreTerms}

@@ -8,7 +8,7 @@ use Rattle.std.proofs.lemmas.Bool.{cases_eq, eq-eqb, ne_eqb, false≢true}
 use Rattle.std.proofs.lemmas.List.{map-append, reverse-append, length-append, length-drop, take_all, take-append-le, take-append-drop}
 use Rattle.simplex_types.specs.Certificates.{ProposalFacts, Notarized, Nullified, Finalized, ArtifactFacts, NotarizeVote, NullifyVote, FinalizeVote, Verdict, Accepted, artifact_facts}
 use Rattle.simplex_types.specs.declared.types.messages.Artifact.{Artifact}
-use Rattle.simplex_sorted.proofs.Maps.{get-insert}
+use Rattle.simplex_view_maps.proofs.Maps.{get-insert}
 use Rattle.simplex_resolver.specs.declared.replay.places.Places.{Places}
 use Rattle.simplex_resolver.specs.RecordCalls.{newest_first, notarization_at, newest_notarization}
 use Rattle.simplex_resolver.specs.Places.{with_place, AreNoted}

@@ -9,7 +9,7 @@ use Rattle.simplex_types.specs.Terms.{term_start, term_end, covers}
 use Rattle.simplex_types.specs.declared.reasons.FetchReason.TheVariants.{MissingNullification, CertificationFailed}
 use Rattle.simplex_resolver.specs.declared.resolver.effect.Effect.{Effect}
 use Rattle.simplex_resolver.specs.declared.resolver.effect.Effect.TheVariants.{Fetch}
-use Rattle.simplex_sorted.specs.ByTerm.{has_covering}
+use Rattle.simplex_view_maps.specs.ByTerm.{has_covering}
 use Rattle.simplex_resolver.specs.Facts.{ResolverFacts, term_length, last_finalized, empty, anchors, starts_term}
 use Rattle.simplex_resolver.specs.Steps.{Call, Nullification, Notarization, Finalization, Verdict, Replayed, before_scan, settle_effects, after, effects, scan_start, scan_end, missing, needs_nullification, failing, failure_fetches}
 use Rattle.simplex_resolver.specs.Received.{finalized_view, current_view, floor_raised_to, finalized_of, current_of, floor_of, is_covering, is_false_verdict, is_notarizing, is_replayed, NamesAView}

@@ -11,8 +11,8 @@ use Rattle.std.specs.FinMap as fin
 use Rattle.std.specs.FinMap.{FinMap}
 use Rattle.std.specs.FinMap.Entries.{find, is_sorted, below_all}
 use Rattle.std.proofs.lemmas.Bool.{cases_eq, eq-eqb, ne_eqb, eqb-true, false≢true}
-use Rattle.simplex_sorted.specs.Tracked.{at_or_above}
-use Rattle.simplex_sorted.proofs.Maps.{find_at_key, find_other, get-insert, get-kept, same_maps, entries_of_made, is_eq-nat_cmp}
+use Rattle.simplex_view_maps.specs.Tracked.{at_or_above}
+use Rattle.simplex_view_maps.proofs.Maps.{find_at_key, find_other, get-insert, get-kept, same_maps, entries_of_made, is_eq-nat_cmp}
 use Rattle.simplex_resolver.specs.Repair.{has}
 use Rattle.simplex_resolver.specs.Steps.{insert_new}
 use Rattle.simplex_resolver.specs.ViewSets.{NotarizationsFacts, keyed, with_values, AreApart}

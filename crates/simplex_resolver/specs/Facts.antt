@@ -8,8 +8,8 @@ use base.Stored.{coded_unit}
 use Rattle.std.specs.FinMap as map
 use Rattle.std.specs.FinMap.{FinMap}
 use Rattle.simplex_types.specs.Terms.{term_start, next_term_start}
-use Rattle.simplex_sorted.specs.ByTerm.{ByTermFacts, by_term_code, has_covering}
-use Rattle.simplex_sorted.specs.ByTerm as by_term
+use Rattle.simplex_view_maps.specs.ByTerm.{ByTermFacts, by_term_code, has_covering}
+use Rattle.simplex_view_maps.specs.ByTerm as by_term
 
 -- all that a resolver's later answers and effects depend on
 pub record ResolverFacts : Type 0 where

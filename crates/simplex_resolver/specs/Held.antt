@@ -4,7 +4,7 @@ use Rattle.std.specs.Option.{option_and_then}
 use Rattle.std.specs.FinMap as map
 use Rattle.simplex_types.specs.declared.reasons.Kind.{Kind}
 use Rattle.simplex_types.specs.declared.reasons.Kind.TheVariants.{Nullification as OfNullification, Notarization as OfNotarization}
-use Rattle.simplex_sorted.specs.ByTerm.{has_covering}
+use Rattle.simplex_view_maps.specs.ByTerm.{has_covering}
 use Rattle.simplex_resolver.specs.Facts.{ResolverFacts, last_finalized, covering_encoding, certified_encoding}
 
 -- nothing is left to be asked for of the kind at v

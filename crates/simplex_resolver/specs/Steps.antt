@@ -4,8 +4,8 @@ use Rattle.std.specs.Ordering.{nat_cmp}
 use Rattle.std.specs.FinMap as map
 use Rattle.std.specs.FinMap.{FinMap}
 use Rattle.simplex_types.specs.Terms.{term_end}
-use Rattle.simplex_sorted.specs.Tracked.{at_or_above}
-use Rattle.simplex_sorted.specs.ByTerm.{not_ended, has_covering}
+use Rattle.simplex_view_maps.specs.Tracked.{at_or_above}
+use Rattle.simplex_view_maps.specs.ByTerm.{not_ended, has_covering}
 use Rattle.simplex_types.specs.Certificates.{CertificateFacts, ProposalFacts, Notarized, Nullified, Finalized as FinalizedOf}
 use Rattle.simplex_types.specs.Encoding.{encoding}
 use Rattle.simplex_types.specs.declared.types.messages.Proposal.{Proposal}

@@ -18,5 +18,5 @@ mod views;
 pub use effect::Effect;
 pub use laws::{answers, repair};
 pub use outstanding::apply;
-pub use simplex_sorted::by_term::ByTerm;
+pub use simplex_view_maps::by_term::ByTerm;
 pub use state::State;

@@ -10,3 +10,4 @@ pub mod Fault
 pub mod Encoding
 pub mod Signing
 pub mod Viewed
+pub mod Quorums

@@ -1,5 +1,6 @@
 //! Views, terms, messages and the traits that the protocol asks of its caller.
 
+pub mod assembly;
 pub mod encoding;
 pub mod fault;
 pub mod messages;

@@ -5,7 +5,7 @@ use Rattle.std.specs.List.{filter_map, cons_option}
 use Rattle.std.specs.Ordering.{nat_cmp}
 use Rattle.std.specs.FinMap.Entries.{is_sorted}
 use Rattle.std.proofs.lemmas.Bool.{cases_lt, cases_eq, lt-leb, le-leb, false≢true}
-use Rattle.simplex_sorted.proofs.RisingEntries.{AllAbove, Rises, rises}
+use Rattle.simplex_view_maps.proofs.RisingEntries.{AllAbove, Rises, rises}
 use Rattle.simplex_types.specs.Terms.{next_term_start}
 use Rattle.simplex_round.specs.Round.{RoundFacts, should_propose}
 use Rattle.simplex_voter.specs.declared.voter.propose.ProposalRequest.{ProposalRequest}

@@ -5,8 +5,8 @@ use Rattle.std.specs.List.{list_any}
 use Rattle.std.specs.Ordering.{nat_cmp}
 use Rattle.std.specs.FinMap as map
 use Rattle.std.proofs.lemmas.Bool.{false≢true, eqb-true}
-use Rattle.simplex_sorted.specs.Tracked.{at_or_above, below}
-use Rattle.simplex_sorted.proofs.Maps.{entries-retain_keys}
+use Rattle.simplex_view_maps.specs.Tracked.{at_or_above, below}
+use Rattle.simplex_view_maps.proofs.Maps.{entries-retain_keys}
 use Rattle.simplex_voter.proofs.Gaps.{cases_bool}
 
 pub any-filter : {A : Type 0} (p q : A → Bool) (xs : List A) → list_any q (filter p xs) ≡ list_any (λ x. p x && q x) xs

@@ -10,8 +10,8 @@ use Rattle.std.specs.Cmp.{nat_cmp_total}
 use Rattle.std.specs.FinMap as map
 use Rattle.std.specs.FinMap.Entries.{find, put, by_order, find-put}
 use Rattle.std.proofs.lemmas.Bool.{cases_eq, eq-eqb, ne_eqb, false≢true}
-use Rattle.simplex_sorted.proofs.Maps.{is_eq-nat_cmp, get-kept}
-use Rattle.simplex_sorted.specs.Tracked.{at_or_above}
+use Rattle.simplex_view_maps.proofs.Maps.{is_eq-nat_cmp, get-kept}
+use Rattle.simplex_view_maps.specs.Tracked.{at_or_above}
 use Rattle.simplex_round.specs.Round.{RoundFacts, new_round, leader_at, token_of, with_recovered, with_notarization, can_finalize}
 use Rattle.simplex_types.specs.declared.types.messages.Proposal.{Proposal}
 use Rattle.simplex_types.specs.Certificates.{ProposalFacts}

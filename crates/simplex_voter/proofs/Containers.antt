@@ -7,8 +7,8 @@ use Rattle.std.specs.Ordering.{nat_cmp, match_ordering}
 use Rattle.std.specs.FinMap as fin
 use Rattle.std.specs.FinMap.Entries.{put, by_order}
 use Rattle.std.specs.BTreeSet.{insert_key}
-use Rattle.simplex_sorted.specs.Tracked.{at_or_above}
-use Rattle.simplex_sorted.proofs.Maps.{entries-retain_keys}
+use Rattle.simplex_view_maps.specs.Tracked.{at_or_above}
+use Rattle.simplex_view_maps.proofs.Maps.{entries-retain_keys}
 
 module _ {R : Type 0} where
   pub keys-put : (es : List (ℕ × R)) (v : ℕ) (r : R) → map (λ e. e.0) (put nat_cmp v r es) ≡ insert_key nat_cmp (map (λ e. e.0) es) v

@@ -4,8 +4,8 @@ use Rattle.std.specs.Prelude.{MatchOption}
 use Rattle.std.specs.FinMap as fin
 use Rattle.std.proofs.lemmas.Bool.{cases_lt, false≢true}
 use Rattle.simplex_types.specs.Terms.{covers}
-use Rattle.simplex_sorted.specs.ByTerm as by
-use Rattle.simplex_sorted.proofs.Gaps.{any_last}
+use Rattle.simplex_view_maps.specs.ByTerm as by
+use Rattle.simplex_view_maps.proofs.Gaps.{any_last}
 use Rattle.simplex_voter.specs.Facts.{StateFacts}
 use Rattle.simplex_voter.specs.Gaps.{is_covered, IsGapless, IsFirstGap, first_unnullified_view}
 use Rattle.simplex_voter.proofs.Gaps.{first_unnullified_view-is}

@@ -5,7 +5,7 @@ use Rattle.std.specs.List.{find, list_any}
 use Rattle.std.specs.Ordering.{nat_cmp}
 use Rattle.std.specs.FinMap.Entries as map
 use Rattle.std.proofs.lemmas.Bool.{le-leb, false≢true}
-use Rattle.simplex_sorted.proofs.RisingEntries.{rises}
+use Rattle.simplex_view_maps.proofs.RisingEntries.{rises}
 use Rattle.simplex_round.specs.Round.{RoundFacts, new_round, can_notarize, has_unsent_certificate}
 use Rattle.simplex_voter.specs.Facts.{StateFacts, Elect, round_of, round_number}
 use Rattle.simplex_voter.specs.Rules.{may_notarize, may_finalize}

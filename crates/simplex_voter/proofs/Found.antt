@@ -6,8 +6,8 @@ use Rattle.std.specs.Ordering.{nat_cmp}
 use Rattle.std.specs.FinMap.Entries.{find}
 use Rattle.std.proofs.lemmas.Bool.{cases_eq, cases_order, eq-eqb, ne_eqb, lt-ltb, le-ltb, false≢true}
 use Rattle.std.proofs.lemmas.Bool.Decides.{nat_tests}
-use Rattle.simplex_sorted.proofs.Maps.{is_eq-nat_cmp}
-use Rattle.simplex_sorted.proofs.RisingEntries.{AllAbove, Rises, find_above}
+use Rattle.simplex_view_maps.proofs.Maps.{is_eq-nat_cmp}
+use Rattle.simplex_view_maps.proofs.RisingEntries.{AllAbove, Rises, find_above}
 use Rattle.simplex_voter.specs.Verifying.{through}
 use Rattle.simplex_voter.proofs.Gaps.{cases_bool}
 

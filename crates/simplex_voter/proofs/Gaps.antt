@@ -9,7 +9,7 @@ use Rattle.std.proofs.lemmas.Bool.{cases_lt, eqb-true, false≢true}
 use Rattle.std.proofs.lemmas.Bool.Decides.{nat_tests}
 use Rattle.simplex_types.specs.Terms.{term_start, next_term_start, covers}
 use Rattle.simplex_types.proofs.Covers.{same_start}
-use Rattle.simplex_sorted.proofs.Gaps.{next_above}
+use Rattle.simplex_view_maps.proofs.Gaps.{next_above}
 use Rattle.simplex_voter.specs.Facts.{StateFacts}
 use Rattle.simplex_voter.specs.Acceptance.{nullified_also}
 use Rattle.simplex_voter.specs.Gaps.{is_covered, IsGapless, IsFirstGap, lower_of, lowest, gap_starts, is_gap, first_unnullified_view}

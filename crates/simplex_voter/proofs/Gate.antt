@@ -6,11 +6,11 @@ use Rattle.std.specs.Option.{option_map_or}
 use Rattle.std.specs.Ordering.{nat_cmp, is_gt}
 use Rattle.std.specs.FinMap as fin
 use Rattle.std.proofs.lemmas.Bool.Decides.{nat_tests}
-use Rattle.simplex_sorted.specs.ByTerm.{ByTermFacts, covering_below}
-use Rattle.simplex_sorted.specs.Tracked.{last_entry}
+use Rattle.simplex_view_maps.specs.ByTerm.{ByTermFacts, covering_below}
+use Rattle.simplex_view_maps.specs.Tracked.{last_entry}
 use Rattle.simplex_types.specs.Terms.{covers}
-use Rattle.simplex_sorted.proofs.RisingEntries.{Rises}
-use Rattle.simplex_sorted.proofs.Maps.{entries-retain_keys, map_rises}
+use Rattle.simplex_view_maps.proofs.RisingEntries.{Rises}
+use Rattle.simplex_view_maps.proofs.Maps.{entries-retain_keys, map_rises}
 use Rattle.simplex_voter.specs.Facts.{StateFacts}
 use Rattle.simplex_voter.specs.Rules.{has_conflicting_nullify}
 use Rattle.simplex_voter.proofs.Gaps.{cases_bool}

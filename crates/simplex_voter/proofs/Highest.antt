@@ -3,9 +3,9 @@ use Rattle.std.proofs.Common.{◌≡◌, ℕ, suc, ◌-◌, List, [], ◌∷◌,
 use Rattle.std.specs.Prelude.{map, option_map}
 use Rattle.std.specs.List.{last_or}
 use Rattle.std.specs.FinMap as fin
-use Rattle.simplex_sorted.specs.ByTerm.{ByTermFacts, covering}
+use Rattle.simplex_view_maps.specs.ByTerm.{ByTermFacts, covering}
 use Rattle.simplex_types.specs.Terms.{covers}
-use Rattle.simplex_sorted.proofs.Maps.{entries-retain_keys}
+use Rattle.simplex_view_maps.proofs.Maps.{entries-retain_keys}
 use Rattle.simplex_voter.specs.Facts.{StateFacts}
 use Rattle.simplex_voter.specs.Serving.{highest_nullification_in_term}
 use Rattle.simplex_voter.proofs.RoundsKept.{filter-keys}

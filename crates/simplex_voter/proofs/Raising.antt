@@ -5,7 +5,7 @@ use Rattle.std.specs.Ordering.{nat_cmp}
 use Rattle.std.specs.FinMap as map
 use Rattle.std.proofs.lemmas.Bool.Decides.{nat_tests}
 use Rattle.std.proofs.lemmas.Bool.{cases_lt, lt-leb, le-leb, false≢true}
-use Rattle.simplex_sorted.specs.Tracked.{at_or_above}
+use Rattle.simplex_view_maps.specs.Tracked.{at_or_above}
 use Rattle.simplex_round.specs.Round.{RoundFacts, token_of, after_abort}
 use Rattle.simplex_voter.specs.Facts.{StateFacts}
 use Rattle.simplex_voter.specs.Certification.{without_token, with_finalized_view}

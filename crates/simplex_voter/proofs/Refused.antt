@@ -7,10 +7,10 @@ use Rattle.std.specs.Ordering.{nat_cmp}
 use Rattle.std.specs.FinMap as map
 use Rattle.std.specs.FinMap.Entries.{find}
 use Rattle.std.proofs.lemmas.Bool.{and_parts, cases_lt, cases_eq, lt-ltb, le-ltb, ltb-true, lt-leb, le-leb, leb-true, eq-eqb, ne_eqb, false≢true}
-use Rattle.simplex_sorted.proofs.RisingEntries.{Rises, find_above}
-use Rattle.simplex_sorted.proofs.Maps.{is_eq-nat_cmp, map_rises, get-kept}
-use Rattle.simplex_sorted.proofs.Gaps.{cases_bool, or_any}
-use Rattle.simplex_sorted.specs.Tracked.{below, at_or_above}
+use Rattle.simplex_view_maps.proofs.RisingEntries.{Rises, find_above}
+use Rattle.simplex_view_maps.proofs.Maps.{is_eq-nat_cmp, map_rises, get-kept}
+use Rattle.simplex_view_maps.proofs.Gaps.{cases_bool, or_any}
+use Rattle.simplex_view_maps.specs.Tracked.{below, at_or_above}
 use Rattle.simplex_round.specs.Round.{RoundFacts, is_judged}
 use Rattle.simplex_voter.specs.declared.voter.rounds.Bounds.{Bounds}
 use Rattle.simplex_voter.specs.Rounds.{RoundsFacts, AreKept, is_refused_above, is_refused_between}

@@ -5,9 +5,9 @@ use Rattle.std.specs.Ordering.{nat_cmp}
 use Rattle.std.specs.FinMap as map
 use Rattle.std.specs.FinMap.Entries.{find}
 use Rattle.std.proofs.lemmas.Bool.{cases_eq, eq-eqb, ne_eqb}
-use Rattle.simplex_sorted.specs.Tracked.{after_insert, at_or_above, below}
+use Rattle.simplex_view_maps.specs.Tracked.{after_insert, at_or_above, below}
 use Rattle.std.specs.Prelude.{map as map_list}
-use Rattle.simplex_sorted.proofs.Maps.{get-insert, same_maps, made_empty, entries-retain_keys}
+use Rattle.simplex_view_maps.proofs.Maps.{get-insert, same_maps, made_empty, entries-retain_keys}
 
 module _ {V : Type 0} where
   pub find_entries : (m : map.FinMap nat_cmp V) (v : ℕ) → find nat_cmp v (map.entries m) ≡ map.get m v

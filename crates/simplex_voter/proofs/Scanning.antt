@@ -9,8 +9,8 @@ use Rattle.std.specs.FinMap as map
 use Rattle.std.specs.FinMap.Entries.{find, put, find-put, is_sorted}
 use Rattle.std.proofs.lemmas.Bool.{cases_eq, cases_lt, cases_order, eq-eqb, ne_eqb, lt-ltb, le-ltb, lt-leb, false≢true}
 use Rattle.std.proofs.lemmas.Bool.Decides.{nat_tests}
-use Rattle.simplex_sorted.proofs.RisingEntries.{Rises, rises}
-use Rattle.simplex_sorted.proofs.Maps.{is_eq-nat_cmp, same_maps}
+use Rattle.simplex_view_maps.proofs.RisingEntries.{Rises, rises}
+use Rattle.simplex_view_maps.proofs.Maps.{is_eq-nat_cmp, same_maps}
 use Rattle.simplex_types.specs.Terms.{next_term_start, term_end}
 use Rattle.simplex_types.specs.declared.types.messages.Proposal.{Proposal}
 use Rattle.simplex_round.specs.declared.round.Leader.{Leader}

@@ -5,10 +5,10 @@ use Rattle.std.specs.Ordering.{nat_cmp}
 use Rattle.std.specs.FinMap as map
 use Rattle.std.proofs.lemmas.Bool.{false≢true}
 use Rattle.std.proofs.lemmas.Bool.Decides.{nat_tests}
-use Rattle.simplex_sorted.specs.Tracked.{at_or_above, below}
+use Rattle.simplex_view_maps.specs.Tracked.{at_or_above, below}
 use Rattle.std.specs.Prelude.{option_map}
 use Rattle.std.specs.FinMap.Entries.{is_sorted}
-use Rattle.simplex_sorted.proofs.Maps.{entries-retain_keys, sorted_from_entries}
+use Rattle.simplex_view_maps.proofs.Maps.{entries-retain_keys, sorted_from_entries}
 use Rattle.simplex_voter.proofs.Stalls.{filter-filter}
 
 -- a walk over a list for the first element that gives something

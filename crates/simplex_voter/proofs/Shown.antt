@@ -19,11 +19,11 @@ use Rattle.simplex_voter.specs.Facts as facts
 use Rattle.simplex_voter.specs.Facts.{StateFacts}
 use Rattle.simplex_voter.specs.Serving.{after_prune}
 use Rattle.simplex_voter.specs.Acceptance.{nullified_also}
-use Rattle.simplex_sorted.specs.ByTerm.{ByTermFacts}
+use Rattle.simplex_view_maps.specs.ByTerm.{ByTermFacts}
 use Rattle.std.specs.BTreeSet.{insert_key}
 use Rattle.simplex_voter.proofs.RoundsKept.{keys-kept}
 use Rattle.simplex_voter.proofs.Containers.{keys-insert}
-use Rattle.simplex_sorted.specs.Tracked.{at_or_above, below}
+use Rattle.simplex_view_maps.specs.Tracked.{at_or_above, below}
 use Rattle.simplex_voter.specs.Windows.{min_active}
 
 -- a view that is not at or below another is above it

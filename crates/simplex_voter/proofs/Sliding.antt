@@ -3,7 +3,7 @@ use Rattle.std.proofs.Common.{◌≡◌, ℕ, suc, ◌+◌, ◌-◌, ◌<◌, tr
 use Rattle.std.specs.List.{fold, range_with_len}
 use Rattle.std.specs.Ordering.{nat_cmp, is_lt}
 use Rattle.std.proofs.lemmas.Bool.{ltb-true}
-use Rattle.simplex_sorted.proofs.Maps.{is_lt-nat_cmp}
+use Rattle.simplex_view_maps.proofs.Maps.{is_lt-nat_cmp}
 use Rattle.simplex_voter.specs.Facts.{StateFacts}
 use Rattle.simplex_voter.specs.Setup.{HasSameSetup}
 use Rattle.simplex_voter.specs.Leaders.{with_leader_of}

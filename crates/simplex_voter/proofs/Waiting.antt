@@ -9,8 +9,8 @@ use Rattle.std.specs.BTreeSet.{insert_key}
 use Rattle.simplex_types.specs.declared.types.messages.Proposal.{Proposal}
 use Rattle.simplex_voter.specs.declared.voter.candidates.CertificateFetch.{CertificateFetch}
 use Rattle.simplex_voter.specs.Facts.{StateFacts, Elect}
-use Rattle.simplex_sorted.specs.Tracked.{at_or_above}
-use Rattle.simplex_sorted.proofs.Maps.{entries-retain_keys}
+use Rattle.simplex_view_maps.specs.Tracked.{at_or_above}
+use Rattle.simplex_view_maps.proofs.Maps.{entries-retain_keys}
 use Rattle.simplex_voter.specs.Certification.{named_also, offered_of, fetched_of, candidates_answer, after_candidates}
 use Rattle.simplex_voter.proofs.Containers.{keys-insert}
 use Rattle.simplex_voter.proofs.RoundsKept.{keys_empty}

@@ -7,9 +7,9 @@ use Rattle.std.specs.FinMap as map
 use Rattle.std.specs.FinMap.{FinMap}
 use Rattle.std.specs.FinMap.Entries.{find, is_sorted, below_all}
 use Rattle.std.proofs.lemmas.Bool.{cases_eq, cases_lt, cases_order, leb-true, lt-ltb, le-ltb, le-leb, eq-eqb, ne_eqb}
-use Rattle.simplex_sorted.specs.Tracked.{at_or_above, first_entry}
-use Rattle.simplex_sorted.proofs.RisingEntries.{Rises, find_above}
-use Rattle.simplex_sorted.proofs.Maps.{is_eq-nat_cmp, get-insert, get-kept, map_rises, same_maps}
+use Rattle.simplex_view_maps.specs.Tracked.{at_or_above, first_entry}
+use Rattle.simplex_view_maps.proofs.RisingEntries.{Rises, find_above}
+use Rattle.simplex_view_maps.proofs.Maps.{is_eq-nat_cmp, get-insert, get-kept, map_rises, same_maps}
 
 module _ {V : Type 0} where
   pub first_of : (es : List (ℕ × V)) → Rises es → (e : ℕ × V) → Some e ≡ slice_get es 0 → (find nat_cmp e.0 es ≡ Some e.1) × ((q : ℕ) → q < e.0 → find nat_cmp q es ≡ None)

@@ -33,7 +33,7 @@ mod work;
 
 pub use candidates::CertificateFetch;
 pub use propose::ProposalRequest;
-pub use simplex_sorted::tracked::Tracked;
+pub use simplex_view_maps::tracked::Tracked;
 pub use state::{Config, State};
 pub use verify::Verify;
 pub use withheld::Withheld;

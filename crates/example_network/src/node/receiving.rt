@@ -5,7 +5,7 @@ use crate::message::{Ballot, Message, proposal_of};
 use example_engine::decode::decode;
 use example_engine::parts::Proof;
 use simplex_engine::input::Input;
-use simplex_fetches::fetches::FetchKind;
+use engine_fetches::fetches::FetchKind;
 use simplex_types::types::{Fault, Scheme, Subject, View};
 
 impl Node {

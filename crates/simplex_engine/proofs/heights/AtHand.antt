@@ -5,23 +5,23 @@ use Rattle.std.specs.List.{list_any}
 use Rattle.std.proofs.lemmas.Bool.{false≢true, and_parts, eq-eqb, eqb-true, or_cases, or_left}
 use Rattle.std.proofs.lemmas.List.Folds.{list_any-append}
 use Rattle.simplex_resolver.specs.Repair.{has}
-use Rattle.simplex_fetches.specs.declared.fetches.Fetch.{Fetch}
-use Rattle.simplex_fetches.specs.declared.fetches.FetchKind.{FetchKind}
-use Rattle.simplex_fetches.specs.declared.fetches.FetchKind.TheVariants as fetch
-use Rattle.simplex_fetches.specs.Fetches.{same_kind}
-use Rattle.simplex_fetches.specs.Wanted.{wants}
-use Rattle.simplex_outbox.specs.Outputs.{work_in}
-use Rattle.simplex_outbox.specs.declared.output.Work.{Work}
-use Rattle.simplex_outbox.specs.declared.output.Work.TheVariants as work
-use Rattle.simplex_plan.specs.declared.plan.building.Building.{Building}
-use Rattle.simplex_plan.specs.declared.plan.early.Early.{Early}
-use Rattle.simplex_plan.specs.declared.plan.Plan.{Plan}
-use Rattle.simplex_plan.specs.declared.plan.Step.{Step}
-use Rattle.simplex_plan.specs.declared.plan.Step.TheVariants as step
-use Rattle.simplex_plan.specs.declared.task.Task.{Task}
-use Rattle.simplex_plan.specs.declared.task.Task.TheVariants as task
-use Rattle.simplex_plan.specs.Asking.{is_lack}
-use Rattle.simplex_plan.specs.Matters.{Matter, Duty, Lack, Arrival, Quorum, Message, Expiry, of_blocks, of_early, of_fetch, of_fetches, of_repair, of_step, of_steps, of_task, of_work, of_works, planned_matters}
+use Rattle.engine_fetches.specs.declared.fetches.Fetch.{Fetch}
+use Rattle.engine_fetches.specs.declared.fetches.FetchKind.{FetchKind}
+use Rattle.engine_fetches.specs.declared.fetches.FetchKind.TheVariants as fetch
+use Rattle.engine_fetches.specs.Fetches.{same_kind}
+use Rattle.engine_fetches.specs.Wanted.{wants}
+use Rattle.engine_outbox.specs.Outputs.{work_in}
+use Rattle.engine_outbox.specs.declared.output.Work.{Work}
+use Rattle.engine_outbox.specs.declared.output.Work.TheVariants as work
+use Rattle.engine_planner.specs.declared.plan.building.Building.{Building}
+use Rattle.engine_planner.specs.declared.plan.early.Early.{Early}
+use Rattle.engine_planner.specs.declared.plan.Plan.{Plan}
+use Rattle.engine_planner.specs.declared.plan.Step.{Step}
+use Rattle.engine_planner.specs.declared.plan.Step.TheVariants as step
+use Rattle.engine_planner.specs.declared.task.Task.{Task}
+use Rattle.engine_planner.specs.declared.task.Task.TheVariants as task
+use Rattle.engine_planner.specs.Asking.{is_lack}
+use Rattle.engine_planner.specs.Matters.{Matter, Duty, Lack, Arrival, Quorum, Message, Expiry, of_blocks, of_early, of_fetch, of_fetches, of_repair, of_step, of_steps, of_task, of_work, of_works, planned_matters}
 use Rattle.simplex_engine.specs.declared.engine.Engine.{Engine}
 use Rattle.simplex_engine.specs.Causes.{at_hand, HasNoLack}
 use Rattle.simplex_engine.specs.Heights.{resolves_above}

@@ -23,7 +23,7 @@ use Rattle.simplex_member.specs.Calls.{CallFacts, AddNotarization, AddNullificat
 use Rattle.simplex_member.specs.CallSemantics.{answer, after_call, recorded_by, if_new}
 use Rattle.simplex_member.specs.Lives.{MemberFacts, IsCall, AnswersAlive, with_call, unless_refused, unless_kept}
 use Rattle.simplex_member.specs.Pruning.{stays_within, pruned_member, tracks}
-use Rattle.simplex_laws.proofs.frames.Rising.{call_goes}
+use Rattle.laws_safety.proofs.frames.Rising.{call_goes}
 use Rattle.simplex_engine.specs.Heights.{highest_heard}
 use Rattle.simplex_engine.proofs.Bounds.{next_monotone}
 use Rattle.simplex_engine.proofs.Tests.{not_or}

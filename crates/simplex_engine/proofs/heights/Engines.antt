@@ -9,19 +9,19 @@ use Rattle.simplex_voter.specs.Facts.{StateFacts, Elect}
 use Rattle.simplex_resolver.specs.Repair.{has}
 use Rattle.simplex_resolver.specs.Steps.{Call}
 use Rattle.simplex_resolver.specs.Told.{LawfulResolverFacts}
-use Rattle.simplex_laws.specs.Living.{HasDone}
-use Rattle.simplex_laws.specs.Traces.{TraceEvent}
-use Rattle.simplex_fetches.specs.declared.fetches.Fetch.{Fetch}
-use Rattle.simplex_fetches.specs.declared.fetches.FetchKind.{FetchKind}
-use Rattle.simplex_fetches.specs.declared.fetches.FetchKind.TheVariants.{Nullification}
-use Rattle.simplex_fetches.specs.Fetches.{fresh, is_fetch_open, opened}
-use Rattle.simplex_fetches.specs.Wanted.{wanting}
-use Rattle.simplex_outbox.specs.declared.output.Work.{Work}
-use Rattle.simplex_plan.specs.declared.plan.Step.{Step}
-use Rattle.simplex_plan.specs.declared.plan.Step.TheVariants as step
-use Rattle.simplex_plan.specs.Asking.{asks as asks_of, ended_by, AreMade, with_lack}
-use Rattle.simplex_plan.specs.Matters.{Matter, of_works}
-use Rattle.simplex_plan.specs.declared.plan.Options.{Options}
+use Rattle.laws_safety.specs.Living.{HasDone}
+use Rattle.laws_safety.specs.Traces.{TraceEvent}
+use Rattle.engine_fetches.specs.declared.fetches.Fetch.{Fetch}
+use Rattle.engine_fetches.specs.declared.fetches.FetchKind.{FetchKind}
+use Rattle.engine_fetches.specs.declared.fetches.FetchKind.TheVariants.{Nullification}
+use Rattle.engine_fetches.specs.Fetches.{fresh, is_fetch_open, opened}
+use Rattle.engine_fetches.specs.Wanted.{wanting}
+use Rattle.engine_outbox.specs.declared.output.Work.{Work}
+use Rattle.engine_planner.specs.declared.plan.Step.{Step}
+use Rattle.engine_planner.specs.declared.plan.Step.TheVariants as step
+use Rattle.engine_planner.specs.Asking.{asks as asks_of, ended_by, AreMade, with_lack}
+use Rattle.engine_planner.specs.Matters.{Matter, of_works}
+use Rattle.engine_planner.specs.declared.plan.Options.{Options}
 use Rattle.simplex_engine.specs.declared.engine.Engine.{Engine}
 use Rattle.simplex_engine.specs.Beginning.{HasBegunWith}
 use Rattle.simplex_engine.specs.Causes.{is_final, at_hand, heard_in, Comes, HasNoLack}

@@ -27,8 +27,8 @@ use Rattle.simplex_voter.specs.Windows.{in_issuance_window, is_admitted, is_term
 use Rattle.simplex_voter.specs.Certification.{certification_fetch, fetched_of}
 use Rattle.simplex_voter.specs.Verifying.{answer_at, answer_in, fetch_once, parent_standing, payload_standing, standing, verify_answer}
 use Rattle.simplex_resolver.specs.Received.{greatest}
-use Rattle.simplex_laws.proofs.votes.Requests.{ahead_now}
-use Rattle.simplex_laws.proofs.votes.Scanned.{among_through, first_through}
+use Rattle.laws_safety.proofs.votes.Requests.{ahead_now}
+use Rattle.laws_safety.proofs.votes.Scanned.{among_through, first_through}
 
 -- an answer to a scan for proposals to verify
 

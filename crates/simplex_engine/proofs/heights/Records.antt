@@ -6,8 +6,8 @@ use Rattle.simplex_types.specs.Certificates.{ArtifactFacts, NotarizeVote, Nullif
 use Rattle.simplex_resolver.specs.Received.{greatest}
 use Rattle.simplex_record.specs.Cuts.{finalized_by, finalized_in}
 use Rattle.simplex_record.specs.Entries.{entry_view}
-use Rattle.simplex_laws.proofs.lists.Filters.{Contains-filter}
-use Rattle.simplex_laws.proofs.lists.Splits.{Contains-cases, Contains-cons_rest}
+use Rattle.laws_safety.proofs.lists.Filters.{Contains-filter}
+use Rattle.laws_safety.proofs.lists.Splits.{Contains-cases, Contains-cons_rest}
 
 module _ {D : Type 0} where
   pub among_greatest : (entries : List (ArtifactFacts D)) (e : ArtifactFacts D) → Contains entries e → entry_view e ≤ greatest (map entry_view entries)

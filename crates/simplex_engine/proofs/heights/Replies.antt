@@ -12,11 +12,11 @@ use Rattle.simplex_resolver.specs.Steps.{Call, update, verdict}
 use Rattle.simplex_member.specs.Calls.{CallFacts, AddNotarization, AddNullification, AddFinalization, Told, Added, AddedNullification, Judged, Standing as ToldStanding, Candidates, told}
 use Rattle.simplex_member.specs.declared.member.calls.Reply.{Reply}
 use Rattle.simplex_member.specs.declared.member.calls.Reply.TheVariants as reply
-use Rattle.simplex_fetches.specs.declared.fetches.FetchKind.TheVariants.{Notarization as FetchOfNotarization}
-use Rattle.simplex_outbox.specs.declared.output.Work.{Work}
-use Rattle.simplex_outbox.specs.declared.output.Work.TheVariants as work
-use Rattle.simplex_plan.specs.Asking.{above_genesis, heard_of, heard_by}
-use Rattle.simplex_plan.specs.Matters.{Duty, Lack, given_by, shown_by, Expiry}
+use Rattle.engine_fetches.specs.declared.fetches.FetchKind.TheVariants.{Notarization as FetchOfNotarization}
+use Rattle.engine_outbox.specs.declared.output.Work.{Work}
+use Rattle.engine_outbox.specs.declared.output.Work.TheVariants as work
+use Rattle.engine_planner.specs.Asking.{above_genesis, heard_of, heard_by}
+use Rattle.engine_planner.specs.Matters.{Duty, Lack, given_by, shown_by, Expiry}
 use Rattle.simplex_engine.proofs.heights.AtHand.{lacks_above}
 use Rattle.simplex_engine.proofs.heights.Resolvers.{view_told}
 

@@ -10,7 +10,7 @@ use Rattle.simplex_types.specs.Terms.{term_end}
 use Rattle.simplex_types.specs.Certificates.{CertificateFacts, Notarized, Nullified, Finalized, ArtifactFacts, NotarizeVote, NullifyVote, FinalizeVote, Verdict as VerdictOf, Accepted}
 use Rattle.simplex_types.specs.declared.reasons.FetchReason.TheVariants.{MissingNullification, CertificationFailed}
 use Rattle.simplex_types.specs.declared.reasons.Kind.TheVariants as kind
-use Rattle.simplex_sorted.specs.ByTerm.{has_covering}
+use Rattle.simplex_view_maps.specs.ByTerm.{has_covering}
 use Rattle.simplex_resolver.specs.declared.resolver.effect.Effect.{Effect}
 use Rattle.simplex_resolver.specs.declared.resolver.effect.Effect.TheVariants as effect
 use Rattle.simplex_resolver.specs.Facts.{ResolverFacts, term_length, last_finalized, anchors, is_anchor, starts_term}

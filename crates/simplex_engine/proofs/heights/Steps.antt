@@ -9,22 +9,22 @@ use Rattle.simplex_member.specs.Lives.{MemberFacts, IsCall, AnswersAlive}
 use Rattle.simplex_member.specs.Pruning.{pruned_member}
 use Rattle.simplex_member.specs.Runs.{StepFacts, Calls, Prunes, Restarts}
 use Rattle.simplex_member.specs.declared.member.calls.Reply.{Reply}
-use Rattle.simplex_laws.specs.Executions.{new_member, Execution}
-use Rattle.simplex_laws.specs.TermLengths.{HasTerms, KeepTerms}
-use Rattle.simplex_laws.specs.LifeLaws.{Notarization}
-use Rattle.simplex_laws.specs.Living.{HasDone}
-use Rattle.simplex_laws.specs.Traces.{TraceEvent, of_floor, trace_at, trace_of_steps}
-use Rattle.simplex_laws.proofs.executions.Living.{call_done, prune_done}
-use Rattle.simplex_laws.proofs.frames.RunsKeep.{HoldsIn, run_induction}
-use Rattle.simplex_laws.proofs.frames.Sound.{IsSound, event_sound, floor_sound}
-use Rattle.simplex_laws.proofs.lives.Waiting.{IsWaiting, event_waits, floor_waits}
-use Rattle.simplex_laws.proofs.own_records.Runs.{TellsOn, run_own, start_own}
-use Rattle.simplex_laws.proofs.own_records.Verdicts.{ShowsVerdicts}
-use Rattle.simplex_laws.proofs.records.RunsLawful.{keep_terms}
-use Rattle.simplex_fetches.specs.declared.fetches.FetchKind.{FetchKind}
-use Rattle.simplex_plan.specs.Asking.{heard_by, with_lack}
-use Rattle.simplex_plan.specs.Matters.{Matter}
-use Rattle.simplex_plan.specs.PlannedWork.{AreAmong}
+use Rattle.laws_safety.specs.Executions.{new_member, Execution}
+use Rattle.laws_safety.specs.TermLengths.{HasTerms, KeepTerms}
+use Rattle.laws_safety.specs.LifeLaws.{Notarization}
+use Rattle.laws_safety.specs.Living.{HasDone}
+use Rattle.laws_safety.specs.Traces.{TraceEvent, of_floor, trace_at, trace_of_steps}
+use Rattle.laws_safety.proofs.executions.Living.{call_done, prune_done}
+use Rattle.laws_safety.proofs.frames.RunsKeep.{HoldsIn, run_induction}
+use Rattle.laws_safety.proofs.frames.Sound.{IsSound, event_sound, floor_sound}
+use Rattle.laws_safety.proofs.lives.Waiting.{IsWaiting, event_waits, floor_waits}
+use Rattle.laws_safety.proofs.own_records.Runs.{TellsOn, run_own, start_own}
+use Rattle.laws_safety.proofs.own_records.Verdicts.{ShowsVerdicts}
+use Rattle.laws_safety.proofs.records.RunsLawful.{keep_terms}
+use Rattle.engine_fetches.specs.declared.fetches.FetchKind.{FetchKind}
+use Rattle.engine_planner.specs.Asking.{heard_by, with_lack}
+use Rattle.engine_planner.specs.Matters.{Matter}
+use Rattle.engine_planner.specs.PlannedWork.{AreAmong}
 use Rattle.simplex_engine.specs.Causes.{given_in, heard_in, ComesBy}
 use Rattle.simplex_engine.specs.Heights.{highest_heard}
 use Rattle.simplex_engine.proofs.heights.AtHand.{lacks_above, none_both}

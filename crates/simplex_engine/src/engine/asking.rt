@@ -3,29 +3,29 @@
 
 ghost use Rattle.std.specs.Prelude.{◌≡◌, ℕ, [], ◌∷◌, ◌++◌, None, IfOk, OnOk, IsNone, IsTrue, not};
 ghost use Rattle.simplex_member.specs.Calls.{told};
-ghost use Rattle.simplex_plan.specs.Tasks.{call_of};
+ghost use Rattle.engine_planner.specs.Tasks.{call_of};
 ghost use Rattle.simplex_engine.specs.Quiet.{is_nothing, for_work};
-ghost use Rattle.simplex_outbox.specs.Refusing.{is_lasting, says_nothing};
+ghost use Rattle.engine_outbox.specs.Refusing.{is_lasting, says_nothing};
 
 use super::Engine;
-use simplex_assembly::assembly::Assembly;
-use simplex_fetches::fetches::FetchKind;
+use simplex_types::types::assembly::Assembly;
+use engine_fetches::fetches::FetchKind;
 use simplex_member::member::Reply;
-use simplex_plan::plan::Views;
-use simplex_plan::task::Task;
+use engine_planner::plan::Views;
+use engine_planner::task::Task;
 use simplex_types::types::{CertificateScheme, Digest, Elector, Fault, Participant, View};
 use simplex_voter::voter::Verify;
 
 impl<S: Assembly<D>, L: Elector<S>, D: Digest> Engine<S, L, D> {
-    ghost use Rattle.simplex_outbox.specs.Going.{GoesOn};
+    ghost use Rattle.engine_outbox.specs.Going.{GoesOn};
     ghost use Rattle.simplex_engine.specs.Alone.{GoesOnAlone};
     ghost use Rattle.simplex_engine.specs.Quiet.{AnswersNothing, AnswerNothing, HasNothingDue};
     ghost use Rattle.simplex_engine.specs.Acting.{HasDoneTask};
     ghost use Rattle.simplex_engine.specs.Causes.{at_hand, is_final, ComesAlone, ComesWith, HasNoLack, IsMeant};
     ghost use Rattle.simplex_engine.specs.Duties.{KeepsDuties};
-    ghost use Rattle.simplex_plan.specs.Asking.{heard_by, never, KeepsAsking};
-    ghost use Rattle.simplex_plan.specs.Matters.{given_by, planned_matters, Lack};
-    ghost use Rattle.simplex_plan.specs.PlannedWork.{AreAmong, KeepsPlanned, KeepsPlannedThen, PlansAnswerThen};
+    ghost use Rattle.engine_planner.specs.Asking.{heard_by, never, KeepsAsking};
+    ghost use Rattle.engine_planner.specs.Matters.{given_by, planned_matters, Lack};
+    ghost use Rattle.engine_planner.specs.PlannedWork.{AreAmong, KeepsPlanned, KeepsPlannedThen, PlansAnswerThen};
     ghost use Rattle.simplex_engine.specs.Views.{HasComeTo};
 
     /// Asks the member for work of the application. Returns whether there is none.

@@ -8,19 +8,19 @@ ghost use Rattle.simplex_resolver.specs.Told.{HasBeenTold};
 ghost use Rattle.simplex_record.specs.Entries.{entries_of};
 ghost use Rattle.simplex_engine.specs.Beginning.{with_a_retry, IsPlanOf, IsCompanyOf, HasBegunWith, IsNotReplayed};
 ghost use Rattle.simplex_record.specs.Votes.{votes_of};
-ghost use Rattle.simplex_outbox.specs.Going.{IsKept, IsWhole, TellsNothing, BeginsTraced};
-ghost use Rattle.simplex_outbox.specs.Journals.{BeginsWith};
-ghost use Rattle.simplex_outbox.specs.Signatures.{BeginsSigned};
+ghost use Rattle.engine_outbox.specs.Going.{IsKept, IsWhole, TellsNothing, BeginsTraced};
+ghost use Rattle.engine_outbox.specs.Journals.{BeginsWith};
+ghost use Rattle.engine_outbox.specs.Signatures.{BeginsSigned};
 
 use super::Engine;
-use simplex_assembly::assembly::Assembly;
-use simplex_batcher::batcher::Batcher;
-use simplex_fetches::fetches::{Fetches, Peers};
-use simplex_fetches::repair::Repair;
-use simplex_lawful::lawful::LawfulMember;
+use simplex_types::types::assembly::Assembly;
+use engine_votes::batcher::Batcher;
+use engine_fetches::fetches::{Fetches, Peers};
+use engine_fetches::repair::Repair;
+use lawful_member::lawful::LawfulMember;
 use simplex_member::member::{RecoverError, ResumeError, Start, Stored};
-use simplex_outbox::journaled::Journaled;
-use simplex_plan::plan::{Options, Plan, Views};
+use engine_outbox::journaled::Journaled;
+use engine_planner::plan::{Options, Plan, Views};
 use simplex_resolver::replay::{LawfulResolver, ReplayError};
 use simplex_types::types::{
     Artifact, CertificateScheme, Digest, Elector, Scheme, TermLength, View,
@@ -80,7 +80,7 @@ impl<S: Assembly<D>, L: Elector<S>, D: Digest> Engine<S, L, D> {
     ghost use Rattle.simplex_record.specs.Start.{set_up, start_facts};
     ghost use Rattle.simplex_member.specs.Journal.{IsNotResumed, IsResumed};
     ghost use Rattle.simplex_member.specs.Start.{started_member};
-    ghost use Rattle.simplex_laws.specs.Living.{HasBegun, HasGoneOn};
+    ghost use Rattle.laws_safety.specs.Living.{HasBegun, HasGoneOn};
     ghost use Rattle.simplex_engine.specs.Beginning.{IsMemberError, IsNotBegun};
     ghost use Rattle.simplex_engine.specs.declared.engine.begin.StartError.TheVariants.{RetryZero};
     ghost use Rattle.simplex_engine.specs.Bounds.{HoldsNoneAhead};

@@ -1,36 +1,36 @@
 //! Votes and certificates that came in.
-#![tactic(auto, using(simplex_outbox::proofs::Going::stays, simplex_outbox::proofs::Going::goes_further, crate::proofs::Backing::takes_nothing, crate::proofs::Backing::takes_no_more, crate::proofs::Backing::takes_anyway))]
+#![tactic(auto, using(engine_outbox::proofs::Going::stays, engine_outbox::proofs::Going::goes_further, crate::proofs::Backing::takes_nothing, crate::proofs::Backing::takes_no_more, crate::proofs::Backing::takes_anyway))]
 
 ghost use Rattle.std.specs.Prelude.{◌≡◌, [], ◌∷◌, ◌++◌, None, Some, IfOk, OnOk, IsTrue, not, false, ◌==◌, Ok, IsFalse};
 ghost use Rattle.simplex_types.specs.Certificates.{certificate_facts};
 ghost use Rattle.simplex_types.specs.Encoding.{certificate_subject};
 ghost use Rattle.simplex_member.specs.Calls.{told};
-ghost use Rattle.simplex_outbox.specs.Refusing.{is_refused};
+ghost use Rattle.engine_outbox.specs.Refusing.{is_refused};
 ghost use Rattle.simplex_engine.specs.Admitting.{admits, admits_votes};
 
 use super::Engine;
 use super::asking::is_lasting;
-use simplex_assembly::assembly::Assembly;
-use simplex_batcher::batcher::Counted;
-use simplex_batcher::votes::{Vote, round_of};
+use simplex_types::types::assembly::Assembly;
+use engine_votes::batcher::Counted;
+use engine_votes::votes::{Vote, round_of};
 use simplex_member::member::Reply;
-use simplex_outbox::output::Work;
+use engine_outbox::output::Work;
 use simplex_types::types::{Certificate, CertificateScheme, Digest, Elector, Fault, Round, Scheme};
 use simplex_voter::voter::State;
 
 impl<S: Assembly<D>, L: Elector<S>, D: Digest> Engine<S, L, D> {
-    ghost use Rattle.simplex_outbox.specs.Going.{GoesOn};
+    ghost use Rattle.engine_outbox.specs.Going.{GoesOn};
     ghost use Rattle.simplex_engine.specs.Backing.{TakesNone};
     ghost use Rattle.simplex_engine.specs.Inputs.{subject_made};
-    ghost use Rattle.simplex_batcher.specs.Subjects.{subject_round};
+    ghost use Rattle.engine_votes.specs.Subjects.{subject_round};
     ghost use Rattle.simplex_engine.specs.Acting.{IsHandedIn, IsCountFollowed};
     ghost use Rattle.simplex_engine.specs.Taking.{IsInputTaken};
     ghost use Rattle.simplex_engine.specs.Causes.{is_final, of_counted, ComesWith};
     ghost use Rattle.simplex_engine.specs.Duties.{KeepsDuties};
-    ghost use Rattle.simplex_outbox.specs.Handing.{hands_in};
-    ghost use Rattle.simplex_plan.specs.Asking.{heard_by, is_plain, KeepsAsking};
-    ghost use Rattle.simplex_plan.specs.Matters.{given_by, planned_matters, Quorum};
-    ghost use Rattle.simplex_plan.specs.PlannedWork.{AreAmong, KeepsPlannedThen};
+    ghost use Rattle.engine_outbox.specs.Handing.{hands_in};
+    ghost use Rattle.engine_planner.specs.Asking.{heard_by, is_plain, KeepsAsking};
+    ghost use Rattle.engine_planner.specs.Matters.{given_by, planned_matters, Quorum};
+    ghost use Rattle.engine_planner.specs.PlannedWork.{AreAmong, KeepsPlannedThen};
     ghost use Rattle.simplex_engine.specs.Views.{HasComeTo};
     ghost use Rattle.simplex_engine.specs.declared.input.Input.TheVariants as input;
     ghost use Rattle.simplex_engine.specs.Admitting.{is_so};

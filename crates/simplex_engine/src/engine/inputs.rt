@@ -7,26 +7,26 @@ ghost use Rattle.std.specs.Option.{option_map_or};
 ghost use Rattle.simplex_engine.specs.Acting.{verification_of};
 ghost use Rattle.simplex_engine.specs.Admitting.{admits_proposal, is_of_epoch};
 ghost use Rattle.simplex_member.specs.OutstandingWork.{is_offered};
-ghost use Rattle.simplex_plan.specs.declared.task.Task.TheVariants.{Certified, Proposed, SetProposal};
+ghost use Rattle.engine_planner.specs.declared.task.Task.TheVariants.{Certified, Proposed, SetProposal};
 
 use super::Engine;
 use super::counting::takes_votes;
 use crate::input::Input;
-use simplex_assembly::assembly::Assembly;
-use simplex_plan::task::Task;
+use simplex_types::types::assembly::Assembly;
+use engine_planner::task::Task;
 use simplex_types::types::{
     Context, Digest, Elector, Fault, Participant, Proposal, Round, Scheme, View, Viewable,
 };
 use simplex_voter::voter::State;
 
 impl<S: Assembly<D>, L: Elector<S>, D: Digest> Engine<S, L, D> {
-    ghost use Rattle.simplex_outbox.specs.Going.{GoesOn};
+    ghost use Rattle.engine_outbox.specs.Going.{GoesOn};
     ghost use Rattle.simplex_engine.specs.Taking.{IsInputTaken};
-    ghost use Rattle.simplex_plan.specs.Blocks.{is_asked_in};
+    ghost use Rattle.engine_planner.specs.Blocks.{is_asked_in};
     ghost use Rattle.simplex_engine.specs.Acting.{HasDoneTask, IsBlockTaken};
     ghost use Rattle.simplex_engine.specs.Causes.{ComesWith};
     ghost use Rattle.simplex_engine.specs.Duties.{KeepsDuties};
-    ghost use Rattle.simplex_plan.specs.Matters.{Arrival, Message};
+    ghost use Rattle.engine_planner.specs.Matters.{Arrival, Message};
     ghost use Rattle.simplex_engine.specs.Admitting.{is_so, ignoring, IsKeptEarly};
 
     /// Takes what came in, while the engine has not failed, and counts what is of no use.

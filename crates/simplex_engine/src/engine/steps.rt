@@ -5,28 +5,28 @@ ghost use Rattle.std.specs.Prelude.{◌≡◌, ℕ, [], ◌∷◌, None, Some, O
 ghost use Rattle.simplex_engine.specs.Causes.{is_verdict};
 
 use super::Engine;
-use simplex_assembly::assembly::Assembly;
-use simplex_outbox::output::Work;
-use simplex_plan::plan::Step;
-use simplex_plan::task::Task;
+use simplex_types::types::assembly::Assembly;
+use engine_outbox::output::Work;
+use engine_planner::plan::Step;
+use engine_planner::task::Task;
 use simplex_types::types::{Digest, Elector, Fault, View};
 
 impl<S: Assembly<D>, L: Elector<S>, D: Digest> Engine<S, L, D> {
-    ghost use Rattle.simplex_outbox.specs.Going.{GoesOn, IsKept, IsWhole};
-    ghost use Rattle.simplex_outbox.specs.Reaching.{IsShort};
+    ghost use Rattle.engine_outbox.specs.Going.{GoesOn, IsKept, IsWhole};
+    ghost use Rattle.engine_outbox.specs.Reaching.{IsShort};
     ghost use Rattle.simplex_engine.specs.Alone.{GoesOnAlone, GoesOnForgetting};
     ghost use Rattle.simplex_engine.specs.Quiet.{HasNothingNew};
-    ghost use Rattle.simplex_plan.specs.Planning.{IsIdle};
+    ghost use Rattle.engine_planner.specs.Planning.{IsIdle};
     ghost use Rattle.simplex_engine.specs.Bounds.{HoldsFromKept};
     ghost use Rattle.simplex_engine.specs.Building.{BuildsAhead};
     ghost use Rattle.simplex_engine.specs.Lacking.{AsksForItsLacking};
     ghost use Rattle.simplex_engine.specs.Causes.{held_by, is_final, ComesAlone, ComesForgetting, ComesWith};
     ghost use Rattle.simplex_engine.specs.Duties.{KeepsDuties, KeepsTaken};
-    ghost use Rattle.simplex_plan.specs.Asking.{KeepsAsking};
-    ghost use Rattle.simplex_plan.specs.Matters.{of_step, of_task, of_work, planned_matters};
-    ghost use Rattle.simplex_plan.specs.PlannedWork.{work_planned, AreAmong, KeepsPlanned};
+    ghost use Rattle.engine_planner.specs.Asking.{KeepsAsking};
+    ghost use Rattle.engine_planner.specs.Matters.{of_step, of_task, of_work, planned_matters};
+    ghost use Rattle.engine_planner.specs.PlannedWork.{work_planned, AreAmong, KeepsPlanned};
     ghost use Rattle.simplex_voter.specs.Windows.{min_active};
-    ghost use Rattle.simplex_outbox.specs.declared.output.Work.TheVariants as work;
+    ghost use Rattle.engine_outbox.specs.declared.output.Work.TheVariants as work;
 
     /// Takes all steps that are due, until the member has nothing new, and queues what the record has grown by.
     ///

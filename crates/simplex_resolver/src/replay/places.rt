@@ -7,7 +7,7 @@ ghost use Rattle.simplex_types.specs.Certificates.{artifact_facts, notarization_
 ghost use Rattle.simplex_resolver.specs.RecordCalls.{newest_first, notarization_at, newest_notarization};
 ghost use Rattle.simplex_resolver.specs.Places.{with_place, AreNoted};
 
-use simplex_sorted::tracked::Tracked;
+use simplex_view_maps::tracked::Tracked;
 use simplex_types::types::{
     AllocFailed, Artifact, CertificateScheme, Digest, Notarization, View, Viewable,
 };

@@ -3,14 +3,14 @@
 ghost use Rattle.std.specs.Prelude.{◌≡◌, Some, None, OnOk};
 ghost use Rattle.std.specs.Option.{option_copied};
 ghost use Rattle.std.specs.FinMap as map;
-ghost use Rattle.simplex_sorted.specs.Tracked.{at_or_above};
+ghost use Rattle.simplex_view_maps.specs.Tracked.{at_or_above};
 ghost use Rattle.simplex_resolver.specs.Facts.{certified_encoding};
 ghost use Rattle.simplex_resolver.specs.Steps.{insert_new};
 
 use crate::resolver::held;
 use crate::resolver::views::Views;
 use bytes::Bytes;
-use simplex_sorted::tracked::Tracked;
+use simplex_view_maps::tracked::Tracked;
 use simplex_types::types::{Fault, View};
 use std::alloc::Global;
 use std::marker::Model;

@@ -3,7 +3,7 @@
 ghost use Rattle.std.specs.Prelude.{◌≡◌, ◌<◌, ◌≤◌, ◌^◌, [], ◌∷◌, ◌++◌, if◌then◌else◌, filter, not, nat_lt, ◌&&◌, is_some, IfOk, OnOk};
 ghost use Rattle.std.specs.Option.{option_copied};
 ghost use Rattle.std.specs.FinMap as map;
-ghost use Rattle.simplex_sorted.specs.ByTerm.{has_covering};
+ghost use Rattle.simplex_view_maps.specs.ByTerm.{has_covering};
 ghost use Rattle.simplex_resolver.specs.Facts.{covering_encoding, uncovered_anchors, end_of_scan};
 ghost use Rattle.simplex_resolver.specs.Steps.{missing_fetches, failure_fetches};
 ghost use Rattle.simplex_types.specs.declared.reasons.FetchReason.TheVariants.{MissingNullification};
@@ -12,7 +12,7 @@ ghost use Rattle.simplex_resolver.specs.declared.resolver.effect.Effect.TheVaria
 use crate::resolver::effect::Effect;
 use crate::resolver::views::Views;
 use bytes::Bytes;
-use simplex_sorted::by_term::ByTerm;
+use simplex_view_maps::by_term::ByTerm;
 use simplex_types::reasons::FetchReason;
 use simplex_types::types::{TermLength, View};
 use std::alloc::AllocError;

@@ -2,7 +2,7 @@
 
 ghost use Rattle.std.specs.Prelude.{◌≡◌, ℕ, nat_le, ◌&&◌, OnOk, OnErr};
 ghost use Rattle.std.specs.FinMap as map;
-ghost use Rattle.simplex_sorted.specs.Tracked.{at_or_above};
+ghost use Rattle.simplex_view_maps.specs.Tracked.{at_or_above};
 ghost use Rattle.simplex_resolver.specs.Repair.{has};
 ghost use Rattle.simplex_resolver.specs.Steps.{insert_new};
 

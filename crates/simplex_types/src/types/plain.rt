@@ -4,6 +4,7 @@ ghost use Rattle.std.specs.Prelude.{◌≡◌, ◌<◌, ◌+◌, ◌^◌, ◌%�
 ghost use Rattle.std.specs.Option.{ForSome};
 ghost use Rattle.std.specs.Int.{w64, to_be_bytes, from_be_bytes};
 
+use crate::types::assembly::Assembly;
 use crate::types::messages::Subject;
 use crate::types::numbers::{Participant, Round};
 use crate::types::scheme::{CertificateScheme, Digest, Elector, PublicKey, Scheme};
@@ -246,4 +247,19 @@ impl<S: CertificateScheme> Elector<S> for PlainElector {
     ghost elected_is_member = { λ e round seed. elected_below e round.view };
 
     ghost early_needs_no_seed = { λ e round seed h. refl };
+}
+
+impl Assembly<PlainDigest> for PlainScheme {
+    ghost IsMadeOf = { λ _ _ _ certificate. certificate.good ≡ true };
+
+    fn assemble(
+        &self,
+        _alloc: Global,
+        _subject: &Subject<PlainDigest>,
+        _signatures: &[(Participant, PlainSignature)],
+    ) -> Result<PlainCertificate, AllocError> {
+        Ok(PlainCertificate { good: true })
+    }
+
+    ghost made_is_good = { λ _ _ _ _ _ made. made };
 }

@@ -10,9 +10,9 @@ ghost use Rattle.simplex_round.specs.Round.{is_judged};
 
 use super::state::State;
 use simplex_round::round::{Certification, Round};
-use simplex_sorted::by_term::ByTerm;
-use simplex_sorted::entries::Entries;
-use simplex_sorted::tracked::Tracked;
+use simplex_view_maps::by_term::ByTerm;
+use simplex_view_maps::entries::Entries;
+use simplex_view_maps::tracked::Tracked;
 use simplex_types::types::{CertificateScheme, Digest, Elector, Fault, Proposal, View};
 
 /// Notes a view, which may be noted already.

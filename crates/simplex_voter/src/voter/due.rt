@@ -5,7 +5,7 @@ ghost use Rattle.std.specs.List.{find};
 
 use super::state::State;
 use simplex_round::round::Round;
-use simplex_sorted::entries::Entries;
+use simplex_view_maps::entries::Entries;
 use simplex_types::types::{CertificateScheme, Digest, Elector, View};
 
 impl<S: CertificateScheme, L: Elector<S>, D: Digest> State<S, L, D> {

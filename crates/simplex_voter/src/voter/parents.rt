@@ -8,7 +8,7 @@ ghost use Rattle.simplex_voter.specs.Parents.{is_payload, is_parent, at_view};
 use super::leaders::before;
 use super::state::State;
 use simplex_round::round::Round;
-use simplex_sorted::entries::Entries;
+use simplex_view_maps::entries::Entries;
 use simplex_types::types::{CertificateScheme, Digest, Elector, Proposal, View};
 
 /// A view with its payload, where it has one.

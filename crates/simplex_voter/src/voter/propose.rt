@@ -8,7 +8,7 @@ ghost use Rattle.simplex_round.specs.Round.{should_propose};
 
 use super::state::State;
 use simplex_round::round::{Leader, Round};
-use simplex_sorted::entries::Entries;
+use simplex_view_maps::entries::Entries;
 use simplex_types::types::{CertificateScheme, Context, Digest, Elector, Fault, View, Viewable};
 use std::alloc::AllocError;
 

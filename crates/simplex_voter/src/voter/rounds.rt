@@ -4,10 +4,10 @@ ghost use Rattle.std.specs.Prelude.{◌≡◌, ◌<◌, ◌≤◌, ◌+◌, ◌^
 ghost use Rattle.simplex_round.specs.Round.{after_nullify};
 ghost use Rattle.std.specs.Option.{option_copied};
 ghost use Rattle.simplex_types.specs.declared.types.fault.Fault.TheVariants.{OutOfMemory};
-ghost use Rattle.simplex_sorted.specs.Tracked.{at_or_above};
+ghost use Rattle.simplex_view_maps.specs.Tracked.{at_or_above};
 
 use simplex_round::round::Round;
-use simplex_sorted::tracked::Tracked;
+use simplex_view_maps::tracked::Tracked;
 use simplex_types::types;
 use simplex_types::types::{CertificateScheme, Digest, Epoch, Fault, Participant, View};
 use std::alloc::Global;

@@ -9,7 +9,7 @@ ghost use Rattle.simplex_types.specs.declared.types.fault.Fault.TheVariants.{Tim
 
 use super::state::State;
 use simplex_round::round::{Decision, Round};
-use simplex_sorted::entries::Entries;
+use simplex_view_maps::entries::Entries;
 use simplex_types::reasons::TimeoutReason;
 use simplex_types::types::{CertificateScheme, Digest, Elector, Fault, TermLength, View};
 

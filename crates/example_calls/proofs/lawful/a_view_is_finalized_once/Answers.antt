@@ -1,5 +1,5 @@
 -- How the contract of `a_view_is_finalized_once` follows: what the member has done is lawful, so two finalize votes of one view are for one proposal.
-use Rattle.simplex_laws.proofs.agreement.TwoVotes.{one_finalized}
+use Rattle.laws_safety.proofs.agreement.TwoVotes.{one_finalized}
 use Rattle.example_calls.proofs.lawful.a_view_is_finalized_once.Goals as goal
 
 pub returns : goal.returns

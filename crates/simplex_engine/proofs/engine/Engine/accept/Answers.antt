@@ -4,15 +4,15 @@ use Rattle.std.proofs.lemmas.Bool.{not-false}
 use Rattle.std.proofs.lemmas.Result.{IfOk-weaker}
 use Rattle.simplex_types.specs.Certificates.{certificate_facts}
 use Rattle.simplex_types.specs.Encoding.{certificate_subject}
-use Rattle.simplex_outbox.specs.Going.{GoesOn}
+use Rattle.engine_outbox.specs.Going.{GoesOn}
 use Rattle.simplex_engine.proofs.Tells.{handed_as, tells_handed, tells_still}
-use Rattle.simplex_plan.proofs.Planning.{on_ok_both}
+use Rattle.engine_planner.proofs.Planning.{on_ok_both}
 use Rattle.simplex_member.specs.Calls.{told}
-use Rattle.simplex_outbox.specs.Handing.{hands_in}
-use Rattle.simplex_outbox.specs.Outputs.{work_in}
-use Rattle.simplex_plan.specs.Matters.{Quorum, given_by}
-use Rattle.simplex_plan.proofs.Matters.{among_last}
-use Rattle.simplex_plan.proofs.PlannedWork.{among_more}
+use Rattle.engine_outbox.specs.Handing.{hands_in}
+use Rattle.engine_outbox.specs.Outputs.{work_in}
+use Rattle.engine_planner.specs.Matters.{Quorum, given_by}
+use Rattle.engine_planner.proofs.Matters.{among_last}
+use Rattle.engine_planner.proofs.PlannedWork.{among_more}
 use Rattle.simplex_engine.specs.Causes.{at_hand}
 use Rattle.simplex_engine.proofs.Causes.{comes_called, comes_still, hand_asked, handed_plain}
 use Rattle.simplex_engine.proofs.engine.Engine.accept.Goals as goal

@@ -2,13 +2,13 @@
 use Rattle.std.proofs.Common.{None, sym, subst, ◌∙◌, ap}
 use Rattle.simplex_member.specs.Calls.{told}
 use Rattle.simplex_member.specs.Lives.{IsCall}
-use Rattle.simplex_outbox.specs.Going.{GoesOn}
-use Rattle.simplex_plan.specs.Tasks.{call_of}
+use Rattle.engine_outbox.specs.Going.{GoesOn}
+use Rattle.engine_planner.specs.Tasks.{call_of}
 use Rattle.simplex_engine.specs.Quiet.{AnswersNothing}
 use Rattle.simplex_engine.proofs.Alone.{alone_with}
 use Rattle.simplex_engine.proofs.Tells.{tells_called}
-use Rattle.simplex_outbox.specs.Outputs.{work_in}
-use Rattle.simplex_plan.specs.Matters.{given_by}
+use Rattle.engine_outbox.specs.Outputs.{work_in}
+use Rattle.engine_planner.specs.Matters.{given_by}
 use Rattle.simplex_engine.proofs.Causes.{comes_called, hand_asked}
 use Rattle.simplex_engine.proofs.engine.Engine.ask_for.Goals as goal
 

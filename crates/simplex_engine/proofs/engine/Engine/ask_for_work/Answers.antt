@@ -3,8 +3,8 @@ use Rattle.std.proofs.Common.{refl, [], inl}
 use Rattle.std.proofs.lemmas.Bool.{and_parts}
 use Rattle.simplex_engine.proofs.Alone.{alone_further}
 use Rattle.simplex_engine.proofs.Tells.{tells_further}
-use Rattle.simplex_plan.specs.declared.task.Task.TheVariants as task
-use Rattle.simplex_plan.proofs.Matters.{among_none}
+use Rattle.engine_planner.specs.declared.task.Task.TheVariants as task
+use Rattle.engine_planner.proofs.Matters.{among_none}
 use Rattle.simplex_engine.proofs.Causes.{comes_on}
 use Rattle.simplex_engine.proofs.engine.Engine.ask_for_work.Goals as goal
 

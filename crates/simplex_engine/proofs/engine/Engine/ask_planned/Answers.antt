@@ -1,11 +1,11 @@
 -- That a call which is planned passes no verdict.
 use Rattle.std.proofs.Common.{refl, sym, inl, ◌∙◌}
-use Rattle.simplex_outbox.proofs.Going.{stays}
+use Rattle.engine_outbox.proofs.Going.{stays}
 use Rattle.simplex_engine.proofs.Tells.{tells_still}
-use Rattle.simplex_plan.specs.Matters.{of_task}
-use Rattle.simplex_plan.proofs.Matters.{among_last}
-use Rattle.simplex_plan.proofs.PlannedWork.{among_more}
-use Rattle.simplex_plan.proofs.Planning.{on_ok}
+use Rattle.engine_planner.specs.Matters.{of_task}
+use Rattle.engine_planner.proofs.Matters.{among_last}
+use Rattle.engine_planner.proofs.PlannedWork.{among_more}
+use Rattle.engine_planner.proofs.Planning.{on_ok}
 use Rattle.simplex_engine.specs.Causes.{at_hand}
 use Rattle.simplex_engine.proofs.Causes.{comes_still, needs_no_offer, task_lacks_none}
 use Rattle.simplex_engine.proofs.engine.Engine.ask_planned.Goals as goal

@@ -4,11 +4,11 @@ use Rattle.std.proofs.lemmas.Bool.{false≢true}
 use Rattle.simplex_engine.specs.Admitting.{admits_votes, is_so}
 use Rattle.simplex_engine.proofs.Backing.{takes_nothing, takes_anyway, backed_by_none}
 use Rattle.simplex_engine.proofs.Bounds.{bounded_same}
-use Rattle.simplex_outbox.proofs.Going.{stays}
-use Rattle.simplex_plan.proofs.PlannedWork.{among_still}
+use Rattle.engine_outbox.proofs.Going.{stays}
+use Rattle.engine_planner.proofs.PlannedWork.{among_still}
 use Rattle.simplex_engine.specs.Duties.{work_ahead}
 use Rattle.simplex_engine.proofs.Building.{early_anyway}
-use Rattle.simplex_plan.proofs.Matters.{among_last}
+use Rattle.engine_planner.proofs.Matters.{among_last}
 use Rattle.simplex_engine.specs.declared.input.Input.TheVariants as input
 use Rattle.simplex_engine.specs.Causes.{at_hand, came_in}
 use Rattle.simplex_engine.proofs.Causes.{comes_still, vote_lacks_none}

@@ -2,8 +2,8 @@
 use Rattle.std.proofs.Common.{length}
 use Rattle.simplex_engine.proofs.Backing.{backed_by_none}
 use Rattle.simplex_engine.proofs.Bounds.{bounded_counted}
-use Rattle.simplex_outbox.proofs.Going.{stays}
-use Rattle.simplex_plan.proofs.Planning.{on_ok}
+use Rattle.engine_outbox.proofs.Going.{stays}
+use Rattle.engine_planner.proofs.Planning.{on_ok}
 use Rattle.simplex_engine.proofs.Taking.{taken_counted}
 use Rattle.simplex_engine.proofs.Causes.{comes_wider, counted_of, vote_lacks_none}
 use Rattle.simplex_engine.proofs.engine.Engine.count_admitted.Goals as goal

@@ -4,15 +4,15 @@ use Rattle.std.specs.Prelude.{IfSome}
 use Rattle.simplex_voter.specs.Windows.{min_active}
 use Rattle.simplex_engine.specs.Alone.{ForgetsNoOther}
 use Rattle.simplex_engine.specs.Backing.{TakesNone}
-use Rattle.simplex_batcher.specs.Batching.{HoldsFrom}
-use Rattle.simplex_outbox.specs.Going.{GoesOn}
-use Rattle.simplex_plan.specs.Planning.{IsIdle}
+use Rattle.engine_votes.specs.Batching.{HoldsFrom}
+use Rattle.engine_outbox.specs.Going.{GoesOn}
+use Rattle.engine_planner.specs.Planning.{IsIdle}
 use Rattle.simplex_engine.proofs.Alone.{alone_still, forgets_by, forgets_none}
 use Rattle.simplex_engine.proofs.Backing.{takes_no_more, takes_same}
 use Rattle.simplex_engine.proofs.Bounds.{kept_from}
-use Rattle.simplex_plan.proofs.Planning.{on_ok}
+use Rattle.engine_planner.proofs.Planning.{on_ok}
 use Rattle.simplex_engine.proofs.Tells.{tells_further, tells_planned}
-use Rattle.simplex_outbox.specs.Outputs.{work_in}
+use Rattle.engine_outbox.specs.Outputs.{work_in}
 use Rattle.simplex_engine.proofs.Causes.{comes_on, comes_same, forgets_lowest, hand_alone, risen_facts}
 use Rattle.simplex_engine.specs.Causes.{forgettable, held_by, Comes}
 use Rattle.simplex_engine.proofs.engine.Engine.drop_unretained.Goals as goal

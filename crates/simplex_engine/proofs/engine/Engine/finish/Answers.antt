@@ -3,7 +3,7 @@ use Rattle.std.proofs.Common.{ap, sym, subst}
 use Rattle.simplex_engine.specs.Quiet.{HasNothingNew}
 use Rattle.simplex_engine.proofs.Alone.{forgets_further, forgets_none}
 use Rattle.simplex_engine.proofs.Duties.{ahead_still, short_still}
-use Rattle.simplex_plan.specs.PlannedWork.{Constants}
+use Rattle.engine_planner.specs.PlannedWork.{Constants}
 use Rattle.simplex_engine.proofs.Tells.{tells_further}
 use Rattle.simplex_engine.proofs.Causes.{comes_later, forgets_no_lack}
 use Rattle.simplex_engine.proofs.engine.Engine.finish.Goals as goal

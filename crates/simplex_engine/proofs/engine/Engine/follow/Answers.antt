@@ -2,12 +2,12 @@
 use Rattle.std.proofs.Common.{ap, refl}
 use Rattle.std.specs.Prelude.{not}
 use Rattle.simplex_member.specs.Calls.{told}
-use Rattle.simplex_plan.proofs.PlannedWork.{among_both, among_further, among_still, plans_seen}
-use Rattle.simplex_plan.proofs.Following.{followed_plans}
+use Rattle.engine_planner.proofs.PlannedWork.{among_both, among_further, among_still, plans_seen}
+use Rattle.engine_planner.proofs.Following.{followed_plans}
 use Rattle.simplex_engine.proofs.Building.{come_same}
-use Rattle.simplex_plan.specs.Tasks.{call_of}
-use Rattle.simplex_plan.proofs.Giving.{followed_by}
-use Rattle.simplex_plan.proofs.StillAsking.{asks_over, asks_then, followed_asks}
+use Rattle.engine_planner.specs.Tasks.{call_of}
+use Rattle.engine_planner.proofs.Giving.{followed_by}
+use Rattle.engine_planner.proofs.StillAsking.{asks_over, asks_then, followed_asks}
 use Rattle.simplex_engine.specs.Causes.{is_final}
 use Rattle.simplex_engine.proofs.engine.Engine.follow.Goals as goal
 

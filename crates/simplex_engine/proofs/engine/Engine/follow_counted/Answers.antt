@@ -1,13 +1,13 @@
 -- That what follows a vote tells all that the member waits for.
 use Rattle.std.proofs.Common.{[], ◌∷◌, refl, sym, subst}
-use Rattle.simplex_plan.proofs.PlannedWork.{has_planned}
+use Rattle.engine_planner.proofs.PlannedWork.{has_planned}
 use Rattle.simplex_engine.proofs.Tells.{tells_planned, tells_still}
-use Rattle.simplex_outbox.specs.declared.output.Work.TheVariants as work
-use Rattle.simplex_plan.specs.Matters.{Duty}
-use Rattle.simplex_plan.proofs.Matters.{among_last, planned_more}
+use Rattle.engine_outbox.specs.declared.output.Work.TheVariants as work
+use Rattle.engine_planner.specs.Matters.{Duty}
+use Rattle.engine_planner.proofs.Matters.{among_last, planned_more}
 use Rattle.simplex_engine.specs.Causes.{at_hand, is_final, of_counted, ComesWith}
 use Rattle.simplex_engine.proofs.Causes.{comes_same, comes_still, counted_lacks_none, hand_with}
-use Rattle.simplex_plan.proofs.StillAsking.{asks_behind, asks_beside}
+use Rattle.engine_planner.proofs.StillAsking.{asks_behind, asks_beside}
 use Rattle.simplex_engine.proofs.engine.Engine.follow_counted.Goals as goal
 
 pub returns-in-Equivocated-clause-duties : goal.returns-in-Equivocated-clause-duties

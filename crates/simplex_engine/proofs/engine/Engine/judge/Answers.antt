@@ -1,13 +1,13 @@
 -- That a verdict is passed on just where the member offered the proposal.
 use Rattle.std.proofs.Common.{true, false, refl, sym, subst, ◌∙◌, inl, [], ◌∷◌}
 use Rattle.std.proofs.lemmas.Bool.{false≢true}
-use Rattle.simplex_outbox.proofs.Going.{stays}
+use Rattle.engine_outbox.proofs.Going.{stays}
 use Rattle.simplex_engine.proofs.Tells.{tells_still}
-use Rattle.simplex_plan.specs.declared.task.Task.TheVariants as task
-use Rattle.simplex_plan.specs.Matters.{Message}
-use Rattle.simplex_plan.proofs.Matters.{among_last}
-use Rattle.simplex_plan.proofs.PlannedWork.{among_more}
-use Rattle.simplex_plan.proofs.Planning.{on_ok}
+use Rattle.engine_planner.specs.declared.task.Task.TheVariants as task
+use Rattle.engine_planner.specs.Matters.{Message}
+use Rattle.engine_planner.proofs.Matters.{among_last}
+use Rattle.engine_planner.proofs.PlannedWork.{among_more}
+use Rattle.engine_planner.proofs.Planning.{on_ok}
 use Rattle.simplex_engine.specs.Causes.{at_hand}
 use Rattle.simplex_engine.proofs.Causes.{comes_still}
 use Rattle.simplex_engine.proofs.engine.Engine.judge.Goals as goal

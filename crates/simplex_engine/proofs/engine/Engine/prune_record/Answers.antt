@@ -1,11 +1,11 @@
 -- That the views which are over are dropped first, and then the record is made short.
 use Rattle.std.proofs.Common.{ap, refl, [], inl}
-use Rattle.simplex_outbox.proofs.Going.{goes_further}
+use Rattle.engine_outbox.proofs.Going.{goes_further}
 use Rattle.simplex_engine.proofs.Tells.{tells_further, tells_beside}
-use Rattle.simplex_plan.specs.declared.task.Task.TheVariants as task
-use Rattle.simplex_plan.specs.Matters.{planned_matters}
-use Rattle.simplex_plan.proofs.Matters.{among_none}
-use Rattle.simplex_plan.proofs.PlannedWork.{among_still}
+use Rattle.engine_planner.specs.declared.task.Task.TheVariants as task
+use Rattle.engine_planner.specs.Matters.{planned_matters}
+use Rattle.engine_planner.proofs.Matters.{among_none}
+use Rattle.engine_planner.proofs.PlannedWork.{among_still}
 use Rattle.simplex_engine.proofs.Causes.{comes_on, comes_pruned, hand_alone}
 use Rattle.simplex_engine.proofs.engine.Engine.prune_record.Goals as goal
 

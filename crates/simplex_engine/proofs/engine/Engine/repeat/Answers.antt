@@ -1,9 +1,9 @@
 -- That nothing is done but to queue a vote once more.
 use Rattle.std.proofs.Common.{refl, ap}
 use Rattle.simplex_engine.proofs.Tells.{tells_beside}
-use Rattle.simplex_outbox.proofs.Working.{repeated_no_work}
-use Rattle.simplex_plan.specs.Matters.{planned_matters}
-use Rattle.simplex_plan.proofs.PlannedWork.{among_still}
+use Rattle.engine_outbox.proofs.Working.{repeated_no_work}
+use Rattle.engine_planner.specs.Matters.{planned_matters}
+use Rattle.engine_planner.proofs.PlannedWork.{among_still}
 use Rattle.simplex_engine.proofs.Causes.{comes_still, hand_alone}
 use Rattle.simplex_engine.proofs.engine.Engine.repeat.Goals as goal
 

@@ -2,9 +2,9 @@
 use Rattle.std.proofs.Common.{refl, ap}
 use Rattle.simplex_engine.proofs.Alone.{alone_still}
 use Rattle.simplex_engine.proofs.Tells.{tells_beside, tells_still}
-use Rattle.simplex_outbox.specs.declared.output.Work.TheVariants as work
-use Rattle.simplex_plan.specs.Matters.{of_work}
-use Rattle.simplex_plan.proofs.Matters.{among_last}
+use Rattle.engine_outbox.specs.declared.output.Work.TheVariants as work
+use Rattle.engine_planner.specs.Matters.{of_work}
+use Rattle.engine_planner.proofs.Matters.{among_last}
 use Rattle.simplex_engine.specs.Causes.{at_hand}
 use Rattle.simplex_engine.proofs.Causes.{comes_still, hand_pushed}
 use Rattle.simplex_engine.proofs.engine.Engine.report_forgotten.Goals as goal

@@ -1,8 +1,8 @@
 -- That a fetch loses nothing that is planned.
 use Rattle.std.proofs.Common.{Ok}
-use Rattle.simplex_plan.proofs.PlannedWork.{plans_opened}
+use Rattle.engine_planner.proofs.PlannedWork.{plans_opened}
 use Rattle.simplex_engine.proofs.Causes.{fails, resolved}
-use Rattle.simplex_plan.proofs.StillAsking.{resolves_asks}
+use Rattle.engine_planner.proofs.StillAsking.{resolves_asks}
 use Rattle.simplex_engine.proofs.engine.Engine.resolve.Goals as goal
 
 pub returns-clause-planned : goal.returns-clause-planned

@@ -3,9 +3,9 @@ use Rattle.std.proofs.Common.{◌≡◌, sym, subst, ap, ◌∙◌, refl, inr, O
 use Rattle.simplex_record.specs.Entries.{entries_of}
 use Rattle.simplex_record.specs.Start.{start_facts}
 use Rattle.simplex_member.specs.Journal.{IsResumed}
-use Rattle.simplex_laws.specs.Living.{HasGoneOn}
+use Rattle.laws_safety.specs.Living.{HasGoneOn}
 use Rattle.simplex_engine.proofs.Bounds.{bounded_empty}
-use Rattle.simplex_outbox.proofs.Going.{where_ok}
+use Rattle.engine_outbox.proofs.Going.{where_ok}
 use Rattle.simplex_engine.proofs.Tells.{restart_waits, tells_none}
 use Rattle.std.proofs.lemmas.Bool.{eqb-true}
 use Rattle.simplex_engine.proofs.Beginning.{has_retry, not_begun}

@@ -2,7 +2,7 @@
 use Rattle.std.proofs.Common.{refl}
 use Rattle.simplex_engine.proofs.Alone.{alone_still, alone_further}
 use Rattle.simplex_engine.proofs.Tells.{tells_still, tells_further}
-use Rattle.simplex_plan.proofs.PlannedWork.{among_still}
+use Rattle.engine_planner.proofs.PlannedWork.{among_still}
 use Rattle.simplex_engine.specs.Causes.{at_hand}
 use Rattle.simplex_engine.proofs.Causes.{comes_on, comes_still}
 use Rattle.simplex_engine.proofs.engine.Engine.run_all.Goals as goal

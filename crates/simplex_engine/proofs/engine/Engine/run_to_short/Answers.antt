@@ -1,12 +1,12 @@
 -- That steps and prunings go on one behind the other, and that all is done where the record is short.
 use Rattle.std.proofs.Common.{refl, sym, subst}
-use Rattle.simplex_plan.specs.Planning.{IsIdle}
+use Rattle.engine_planner.specs.Planning.{IsIdle}
 use Rattle.simplex_engine.specs.Building.{BuildsAhead}
 use Rattle.simplex_engine.specs.Quiet.{HasNothingNew}
 use Rattle.simplex_engine.proofs.Alone.{alone_still, alone_further}
 use Rattle.simplex_engine.proofs.Duties.{ahead_still}
 use Rattle.simplex_engine.proofs.Tells.{tells_still, tells_further}
-use Rattle.simplex_plan.proofs.PlannedWork.{among_still}
+use Rattle.engine_planner.proofs.PlannedWork.{among_still}
 use Rattle.simplex_engine.specs.Causes.{at_hand}
 use Rattle.simplex_engine.proofs.Causes.{comes_on, comes_still}
 use Rattle.simplex_engine.proofs.engine.Engine.run_to_short.Goals as goal

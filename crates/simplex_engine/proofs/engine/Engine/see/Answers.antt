@@ -1,11 +1,11 @@
 -- That nothing but what is planned changes.
 use Rattle.std.proofs.Common.{◌≡◌, ◌∙◌, ap, refl, subst, [], true}
 use Rattle.std.specs.Prelude.{IfSome, nat_le}
-use Rattle.simplex_plan.proofs.Entering.{seen_keeps, seen_views}
-use Rattle.simplex_plan.proofs.Giving.{seen_alone}
+use Rattle.engine_planner.proofs.Entering.{seen_keeps, seen_views}
+use Rattle.engine_planner.proofs.Giving.{seen_alone}
 use Rattle.std.specs.Option.{option_map_or}
-use Rattle.simplex_plan.specs.Asking.{KeepsAsking}
-use Rattle.simplex_plan.proofs.StillAsking.{seen_asks}
+use Rattle.engine_planner.specs.Asking.{KeepsAsking}
+use Rattle.engine_planner.proofs.StillAsking.{seen_asks}
 use Rattle.simplex_engine.proofs.engine.Engine.see.Goals as goal
 
 pub returns-in_default : goal.returns-in_default

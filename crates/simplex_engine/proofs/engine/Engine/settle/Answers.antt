@@ -2,12 +2,12 @@
 use Rattle.std.proofs.Common.{refl, sym, subst, ◌∙◌, ap, ◌≡◌, [], true, false}
 use Rattle.std.specs.Prelude.{IfSome}
 use Rattle.simplex_voter.specs.Windows.{min_active}
-use Rattle.simplex_batcher.specs.Batching.{HoldsFrom}
-use Rattle.simplex_fetches.specs.Wanted.{holds, AsksForTheLacking}
+use Rattle.engine_votes.specs.Batching.{HoldsFrom}
+use Rattle.engine_fetches.specs.Wanted.{holds, AsksForTheLacking}
 use Rattle.simplex_engine.proofs.Alone.{forgets_then}
 use Rattle.simplex_engine.proofs.Tells.{tells_further, tells_beside}
-use Rattle.simplex_plan.specs.Matters.{planned_matters}
-use Rattle.simplex_plan.proofs.PlannedWork.{among_still}
+use Rattle.engine_planner.specs.Matters.{planned_matters}
+use Rattle.engine_planner.proofs.PlannedWork.{among_still}
 use Rattle.simplex_engine.proofs.Causes.{comes_still, comes_then, hand_alone, risen_facts}
 use Rattle.std.specs.Option.{option_map_or}
 use Rattle.simplex_engine.specs.Causes.{forgettable, held_by, Comes}

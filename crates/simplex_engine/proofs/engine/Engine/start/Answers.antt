@@ -3,9 +3,9 @@ use Rattle.std.proofs.Common.{◌≡◌, sym, subst, ap, inr, refl, ◌∙◌, [
 use Rattle.simplex_types.specs.Config.{floor_facts}
 use Rattle.simplex_record.specs.Start.{set_up}
 use Rattle.simplex_member.specs.Start.{started_member}
-use Rattle.simplex_laws.specs.Living.{HasBegun}
+use Rattle.laws_safety.specs.Living.{HasBegun}
 use Rattle.simplex_engine.proofs.Bounds.{bounded_empty}
-use Rattle.simplex_outbox.proofs.Going.{where_ok}
+use Rattle.engine_outbox.proofs.Going.{where_ok}
 use Rattle.simplex_engine.proofs.Tells.{tells_none}
 use Rattle.std.proofs.lemmas.Bool.{eqb-true}
 use Rattle.simplex_engine.proofs.Beginning.{has_retry, not_begun}

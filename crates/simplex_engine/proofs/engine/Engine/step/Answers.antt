@@ -1,15 +1,15 @@
 -- That the step which is next is taken.
 use Rattle.std.proofs.Common.{◌++◌, [], false, refl, subst}
 use Rattle.std.specs.Prelude.{option_to_list}
-use Rattle.simplex_plan.specs.PlannedWork.{AreAmong, IsPlanned, beside_of, work_planned}
-use Rattle.simplex_plan.proofs.Filling.{taken_keeps}
-use Rattle.simplex_outbox.proofs.Going.{stays}
+use Rattle.engine_planner.specs.PlannedWork.{AreAmong, IsPlanned, beside_of, work_planned}
+use Rattle.engine_planner.proofs.Filling.{taken_keeps}
+use Rattle.engine_outbox.proofs.Going.{stays}
 use Rattle.simplex_engine.proofs.Tells.{tells_planned, tells_taken}
-use Rattle.simplex_plan.specs.Matters.{of_steps, planned_matters}
-use Rattle.simplex_plan.proofs.Giving.{taken_alone}
-use Rattle.simplex_plan.proofs.Planning.{on_ok}
+use Rattle.engine_planner.specs.Matters.{of_steps, planned_matters}
+use Rattle.engine_planner.proofs.Giving.{taken_alone}
+use Rattle.engine_planner.proofs.Planning.{on_ok}
 use Rattle.simplex_engine.proofs.Causes.{asks_none, comes_same, comes_taken, hand_alone, taken_hand}
-use Rattle.simplex_plan.proofs.StillAsking.{taken_asks, AsksOn}
+use Rattle.engine_planner.proofs.StillAsking.{taken_asks, AsksOn}
 use Rattle.simplex_engine.proofs.engine.Engine.step.Goals as goal
 
 pub returns-in_err-step-clause-alone : goal.returns-in_err-step-clause-alone

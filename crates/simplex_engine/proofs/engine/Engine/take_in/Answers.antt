@@ -7,10 +7,10 @@ use Rattle.simplex_engine.specs.Acting.{HasDoneTask}
 use Rattle.simplex_engine.specs.Admitting.{IsTurnedAway}
 use Rattle.simplex_engine.specs.Taking.{IsInputTaken}
 use Rattle.simplex_engine.proofs.Taking.{taken_alone}
-use Rattle.simplex_plan.specs.declared.task.Task.TheVariants as task
-use Rattle.simplex_plan.specs.Matters.{Message}
-use Rattle.simplex_plan.proofs.PlannedWork.{among_more}
-use Rattle.simplex_plan.proofs.Planning.{on_ok}
+use Rattle.engine_planner.specs.declared.task.Task.TheVariants as task
+use Rattle.engine_planner.specs.Matters.{Message}
+use Rattle.engine_planner.proofs.PlannedWork.{among_more}
+use Rattle.engine_planner.proofs.Planning.{on_ok}
 use Rattle.simplex_engine.specs.Causes.{at_hand}
 use Rattle.simplex_engine.proofs.Causes.{told_verified}
 use Rattle.simplex_engine.proofs.engine.Engine.take_in.Goals as goal

@@ -1,18 +1,18 @@
 -- That each step is taken by what is for it.
 use Rattle.std.proofs.Common.{None, refl, ◌∷◌, [], sym, subst, ap}
 use Rattle.simplex_engine.specs.Duties.{KeepsTaken}
-use Rattle.simplex_plan.specs.PlannedWork.{work_planned}
-use Rattle.simplex_outbox.specs.Going.{GoesOn}
-use Rattle.simplex_plan.specs.declared.plan.Step.TheVariants as step
+use Rattle.engine_planner.specs.PlannedWork.{work_planned}
+use Rattle.engine_outbox.specs.Going.{GoesOn}
+use Rattle.engine_planner.specs.declared.plan.Step.TheVariants as step
 use Rattle.simplex_engine.proofs.Alone.{alone_with}
-use Rattle.simplex_outbox.proofs.Going.{stays}
-use Rattle.simplex_plan.proofs.Planning.{on_ok}
+use Rattle.engine_outbox.proofs.Going.{stays}
+use Rattle.engine_planner.proofs.Planning.{on_ok}
 use Rattle.simplex_engine.proofs.Tells.{on_any, passed_on, tells_other, tells_planned}
-use Rattle.simplex_outbox.specs.Outputs.{work_in}
-use Rattle.simplex_plan.specs.Matters.{Lack, of_step}
+use Rattle.engine_outbox.specs.Outputs.{work_in}
+use Rattle.engine_planner.specs.Matters.{Lack, of_step}
 use Rattle.simplex_engine.specs.Causes.{ComesWith}
 use Rattle.simplex_engine.proofs.Causes.{comes_same, hand_with}
-use Rattle.simplex_plan.proofs.StillAsking.{asks_over}
+use Rattle.engine_planner.proofs.StillAsking.{asks_over}
 use Rattle.simplex_engine.proofs.engine.Engine.take_step.Goals as goal
 
 pub returns-in-Ask : goal.returns-in-Ask

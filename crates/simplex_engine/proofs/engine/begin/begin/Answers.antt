@@ -1,8 +1,8 @@
 -- That the engine begins with its company.
 use Rattle.std.proofs.Common.{ap, refl, sym, subst}
 use Rattle.std.proofs.lemmas.Result.{err_from_is_err_and}
-use Rattle.simplex_outbox.specs.Going.{BeginsTraced}
-use Rattle.simplex_outbox.specs.Signatures.{BeginsSigned}
+use Rattle.engine_outbox.specs.Going.{BeginsTraced}
+use Rattle.engine_outbox.specs.Signatures.{BeginsSigned}
 use Rattle.simplex_engine.specs.Beginning.{with_a_retry, IsPlanOf}
 use Rattle.simplex_engine.proofs.Beginning.{begun_with}
 use Rattle.simplex_engine.proofs.engine.begin.begin.Goals as goal

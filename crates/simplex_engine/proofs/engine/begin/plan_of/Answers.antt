@@ -4,8 +4,8 @@ use Rattle.std.specs.Prelude.{IfSome}
 use Rattle.simplex_resolver.specs.RecordCalls.{calls_of}
 use Rattle.simplex_resolver.specs.Steps.{Replayed}
 use Rattle.simplex_resolver.specs.Told.{HasBeenTold}
-use Rattle.simplex_fetches.specs.Wanted.{wanting}
-use Rattle.simplex_plan.specs.declared.plan.Views.{Views}
+use Rattle.engine_fetches.specs.Wanted.{wanting}
+use Rattle.engine_planner.specs.declared.plan.Views.{Views}
 use Rattle.simplex_engine.proofs.Beginning.{is_repair_of}
 use Rattle.simplex_engine.proofs.engine.begin.plan_of.Goals as goal
 

@@ -1,7 +1,7 @@
 -- How the contract of `check_next` follows: the entry breaks a rule by itself, or beside what was seen of its view.
 use Rattle.std.proofs.Common.{◌≡◌, ap, ◌∙◌, sym, nat_lt, false}
 use Rattle.std.proofs.lemmas.Result.{err_from_is_err_and}
-use Rattle.simplex_sorted.proofs.Maps.{is_lt-nat_cmp}
+use Rattle.simplex_view_maps.proofs.Maps.{is_lt-nat_cmp}
 use Rattle.simplex_types.specs.Certificates.{artifact_facts}
 use Rattle.simplex_record.specs.Entries.{entry_view}
 use Rattle.simplex_record.specs.Seen.{turned_to}

@@ -1,6 +1,6 @@
 -- How the contract of `take_kept` follows: an entry below the views that are kept changes nothing, another one is taken.
 use Rattle.std.proofs.Common.{◌≡◌, sym, subst, ◌∙◌, nat_lt, true, false, OnOk}
-use Rattle.simplex_sorted.proofs.Maps.{is_lt-nat_cmp}
+use Rattle.simplex_view_maps.proofs.Maps.{is_lt-nat_cmp}
 use Rattle.simplex_types.specs.Certificates.{artifact_facts}
 use Rattle.simplex_voter.specs.Facts.{StateFacts}
 use Rattle.simplex_voter.specs.Windows.{min_active}

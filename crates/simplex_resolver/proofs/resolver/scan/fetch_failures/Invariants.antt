@@ -1,7 +1,7 @@
 -- The loop of `fetch_failures`: the effects so far and those of the views that are left.
 use Rattle.std.proofs.Common.{◌≡◌, ℕ, Bool, ◌++◌, ◌&&◌, filter, not, nat_lt, length}
 use Rattle.std.specs.FinMap.{keys}
-use Rattle.simplex_sorted.specs.ByTerm.{has_covering}
+use Rattle.simplex_view_maps.specs.ByTerm.{has_covering}
 use Rattle.simplex_resolver.specs.Steps.{failure_fetches}
 use Rattle.simplex_resolver.proofs.resolver.scan.fetch_failures.Given as goal
 

@@ -1,6 +1,6 @@
 -- How the contract of `scan` follows: the anchors go on from one to the next term's start, and each uncovered one is fetched.
 use Rattle.std.proofs.Common.{arith, refl, ◌∙◌, sym, ap, not, ◌<◌, subst}
-use Rattle.simplex_sorted.specs.ByTerm.{has_covering}
+use Rattle.simplex_view_maps.specs.ByTerm.{has_covering}
 use Rattle.std.proofs.lemmas.Bool.Decides.{nat_tests}
 use Rattle.simplex_types.specs.Terms.{next_term_start}
 use Rattle.simplex_resolver.specs.Facts.{end_of_scan}

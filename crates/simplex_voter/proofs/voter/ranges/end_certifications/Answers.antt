@@ -1,7 +1,7 @@
 -- How the contract of `end_certifications` follows: none is under way below where the walk begins, and each round that it meets is ended.
 use Rattle.std.proofs.Common.{◌≡◌, ◌<◌, ◌≤◌, ◌∙◌, refl, arith}
 use Rattle.std.specs.FinMap as map
-use Rattle.simplex_sorted.proofs.Gaps.{gt_no, gt_yes}
+use Rattle.simplex_view_maps.proofs.Gaps.{gt_no, gt_yes}
 use Rattle.simplex_voter.specs.Certification.{without_token}
 use Rattle.simplex_voter.proofs.Walked.{at_first, at_none, walked_on, walked_step, walked_entries}
 use Rattle.simplex_voter.proofs.Raising.{ends_begin}

@@ -1,6 +1,6 @@
 -- How the contract of `new` follows: no keys are the empty set.
 use Rattle.std.proofs.Common.{ap}
-use Rattle.simplex_sorted.proofs.Maps.{made_empty}
+use Rattle.simplex_view_maps.proofs.Maps.{made_empty}
 use Rattle.simplex_resolver.specs.ViewSets.{keyed}
 use Rattle.simplex_resolver.proofs.ViewSets.{keyed_sorted}
 use Rattle.simplex_resolver.proofs.resolver.views.Views.new.Goals as goal

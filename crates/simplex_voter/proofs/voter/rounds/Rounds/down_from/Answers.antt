@@ -1,7 +1,7 @@
 -- How the contract of `down_from` follows: no view above the bound is explicit, so those above it may be left out.
 use Rattle.std.proofs.Common.{◌+◌, ◌<◌, nat_lt, filter, ap, ◌∙◌, arith}
-use Rattle.simplex_sorted.proofs.Gaps.{lt_yes}
-use Rattle.simplex_sorted.proofs.Maps.{entries-retain_keys}
+use Rattle.simplex_view_maps.proofs.Gaps.{lt_yes}
+use Rattle.simplex_view_maps.proofs.Maps.{entries-retain_keys}
 use Rattle.simplex_voter.specs.Rounds.{find_round}
 use Rattle.simplex_voter.proofs.Changed.{none_explicit_above}
 use Rattle.simplex_voter.proofs.voter.rounds.Rounds.down_from.Goals as goal

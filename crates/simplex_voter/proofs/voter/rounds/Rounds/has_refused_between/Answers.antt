@@ -2,8 +2,8 @@
 use Rattle.std.proofs.Common.{ℕ, Bool, ◌+◌, ap, ◌∙◌, sym, subst}
 use Rattle.std.specs.List.{list_any}
 use Rattle.std.specs.FinMap as map
-use Rattle.simplex_sorted.specs.Tracked.{below, at_or_above}
-use Rattle.simplex_sorted.proofs.Gaps.{lt_yes}
+use Rattle.simplex_view_maps.specs.Tracked.{below, at_or_above}
+use Rattle.simplex_view_maps.proofs.Gaps.{lt_yes}
 use Rattle.simplex_voter.specs.Rounds.{AreKept, is_refused_above}
 use Rattle.simplex_voter.proofs.Refused.{searched, none_between}
 use Rattle.simplex_voter.proofs.voter.rounds.Rounds.has_refused_between.Goals as goal

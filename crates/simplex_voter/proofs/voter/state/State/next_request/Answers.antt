@@ -1,7 +1,7 @@
 -- How the contract of `next_request` follows: the views near the current one and the next term's start are all that may have a request.
 use Rattle.std.proofs.Common.{◌<◌, slice_get, ap, ◌∙◌, arith}
 use Rattle.std.specs.List.{filter_map}
-use Rattle.simplex_sorted.proofs.Gaps.{lt_yes}
+use Rattle.simplex_view_maps.proofs.Gaps.{lt_yes}
 use Rattle.simplex_voter.specs.Proposing.{views_within, request_in}
 use Rattle.simplex_voter.proofs.Ahead.{near_given, start_given}
 use Rattle.simplex_voter.proofs.Building.{answer_given, request_ready}

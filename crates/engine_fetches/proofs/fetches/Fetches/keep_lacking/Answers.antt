@@ -1,0 +1,14 @@
+-- That just those which are lacking are left.
+use Rattle.std.proofs.Common.{rules}
+use Rattle.std.proofs.lemmas.Fn.{filter_same}
+use Rattle.engine_fetches.proofs.Once.{once_left}
+use Rattle.engine_fetches.specs.Wanted.{is_lacking}
+use Rattle.engine_fetches.proofs.fetches.Fetches.keep_lacking.Goals as goal
+
+pub returns-clause-kept : goal.returns-clause-kept
+returns-clause-kept g c = filter_same _ (is_lacking c.args.wanted.now.keys c.args.state.now) _ (λ x b f' k. search rules) _ _ c.retain.ensures.filtered
+
+pub invariant_of-self : goal.invariant_of-self
+invariant_of-self g c =
+    let left = filter_same _ (is_lacking c.args.wanted.now.keys c.args.state.now) _ (λ x b f' k. search rules) _ _ c.retain.ensures.filtered in
+    rw left (record { once = once_left (is_lacking c.args.wanted.now.keys c.args.state.now) c.args.self.now.wanted.items c.args.self.now.once })

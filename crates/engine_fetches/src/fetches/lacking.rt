@@ -1,0 +1,60 @@
+//! Which fetches are of what is lacking; the others are closed.
+
+ghost use Rattle.std.specs.Prelude.{◌≡◌, filter};
+ghost use Rattle.simplex_resolver.specs.Repair.{has};
+ghost use Rattle.engine_fetches.specs.Wanted.{is_held, is_lacking};
+
+use super::{Fetch, FetchKind, Fetches};
+use simplex_types::types::{CertificateScheme, Digest, Elector, View};
+use simplex_voter::voter::State;
+use std::collections::BTreeSet;
+
+impl Fetches {
+    /// Closes the fetches of what is not lacking: of views up to the last finalized one, and of certificates that the state holds.
+    /// The nullifications of these views are wanted though the state may hold them.
+    pub fn keep_lacking<S: CertificateScheme, L: Elector<S>, D: Digest>(
+        &mut self,
+        wanted: &BTreeSet<View>,
+        state: &State<S, L, D>,
+    )
+        ensures kept { self.new.wanted.items ≡ filter (is_lacking wanted.now.keys state.now) self.old.wanted.items }
+        ensures same { (self.new.peers ≡ self.old.peers) × (self.new.retry ≡ self.old.retry) }
+    {
+        self.wanted.retain(|fetch| is_lacking(wanted, state, fetch));
+    }
+}
+
+/// Whether the fetch is of a view above the last finalized one, and of a certificate that is lacking.
+fn is_lacking<S: CertificateScheme, L: Elector<S>, D: Digest>(
+    wanted: &BTreeSet<View>,
+    state: &State<S, L, D>,
+    fetch: &Fetch,
+) -> bool
+    ensures { result ≡ is_lacking wanted.now.keys state.now fetch.now }
+{
+    state.last_finalized() < fetch.view && !is_held(wanted, state, fetch)
+}
+
+/// Whether the state holds the certificate, and its nullification is not wanted.
+fn is_held<S: CertificateScheme, L: Elector<S>, D: Digest>(
+    wanted: &BTreeSet<View>,
+    state: &State<S, L, D>,
+    fetch: &Fetch,
+) -> bool
+    ensures { result ≡ is_held wanted.now.keys state.now fetch.now }
+{
+    match fetch.kind {
+        FetchKind::Notarization => state.notarization(fetch.view).is_some(),
+        FetchKind::Nullification => {
+            !is_among(wanted, fetch.view) && state.nullification(fetch.view).is_some()
+        }
+        FetchKind::Decision => false,
+    }
+}
+
+/// Whether the view is among these.
+fn is_among(views: &BTreeSet<View>, view: View) -> bool
+    ensures { result ≡ has views.now.keys view }
+{
+    views.contains(&view)
+}

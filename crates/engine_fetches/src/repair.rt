@@ -1,0 +1,220 @@
+//! What is asked of peers: the resolver, which says of which views nullifications are wanted, and the fetches that are open.
+//!
+//! It owes that no wanted view above the last finalized one is left out.
+
+ghost use Rattle.std.specs.Prelude.{◌≡◌, ◌↔◌, ℕ, ◌≤◌, false, filter, max, None, OnOk, OnErr, IfOk, IfErr, IsFalse, IsOk};
+ghost use Rattle.simplex_types.specs.declared.types.fault.Fault.TheVariants.{Failed};
+ghost use Rattle.simplex_types.specs.Certificates.{certificate_facts, notarization_facts};
+ghost use Rattle.simplex_types.specs.Viewed.{certificate_view};
+ghost use Rattle.simplex_resolver.specs.Steps.{highest_named, highest_view, update, verdict};
+ghost use Rattle.engine_fetches.specs.Asking.{IsAsking};
+ghost use Rattle.engine_fetches.specs.Fetches.{due_at, opened, closed, passed, place_of};
+ghost use Rattle.engine_fetches.specs.Wanted.{fetching, wanting, is_lacking, AsksForWanted, AsksForTheLacking, OpensNoOther};
+
+use crate::fetches::{Ask, FetchKind, Fetches};
+use simplex_resolver::replay::LawfulResolver;
+use simplex_types::types::{
+    Certificate, CertificateScheme, Digest, Elector, Fault, Notarization, Participant, View,
+};
+use simplex_voter::voter::{CertificateFetch, State};
+use std::alloc::AllocError;
+
+/// The resolver and the open fetches.
+#[derive(Drop)]
+pub struct Repair {
+    resolver: LawfulResolver,
+    fetches: Fetches,
+    /// The last finalized view, as far as it was told: nothing is asked for of the views up to it.
+    passed: View,
+    /// Memory was lacking before the effects of a call were carried out.
+    is_behind: bool,
+    ghost complete: { is_behind ≡ false → AsksForWanted passed resolver.open_fetches fetches.wanted.items },
+}
+
+impl Repair {
+    ghost use Rattle.engine_fetches.specs.Repairing.{HasFetches, HasPassed, IsRepaired, IsUnrepaired};
+
+    /// What the resolver has open is asked for at once, beside what is open already.
+    ///
+    /// # Errors
+    ///
+    /// Memory is lacking.
+    pub fn new(resolver: LawfulResolver, mut fetches: Fetches) -> Result<Repair, AllocError>
+        ensures resolver { IfOk result (λ repair. repair.resolver ≡ resolver) }
+        ensures fetches { IfOk result (λ repair. repair.fetches.wanted.items ≡ wanting resolver.open_fetches fetches.wanted.items) }
+        ensures same { IfOk result (λ repair. (repair.fetches.peers ≡ fetches.peers) × (repair.fetches.retry ≡ fetches.retry)) }
+        ensures begun { IfOk result (λ repair. (repair.passed ≡ 0) × (repair.is_behind ≡ false)) }
+    {
+        fetches.open_all(resolver.fetches())?;
+        Ok(Repair {
+            resolver,
+            fetches,
+            passed: View::zero(),
+            is_behind: false,
+        })
+    }
+
+    /// The resolver.
+    pub fn resolver(&self) -> &LawfulResolver
+        ensures { result.now ≡ self.now.resolver }
+    {
+        &self.resolver
+    }
+
+    /// The fetches that are open.
+    pub fn fetches(&self) -> &Fetches
+        ensures { result.now ≡ self.now.fetches }
+    {
+        &self.fetches
+    }
+
+    /// The resolver is told of a certificate, and fetches are opened and ended as it says. What is lacking is asked for from this
+    /// moment on.
+    ///
+    /// - `no_other`: so a fetch that the resolver does not want was open before, and was not wanted then either.
+    ///
+    /// # Errors
+    ///
+    /// Those of `LawfulResolver::updated`. After `OutOfMemory` fetches may be left out; another one leaves the resolver and the fetches.
+    pub fn updated<S: CertificateScheme, D: Digest>(
+        &mut self,
+        certificate: &Certificate<S, D>,
+        moment: u64,
+    ) -> Result<(), Fault>
+        requires { 1 ≤ certificate_view certificate.now }
+        ensures repaired { OnOk result (IsRepaired moment (update D.bytes (certificate_facts S.certificate_bytes certificate.now)) self.old self.new) }
+        ensures no_other { OnOk result (OpensNoOther self.old.resolver.open_fetches self.old.fetches.wanted.items
+            self.new.resolver.open_fetches self.new.fetches.wanted.items) }
+        ensures refused { IfErr result (λ fault. IsUnrepaired (highest_view certificate.now) fault self.old self.new) }
+    {
+        let is_behind = self.is_behind;
+        self.is_behind = true;
+        let effects = self.resolver.updated(certificate)?;
+        self.fetches.apply(&effects, moment)?;
+        self.is_behind = is_behind;
+        Ok(())
+    }
+
+    /// The resolver is told of a verdict on a notarization, likewise.
+    ///
+    /// # Errors
+    ///
+    /// As of `updated`.
+    pub fn certified<S: CertificateScheme, D: Digest>(
+        &mut self,
+        notarization: Notarization<S, D>,
+        is_success: bool,
+        moment: u64,
+    ) -> Result<(), Fault>
+        requires { 1 ≤ notarization.proposal.round.view }
+        ensures repaired { OnOk result (IsRepaired moment
+            (verdict D.bytes (notarization_facts S.certificate_bytes notarization) is_success) self.old self.new) }
+        ensures no_other { OnOk result (OpensNoOther self.old.resolver.open_fetches self.old.fetches.wanted.items
+            self.new.resolver.open_fetches self.new.fetches.wanted.items) }
+        ensures refused { IfErr result (λ fault. IsUnrepaired (highest_named notarization.proposal) fault self.old self.new) }
+    {
+        let is_behind = self.is_behind;
+        self.is_behind = true;
+        let effects = self.resolver.certified(notarization, is_success)?;
+        self.fetches.apply(&effects, moment)?;
+        self.is_behind = is_behind;
+        Ok(())
+    }
+
+    /// A certificate is lacking, and is asked for from this moment on, of this member first.
+    ///
+    /// # Errors
+    ///
+    /// Memory is lacking: nothing has changed.
+    pub fn open(
+        &mut self,
+        kind: FetchKind,
+        view: View,
+        of: Option<Participant>,
+        moment: u64,
+    ) -> Result<(), AllocError>
+        ensures opened { let fetches = self.old.fetches in
+            OnOk result (HasFetches (opened kind view (place_of fetches.peers of) moment fetches.wanted.items) self.old self.new) }
+        ensures refused { OnErr result (HasFetches self.old.fetches.wanted.items self.old self.new) }
+    {
+        self.fetches.open(kind, view, of, moment)?;
+        Ok(())
+    }
+
+    /// The notarizations that certifications wait for are asked for at once.
+    ///
+    /// # Errors
+    ///
+    /// Memory is lacking: some of them may be asked for.
+    pub fn fetch_all(&mut self, lacking: &[CertificateFetch], now: u64) -> Result<(), AllocError>
+        ensures { OnOk result (HasFetches (fetching now lacking.now self.old.fetches.wanted.items) self.old self.new) }
+    {
+        for fetch in lacking {
+            self.open(FetchKind::Notarization, fetch.view, None, now)?;
+        }
+        Ok(())
+    }
+
+    /// The view's notarization came.
+    pub fn close_notarization(&mut self, view: View)
+        ensures { HasFetches (closed FetchKind.Notarization view self.old.fetches.wanted.items) self.old self.new }
+    {
+        self.fetches.close(FetchKind::Notarization, view);
+    }
+
+    /// The view is final: nothing is asked for of the views up to it.
+    pub fn pass(&mut self, finalized: View)
+        ensures { HasPassed (max self.old.passed finalized) (passed finalized self.old.fetches.wanted.items) self.old self.new }
+    {
+        self.fetches.pass(finalized);
+        self.passed = later_of(self.passed, finalized);
+    }
+
+    /// The first fetch that is due is asked for.
+    pub fn ask(&mut self, now: u64) -> Option<Ask>
+        ensures asked { IsAsking now self.old.fetches result self.new.fetches }
+        ensures resolver { self.new.resolver ≡ self.old.resolver }
+        ensures same { (self.new.passed ≡ self.old.passed) × (self.new.is_behind ≡ self.old.is_behind) }
+    {
+        self.fetches.ask(now)
+    }
+
+    /// Whether a wanted view above this one may be left out: where memory was lacking, or higher ones were passed.
+    fn may_leave_out(&self, finalized: View) -> bool
+        ensures { IsFalse result ↔ ((self.now.is_behind ≡ false) × (self.now.passed ≤ finalized)) }
+    {
+        self.is_behind || finalized < self.passed
+    }
+
+    /// Closes what is not lacking by the state, and nothing else. Since the last finalized view does not fall, that leaves nothing out.
+    ///
+    /// # Errors
+    ///
+    /// `Failed` where an error came before, or where the state's last finalized view is below one that was passed.
+    pub fn let_go<S: CertificateScheme, L: Elector<S>, D: Digest>(
+        &mut self,
+        state: &State<S, L, D>,
+    ) -> Result<(), Fault>
+        ensures kept { OnOk result (HasPassed state.now.finalized
+            (filter (is_lacking self.old.resolver.open_fetches state.now) self.old.fetches.wanted.items) self.old self.new) }
+        ensures answers { IsOk result ↔ ((self.old.is_behind ≡ false) × (self.old.passed ≤ state.now.finalized)) }
+        ensures refused { IfErr result (λ fault. (fault ≡ Failed) × (self.new ≡ self.old)) }
+        ensures lacking { OnOk result (AsksForTheLacking self.new.resolver.open_fetches state.now self.new.fetches.wanted.items) }
+        ensures due { (now : ℕ) → due_at now self.old.fetches.wanted.items ≡ None → due_at now self.new.fetches.wanted.items ≡ None }
+    {
+        let finalized = state.last_finalized();
+        if self.may_leave_out(finalized) {
+            return Err(Fault::Failed);
+        }
+        self.fetches.keep_lacking(self.resolver.fetches(), state);
+        self.passed = finalized;
+        Ok(())
+    }
+}
+
+/// The later one of two views.
+fn later_of(one: View, other: View) -> View
+    ensures { result ≡ max one other }
+{
+    if one < other { other } else { one }
+}

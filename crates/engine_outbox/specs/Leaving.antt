@@ -1,0 +1,16 @@
+-- That each vote which is stored leaves.
+use Rattle.std.specs.Prelude.{◌⊎◌, List, [], ◌∷◌, Contains}
+use Rattle.engine_votes.specs.declared.votes.Vote.{Vote}
+use Rattle.engine_outbox.specs.declared.output.Output.{Output}
+use Rattle.engine_outbox.specs.declared.output.Output.TheVariants as output
+use Rattle.engine_outbox.specs.Entries.{votes_of_entries}
+use Rattle.engine_outbox.specs.Outputs.{entries_in, stored_in}
+
+module _ {S D J K G C : Type 0} where
+  -- a life's first output stores the record that the life begins with, with the votes of the lives before; each other vote that is stored
+  -- leaves
+  abbrev pub AllLeave : List (Output S D J K G C) → Type 0
+  AllLeave [] = Unit {0}
+  AllLeave (first ∷ rest) =
+      (vote : Vote D G) → Contains (votes_of_entries (stored_in rest)) vote
+      → Contains (votes_of_entries (entries_in first)) vote ⊎ Contains rest (output.Vote vote)

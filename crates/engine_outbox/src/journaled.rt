@@ -1,0 +1,454 @@
+//! A lawful member whose record is stored before what follows from it leaves.
+//!
+//! It owes that a journal which carries its outputs out holds the member's record, that each vote stands behind its entry, and that
+//! just what the member accepts as final is told, at rising views.
+#![tactic(auto, using(crate::proofs::Going::stays))]
+
+ghost use Rattle.std.specs.Prelude.{◌≡◌, ◌++◌, ◌∷◌, [], true, false, All, Contains, Some, None, IfOk, IfSome, OnOk, OnErr, IsNone, IsTrue, ◌↔◌, option_to_list};
+ghost use Rattle.std.specs.Option.{option_copied};
+ghost use Rattle.simplex_types.specs.Certificates.{certificate_facts};
+ghost use Rattle.simplex_types.specs.Encoding.{certificate_subject};
+ghost use Rattle.laws_safety.specs.Traces.{Accepts};
+ghost use Rattle.laws_safety.specs.Shown.{certificates_in};
+ghost use Rattle.simplex_member.specs.Calls.{asked};
+ghost use Rattle.engine_outbox.specs.Handing.{hands_in};
+ghost use Rattle.engine_outbox.specs.Doing.{IsDoneOn, final_by};
+ghost use Rattle.engine_outbox.specs.Finals.{finals_by};
+ghost use Rattle.engine_outbox.specs.declared.output.Output.TheVariants as output;
+ghost use Rattle.engine_outbox.specs.Resumes.{EachResumeContinues};
+
+mod reach;
+
+use crate::outbox::Outbox;
+use crate::output::{Output, Work};
+use reach::lowest_of;
+use lawful_member::lawful::LawfulMember;
+use simplex_member::member::{Call, Reply, Stored};
+use simplex_types::types::{
+    Artifact, Certificate, CertificateScheme, Digest, Elector, Proposal, Scheme, View,
+};
+use simplex_voter::voter::State;
+use std::alloc::{AllocError, Global};
+
+/// A member, and what is to be carried out of its life.
+///
+/// `IsKept` says what was given out so far, in order: `begin` begins the list, each call keeps it by its clause `goes_on`, `next`
+/// adds what it answers, and `keeps_the_laws` says what holds of the whole. `GoesOn` says besides what the member has done by a
+/// call: votes, and the acceptance of a certificate where one is handed in, which is told as final where it is a finalization.
+#[derive(Drop)]
+pub struct Journaled<S: CertificateScheme, L: Elector<S>, D: Digest> {
+    member: LawfulMember<S, L, D>,
+    outbox: Outbox<S, D, Stored>,
+    /// How many entries of the record are queued to be stored, or were.
+    stored: usize,
+    /// The lowest view of these; 2^64 - 1 where there are none.
+    reach: View,
+    /// What was done can no longer be told, and nothing more is given out.
+    failed: bool,
+}
+
+impl<S: Scheme<D>, L: Elector<S>, D: Digest> Journaled<S, L, D> {
+    ghost use Rattle.simplex_voter.specs.Refusals.{is_started};
+    ghost use Rattle.simplex_member.specs.Calls.{told};
+    ghost use Rattle.simplex_member.specs.Lives.{IsCall};
+    ghost use Rattle.simplex_record.specs.Entries.{entries_of};
+    ghost use Rattle.simplex_record.specs.Votes.{votes_of};
+    ghost use Rattle.laws_safety.specs.Lawful.{IsLawful};
+    ghost use Rattle.laws_safety.specs.Living.{OfAllDone, MayBeDoneBy};
+    ghost use Rattle.laws_safety.specs.RecordsOnce.{HoldsEachEntryOnce};
+    ghost use Rattle.simplex_member.specs.Journal.{stored_of};
+    ghost use Rattle.simplex_member.specs.OutstandingWork.{is_offered};
+    ghost use Rattle.simplex_member.specs.Pruning.{pruned_member};
+    ghost use Rattle.engine_outbox.specs.Outputs.{AreBehind};
+    ghost use Rattle.engine_outbox.specs.Outboxes.{HasRoom, IsRepeated, QueuesNoWork};
+    ghost use Rattle.engine_outbox.specs.Finals.{finals_in, WereAccepted, RiseByView, EndsAt, TellsNoMore};
+    ghost use Rattle.engine_outbox.specs.Journals.{journal_of, IsRecordOf, BeginsWith};
+    ghost use Rattle.engine_outbox.specs.Going.{IsKept, IsTraced, BeginsTraced, EmitsTraced, IsWhole, StoresRecord, GoesOn, TellsNothing, IsUnchanged, IsUnpruned, has_failed};
+    ghost use Rattle.engine_outbox.specs.Leaving.{AllLeave};
+    ghost use Rattle.engine_outbox.specs.Stops.{EachStopIsLawful};
+    ghost use Rattle.engine_outbox.specs.Signatures.{AreSigned, IsSignedBy, StaysSigned, BeginsSigned, EmitsSigned};
+    ghost use Rattle.engine_outbox.specs.Refusing.{is_refused, says_nothing, IsLeftByCall};
+
+    /// A life begins: the whole record is to be stored in place of all that is stored, before anything else. What is final already is
+    /// never told.
+    ///
+    /// - `kept`: nothing was given out.
+    /// - `whole`: all of the record is queued.
+    /// - `told`: no proposal is queued to be told as final.
+    /// - `begins`: nothing else is queued.
+    /// - `traced`: it is traced by what the member has done before, where each vote of its record was signed by then (`IsTraced`).
+    /// - `signed`: the votes that are stored are signed under the member's key, where those of its record are (`IsSignedBy`).
+    pub fn begin(
+        alloc: Global,
+        member: LawfulMember<S, L, D>,
+    ) -> Result<Journaled<S, L, D>, AllocError>
+        ensures kept { IfOk result (IsKept S.certificate_bytes []) }
+        ensures traced { IfOk result (BeginsTraced D.eq L.elect S.certificate_bytes member) }
+        ensures signed { IfOk result (BeginsSigned S.IsSignature member) }
+        ensures whole { IfOk result (λ j. IsWhole S.certificate_bytes j) }
+        ensures told { IfOk result TellsNothing }
+        ensures member { IfOk result (λ j. j.member ≡ member) }
+        ensures begins { IfOk result (λ j. BeginsWith S.certificate_bytes member j.outbox.queue.items) }
+    {
+        let mut outbox = Outbox::new(alloc, last_finalized(&member));
+        outbox.replace(member.record(), member.stored())?;
+        let stored = member.record().len();
+        let reach = lowest_of(View::new(u64::MAX), member.record());
+        Ok(Journaled {
+            member,
+            outbox,
+            stored,
+            reach,
+            failed: false,
+        })
+    }
+
+    /// Makes a call of the member; certificates are handed in by `hand_in`. What it records is queued by `store`.
+    ///
+    /// - `goes_on`: the member accepts no certificate but the one that the call hands in, where that is no finalization.
+    /// - `quiet`: a call that hands none in accepts none.
+    /// - `answered`: as of `LawfulMember::call`.
+    /// - `refused`: a call that is refused, and not for want of memory, changes nothing.
+    /// - `dropped`: what a call leaves that was of no use.
+    /// - `signed`: the votes that are stored stay signed under the member's key.
+    pub fn call(&mut self, call: Call<S, D>) -> Reply<S, D>
+        ensures goes_on { (taken : _) → All (IsDoneOn taken) (certificates_in call) → finals_by (certificates_in call) ≡ []
+            → GoesOn D.eq L.elect S.certificate_bytes S.IsSignature taken self.old self.new }
+        ensures signed { StaysSigned S.IsSignature self.old self.new }
+        ensures quiet { certificates_in call ≡ [] → GoesOn D.eq L.elect S.certificate_bytes S.IsSignature None self.old self.new }
+        ensures answered { IsCall D.eq L.elect self.old.member.facts (asked S.certificate_bytes call)
+            (told S.certificate_bytes result) self.new.member.facts }
+        ensures refused { IsTrue (is_refused (told S.certificate_bytes result)) → self.new.member.facts ≡ self.old.member.facts }
+        ensures dropped { IsTrue (says_nothing (told S.certificate_bytes result))
+            → IsLeftByCall (asked S.certificate_bytes call) self.old.member.facts self.new.member.facts }
+        ensures outbox { self.new.outbox ≡ self.old.outbox }
+    {
+        let _record = self.member.record();
+        self.member.call(call)
+    }
+
+    /// Hands a certificate in. Without memory nothing has changed.
+    ///
+    /// - `goes_on`: the member accepts no certificate but this one; a finalization that it accepts is told as final, where its view is
+    ///   above all that were told.
+    /// - `answered`, `refused`: as of `call`.
+    /// - `no_work`: no work is queued.
+    /// - `signed`: the votes that are stored stay signed under the member's key.
+    pub fn hand_in(
+        &mut self,
+        certificate: Certificate<S, D>,
+        now: u64,
+    ) -> Result<Reply<S, D>, AllocError>
+        ensures goes_on { GoesOn D.eq L.elect S.certificate_bytes S.IsSignature
+            (Some (certificate_subject (certificate_facts S.certificate_bytes certificate))) self.old self.new }
+        ensures signed { StaysSigned S.IsSignature self.old self.new }
+        ensures answered { IfOk result (λ reply. IsCall D.eq L.elect self.old.member.facts
+            (hands_in (certificate_facts S.certificate_bytes certificate) now) (told S.certificate_bytes reply) self.new.member.facts) }
+        ensures refused { IfOk result (λ reply. IsTrue (is_refused (told S.certificate_bytes reply))
+            → self.new.member.facts ≡ self.old.member.facts) }
+        ensures unchanged { OnErr result (IsUnchanged self.old self.new) }
+        ensures no_work { QueuesNoWork self.old.outbox self.new.outbox }
+    {
+        match self.outbox.make_room() {
+            Ok(()) => Ok(self.take(certificate, now)),
+            Err(refused) => Err(refused),
+        }
+    }
+
+    /// Hands a certificate in, and tells the proposal as final that it finalizes, where it is accepted.
+    fn take(&mut self, certificate: Certificate<S, D>, now: u64) -> Reply<S, D>
+        requires { HasRoom self.old.outbox }
+        ensures goes_on { GoesOn D.eq L.elect S.certificate_bytes S.IsSignature
+            (Some (certificate_subject (certificate_facts S.certificate_bytes certificate))) self.old self.new }
+        ensures signed { StaysSigned S.IsSignature self.old self.new }
+        ensures answered { IsCall D.eq L.elect self.old.member.facts
+            (hands_in (certificate_facts S.certificate_bytes certificate) now) (told S.certificate_bytes result) self.new.member.facts }
+        ensures refused { IsTrue (is_refused (told S.certificate_bytes result)) → self.new.member.facts ≡ self.old.member.facts }
+        ensures no_work { QueuesNoWork self.old.outbox self.new.outbox }
+    {
+        let _record = self.member.record();
+        let finalized = finalized_by(&certificate);
+        let reply = self.member.call(handing_in(certificate, now));
+        self.outbox.tell(final_by(finalized, &reply));
+        reply
+    }
+
+    /// Queues what the record has grown by, and behind it each vote in it. Without memory nothing has changed.
+    ///
+    /// - `whole`, `holds`: all of the record is queued, or was; so a journal that carries it out holds the record.
+    /// - `no_work`: as of `hand_in`.
+    /// - `signed`: the votes that are stored stay signed under the member's key.
+    pub fn store(&mut self) -> Result<(), AllocError>
+        ensures goes_on { GoesOn D.eq L.elect S.certificate_bytes S.IsSignature None self.old self.new }
+        ensures signed { StaysSigned S.IsSignature self.old self.new }
+        ensures whole { OnOk result (IsWhole S.certificate_bytes self.new) }
+        ensures holds { OnOk result (StoresRecord S.certificate_bytes self.new) }
+        ensures member { self.new.member ≡ self.old.member }
+        ensures unchanged { OnErr result (IsUnchanged self.old self.new) }
+        ensures no_work { QueuesNoWork self.old.outbox self.new.outbox }
+    {
+        let count = self.member.record().len();
+        if count <= self.stored {
+            return Ok(());
+        }
+        let reach = lowest_of(self.reach, self.member.record_since(self.stored));
+        self.outbox.store(self.member.record_since(self.stored))?;
+        self.stored = count;
+        self.reach = reach;
+        Ok(())
+    }
+
+    /// Prunes the record, behind the state's own prune, and queues what is left in place of all that is stored; before that, what the
+    /// record has grown by is queued, since by a record that is replaced no vote leaves.
+    ///
+    /// - `whole`: all of the record is queued.
+    /// - `waiting`: what the member waits for is the same.
+    /// - `pruned`: the record is pruned, as by `Member::prune_record`, and nothing else has changed of the member.
+    /// - `unpruned`: without memory nothing has changed, or it is so pruned and has failed: what is stored is no longer the record.
+    /// - `no_work`: as of `hand_in`.
+    /// - `signed`: the votes that are stored stay signed under the member's key.
+    pub fn prune_record(&mut self) -> Result<(), AllocError>
+        ensures goes_on { GoesOn D.eq L.elect S.certificate_bytes S.IsSignature None self.old self.new }
+        ensures signed { StaysSigned S.IsSignature self.old self.new }
+        ensures waiting { self.new.member.facts.outstanding_work ≡ self.old.member.facts.outstanding_work }
+        ensures whole { OnOk result (IsWhole S.certificate_bytes self.new) }
+        ensures pruned { OnOk result (self.new.member.facts ≡ pruned_member self.old.member.facts) }
+        ensures unpruned { OnErr result (IsUnpruned self.old self.new) }
+        ensures no_work { QueuesNoWork self.old.outbox self.new.outbox }
+    {
+        self.store()?;
+        self.replace()
+    }
+
+    /// Prunes the record, of which all is queued to be stored or was, and queues what is left in place of all that is stored.
+    fn replace(&mut self) -> Result<(), AllocError>
+        requires { StoresRecord S.certificate_bytes self.old }
+        ensures goes_on { GoesOn D.eq L.elect S.certificate_bytes S.IsSignature None self.old self.new }
+        ensures signed { StaysSigned S.IsSignature self.old self.new }
+        ensures whole { OnOk result (IsWhole S.certificate_bytes self.new) }
+        ensures pruned { self.new.member.facts ≡ pruned_member self.old.member.facts }
+        ensures failed { OnErr result (self.new.failed ≡ true) }
+        ensures no_work { QueuesNoWork self.old.outbox self.new.outbox }
+    {
+        self.member.prune_record();
+        self.stored = self.member.record().len();
+        self.reach = lowest_of(View::new(u64::MAX), self.member.record());
+        match self
+            .outbox
+            .replace(self.member.record(), self.member.stored())
+        {
+            Ok(()) => Ok(()),
+            Err(refused) => {
+                self.failed = true;
+                Err(refused)
+            }
+        }
+    }
+
+    /// Queues other work, behind all that is queued. Without memory nothing has changed.
+    ///
+    /// - `signed`: the votes that are stored stay signed under the member's key.
+    pub fn push(&mut self, work: Work<S, D>) -> Result<(), AllocError>
+        ensures goes_on { GoesOn D.eq L.elect S.certificate_bytes S.IsSignature None self.old self.new }
+        ensures signed { StaysSigned S.IsSignature self.old self.new }
+        ensures member { self.new.member ≡ self.old.member }
+        ensures queued { OnOk result (self.new.outbox.queue.items ≡ self.old.outbox.queue.items ++ output.Work work ∷ []) }
+        ensures unchanged { OnErr result (IsUnchanged self.old self.new) }
+    {
+        self.outbox.push(work)
+    }
+
+    /// Queues the newest vote to nullify that is stored once more, where it is one of the view. Answers whether it is.
+    ///
+    /// - `signed`: the votes that are stored stay signed under the member's key.
+    pub fn repeat(&mut self, view: View) -> Result<bool, AllocError>
+        ensures goes_on { GoesOn D.eq L.elect S.certificate_bytes S.IsSignature None self.old self.new }
+        ensures signed { StaysSigned S.IsSignature self.old self.new }
+        ensures member { self.new.member ≡ self.old.member }
+        ensures repeated { IfOk result (λ sent. IsRepeated view self.old.outbox.repeat sent self.old.outbox self.new.outbox) }
+        ensures unchanged { OnErr result (IsUnchanged self.old self.new) }
+    {
+        self.outbox.repeat(view)
+    }
+
+    /// What is to be carried out next.
+    ///
+    /// - `kept`: what is answered is given out.
+    /// - `told`: no other proposal is queued to be told as final.
+    /// - `front`: it was queued in front.
+    /// - `traced`, `signed`: it stays traced, and the votes that are stored stay signed under the member's key.
+    pub fn next(&mut self) -> Option<Output<S, D, Stored>>
+        ensures kept { (given : _) → IsKept S.certificate_bytes given self.old
+            → IsKept S.certificate_bytes (given ++ option_to_list result) self.new }
+        ensures traced { EmitsTraced D.eq L.elect S.certificate_bytes (option_to_list result) self.old self.new }
+        ensures signed { EmitsSigned S.IsSignature (option_to_list result) self.old self.new }
+        ensures told { TellsNoMore (option_to_list result) self.old.outbox self.new.outbox }
+        ensures front { self.old.outbox.queue.items ≡ option_to_list result ++ self.new.outbox.queue.items }
+        ensures none { IsNone result → self.new.outbox.queue.items ≡ [] }
+        ensures same { (self.new.member ≡ self.old.member) × (self.new.stored ≡ self.old.stored) × (self.new.reach ≡ self.old.reach)
+            × (self.new.failed ≡ self.old.failed) }
+    {
+        self.outbox.next()
+    }
+
+    /// Whether nothing is to be carried out.
+    pub fn is_idle(&self) -> bool
+        ensures { IsTrue result ↔ (self.now.outbox.queue.items ≡ []) }
+    {
+        self.outbox.is_empty()
+    }
+
+    /// Nothing more is given out.
+    ///
+    /// - `signed`: the votes that are stored stay signed under the member's key.
+    pub fn fail(&mut self)
+        ensures goes_on { GoesOn D.eq L.elect S.certificate_bytes S.IsSignature None self.old self.new }
+        ensures signed { StaysSigned S.IsSignature self.old self.new }
+        ensures failed { self.new ≡ record self.old { failed = true } }
+    {
+        self.failed = true;
+    }
+
+    /// Whether it failed, or the member did.
+    pub fn has_failed(&self) -> bool
+        ensures { result ≡ has_failed self.now }
+    {
+        self.failed || self.member.state().is_none()
+    }
+
+    /// The member's state, while it has not failed: it has a floor, and has not failed either.
+    pub fn state(&self) -> Option<&State<S, L, D>>
+        ensures life { option_copied result ≡ self.now.member.facts.life }
+        ensures started { IfSome result (λ state. (state.now.failed ≡ false) × (is_started state.now ≡ true)) }
+    {
+        self.member.state()
+    }
+
+    /// Returns whether the member offered the view's proposal for certification and has received no verdict on it; false once it has
+    /// failed.
+    pub fn awaits_verdict(&self, view: View) -> bool
+        ensures { result ≡ is_offered self.now.member.facts.outstanding_work view }
+    {
+        self.member.awaits_verdict(view)
+    }
+
+    /// The record, oldest entry first.
+    pub fn record(&self) -> &[Artifact<S, D>]
+        ensures entries { entries_of S.certificate_bytes result.now ≡ self.now.member.facts.entries }
+        ensures votes { votes_of result.now ≡ self.now.member.votes }
+    {
+        self.member.record()
+    }
+
+    /// What a journal stores beside the record.
+    pub fn stored(&self) -> Stored
+        ensures { result ≡ stored_of self.now.member.facts }
+    {
+        self.member.stored()
+    }
+
+    /// The laws of all that it gave out, and of all that its member has done. It does nothing: its contract is the laws.
+    ///
+    /// - `behind`: each vote stands behind an output that stores it, with its very signature.
+    /// - `stored`: until it fails, where all of the record is queued or was, a journal that carries out what was given out and
+    ///   what is queued holds the record, and beside it what a journal stores: so a member that is resumed from it goes on from
+    ///   the record.
+    /// - `leaving`: until it fails, each vote that is stored was given out or is queued, but those of the record that the life began
+    ///   with, which the first output stores.
+    /// - `stops`: until it fails, a host may stop after each output that was given out or is queued, and amid each `Store`, of which only
+    ///   the first entries were written. The journal is then the record of a member that this one was at some moment of this lifetime, and
+    ///   that member had signed each vote among these outputs.
+    /// - `finals`: of each proposal that it reported as final, its member accepted the finalization.
+    /// - `signed`: each vote that it gave out is its member's, with a signature on the vote's own subject under the member's key.
+    /// - `rising`: the views of the proposals rise that it told as final.
+    /// - `last`: the last of them, of those that it told and those that are queued, is of the member's last finalized view.
+    /// - `lawful`: what its member has done keeps the voting rules, over all its lives.
+    /// - `ran`: a network of `agreement` may have it as member `i`.
+    /// - `once`: its record holds each entry once, and of each view at most seven.
+    pub fn keeps_the_laws(&self)
+        ensures behind { (given : _) → IsKept S.certificate_bytes given self.now → AreBehind [] given }
+        ensures stored { (given : _) → IsKept S.certificate_bytes given self.now → self.now.failed ≡ false → IsWhole S.certificate_bytes self.now
+            → IsRecordOf S.certificate_bytes self.now.member (journal_of (given ++ self.now.outbox.queue.items)) }
+        ensures leaving { (given : _) → IsKept S.certificate_bytes given self.now → self.now.failed ≡ false
+            → AllLeave (given ++ self.now.outbox.queue.items) }
+        ensures stops { (term_length i : _) (earlier given all : _) → IsTraced D.eq L.elect S.certificate_bytes term_length i earlier given all self.now
+            → self.now.failed ≡ false
+            → EachStopIsLawful D.eq L.elect S.certificate_bytes term_length i earlier all (given ++ self.now.outbox.queue.items) }
+        ensures finals { (term_length i : _) (earlier given all : _) → IsTraced D.eq L.elect S.certificate_bytes term_length i earlier given all self.now
+            → WereAccepted all (finals_in given) }
+        ensures signed { (i key given vote : _) → IsSignedBy S.IsSignature i key given self.now → AreBehind [] given → Contains given (output.Vote vote)
+            → (vote.signer ≡ i) × S.IsSignature key vote.subject vote.signature }
+        ensures rising { (given : _) → IsKept S.certificate_bytes given self.now → RiseByView (finals_in given) }
+        ensures last { (given : _) → IsKept S.certificate_bytes given self.now → IfSome self.now.member.facts.life (λ x.
+            EndsAt x.finalized (finals_in (given ++ self.now.outbox.queue.items))) }
+        ensures lawful { OfAllDone D.eq L.elect self.now.member.facts (λ term_length i all. IsLawful term_length all) }
+        ensures ran { OfAllDone D.eq L.elect self.now.member.facts (MayBeDoneBy S.PublicKey D.eq L.elect) }
+        ensures once { OfAllDone D.eq L.elect self.now.member.facts (λ term_length i all. HoldsEachEntryOnce self.now.member.facts) }
+    {
+        self.outbox.keeps_the_law();
+        self.member.keeps_the_laws();
+        let _record = self.member.record();
+    }
+}
+
+/// A host may stop between any two outputs, and resume from its journal. It does nothing: its contract is the law.
+///
+/// The host carried outputs out in order and stopped after one of them, as `Journaled::keeps_the_laws`, clause `stops`, allows. A
+/// member is then resumed from the journal that these outputs have written.
+///
+/// - That member is the same member of the network, and has done what it had done by then.
+/// - It has signed each vote that the host carried out, and each vote of its record.
+/// - Its next lifetime may begin: `traced` and `signed` of `Journaled::begin` ask for no more.
+pub fn stops_are_resumed<S: Scheme<D>, L: Elector<S>, D: Digest>()
+    ensures { EachResumeContinues D.eq L.elect S.IsSignature S.certificate_bytes S.me L.terms }
+{}
+
+/// The last finalized view of a member that has not failed.
+fn last_finalized<S: Scheme<D>, L: Elector<S>, D: Digest>(member: &LawfulMember<S, L, D>) -> View
+    ensures { IfSome member.now.facts.life (λ x. result ≡ x.finalized) }
+{
+    match member.state() {
+        Some(state) => state.last_finalized(),
+        None => View::zero(),
+    }
+}
+
+/// The proposal that a certificate finalizes.
+fn finalized_by<S: CertificateScheme, D: Digest>(
+    certificate: &Certificate<S, D>,
+) -> Option<Proposal<D>>
+    ensures { finals_by (Accepts (certificate_subject (certificate_facts S.certificate_bytes certificate.now)) ∷ []) ≡ option_to_list result }
+{
+    match certificate {
+        Certificate::Finalization(finalization) => Some(finalization.proposal),
+        _ => None,
+    }
+}
+
+/// The proposal that is final by the answer.
+fn final_by<S: CertificateScheme, D: Digest>(
+    finalized: Option<Proposal<D>>,
+    reply: &Reply<S, D>,
+) -> Option<Proposal<D>>
+    ensures { result ≡ final_by finalized reply.now }
+{
+    match reply {
+        Reply::Added(_, _) | Reply::AddedNullification(_) => finalized,
+        _ => None,
+    }
+}
+
+/// The call that hands a certificate in.
+fn handing_in<S: CertificateScheme, D: Digest>(
+    certificate: Certificate<S, D>,
+    now: u64,
+) -> Call<S, D>
+    ensures asked { asked S.certificate_bytes result ≡ hands_in (certificate_facts S.certificate_bytes certificate) now }
+    ensures hands { certificates_in result ≡ Accepts (certificate_subject (certificate_facts S.certificate_bytes certificate)) ∷ [] }
+{
+    match certificate {
+        Certificate::Notarization(notarization) => Call::AddNotarization(notarization),
+        Certificate::Nullification(nullification) => Call::AddNullification(nullification, now),
+        Certificate::Finalization(finalization) => Call::AddFinalization(finalization, now),
+    }
+}

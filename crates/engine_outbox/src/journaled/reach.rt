@@ -1,0 +1,75 @@
+//! How far back the record reaches.
+
+ghost use Rattle.std.specs.Prelude.{◌≡◌, ◌-◌, min, IsFalse};
+ghost use Rattle.simplex_voter.specs.Windows.{min_active};
+ghost use Rattle.simplex_record.specs.Cuts.{finalized_in};
+ghost use Rattle.simplex_record.specs.Entries.{entries_of};
+ghost use Rattle.engine_outbox.specs.Overgrown.{is_overgrown};
+ghost use Rattle.engine_outbox.specs.Reaching.{lowest_of, is_far_below, ReachesTo, IsShort};
+
+use super::Journaled;
+use simplex_record::record::lowest_kept;
+use simplex_types::types::{Artifact, CertificateScheme, Digest, Elector, Scheme, View, Viewable};
+use simplex_voter::voter::State;
+
+impl<S: Scheme<D>, L: Elector<S>, D: Digest> Journaled<S, L, D> {
+    ghost use Rattle.engine_outbox.specs.Going.{IsWhole};
+
+    /// Whether the record has more than so many entries, and by a pruning more views of it go than stay. So a record of which half
+    /// its views are kept is not written once more.
+    ///
+    /// - `short`: where it is not, and all of the record is queued, the record is short.
+    pub fn is_overgrown(&self, long: usize) -> bool
+        ensures overgrown { result ≡ is_overgrown long self.now }
+        ensures short { IsFalse result → ReachesTo self.now.reach self.now.stored self.now.member.facts.entries → IsWhole S.certificate_bytes self.now
+            → IsShort long self.now.member.facts }
+    {
+        match self.member.state() {
+            Some(state) => long < self.member.record().len() && self.reaches_far_below(state),
+            None => false,
+        }
+    }
+
+    /// Whether by a pruning more views of the record go than stay.
+    fn reaches_far_below(&self, state: &State<S, L, D>) -> bool
+        ensures { let facts = self.now.member.facts in result
+            ≡ is_far_below self.now.reach (min (min_active state.now) (finalized_in facts.entries - facts.retention)) state.now.current }
+    {
+        let active = state.min_active();
+        let current = state.current_view();
+        // The last finalized view of the record is looked for only where that can matter.
+        if !is_far_below(self.reach, active, current) {
+            return false;
+        }
+        let kept = lowest_kept(self.member.record(), self.member.stored().retention);
+        is_far_below(self.reach, earlier_of(active, kept), current)
+    }
+}
+
+/// Whether a view lies further below the lowest one that is left than the current one lies above that.
+fn is_far_below(reach: View, lowest: View, current: View) -> bool
+    ensures { result ≡ is_far_below reach lowest current }
+{
+    current.get().saturating_sub(lowest.get()) < lowest.get().saturating_sub(reach.get())
+}
+
+/// The lowest of a view and of those of entries.
+pub(super) fn lowest_of<S: CertificateScheme, D: Digest>(
+    view: View,
+    entries: &[Artifact<S, D>],
+) -> View
+    ensures { result ≡ lowest_of view (entries_of S.certificate_bytes entries.now) }
+{
+    let mut lowest = view;
+    for entry in entries {
+        lowest = earlier_of(lowest, entry.view());
+    }
+    lowest
+}
+
+/// The earlier one of two views.
+fn earlier_of(one: View, other: View) -> View
+    ensures { result ≡ min one other }
+{
+    if other < one { other } else { one }
+}

@@ -1,0 +1,8 @@
+-- That the block's end is told where the application was asked for it.
+use Rattle.engine_planner.proofs.Planning.{on_ok, stopped}
+use Rattle.engine_planner.proofs.plan.Plan.stop_building.Goals as goal
+
+pub returns : goal.returns
+returns g c =
+    on_ok c.tell_stopped.result c.tell_stopped.ensures
+    (stopped c.args.view c.is_asked-is_told.result c.args.self.now c.end_building.new.self c.tell_stopped.new.self c.is_asked-is_told.ensures c.end_building.ensures)

@@ -1,0 +1,285 @@
+//! What an engine does next, and what it keeps for that: steps, open fetches, blocks that are built, early proposals.
+//!
+//! Each call says just what it plans. An error is want of memory, or what the resolver answers; after one a plan is of no use any more.
+
+mod accepting;
+mod building;
+mod due;
+mod early;
+mod entering;
+mod following;
+mod working;
+
+ghost use Rattle.std.specs.Prelude.{◌≡◌, ◌+◌, ◌-◌, ◌^◌, ℕ, min, max, true, [], ◌∷◌, ◌++◌, filter, OnOk, IfErr, IsOk, IsTrue, ◌↔◌, ◌≤◌, false};
+ghost use Rattle.simplex_types.specs.declared.types.fault.Fault.TheVariants.{Failed};
+ghost use Rattle.engine_fetches.specs.Repairing.{HasPassed};
+ghost use Rattle.engine_fetches.specs.Wanted.{is_lacking, AsksForTheLacking};
+ghost use Rattle.engine_planner.specs.Planning.{IsIdle, IsWake, HasPlanned, asking_for_votes, asking_for_certificates, touching, watching};
+ghost use Rattle.engine_planner.specs.Blocks.{builds_from};
+ghost use Rattle.engine_planner.specs.declared.plan.Step.TheVariants.{Ask, Push};
+
+use crate::task::Task;
+use building::{Builds, is_ahead};
+use early::EarlyProposals;
+use engine_fetches::fetches::{FetchKind, Fetches};
+use engine_fetches::repair::Repair;
+use engine_outbox::output::Work;
+use simplex_resolver::replay::LawfulResolver;
+use simplex_types::types::{
+    CertificateScheme, Digest, Elector, Fault, Participant, Proposal, View,
+};
+use simplex_voter::voter::State;
+use std::alloc::{AllocError, Global};
+use std::collections::VecDeque;
+
+/// Intervals, in milliseconds, and how long a record grows.
+#[derive(Clone, Copy)]
+pub struct Options {
+    /// After how long a fetch is asked again, of the next peer: a millisecond at least, since one that is due at once again would be
+    /// asked for without end.
+    pub retry: u64,
+    /// How long a certificate that is lacking may be on its way before it is asked for.
+    pub on_its_way: u64,
+    /// The record is made short once it has more entries than this, and by a pruning more views of it would go than stay.
+    pub long_record: usize,
+}
+
+impl Options {
+    /// These, with a fetch asked again after a millisecond at least.
+    pub fn with_a_retry(self) -> Options
+        ensures { result ≡ record self { retry = max self.retry 1 } }
+    {
+        Options {
+            retry: self.retry.max(1),
+            on_its_way: self.on_its_way,
+            long_record: self.long_record,
+        }
+    }
+}
+
+/// One step of the engine.
+#[derive(Drop)]
+pub enum Step<S: CertificateScheme, D> {
+    /// A call of the member, and what follows from its answer.
+    Ask(Task<D>),
+    /// A proposal of a member that came early.
+    Offer(Participant, Proposal<D>),
+    /// A certificate of a view is lacking for a proposal of a later one, whose leader is asked first.
+    Resolve(FetchKind, View, View),
+    /// The newest vote to nullify is sent once more, where it is one of the view.
+    Repeat(View),
+    /// Work to be carried out.
+    Push(Work<S, D>),
+}
+
+/// The views that the engine has come to.
+#[derive(Clone, Copy)]
+pub struct Views {
+    pub current: View,
+    pub last_finalized: View,
+}
+
+/// What is to be done and looked after.
+#[derive(Drop)]
+pub struct Plan<S: CertificateScheme, D> {
+    alloc: Global,
+    options: Options,
+    /// There is no other member.
+    is_alone: bool,
+    views: Views,
+    steps: VecDeque<Step<S, D>>,
+    repair: Repair,
+    builds: Builds<D, S::PublicKey>,
+    early: EarlyProposals<D>,
+    is_watch_due: bool,
+    is_timeout_due: bool,
+    is_prune_due: bool,
+    /// The moment of the next timeout.
+    timeout: u64,
+    /// How many inputs were of no use.
+    ignored: u64,
+}
+
+impl<S: CertificateScheme, D: Digest> Plan<S, D> {
+    /// A plan of a life that begins at these views: nothing is planned, built or kept early, and all is due.
+    pub fn new(
+        alloc: Global,
+        options: Options,
+        is_alone: bool,
+        views: Views,
+        repair: Repair,
+    ) -> Plan<S, D>
+        ensures options { (result.options ≡ options) × (result.is_alone ≡ is_alone) }
+        ensures views { result.views ≡ views }
+        ensures repair { result.repair ≡ repair }
+        ensures nothing { (result.steps.items ≡ []) × (result.builds.buildings.items ≡ []) × (result.early.proposals.items ≡ []) × (result.ignored ≡ 0) }
+        ensures due { (result.is_watch_due ≡ true) × (result.is_timeout_due ≡ true) × (result.is_prune_due ≡ true) × (result.timeout ≡ 0) }
+    {
+        Plan {
+            alloc,
+            options,
+            is_alone,
+            views,
+            steps: VecDeque::new(alloc),
+            repair,
+            builds: Builds::new(alloc),
+            early: EarlyProposals::new(alloc),
+            is_watch_due: true,
+            is_timeout_due: true,
+            is_prune_due: true,
+            timeout: 0,
+            ignored: 0,
+        }
+    }
+
+    /// The resolver, with its open fetches.
+    pub fn resolver(&self) -> &LawfulResolver
+        ensures { result.now ≡ self.now.repair.resolver }
+    {
+        self.repair.resolver()
+    }
+
+    /// The fetches that are open.
+    pub fn fetches(&self) -> &Fetches
+        ensures { result.now ≡ self.now.repair.fetches }
+    {
+        self.repair.fetches()
+    }
+
+    /// How many entries a record may have that is not made short, however many views it has.
+    pub fn long_record(&self) -> usize
+        ensures { result ≡ self.now.options.long_record }
+    {
+        self.options.long_record
+    }
+
+    /// How many inputs were of no use.
+    pub fn ignored(&self) -> u64
+        ensures { result ≡ self.now.ignored }
+    {
+        self.ignored
+    }
+
+    /// The moment at which something is due, where nothing comes before.
+    pub fn wake(&self) -> u64
+        ensures { IsWake self.now.repair.fetches.wanted.items self.now.timeout result }
+    {
+        match self.fetches().wake() {
+            Some(moment) => moment.min(self.timeout),
+            None => self.timeout,
+        }
+    }
+
+    /// An input was of no use. The number stops at 2^64 - 1.
+    pub fn ignore(&mut self)
+        ensures { self.new ≡ record self.old { ignored = min (self.old.ignored + 1) (2 ^ 64 - 1) } }
+    {
+        self.ignored = self.ignored.saturating_add(1);
+    }
+
+    /// A moment has come: the timeout is asked for again, and which views may be dropped.
+    pub fn begin(&mut self)
+        ensures { self.new ≡ record self.old { is_timeout_due = true; is_prune_due = true } }
+    {
+        self.is_timeout_due = true;
+        self.is_prune_due = true;
+    }
+
+    /// The fetches of what the state does not lack are closed, and no other.
+    ///
+    /// - `answers`, `refused`: when there is an error, which one, and that nothing has changed then.
+    /// - `lacking`: so just what it lacks is asked for.
+    /// - `idle`: where nothing was to be done, nothing is.
+    ///
+    /// # Errors
+    ///
+    /// Those of `Repair::let_go`.
+    pub fn let_go<L: Elector<S>>(&mut self, state: &State<S, L, D>) -> Result<(), Fault>
+        ensures same { self.new ≡ record self.old { repair = self.new.repair } }
+        ensures kept { let repair = self.old.repair in
+            OnOk result (HasPassed state.now.finalized
+            (filter (is_lacking repair.resolver.open_fetches state.now) repair.fetches.wanted.items) repair self.new.repair) }
+        ensures answers { IsOk result ↔ ((self.old.repair.is_behind ≡ false) × (self.old.repair.passed ≤ state.now.finalized)) }
+        ensures refused { IfErr result (λ fault. (fault ≡ Failed) × (self.new ≡ self.old)) }
+        ensures lacking { OnOk result (AsksForTheLacking self.new.repair.resolver.open_fetches state.now self.new.repair.fetches.wanted.items) }
+        ensures idle { (now : ℕ) → IsIdle now self.old → IsIdle now self.new }
+    {
+        self.repair.let_go(state)
+    }
+
+    /// Whether nothing is to be done at the moment.
+    pub fn is_idle(&self, now: u64) -> bool
+        ensures { IsTrue result ↔ IsIdle now self.now }
+    {
+        self.steps.is_empty()
+            && !self.is_watch_due
+            && !self.is_timeout_due
+            && !self.is_prune_due
+            && !self.fetches().is_due(now)
+    }
+
+    /// Whether each block that is to be built is of a view above, or of the view and was asked for.
+    pub fn builds_from(&self, view: View) -> bool
+        ensures { result ≡ builds_from view self.now.builds.buildings.items }
+    {
+        self.builds.all().iter().all(|it| is_ahead(it, view))
+    }
+
+    /// Plans a step.
+    fn plan(&mut self, step: Step<S, D>) -> Result<(), AllocError>
+        ensures { OnOk result (HasPlanned (step ∷ []) self.old self.new) }
+    {
+        queue(&mut self.steps, step)
+    }
+
+    /// Plans a call of the member.
+    pub fn ask(&mut self, task: Task<D>) -> Result<(), AllocError>
+        ensures { OnOk result (HasPlanned (Ask task ∷ []) self.old self.new) }
+    {
+        self.plan(Step::Ask(task))
+    }
+
+    /// Plans work to be carried out.
+    pub fn push(&mut self, work: Work<S, D>) -> Result<(), AllocError>
+        ensures { OnOk result (HasPlanned (Push work ∷ []) self.old self.new) }
+    {
+        self.plan(Step::Push(work))
+    }
+
+    /// Something of the view has changed: its votes and certificates are asked for, and blocks that are to be built are watched.
+    pub fn touch(&mut self, view: View) -> Result<(), AllocError>
+        ensures { OnOk result (HasPlanned (touching view) (watching self.old) self.new) }
+    {
+        self.is_watch_due = true;
+        self.ask_for_votes(view)?;
+        self.ask_for_certificates(view)
+    }
+
+    /// Plans to ask for the votes on the view.
+    fn ask_for_votes(&mut self, view: View) -> Result<(), AllocError>
+        ensures { OnOk result (HasPlanned (asking_for_votes view) self.old self.new) }
+    {
+        self.ask(Task::Notarize(view))?;
+        self.ask(Task::Finalize(view))
+    }
+
+    /// Plans to ask for the certificates of the view that are to be handed out.
+    fn ask_for_certificates(&mut self, view: View) -> Result<(), AllocError>
+        ensures { OnOk result (HasPlanned (asking_for_certificates view) self.old self.new) }
+    {
+        self.ask(Task::BroadcastNotarization(view))?;
+        self.ask(Task::BroadcastNullification(view))?;
+        self.ask(Task::BroadcastFinalization(view))
+    }
+}
+
+/// Queues a step.
+fn queue<S: CertificateScheme, D: Digest>(
+    steps: &mut VecDeque<Step<S, D>>,
+    step: Step<S, D>,
+) -> Result<(), AllocError>
+    ensures { OnOk result (steps.new.items ≡ steps.old.items ++ step ∷ []) }
+{
+    steps.push_back(step)?;
+    Ok(())
+}

@@ -1,0 +1,66 @@
+-- What is given out stands behind all that was.
+use Rattle.std.proofs.Common.{◌≡◌, ℕ, List, [], ◌∷◌, ◌++◌, None, false, inl, inr, sym, subst, ◌∙◌, Result, Err}
+use Rattle.std.specs.Prelude.{option_to_list}
+use Rattle.std.proofs.lemmas.Bool.{false≢true}
+use Rattle.simplex_codec.specs.Digests.{bytes_in_digest}
+use Rattle.ffi_scheme.specs.Host.{certificate_bytes, IsOrder}
+use Rattle.engine_planner.specs.PlannedWork.{AreAmong}
+use Rattle.engine_outbox.specs.Outputs.{work_in}
+use Rattle.simplex_engine.specs.Causes.{forgettable, held_by, Comes}
+use Rattle.simplex_engine.specs.Duties.{work_ahead, HasToldAll}
+use Rattle.engine_outbox.specs.Finals.{TellsNoMore}
+use Rattle.engine_outbox.specs.Going.{EmitsOn, HasGivenOut, IsKept}
+use Rattle.ffi_member.specs.Serving.{host_leader, same_host_payload}
+use Rattle.ffi_member.specs.declared.shown.FlatStored.{FlatStored}
+use Rattle.ffi_engine.specs.declared.held.HeldEngine.{HeldEngine}
+use Rattle.ffi_engine.specs.declared.told.FlatOutput.{FlatOutput}
+use Rattle.ffi_engine.specs.Handling.{IsAllGiven, IsGivenOut}
+use Rattle.ffi_engine.specs.Outputs.{HostOutput}
+
+-- an error that is answered is one
+pub same_error : {X E : Type 0} {r : Result X E} {a b : E} → r ≡ Err a → r ≡ Err b → a ≡ b
+same_error first second = cc
+
+-- an output that was written, or else nothing more is said
+pub all_given : (out : HostOutput) (before : FlatStored) (r : FlatOutput) (old new : HeldEngine) → old.is_lost ≡ false
+    → HasGivenOut certificate_bytes (out ∷ []) old.engine.core new.engine.core → IsGivenOut out before r new
+    → (given : List HostOutput) → IsAllGiven given old → IsAllGiven (given ++ option_to_list new.last) new
+all_given out before r old new going gives (inl it) given all alive =
+    subst (λ last. IsKept certificate_bytes (given ++ option_to_list last) new.engine.core) (sym it.0.last) (gives given (all going))
+all_given out before r old new going gives (inr it) given all alive = absurd (false≢true (sym alive ∙ it.0))
+
+-- no other proposal is queued to be told as final
+pub tells_no_more : (out : HostOutput) (before : FlatStored) (r : FlatOutput) (old new : HeldEngine) → TellsNoMore (out ∷ []) old.engine.core.outbox new.engine.core.outbox
+    → IsGivenOut out before r new → new.is_lost ≡ false → TellsNoMore (option_to_list new.last) old.engine.core.outbox new.engine.core.outbox
+tells_no_more out before r old new tells (inl it) alive = subst (λ last. TellsNoMore (option_to_list last) old.engine.core.outbox new.engine.core.outbox) (sym it.0.last) tells
+tells_no_more out before r old new tells (inr it) alive = absurd (false≢true (sym alive ∙ it.0))
+
+-- what is given out is traced by what the member has done
+pub traced_given : (out : HostOutput) (before : FlatStored) (r : FlatOutput) (old new : HeldEngine)
+    → EmitsOn same_host_payload host_leader certificate_bytes (IsOrder bytes_in_digest) None (out ∷ []) old.engine.core new.engine.core → IsGivenOut out before r new
+    → new.is_lost ≡ false → EmitsOn same_host_payload host_leader certificate_bytes (IsOrder bytes_in_digest) None (option_to_list new.last) old.engine.core new.engine.core
+traced_given out before r old new traced (inl it) alive =
+    subst (λ last. EmitsOn same_host_payload host_leader certificate_bytes (IsOrder bytes_in_digest) None (option_to_list last) old.engine.core new.engine.core) (sym it.0.last) traced
+traced_given out before r old new traced (inr it) alive = absurd (false≢true (sym alive ∙ it.0))
+
+-- what the member waits for stays told
+pub has_told : (out : HostOutput) (before : FlatStored) (r : FlatOutput) (old new : HeldEngine)
+    → ((given : List HostOutput) → HasToldAll given old.engine → HasToldAll (given ++ out ∷ []) new.engine) → IsGivenOut out before r new
+    → new.is_lost ≡ false → (given : List HostOutput) → HasToldAll given old.engine → HasToldAll (given ++ option_to_list new.last) new.engine
+has_told out before r old new tells (inl it) alive given told = subst (λ last. HasToldAll (given ++ option_to_list last) new.engine) (sym it.0.last) (tells given told)
+has_told out before r old new tells (inr it) alive given told = absurd (false≢true (sym alive ∙ it.0))
+
+-- and no work is lost
+pub works_given : (out : HostOutput) (before : FlatStored) (r : FlatOutput) (old new : HeldEngine)
+    → AreAmong (work_ahead old.engine) (work_in (out ∷ []) ++ work_ahead new.engine) → IsGivenOut out before r new
+    → new.is_lost ≡ false → AreAmong (work_ahead old.engine) (work_in (option_to_list new.last) ++ work_ahead new.engine)
+works_given out before r old new works (inl it) alive = subst (λ last. AreAmong (work_ahead old.engine) (work_in (option_to_list last) ++ work_ahead new.engine)) (sym it.0.last) works
+works_given out before r old new works (inr it) alive = absurd (false≢true (sym alive ∙ it.0))
+
+-- and all comes of what was at hand
+pub comes_given : (now : ℕ) (out : HostOutput) (before : FlatStored) (r : FlatOutput) (old new : HeldEngine)
+    → Comes same_host_payload host_leader bytes_in_digest certificate_bytes now (forgettable new.engine.core.member.facts) (work_in (out ∷ [])) (held_by new.engine) old.engine new.engine → IsGivenOut out before r new → new.is_lost ≡ false
+    → Comes same_host_payload host_leader bytes_in_digest certificate_bytes now (forgettable new.engine.core.member.facts) (work_in (option_to_list new.last)) (held_by new.engine) old.engine new.engine
+comes_given now out before r old new comes (inl it) alive =
+    subst (λ last. Comes same_host_payload host_leader bytes_in_digest certificate_bytes now (forgettable new.engine.core.member.facts) (work_in (option_to_list last)) (held_by new.engine) old.engine new.engine) (sym it.0.last) comes
+comes_given now out before r old new comes (inr it) alive = absurd (false≢true (sym alive ∙ it.0))

@@ -1,0 +1,36 @@
+-- That what is asked of an engine is no matter of what it gave out last.
+use Rattle.std.proofs.Common.{inl, inr}
+use Rattle.ffi_engine.proofs.held.HeldEngine.poll.Goals as goal
+
+pub returns : goal.returns
+returns c =
+    let is = c.poll_engine.ensures in (
+      elim is.0 [
+        | inl lost ↦ inl lost
+        | inr (going, asked) ↦ inr (
+          going,
+          record {
+            given = asked.given;
+            told = asked.told;
+            traced = asked.traced;
+            does = asked.does;
+            votes = asked.votes;
+            held = asked.held;
+            bounded = asked.bounded;
+            duties = asked.duties;
+            works = asked.works;
+            comes = asked.comes;
+            heights = asked.heights;
+            near = asked.near;
+            seen = asked.seen;
+            early = asked.early;
+            ignored = asked.ignored;
+            constants = asked.constants;
+            outcome = asked.outcome;
+            refused = asked.refused;
+          },
+        )
+      ],
+      is.1,
+      is.2,
+    )

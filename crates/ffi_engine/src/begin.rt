@@ -1,0 +1,136 @@
+//! How an engine behind a handle begins: a first life at a floor, or another from the bytes of a journal.
+
+ghost use Rattle.std.specs.Prelude.{◌≡◌, Err, IfOk, IfErr};
+ghost use Rattle.ffi_engine.specs.Beginning.{not_begun_number, not_begun_of, options_of};
+
+use crate::held::HeldEngine;
+use crate::told::FlatOptions;
+use simplex_engine::engine::{Engine, Options, StartError};
+use ffi_member::flat::FlatSettings;
+use ffi_member::opening::{NotResumed, going_on};
+use ffi_member::resolving::{NotReplayed, number_of_not_replayed};
+use ffi_member::settings::{SettingsError, start_of};
+use ffi_member::shown::FlatStored;
+use ffi_member::statuses::number_of_not_resumed;
+use simplex_member::member::ResumeError;
+use simplex_record::record::StartError as RefusedStart;
+use simplex_resolver::replay::ReplayError;
+use simplex_types::config::ConfigError;
+use std::alloc::Global;
+
+/// Why no engine begins.
+#[derive(Clone, Copy, PartialEq, Eq, Debug)]
+pub enum NotBegun {
+    /// For what no member of these settings goes on.
+    Member(NotResumed),
+    /// The resolver refuses the record.
+    Resolver(ReplayError),
+    /// The options' `retry` is 0: a fetch would be asked again at once, of one peer after another.
+    FetchRetryZero,
+}
+
+impl HeldEngine {
+    ghost use Rattle.ffi_engine.specs.Beginning.{IsEngineBegun, IsEngineNotBegun, IsEngineNotResumed, IsEngineResumed};
+    ghost use Rattle.ffi_engine.specs.declared.begin.NotBegun.TheVariants.{FetchRetryZero};
+
+    /// An engine whose member never voted, by flat settings with a table of leaders and the bytes of the floor's certificate.
+    ///
+    /// # Errors
+    ///
+    /// `FetchRetryZero` just where the options' `retry` is 0, whatever the settings are; else why no member starts by the settings.
+    pub fn start(
+        alloc: Global,
+        flat: &FlatSettings,
+        leaders: &[u32],
+        certificate: &[u8],
+        options: &FlatOptions,
+        now: u64,
+    ) -> Result<HeldEngine, NotBegun>
+        ensures begun { IfOk result (IsEngineBegun flat.now leaders.now certificate.now options.now now) }
+        ensures no_retry { options.now.retry ≡ 0 → result ≡ Err FetchRetryZero }
+        ensures refused { IfErr result (IsEngineNotBegun flat.now leaders.now certificate.now options.now now) }
+    {
+        if options.retry == 0 {
+            return Err(NotBegun::FetchRetryZero);
+        }
+        let start = match start_of(alloc, flat, leaders, certificate, now) {
+            Ok(start) => start,
+            Err(error) => return Err(NotBegun::Member(NotResumed::Settings(error))),
+        };
+        match Engine::start(alloc, start, options_in(options)) {
+            Ok(engine) => Ok(HeldEngine::new(alloc, engine, flat.draws)),
+            Err(error) => Err(not_begun(error)),
+        }
+    }
+
+    /// An engine that goes on from its journal: the bytes that its entries were as frames, and what was stored beside them last.
+    ///
+    /// # Errors
+    ///
+    /// `FetchRetryZero` just where the options' `retry` is 0, whatever else is passed; else why no member goes on from the journal, or
+    /// the resolver does not.
+    pub fn resume(
+        alloc: Global,
+        flat: &FlatSettings,
+        leaders: &[u32],
+        certificate: &[u8],
+        options: &FlatOptions,
+        now: u64,
+        stored: &FlatStored,
+        journal: &[u8],
+    ) -> Result<HeldEngine, NotBegun>
+        ensures resumed { IfOk result (IsEngineResumed flat.now leaders.now certificate.now options.now now stored.now journal.now) }
+        ensures no_retry { options.now.retry ≡ 0 → result ≡ Err FetchRetryZero }
+        ensures refused { IfErr result (IsEngineNotResumed flat.now leaders.now certificate.now options.now now stored.now journal.now) }
+    {
+        if options.retry == 0 {
+            return Err(NotBegun::FetchRetryZero);
+        }
+        let from = match going_on(alloc, flat, leaders, certificate, now, stored, journal) {
+            Ok(from) => from,
+            Err(error) => return Err(NotBegun::Member(error)),
+        };
+        let options = options_in(options);
+        match Engine::resume(alloc, from.start, from.stored, from.entries, options) {
+            Ok(engine) => Ok(HeldEngine::new(alloc, engine, flat.draws)),
+            Err(error) => Err(not_begun(error)),
+        }
+    }
+}
+
+/// Intervals, and how long a record grows.
+fn options_in(flat: &FlatOptions) -> Options
+    ensures { result ≡ options_of flat.now }
+{
+    Options {
+        retry: flat.retry,
+        on_its_way: flat.on_its_way,
+        long_record: flat.long_record as usize,
+    }
+}
+
+fn not_begun(error: StartError) -> NotBegun
+    ensures { result ≡ not_begun_of error }
+{
+    match error {
+        StartError::RetryZero => NotBegun::Member(NotResumed::Settings(SettingsError::Refused(
+            RefusedStart::Config(ConfigError::RetryZero),
+        ))),
+        StartError::Resume(ResumeError::EntriesLost) => NotBegun::Member(NotResumed::EntriesLost),
+        StartError::Resume(ResumeError::Recover(error)) => {
+            NotBegun::Member(NotResumed::Recover(error))
+        }
+        StartError::Replay(error) => NotBegun::Resolver(error),
+    }
+}
+
+/// The number of what refuses a start or a resume.
+pub fn number_of_not_begun(error: NotBegun) -> u32
+    ensures { result ≡ not_begun_number error }
+{
+    match error {
+        NotBegun::Member(error) => number_of_not_resumed(error),
+        NotBegun::Resolver(error) => number_of_not_replayed(NotReplayed::Replay(error)),
+        NotBegun::FetchRetryZero => 33,
+    }
+}

@@ -1,0 +1,307 @@
+//! An engine behind a handle, with what it gave out last: its bytes are read of it, and never lack memory.
+
+ghost use Rattle.std.specs.Prelude.{◌≡◌, ◌++◌, ◌+◌, ◌-◌, ◌^◌, [], true, false, min, length, Contains, None, OnOk};
+ghost use Rattle.ffi_member.specs.Journals.{framed};
+ghost use Rattle.ffi_member.specs.Opening.{IsFlatStored};
+ghost use Rattle.ffi_member.specs.Statuses.{not_written_number};
+
+use crate::input::{HostInput, input_of};
+use crate::output::{
+    HostEngine, HostOutput, NOTHING_STORED, flat_output, other_signature, output_of, signature_in,
+};
+use crate::told::{FlatInput, FlatOutput, FlatTaken};
+use bytes::BytesMut;
+use ffi_member::journal::{HostArtifact, NotWritten, write_entries};
+use ffi_member::numbers::{number_of_fault, number_of_flag};
+use ffi_member::shown::FlatStored;
+use ffi_member::statuses::number_of_not_written;
+use simplex_member::member::Stored;
+use engine_outbox::output::Output;
+use simplex_types::types::Fault;
+use std::alloc::Global;
+
+/// A status where one of the numbers is none of an input: nothing was told.
+pub const STATUS_NO_INPUT: u32 = 6;
+
+/// A status where there was no memory for a signature or a certificate: nothing was told.
+pub const STATUS_NOT_TOLD: u32 = 7;
+
+/// An engine, and what it gave out last.
+#[derive(Drop)]
+pub struct HeldEngine {
+    pub(crate) alloc: Global,
+    pub(crate) engine: HostEngine,
+    /// 1 where leaders are drawn from certificates: then none is made of votes, and none are taken.
+    draws: u32,
+    /// What was to be stored could not be written as frames, and nothing more is given out.
+    pub(crate) is_lost: bool,
+    last: Option<HostOutput>,
+    /// The entries that are to be stored, as frames.
+    frames: BytesMut,
+    /// What is stored beside a journal, once it has all that was given out.
+    stored: FlatStored,
+    /// What was last shown beside an output.
+    pub(crate) shown: BytesMut,
+}
+
+impl HeldEngine {
+    ghost use Rattle.ffi_engine.specs.Handling.{HasShownNothing, IsGivenOut, IsHandled, IsNothing, IsPolled, IsReadAs, AreFramed, Takes};
+    ghost use Rattle.ffi_engine.specs.Handling.{HoldsRecord, IsAllGiven, first_bytes, second_bytes};
+    ghost use Rattle.laws_safety.specs.Lawful.{IsLawful};
+    ghost use Rattle.laws_safety.specs.Living.{OfAllDone, MayBeDoneBy};
+    ghost use Rattle.laws_safety.specs.RecordsOnce.{HoldsEachEntryOnce};
+    ghost use Rattle.engine_outbox.specs.Leaving.{AllLeave};
+    ghost use Rattle.engine_outbox.specs.Outputs.{AreBehind};
+    ghost use Rattle.engine_outbox.specs.Finals.{finals_in, RiseByView, WereAccepted};
+    ghost use Rattle.engine_outbox.specs.Going.{IsTraced};
+    ghost use Rattle.simplex_codec.specs.Digests.{bytes_in_digest};
+    ghost use Rattle.engine_outbox.specs.Signatures.{IsSignedBy};
+    ghost use Rattle.engine_outbox.specs.declared.output.Output.TheVariants as output;
+    ghost use Rattle.engine_outbox.specs.Stops.{EachStopIsLawful};
+    ghost use Rattle.ffi_scheme.specs.Host.{certificate_bytes, IsOrder};
+    ghost use Rattle.ffi_member.specs.Serving.{host_leader, same_host_payload};
+    ghost use Rattle.ffi_scheme.specs.declared.scheme.HostKey.{HostKey};
+
+    /// An engine that gave nothing out yet.
+    pub(crate) fn new(alloc: Global, engine: HostEngine, draws: u32) -> HeldEngine
+        ensures engine { result.engine ≡ engine }
+        ensures draws { result.draws ≡ draws }
+        ensures fresh { HasShownNothing result }
+    {
+        HeldEngine {
+            alloc,
+            engine,
+            draws,
+            is_lost: false,
+            last: None,
+            frames: BytesMut::new(alloc),
+            stored: NOTHING_STORED,
+            shown: BytesMut::new(alloc),
+        }
+    }
+
+    /// Tells what came in. `bytes` are a vote's signature, or a certificate.
+    pub fn handle(&mut self, flat: &FlatInput, bytes: &[u8], now: u64) -> FlatTaken
+        ensures { IsHandled now self.old flat.now bytes.now result self.new }
+    {
+        if self.draws == 1 && flat.kind == 2 {
+            return untaken(STATUS_NO_INPUT);
+        }
+        match input_of(self.alloc, flat, bytes) {
+            Ok(Some(input)) => self.take(input, now),
+            Ok(None) => untaken(STATUS_NO_INPUT),
+            Err(_) => untaken(STATUS_NOT_TOLD),
+        }
+    }
+
+    fn take(&mut self, input: HostInput, now: u64) -> FlatTaken
+        ensures { Takes now input self.old result self.new }
+    {
+        if self.is_lost {
+            return untaken(number_of_fault(Fault::Failed));
+        }
+        match self.engine.handle(input, now) {
+            Ok(is_of_use) => FlatTaken {
+                status: 0,
+                is_of_use: number_of_flag(is_of_use),
+            },
+            Err(fault) => untaken(number_of_fault(fault)),
+        }
+    }
+
+    /// What is to be carried out next, at a moment in milliseconds.
+    pub fn poll(&mut self, now: u64) -> FlatOutput
+        ensures { IsPolled now self.old result self.new }
+    {
+        self.last = None;
+        self.frames.clear();
+        self.poll_engine(now)
+    }
+
+    /// What is to be carried out next, once nothing is read of the output before.
+    fn poll_engine(&mut self, now: u64) -> FlatOutput
+        requires last { self.old.last ≡ None }
+        requires empty { self.old.frames.items ≡ [] }
+        ensures { IsPolled now self.old result self.new }
+    {
+        if self.is_lost {
+            return no_output(number_of_fault(Fault::Failed));
+        }
+        match self.engine.poll(now) {
+            Ok(Some(output)) => self.give_out(output),
+            Ok(None) => no_output(0),
+            Err(fault) => no_output(number_of_fault(fault)),
+        }
+    }
+
+    /// Gives an output out. Where its entries find no memory as frames nothing behind it ever leaves, since it was not stored.
+    fn give_out(&mut self, output: HostOutput) -> FlatOutput
+        requires empty { self.old.frames.items ≡ [] }
+        requires last { self.old.last ≡ None }
+        requires going { self.old.is_lost ≡ false }
+        ensures given { IsGivenOut output self.old.stored result self.new }
+        ensures rest { (self.new.engine ≡ self.old.engine) × (self.new.draws ≡ self.old.draws) × (self.new.shown ≡ self.old.shown) }
+    {
+        match self.write(&output) {
+            Ok(()) => self.keep(output),
+            Err(error) => self.lose(error),
+        }
+    }
+
+    fn lose(&mut self, error: NotWritten) -> FlatOutput
+        requires { self.old.last ≡ None }
+        ensures nothing { IsNothing (not_written_number error) result self.new }
+        ensures lost { self.new.is_lost ≡ true }
+        ensures rest { (self.new.engine ≡ self.old.engine) × (self.new.draws ≡ self.old.draws) × (self.new.shown ≡ self.old.shown) }
+    {
+        self.is_lost = true;
+        self.frames.clear();
+        no_output(number_of_not_written(error))
+    }
+
+    fn keep(&mut self, output: HostOutput) -> FlatOutput
+        ensures read { IsReadAs output result self.new }
+        ensures rest { self.new ≡ record self.old { last = self.new.last } }
+    {
+        let told = flat_output(&output);
+        self.last = Some(output);
+        FlatOutput {
+            bytes: self.first_bytes().len() as u64,
+            other_bytes: self.second_bytes().len() as u64,
+            stored: self.stored,
+            ..told
+        }
+    }
+
+    /// Writes the entries that are to be stored as frames, and counts them.
+    fn write(&mut self, output: &HostOutput) -> Result<(), NotWritten>
+        requires { self.old.frames.items ≡ [] }
+        ensures written { OnOk result (AreFramed output.now self.old.stored self.new.frames.items self.new.stored) }
+        ensures rest { self.new ≡ record self.old { frames = self.new.frames; stored = self.new.stored } }
+    {
+        match output {
+            Output::Store(entries) => self.write_behind(entries),
+            Output::Replace(entries, beside) => self.write_anew(entries, beside),
+            _ => Ok(()),
+        }
+    }
+
+    fn write_behind(&mut self, entries: &[HostArtifact]) -> Result<(), NotWritten>
+        requires { self.old.frames.items ≡ [] }
+        ensures written { OnOk result (self.new.frames.items ≡ framed entries.now) }
+        ensures stored { OnOk result (self.new.stored
+            ≡ record self.old.stored { entries = min (self.old.stored.entries + length entries.now) (2 ^ 64 - 1) }) }
+        ensures rest { self.new ≡ record self.old { frames = self.new.frames; stored = self.new.stored } }
+    {
+        write_entries(self.alloc, &mut self.frames, entries)?;
+        self.stored.entries = self.stored.entries.saturating_add(entries.len() as u64);
+        Ok(())
+    }
+
+    fn write_anew(&mut self, entries: &[HostArtifact], beside: &Stored) -> Result<(), NotWritten>
+        requires { self.old.frames.items ≡ [] }
+        ensures written { OnOk result (self.new.frames.items ≡ framed entries.now) }
+        ensures entries { OnOk result (self.new.stored.entries ≡ length entries.now) }
+        ensures stored { OnOk result (IsFlatStored self.new.stored beside.now) }
+        ensures rest { self.new ≡ record self.old { frames = self.new.frames; stored = self.new.stored } }
+    {
+        write_entries(self.alloc, &mut self.frames, entries)?;
+        self.stored = stored_beside(entries.len(), beside);
+        Ok(())
+    }
+
+    /// The bytes of what was given out last: entries as frames, what is to be signed, a certificate, or the first signature of two.
+    pub fn first_bytes(&self) -> &[u8]
+        ensures { result.now ≡ first_bytes self.now }
+    {
+        match &self.last {
+            Some(Output::Store(_)) | Some(Output::Replace(_, _)) => self.frames.as_slice(),
+            Some(output) => signature_in(output),
+            None => &[],
+        }
+    }
+
+    /// The laws of all that it gave out, and of all that its member has done. It does nothing: its contract is the laws.
+    ///
+    /// - `behind`: each vote stands behind an output that stores it, with its very order.
+    /// - `stored`: where all of the record was given out, a journal that carries out what was given out holds the record, and beside
+    ///   it what a journal stores.
+    /// - `leaving`: until it fails, each vote that is stored was given out or is queued, but those of the record that the life began
+    ///   with, which the first output stores.
+    /// - `stops`: until it fails, a host may stop after each output that was given out: the journal is then the record of a member that
+    ///   the engine's member was, which had signed each vote among these outputs.
+    /// - `finals`: of each proposal that it reported as final, its member accepted the finalization.
+    /// - `signed`: each vote that it gave out is its member's, an order to sign just the vote's own bytes with the member's key.
+    /// - `rising`: the views of the proposals rise that it told as final.
+    /// - `lawful`: what its member has done keeps the voting rules, over all its lives.
+    /// - `ran`: a network of `agreement` may have it as member `i`.
+    /// - `once`: its record holds each entry once: of each view at most seven.
+    pub fn keeps_the_laws(&self)
+        ensures behind { (given : _) → IsAllGiven given self.now → self.now.is_lost ≡ false → AreBehind [] given }
+        ensures stored { (given : _) → IsAllGiven given self.now → self.now.is_lost ≡ false → HoldsRecord given self.now }
+        ensures leaving { (given : _) → IsAllGiven given self.now → self.now.is_lost ≡ false → self.now.engine.core.failed ≡ false
+            → AllLeave (given ++ self.now.engine.core.outbox.queue.items) }
+        ensures stops { (term_length i : _) (earlier given all : _)
+            → IsTraced same_host_payload host_leader certificate_bytes term_length i earlier given all self.now.engine.core
+            → self.now.engine.core.failed ≡ false → EachStopIsLawful same_host_payload host_leader certificate_bytes term_length i earlier all
+            (given ++ self.now.engine.core.outbox.queue.items) }
+        ensures finals { (term_length i : _) (earlier given all : _)
+            → IsTraced same_host_payload host_leader certificate_bytes term_length i earlier given all self.now.engine.core
+            → WereAccepted all (finals_in given) }
+        ensures signed { (i key given vote : _) → IsSignedBy (IsOrder bytes_in_digest) i key given self.now.engine.core → AreBehind [] given
+            → Contains given (output.Vote vote) → (vote.signer ≡ i) × IsOrder bytes_in_digest key vote.subject vote.signature }
+        ensures rising { (given : _) → IsAllGiven given self.now → self.now.is_lost ≡ false → RiseByView (finals_in given) }
+        ensures lawful { OfAllDone same_host_payload host_leader self.now.engine.core.member.facts (λ term_length i all. IsLawful term_length all) }
+        ensures ran { OfAllDone same_host_payload host_leader self.now.engine.core.member.facts (MayBeDoneBy HostKey same_host_payload host_leader) }
+        ensures once { OfAllDone same_host_payload host_leader self.now.engine.core.member.facts (λ term_length i all.
+            HoldsEachEntryOnce self.now.engine.core.member.facts) }
+    {
+        self.engine.keeps_the_laws();
+    }
+
+    /// The second signature of two.
+    pub fn second_bytes(&self) -> &[u8]
+        ensures { result.now ≡ second_bytes self.now }
+    {
+        match &self.last {
+            Some(output) => other_signature(output),
+            None => &[],
+        }
+    }
+}
+
+/// What is stored beside so many entries.
+fn stored_beside(entries: usize, beside: &Stored) -> FlatStored
+    ensures entries { result.entries ≡ entries }
+    ensures stored { IsFlatStored result beside.now }
+{
+    FlatStored {
+        entries: entries as u64,
+        closed: beside.closed as u64,
+        retention: beside.retention.get(),
+        least_retention: beside.least_retention.get(),
+        is_pruned: number_of_flag(beside.is_pruned),
+        reserved: 0,
+    }
+}
+
+/// That nothing was of use.
+pub(crate) fn untaken(status: u32) -> FlatTaken
+    ensures { (result.status ≡ status) × (result.is_of_use ≡ 0) }
+{
+    FlatTaken {
+        status,
+        is_of_use: 0,
+    }
+}
+
+/// That nothing is to be carried out.
+pub(crate) fn no_output(status: u32) -> FlatOutput
+    ensures status { result.status ≡ status }
+    ensures nothing { (result.kind ≡ 0) × (result.bytes ≡ 0) × (result.other_bytes ≡ 0) }
+{
+    FlatOutput {
+        status,
+        ..output_of(0)
+    }
+}

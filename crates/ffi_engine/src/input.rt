@@ -1,0 +1,152 @@
+//! The inputs that flat ones stand for.
+
+ghost use Rattle.std.specs.Prelude.{◌≡◌, ◌≤◌, ◌<◌, IfOk, OnErr, MatchOption};
+ghost use Rattle.ffi_member.specs.Numbers.{flag_number, reason_number};
+ghost use Rattle.ffi_member.specs.Replies.{IsContext};
+ghost use Rattle.ffi_engine.specs.Inputs.{HandsInBytes, HasKind, HasInputNumbers, IsCertificate, IsNoInput, IsNoKind, IsOn, IsToldAs, IsVote};
+
+use crate::told::{FlatInput, FlatSubject};
+use bytes::Bytes;
+use engine_votes::votes::Vote;
+use simplex_engine::input::Input;
+use ffi_member::asking::{
+    finalization_of, notarization_of, nullification_of, proposal_of, round_in,
+};
+use ffi_member::flat::FlatContext;
+use ffi_member::kinds::{CertificateKind, VoteKind, certificate_kind_of, vote_kind_of};
+use ffi_member::numbers::{flag_of, reason_of};
+use ffi_scheme::scheme::{HostDigest, HostKey, HostScheme, Order};
+use simplex_types::reasons::TimeoutReason;
+use simplex_types::types::{Certificate, Context, Participant, Subject, View};
+use std::alloc::{AllocError, Global};
+
+/// An input of an engine of the host.
+pub type HostInput = Input<HostScheme, HostDigest>;
+
+/// The input that a flat one stands for, with the bytes of the signature or the certificate that it hands in; none where one of
+/// its numbers is none.
+pub fn input_of(
+    alloc: Global,
+    flat: &FlatInput,
+    bytes: &[u8],
+) -> Result<Option<HostInput>, AllocError>
+    ensures wanting { OnErr result (HandsInBytes flat.now) }
+    ensures made { IfOk result (λ made. MatchOption made (IsNoInput flat.now)
+        (λ input. HasInputNumbers flat.now × IsToldAs flat.now bytes.now input)) }
+{
+    let Some(reason) = reason_of(flat.reason) else {
+        return Ok(None);
+    };
+    let Some(success) = flag_of(flat.success) else {
+        return Ok(None);
+    };
+    input_of_kind(alloc, flat, reason, success, bytes)
+}
+
+fn input_of_kind(
+    alloc: Global,
+    flat: &FlatInput,
+    reason: TimeoutReason,
+    success: bool,
+    bytes: &[u8],
+) -> Result<Option<HostInput>, AllocError>
+    requires reason { (reason_number reason ≡ flat.now.reason) × (flat.now.reason < 10) }
+    requires success { (flag_number success ≡ flat.now.success) × (flat.now.success < 2) }
+    ensures wanting { OnErr result (HandsInBytes flat.now) }
+    ensures made { IfOk result (λ made. MatchOption made (IsNoInput flat.now)
+        (λ input. HasInputNumbers flat.now × IsToldAs flat.now bytes.now input)) }
+{
+    let view = View::new(flat.view);
+    Ok(match flat.kind {
+        1 => Some(Input::Proposal(
+            Participant::new(flat.subject.member),
+            proposal_of(&flat.subject.proposal),
+        )),
+        2 => match vote_of(alloc, &flat.subject, bytes)? {
+            Some(vote) => Some(Input::Vote(vote)),
+            None => None,
+        },
+        3 => match certificate_of(alloc, &flat.subject, bytes)? {
+            Some(certificate) => Some(Input::Certificate(certificate)),
+            None => None,
+        },
+        4 => Some(Input::Verified(view, success)),
+        5 => Some(Input::Built(
+            context_of(&flat.context, flat.subject.member),
+            HostDigest::from(flat.subject.proposal.payload),
+        )),
+        6 => Some(Input::Certified(view, success)),
+        7 => Some(Input::GivenUp(view, reason)),
+        _ => None,
+    })
+}
+
+/// A vote under a signature of these bytes; none where no vote has its kind.
+fn vote_of(
+    alloc: Global,
+    flat: &FlatSubject,
+    bytes: &[u8],
+) -> Result<Option<Vote<HostDigest, Order>>, AllocError>
+    ensures wanting { OnErr result (HasKind flat.now) }
+    ensures made { IfOk result (λ made. MatchOption made (IsNoKind flat.now) (λ vote. HasKind flat.now × IsVote flat.now bytes.now vote)) }
+{
+    let Some(subject) = subject_of(flat) else {
+        return Ok(None);
+    };
+    Ok(Some(Vote {
+        subject,
+        signer: Participant::new(flat.member),
+        signature: Order {
+            key: HostKey(flat.member),
+            text: Bytes::copy_from_slice(alloc, bytes)?,
+        },
+    }))
+}
+
+/// A certificate of these bytes; none where no certificate has its kind.
+fn certificate_of(
+    alloc: Global,
+    flat: &FlatSubject,
+    bytes: &[u8],
+) -> Result<Option<Certificate<HostScheme, HostDigest>>, AllocError>
+    ensures wanting { OnErr result (HasKind flat.now) }
+    ensures made { IfOk result (λ made. MatchOption made (IsNoKind flat.now) (λ it. HasKind flat.now × IsCertificate flat.now bytes.now it)) }
+{
+    let Some(kind) = certificate_kind_of(flat.kind) else {
+        return Ok(None);
+    };
+    Ok(Some(match kind {
+        CertificateKind::Notarization => {
+            Certificate::Notarization(notarization_of(alloc, &flat.proposal, bytes)?)
+        }
+        CertificateKind::Nullification => {
+            Certificate::Nullification(nullification_of(alloc, flat.proposal.round, bytes)?)
+        }
+        CertificateKind::Finalization => {
+            Certificate::Finalization(finalization_of(alloc, &flat.proposal, bytes)?)
+        }
+    }))
+}
+
+/// A context, and who leads it.
+fn context_of(flat: &FlatContext, leader: u32) -> Context<HostDigest, HostKey>
+    ensures context { IsContext flat.now result }
+    ensures leader { result.leader.0 ≡ leader }
+{
+    Context {
+        round: round_in(flat.round),
+        leader: HostKey(leader),
+        parent: (View::new(flat.parent), HostDigest::from(flat.payload)),
+    }
+}
+
+/// What a vote of a kind is on; none where no vote has the kind.
+fn subject_of(flat: &FlatSubject) -> Option<Subject<HostDigest>>
+    ensures { MatchOption result (IsNoKind flat.now) (λ subject. HasKind flat.now × IsOn flat.now subject) }
+{
+    Some(match vote_kind_of(flat.kind)? {
+        VoteKind::Notarize => Subject::Notarize(proposal_of(&flat.proposal)),
+        VoteKind::Nullify => Subject::Nullify(round_in(flat.proposal.round)),
+        VoteKind::Finalize => Subject::Finalize(proposal_of(&flat.proposal)),
+    })
+}

@@ -1,0 +1,325 @@
+//! What flat outputs tell.
+
+ghost use Rattle.std.specs.Prelude.{◌≡◌};
+ghost use Rattle.engine_outbox.specs.declared.output.Work.TheVariants.{Fetch};
+ghost use Rattle.ffi_member.specs.Calls.{IsFlatProposal};
+ghost use Rattle.ffi_member.specs.Numbers.{certificate_number, index_number};
+ghost use Rattle.ffi_member.specs.Replies.{IsContext};
+ghost use Rattle.ffi_engine.specs.Inputs.{IsOn};
+ghost use Rattle.ffi_engine.specs.Outputs.{HasOutputOf, IsOf, IsWork, certified_bytes, fetch_number, other_signature, first_bytes_in};
+
+use crate::told::{FlatOutput, FlatSubject};
+use engine_votes::votes::Vote;
+use simplex_engine::engine::Engine;
+use engine_fetches::fetches::{Ask, FetchKind};
+use ffi_member::flat::{FlatContext, FlatProposal, FlatRound};
+use ffi_member::kinds::{CertificateKind, number_of_certificate};
+use ffi_member::replying::{flat_context, flat_proposal, flat_round};
+use ffi_member::shown::FlatStored;
+use ffi_scheme::elector::HostElector;
+use ffi_scheme::scheme::{HostDigest, HostKey, HostScheme, Order};
+use simplex_member::member::Stored;
+use engine_outbox::output::{Output, Work};
+use simplex_types::types::{Certificate, Context, Participant, Proposal, Subject};
+
+/// An engine of the host.
+pub type HostEngine = Engine<HostScheme, HostElector, HostDigest>;
+
+/// What an engine of the host gives out.
+pub type HostOutput = Output<HostScheme, HostDigest, Stored>;
+
+/// A vote of a member of the host.
+pub type HostVote = Vote<HostDigest, Order>;
+
+/// What is to be carried out of the host, and is neither stored, nor a vote, nor final.
+pub type HostWork = Work<HostScheme, HostDigest>;
+
+/// The number of a fetch of whatever certificate decides a view: none of a certificate's kind.
+const FETCH_DECISION: u32 = 4;
+
+/// A proposal with nothing in it.
+const NO_PROPOSAL: FlatProposal = FlatProposal {
+    round: FlatRound { epoch: 0, view: 0 },
+    parent: 0,
+    payload: [0; 32],
+};
+
+/// A subject with nothing in it.
+const NO_SUBJECT: FlatSubject = FlatSubject {
+    kind: 0,
+    member: u32::MAX,
+    proposal: NO_PROPOSAL,
+};
+
+/// What an output tells, but for its bytes and for what is stored beside a journal.
+pub(crate) fn flat_output(output: &HostOutput) -> FlatOutput
+    ensures output { HasOutputOf output.now result }
+    ensures status { result.status ≡ 0 }
+{
+    match output {
+        Output::Store(_) => output_of(1),
+        Output::Replace(_, _) => output_of(2),
+        Output::Vote(vote) => FlatOutput {
+            subject: flat_vote(vote),
+            ..output_of(3)
+        },
+        Output::Finalized(proposal) => of_proposal(10, proposal),
+        Output::Work(work) => flat_work(work),
+    }
+}
+
+/// What work tells.
+fn flat_work(work: &HostWork) -> FlatOutput
+    ensures work { IsWork work.now result }
+    ensures status { result.status ≡ 0 }
+{
+    match work {
+        Work::Broadcast(certificate) => FlatOutput {
+            subject: flat_certificate(certificate),
+            ..output_of(4)
+        },
+        Work::Verify(context, proposal) => in_context(5, context, proposal_subject(proposal)),
+        Work::Build(context) => in_context(6, context, NO_SUBJECT),
+        Work::StopBuilding(view) => of_view(7, view.get()),
+        Work::Certify(proposal) => of_proposal(8, proposal),
+        Work::Fetch(ask) => flat_fetch(*ask),
+        Work::Equivocated(first, second) => FlatOutput {
+            subject: flat_vote(first),
+            other: flat_vote(second),
+            ..output_of(11)
+        },
+        Work::ProposedTwice(view, leader) => FlatOutput {
+            member: leader.0,
+            ..of_view(12, view.get())
+        },
+        Work::Forget(view) => of_view(13, view.get()),
+    }
+}
+
+/// An output of a kind, with nothing in it.
+pub(crate) fn output_of(kind: u32) -> FlatOutput
+    ensures kind { result.kind ≡ kind }
+    ensures status { result.status ≡ 0 }
+    ensures bytes { (result.bytes ≡ 0) × (result.other_bytes ≡ 0) }
+{
+    FlatOutput {
+        status: 0,
+        kind,
+        fetch: 0,
+        member: u32::MAX,
+        view: 0,
+        bytes: 0,
+        other_bytes: 0,
+        stored: NOTHING_STORED,
+        subject: NO_SUBJECT,
+        other: NO_SUBJECT,
+        context: FlatContext {
+            round: NO_PROPOSAL.round,
+            parent: 0,
+            payload: [0; 32],
+        },
+    }
+}
+
+/// Beside a journal before anything was stored.
+pub(crate) const NOTHING_STORED: FlatStored = FlatStored {
+    entries: 0,
+    closed: 0,
+    retention: 0,
+    least_retention: 0,
+    is_pruned: 0,
+    reserved: 0,
+};
+
+fn of_view(kind: u32, view: u64) -> FlatOutput
+    ensures kind { result.kind ≡ kind }
+    ensures status { result.status ≡ 0 }
+    ensures view { result.view ≡ view }
+{
+    FlatOutput {
+        view,
+        ..output_of(kind)
+    }
+}
+
+fn of_proposal(kind: u32, proposal: &Proposal<HostDigest>) -> FlatOutput
+    ensures kind { result.kind ≡ kind }
+    ensures status { result.status ≡ 0 }
+    ensures proposal { IsFlatProposal result.subject.proposal proposal.now }
+{
+    FlatOutput {
+        subject: proposal_subject(proposal),
+        ..output_of(kind)
+    }
+}
+
+fn in_context(kind: u32, context: &Context<HostDigest, HostKey>, subject: FlatSubject) -> FlatOutput
+    ensures kind { result.kind ≡ kind }
+    ensures status { result.status ≡ 0 }
+    ensures context { IsContext result.context context.now }
+    ensures leader { result.subject.member ≡ context.now.leader.0 }
+    ensures proposal { result.subject.proposal ≡ subject.proposal }
+{
+    FlatOutput {
+        subject: FlatSubject {
+            member: context.leader.0,
+            ..subject
+        },
+        context: flat_context(context),
+        ..output_of(kind)
+    }
+}
+
+fn flat_fetch(ask: Ask) -> FlatOutput
+    ensures work { IsWork (Fetch ask) result }
+    ensures status { result.status ≡ 0 }
+{
+    FlatOutput {
+        fetch: number_of_fetch(ask.kind),
+        member: number_of_peer(ask.of),
+        ..of_view(9, ask.view.get())
+    }
+}
+
+fn proposal_subject(proposal: &Proposal<HostDigest>) -> FlatSubject
+    ensures { IsFlatProposal result.proposal proposal.now }
+{
+    FlatSubject {
+        proposal: flat_proposal(proposal),
+        ..NO_SUBJECT
+    }
+}
+
+/// What a vote is on, and who signed it.
+fn flat_vote(vote: &HostVote) -> FlatSubject
+    ensures on { IsOn result vote.now.subject }
+    ensures signer { result.member ≡ vote.now.signer }
+{
+    let member = vote.signer.get();
+    match &vote.subject {
+        Subject::Notarize(proposal) => {
+            subject_on(
+                CertificateKind::Notarization,
+                member,
+                flat_proposal(proposal),
+            )
+        }
+        Subject::Nullify(round) => {
+            subject_on(
+                CertificateKind::Nullification,
+                member,
+                of_round(flat_round(*round)),
+            )
+        }
+        Subject::Finalize(proposal) => {
+            subject_on(
+                CertificateKind::Finalization,
+                member,
+                flat_proposal(proposal),
+            )
+        }
+    }
+}
+
+/// What a certificate is on.
+fn flat_certificate(certificate: &Certificate<HostScheme, HostDigest>) -> FlatSubject
+    ensures { IsOf result certificate.now }
+{
+    match certificate {
+        Certificate::Notarization(it) => {
+            subject_on(
+                CertificateKind::Notarization,
+                u32::MAX,
+                flat_proposal(&it.proposal),
+            )
+        }
+        Certificate::Nullification(it) => {
+            subject_on(
+                CertificateKind::Nullification,
+                u32::MAX,
+                of_round(flat_round(it.round)),
+            )
+        }
+        Certificate::Finalization(it) => {
+            subject_on(
+                CertificateKind::Finalization,
+                u32::MAX,
+                flat_proposal(&it.proposal),
+            )
+        }
+    }
+}
+
+fn subject_on(kind: CertificateKind, member: u32, proposal: FlatProposal) -> FlatSubject
+    ensures { (result.kind ≡ certificate_number kind) × (result.member ≡ member) × (result.proposal ≡ proposal) }
+{
+    FlatSubject {
+        kind: number_of_certificate(kind),
+        member,
+        proposal,
+    }
+}
+
+/// What is nullified.
+fn of_round(round: FlatRound) -> FlatProposal
+    ensures { result.round ≡ round }
+{
+    FlatProposal {
+        round,
+        ..NO_PROPOSAL
+    }
+}
+
+/// The number of what is fetched.
+pub(crate) fn number_of_fetch(kind: FetchKind) -> u32
+    ensures { result ≡ fetch_number kind }
+{
+    match kind {
+        FetchKind::Notarization => number_of_certificate(CertificateKind::Notarization),
+        FetchKind::Nullification => number_of_certificate(CertificateKind::Nullification),
+        FetchKind::Decision => FETCH_DECISION,
+    }
+}
+
+/// The index of a member, or the greatest number where there is none.
+fn number_of_peer(of: Option<Participant>) -> u32
+    ensures { result ≡ index_number of }
+{
+    match of {
+        Some(of) => of.get(),
+        None => u32::MAX,
+    }
+}
+
+/// What is to be signed, a certificate, or the first signature of two: what is read of an output that is no journal's.
+pub(crate) fn signature_in(output: &HostOutput) -> &[u8]
+    ensures { result.now ≡ first_bytes_in output.now }
+{
+    match output {
+        Output::Vote(vote) => vote.signature.text.as_slice(),
+        Output::Work(Work::Broadcast(certificate)) => bytes_of(certificate),
+        Output::Work(Work::Equivocated(first, _)) => first.signature.text.as_slice(),
+        _ => &[],
+    }
+}
+
+/// The second signature of two.
+pub(crate) fn other_signature(output: &HostOutput) -> &[u8]
+    ensures { result.now ≡ other_signature output.now }
+{
+    match output {
+        Output::Work(Work::Equivocated(_, second)) => second.signature.text.as_slice(),
+        _ => &[],
+    }
+}
+
+/// The bytes of a certificate.
+fn bytes_of(certificate: &Certificate<HostScheme, HostDigest>) -> &[u8]
+    ensures { result.now ≡ certified_bytes certificate.now }
+{
+    match certificate {
+        Certificate::Notarization(it) => it.certificate.bytes.as_slice(),
+        Certificate::Nullification(it) => it.certificate.bytes.as_slice(),
+        Certificate::Finalization(it) => it.certificate.bytes.as_slice(),
+    }
+}

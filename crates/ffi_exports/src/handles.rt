@@ -1,0 +1,128 @@
+//! Where a handle is written: a pointer that C has, with what lies behind it once a start wrote it.
+
+ghost use Rattle.std.specs.Prelude.{◌≡◌, ◌⊎◌, Option, Some};
+ghost use Rattle.ffi_member.specs.declared.held.Held.{Held};
+ghost use Rattle.ffi_member.specs.declared.resolving.HeldResolver.{HeldResolver};
+ghost use Rattle.ffi_engine.specs.declared.held.HeldEngine.{HeldEngine};
+ghost use Rattle.ffi_exports.specs.Behind.{coded_engine, coded_held, coded_resolver};
+
+use crate::loose::Loose;
+use ffi_member::held::Held;
+use ffi_member::resolving::HeldResolver;
+use ffi_engine::held::HeldEngine;
+use std::alloc::Global;
+use std::marker::Model;
+
+/// The place of a member's handle. Before a handle is written there may be anything at it, and it is let go then as it is.
+#[repr(C)]
+#[derive(Drop)]
+pub struct MemberHandle {
+    pub(crate) at: *mut u8,
+    pub ghost held: { Option Held } by { coded_held },
+}
+
+impl Model for MemberHandle {
+    ghost use Rattle.ffi_exports.specs.Behind.{handed_at};
+
+    ghost also_owns = { λ h. handed_at h.at h.held };
+}
+
+impl MemberHandle {
+    ghost use Rattle.ffi_exports.specs.Opened.{IsWritten};
+
+    fn of(member: Loose<Held, Global>) -> MemberHandle
+        ensures { result.held ≡ Some member.value }
+    {
+        let Loose { at, alloc: _alloc } = member;
+        MemberHandle { at: at as *mut u8 }
+    }
+
+    /// Writes the handle of a member: 0, or 1 where there is no memory for it.
+    pub(crate) fn write(&mut self, alloc: Global, held: Held) -> u32
+        ensures { IsWritten held result self.old self.new }
+    {
+        match Box::new(alloc, held) {
+            Ok(held) => {
+                *self = MemberHandle::of(Loose::of(held));
+                0
+            }
+            Err(_) => 1,
+        }
+    }
+}
+
+/// The place of a resolver's handle.
+#[repr(C)]
+#[derive(Drop)]
+pub struct ResolverHandle {
+    pub(crate) at: *mut u8,
+    pub ghost held: { Option HeldResolver } by { coded_resolver },
+}
+
+impl Model for ResolverHandle {
+    ghost use Rattle.ffi_exports.specs.Behind.{resolver_handed_at};
+
+    ghost also_owns = { λ h. resolver_handed_at h.at h.held };
+}
+
+impl ResolverHandle {
+    ghost use Rattle.ffi_exports.specs.Opened.{IsResolverWritten};
+
+    fn of(resolver: Loose<HeldResolver, Global>) -> ResolverHandle
+        ensures { result.held ≡ Some resolver.value }
+    {
+        let Loose { at, alloc: _alloc } = resolver;
+        ResolverHandle { at: at as *mut u8 }
+    }
+
+    /// Writes the handle of a resolver: 0, or 1 where there is no memory for it.
+    pub(crate) fn write(&mut self, alloc: Global, held: HeldResolver) -> u32
+        ensures { IsResolverWritten held result self.old self.new }
+    {
+        match Box::new(alloc, held) {
+            Ok(held) => {
+                *self = ResolverHandle::of(Loose::of(held));
+                0
+            }
+            Err(_) => 1,
+        }
+    }
+}
+
+/// The place of an engine's handle.
+#[repr(C)]
+#[derive(Drop)]
+pub struct EngineHandle {
+    pub(crate) at: *mut u8,
+    pub ghost held: { Option HeldEngine } by { coded_engine },
+}
+
+impl Model for EngineHandle {
+    ghost use Rattle.ffi_exports.specs.Behind.{engine_handed_at};
+
+    ghost also_owns = { λ h. engine_handed_at h.at h.held };
+}
+
+impl EngineHandle {
+    ghost use Rattle.ffi_exports.specs.Opened.{IsEngineWritten};
+
+    fn of(engine: Loose<HeldEngine, Global>) -> EngineHandle
+        ensures { result.held ≡ Some engine.value }
+    {
+        let Loose { at, alloc: _alloc } = engine;
+        EngineHandle { at: at as *mut u8 }
+    }
+
+    /// Writes the handle of an engine: 0, or 1 where there is no memory for it.
+    pub(crate) fn write(&mut self, alloc: Global, held: HeldEngine) -> u32
+        ensures { IsEngineWritten held result self.old self.new }
+    {
+        match Box::new(alloc, held) {
+            Ok(held) => {
+                *self = EngineHandle::of(Loose::of(held));
+                0
+            }
+            Err(_) => 1,
+        }
+    }
+}

@@ -1,0 +1,178 @@
+//! The functions of a resolver that C calls. `resolver_at` says what a handle is: null, or a pointer to a resolver that
+//! `simplex_resolver_start` made, and that no other call has. At null each answers the status 15, and does nothing.
+
+ghost use Rattle.std.specs.Prelude.{◌≡◌};
+ghost use Rattle.std.specs.Borrow.{sem};
+ghost use Rattle.ffi_member.specs.declared.resolving.HeldResolver.{HeldResolver};
+ghost use Rattle.ffi_member.specs.Resolving.{AreOutstanding, IsEffectAt, IsHeard, IsServedFor, IsSettledAt};
+ghost use Rattle.ffi_member.specs.Showing.{IsChunk};
+ghost use Rattle.ffi_exports.specs.Behind.{IsRead, resolver_at, resolver_left_at, resolver_owned_at};
+ghost use Rattle.ffi_exports.specs.Opened.{IsReplayStatus};
+
+use crate::handles::ResolverHandle;
+use crate::loose::Loose;
+use ffi_member::absent;
+use ffi_member::resolved::{
+    FlatEffect, FlatEffects, FlatOutstanding, FlatServed, FlatSettled, FlatTold,
+};
+use ffi_member::resolving::{HeldResolver, number_of_not_replayed};
+use ffi_member::shown::FlatChunk;
+use std::alloc::Global;
+
+/// Starts a resolver from the bytes of a journal, and writes its handle. 0, or why there is none; then nothing is written.
+#[unsafe(no_mangle)]
+pub extern "C" fn simplex_resolver_start(
+    alloc: Global,
+    term_length: u32,
+    journal: &[u8],
+    out: &mut ResolverHandle,
+) -> u32
+    ensures { IsReplayStatus term_length journal.now result out.old out.new }
+{
+    match HeldResolver::start(alloc, term_length, journal) {
+        Ok(held) => out.write(alloc, held),
+        Err(error) => number_of_not_replayed(error),
+    }
+}
+
+/// Tells the resolver of a certificate or of a verdict.
+#[unsafe(no_mangle)]
+pub unsafe extern "C" fn simplex_resolver_told(
+    at: *mut u8,
+    told: &FlatTold,
+    certificate: &[u8],
+) -> FlatEffects
+    ghost held: { HeldResolver }
+    requires* { sem 𝓛 (resolver_at at held) }
+    ensures* { sem 𝓛 (resolver_left_at at (result.status ≡ 15) (λ now. IsHeard held told.now certificate.now result now)) }
+{
+    if at.is_null() {
+        return absent::effects();
+    }
+    tell(
+        unsafe { &mut *(at as *mut HeldResolver) },
+        told,
+        certificate,
+    )
+}
+
+fn tell(held: &mut HeldResolver, told: &FlatTold, certificate: &[u8]) -> FlatEffects
+    ensures { IsHeard held.old told.now certificate.now result held.new }
+{
+    held.told(told, certificate)
+}
+
+/// An effect of what the resolver was told last.
+#[unsafe(no_mangle)]
+pub unsafe extern "C" fn simplex_resolver_effect(at: *mut u8, index: u64) -> FlatEffect
+    ghost held: { HeldResolver }
+    requires* { sem 𝓛 (resolver_at at held) }
+    ensures* { sem 𝓛 (resolver_left_at at (result.status ≡ 15) (λ now. IsRead held now (IsEffectAt held.last.items index result))) }
+{
+    if at.is_null() {
+        return absent::effect();
+    }
+    hand_effect(unsafe { &mut *(at as *mut HeldResolver) }, index)
+}
+
+fn hand_effect(held: &mut HeldResolver, index: u64) -> FlatEffect
+    ensures { IsRead held.old held.new (IsEffectAt held.old.last.items index result) }
+{
+    held.effect(index)
+}
+
+/// What the resolver knows of a view.
+#[unsafe(no_mangle)]
+pub unsafe extern "C" fn simplex_resolver_settled(at: *mut u8, view: u64) -> FlatSettled
+    ghost held: { HeldResolver }
+    requires* { sem 𝓛 (resolver_at at held) }
+    ensures* { sem 𝓛 (resolver_left_at at (result.status ≡ 15) (λ now. IsRead held now (IsSettledAt held.resolver view result))) }
+{
+    if at.is_null() {
+        return absent::settled();
+    }
+    hand_settled(unsafe { &mut *(at as *mut HeldResolver) }, view)
+}
+
+fn hand_settled(held: &mut HeldResolver, view: u64) -> FlatSettled
+    ensures { IsRead held.old held.new (IsSettledAt held.old.resolver view result) }
+{
+    held.settled(view)
+}
+
+/// Shows the views whose fetch is open, rising.
+#[unsafe(no_mangle)]
+pub unsafe extern "C" fn simplex_resolver_outstanding(at: *mut u8) -> FlatOutstanding
+    ghost held: { HeldResolver }
+    requires* { sem 𝓛 (resolver_at at held) }
+    ensures* { sem 𝓛 (resolver_left_at at (result.status ≡ 15) (λ now. AreOutstanding held result now)) }
+{
+    if at.is_null() {
+        return absent::outstanding();
+    }
+    hand_outstanding(unsafe { &mut *(at as *mut HeldResolver) })
+}
+
+fn hand_outstanding(held: &mut HeldResolver) -> FlatOutstanding
+    ensures { AreOutstanding held.old result held.new }
+{
+    held.outstanding()
+}
+
+/// Shows what a peer is served for a view.
+#[unsafe(no_mangle)]
+pub unsafe extern "C" fn simplex_resolver_produce(at: *mut u8, view: u64) -> FlatServed
+    ghost held: { HeldResolver }
+    requires* { sem 𝓛 (resolver_at at held) }
+    ensures* { sem 𝓛 (resolver_left_at at (result.status ≡ 15) (λ now. IsServedFor held view result now)) }
+{
+    if at.is_null() {
+        return absent::served();
+    }
+    hand_served(unsafe { &mut *(at as *mut HeldResolver) }, view)
+}
+
+fn hand_served(held: &mut HeldResolver, view: u64) -> FlatServed
+    ensures { IsServedFor held.old view result held.new }
+{
+    held.produce(view)
+}
+
+/// A part of what was served last.
+#[unsafe(no_mangle)]
+pub unsafe extern "C" fn simplex_resolver_bytes(at: *mut u8, from: u64) -> FlatChunk
+    ghost held: { HeldResolver }
+    requires* { sem 𝓛 (resolver_at at held) }
+    ensures* { sem 𝓛 (resolver_left_at at (result.status ≡ 15) (λ now. IsRead held now (IsChunk held.served.items from result))) }
+{
+    if at.is_null() {
+        return absent::chunk();
+    }
+    hand_bytes(unsafe { &mut *(at as *mut HeldResolver) }, from)
+}
+
+fn hand_bytes(held: &mut HeldResolver, from: u64) -> FlatChunk
+    ensures { IsRead held.old held.new (IsChunk held.old.served.items from result) }
+{
+    held.chunk(from)
+}
+
+/// Lets the resolver go, and the memory of its handle.
+#[unsafe(no_mangle)]
+pub unsafe extern "C" fn simplex_resolver_free(alloc: Global, at: *mut u8)
+    ghost held: { HeldResolver }
+    requires* { sem 𝓛 (resolver_owned_at alloc at held) }
+{
+    if at.is_null() {
+        return;
+    }
+    end(Loose {
+        at: at as *mut HeldResolver,
+        alloc,
+    })
+}
+
+/// Drops the resolver at a pointer.
+fn end(resolver: Loose<HeldResolver, Global>) {
+    let _resolver = resolver.into_box();
+}

@@ -1,0 +1,115 @@
+-- The numbers of kinds, reasons and flags.
+use Rattle.std.specs.Prelude.{◌≡◌, ◌⊎◌, ◌<◌, ◌≤◌, ℕ, Bool, true, false, Option, Some, None}
+use Rattle.simplex_types.specs.declared.reasons.Kind.{Kind}
+use Rattle.simplex_types.specs.declared.reasons.Kind.TheVariants as lacking
+use Rattle.simplex_types.specs.declared.reasons.TimeoutReason.{TimeoutReason}
+use Rattle.simplex_types.specs.declared.reasons.TimeoutReason.TheVariants as reason
+use Rattle.simplex_types.specs.declared.reasons.HandoffAbandonedReason.{HandoffAbandonedReason}
+use Rattle.simplex_types.specs.declared.reasons.HandoffAbandonedReason.TheVariants as abandoned
+use Rattle.simplex_types.specs.declared.types.fault.Fault.{Fault}
+use Rattle.simplex_types.specs.declared.types.fault.Fault.TheVariants as fault
+use Rattle.ffi_scheme.specs.declared.scheme.HostKey.{HostKey}
+use Rattle.ffi_member.specs.declared.call_kind.CallKind.{CallKind}
+use Rattle.ffi_member.specs.declared.call_kind.CallKind.TheVariants as kind
+use Rattle.ffi_member.specs.declared.kinds.CertificateKind.{CertificateKind}
+use Rattle.ffi_member.specs.declared.kinds.CertificateKind.TheVariants as certificate
+use Rattle.ffi_member.specs.declared.kinds.VoteKind.{VoteKind}
+use Rattle.ffi_member.specs.declared.kinds.VoteKind.TheVariants as vote
+
+-- the number of a kind of calls
+abbrev pub kind_number : CallKind → ℕ
+kind_number kind.AddNotarization = 0
+kind_number kind.AddNullification = 1
+kind_number kind.AddFinalization = 2
+kind_number kind.SetProposal = 3
+kind_number kind.TryPropose = 4
+kind_number kind.Proposed = 5
+kind_number kind.SupersedeProposalRequest = 6
+kind_number kind.PendingHandoffAbandonment = 7
+kind_number kind.ReleaseProposalRequest = 8
+kind_number kind.TryVerify = 9
+kind_number kind.Verified = 10
+kind_number kind.VerificationFailed = 11
+kind_number kind.CertifyCandidates = 12
+kind_number kind.SetCertifyHandle = 13
+kind_number kind.Certified = 14
+kind_number kind.ConstructNotarize = 15
+kind_number kind.ConstructNullify = 16
+kind_number kind.ConstructFinalize = 17
+kind_number kind.BroadcastNotarization = 18
+kind_number kind.BroadcastNullification = 19
+kind_number kind.BroadcastFinalization = 20
+kind_number kind.GetBestCertificate = 21
+kind_number kind.TriggerTimeout = 22
+kind_number kind.NextTimeout = 23
+kind_number kind.Prune = 24
+
+-- the number of a certificate's kind
+abbrev pub certificate_number : CertificateKind → ℕ
+certificate_number certificate.Notarization = 1
+certificate_number certificate.Nullification = 2
+certificate_number certificate.Finalization = 3
+
+-- the number of a vote's kind: that of the certificate which such votes make
+abbrev pub vote_number : VoteKind → ℕ
+vote_number vote.Notarize = certificate_number certificate.Notarization
+vote_number vote.Nullify = certificate_number certificate.Nullification
+vote_number vote.Finalize = certificate_number certificate.Finalization
+
+-- the number of a certificate that is lacking
+abbrev pub lacking_number : Kind → ℕ
+lacking_number lacking.Nullification = certificate_number certificate.Nullification
+lacking_number lacking.Notarization = certificate_number certificate.Notarization
+
+-- a number is that of a kind of votes and of certificates
+abbrev pub IsKind : ℕ → Type 0
+IsKind kind = (0 < kind) × (kind < 4)
+
+-- a number is that of no kind
+abbrev pub IsNoKind : ℕ → Type 0
+IsNoKind kind = (kind ≡ 0) ⊎ (4 ≤ kind)
+
+-- the number of a reason for a timeout
+abbrev pub reason_number : TimeoutReason → ℕ
+reason_number reason.Retry = 0
+reason_number reason.Inactivity = 1
+reason_number reason.LeaderNullify = 2
+reason_number reason.LeaderTimeout = 3
+reason_number reason.CertificationTimeout = 4
+reason_number reason.StallTimeout = 5
+reason_number reason.MissingProposal = 6
+reason_number reason.IgnoredProposal = 7
+reason_number reason.InvalidProposal = 8
+reason_number reason.FailedCertification = 9
+
+-- 1 for true
+abbrev pub flag_number : Bool → ℕ
+flag_number false = 0
+flag_number true = 1
+
+-- the number of a reason to give up a handoff
+abbrev pub abandoned_number : HandoffAbandonedReason → ℕ
+abandoned_number abandoned.ViewExit = 0
+abandoned_number abandoned.AncestrySuperseded = 1
+abandoned_number abandoned.AncestryInvalidated = 2
+abandoned_number abandoned.ParentNullify = 3
+abandoned_number abandoned.ViewNullify = 4
+abandoned_number abandoned.ResponseClosed = 5
+abandoned_number abandoned.IneligibleAtRecording = 6
+
+-- the number of a fault: a reply's status
+abbrev pub fault_status : Fault → ℕ
+fault_status fault.OutOfMemory = 1
+fault_status fault.Failed = 2
+fault_status fault.ViewTooLarge = 3
+fault_status fault.TimeOverflow = 4
+
+-- the index of a member, or the greatest number of 32 bits where there is none
+abbrev pub member_number : Option HostKey → ℕ
+member_number None = 4294967295
+member_number (Some key) = key.0
+
+-- the index of a member, or the greatest number of 32 bits where there is none
+abbrev pub index_number : Option ℕ → ℕ
+index_number None = 4294967295
+index_number (Some index) = index

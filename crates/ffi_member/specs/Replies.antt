@@ -1,0 +1,101 @@
+-- What a flat reply tells.
+use Rattle.std.specs.Prelude.{◌≡◌, ℕ, Bool, length, Option, Some, None}
+use Rattle.simplex_types.specs.Certificates.{ArtifactFacts, NotarizeVote, NullifyVote, FinalizeVote, CertificateFacts, Notarized, Nullified, Finalized, ProposalFacts}
+use Rattle.simplex_types.specs.declared.types.messages.Context.{Context}
+use Rattle.simplex_types.specs.declared.reasons.HandoffAbandonedReason.{HandoffAbandonedReason}
+use Rattle.simplex_voter.specs.declared.voter.propose.ProposalRequest.{ProposalRequest}
+use Rattle.simplex_voter.specs.declared.voter.propose.ProposalRequest.TheVariants.{Prepare, Propose}
+use Rattle.simplex_voter.specs.declared.voter.verify.Verify.{Verify}
+use Rattle.simplex_voter.specs.declared.voter.verify.Verify.TheVariants.{Ready, Resolve, Wait}
+use Rattle.simplex_codec.specs.declared.digest.BytesDigest.{BytesDigest}
+use Rattle.simplex_codec.specs.Digests.{bytes_in_digest}
+use Rattle.ffi_scheme.specs.declared.scheme.HostKey.{HostKey}
+use Rattle.simplex_member.specs.Calls.{Told, Added, AddedNullification, Judged, Nullify, Finalize, Notarize, Handed, Dropped, Requested, Standing, Answered, Abandoned, Candidates, Released, Triggered, TimesOut, Done, Restarted, Refused, NotAllowed}
+use Rattle.ffi_member.specs.declared.flat.FlatContext.{FlatContext}
+use Rattle.ffi_member.specs.declared.flat.FlatReply.{FlatReply}
+use Rattle.ffi_member.specs.Calls.{IsFlatProposal, flat_round}
+use Rattle.ffi_member.specs.declared.kinds.CertificateKind.TheVariants as kind
+use Rattle.ffi_member.specs.Numbers.{abandoned_number, certificate_number, fault_status, flag_number, lacking_number, member_number, reason_number}
+
+-- the call is answered, by an answer of this kind
+abbrev pub HasAnswer : ℕ → FlatReply → Type 0
+HasAnswer kind f = (f.status ≡ 0) × (f.kind ≡ kind)
+
+-- a context is of these numbers and bytes
+pub record IsContext (f : FlatContext) (c : Context (BytesDigest 32) HostKey) : Type 0 where
+  pub round : c.round ≡ flat_round f.round
+  pub parent : c.parent.0 ≡ f.parent
+  pub payload : bytes_in_digest c.parent.1 ≡ f.payload
+
+-- a request to build: 1 on a certified parent, 2 as a handoff
+abbrev pub HasRequest : Option (ProposalRequest (BytesDigest 32) HostKey) → FlatReply → Type 0
+HasRequest None f = f.has ≡ 0
+HasRequest (Some (Propose c)) f = (f.has ≡ 1) × (f.member ≡ c.leader.0) × IsContext f.context c
+HasRequest (Some (Prepare c)) f = (f.has ≡ 2) × (f.member ≡ c.leader.0) × IsContext f.context c
+
+-- what is to be verified: 1 for a proposal, 2 where a certificate of its ancestry is lacking, of this kind
+abbrev pub HasWork : Verify (BytesDigest 32) HostKey → FlatReply → Type 0
+HasWork Wait f = f.has ≡ 0
+HasWork (Ready c q) f = (f.has ≡ 1) × (f.member ≡ c.leader.0) × IsContext f.context c × IsFlatProposal f.proposal q
+HasWork (Resolve waiting view kind leader) f =
+    (f.has ≡ 2) × (f.reason ≡ lacking_number kind) × (f.member ≡ leader.0) × (f.waiting ≡ waiting) × (f.lacking ≡ view)
+
+-- the notarization of a verdict's view, if it is there
+abbrev pub HasNotarization : Option (ProposalFacts (BytesDigest 32)) → FlatReply → Type 0
+HasNotarization None f = f.has ≡ 0
+HasNotarization (Some c) f = (f.has ≡ 1) × IsFlatProposal f.proposal c.proposal
+
+-- a vote to notarize, if there is one
+abbrev pub HasNotarize : Option (ArtifactFacts (BytesDigest 32)) → FlatReply → Type 0
+HasNotarize None f = f.has ≡ 0
+HasNotarize (Some (NotarizeVote q signer)) f = (f.has ≡ 1) × (f.member ≡ signer) × IsFlatProposal f.proposal q
+HasNotarize _ f = ⊥
+
+-- a vote to nullify, and whether it was sent before
+abbrev pub HasNullify : Option (Bool × ArtifactFacts (BytesDigest 32)) → FlatReply → Type 0
+HasNullify None f = f.has ≡ 0
+HasNullify (Some (retry, NullifyVote round signer)) f =
+    (f.has ≡ 1) × (f.member ≡ signer) × (f.flag ≡ flag_number retry) × (round ≡ flat_round f.proposal.round)
+HasNullify _ f = ⊥
+
+-- a vote to finalize
+abbrev pub HasFinalize : Option (ArtifactFacts (BytesDigest 32)) → FlatReply → Type 0
+HasFinalize None f = f.has ≡ 0
+HasFinalize (Some (FinalizeVote q signer)) f = (f.has ≡ 1) × (f.member ≡ signer) × IsFlatProposal f.proposal q
+HasFinalize _ f = ⊥
+
+-- a certificate, by the number of its kind
+abbrev pub HasCertificate : Option (CertificateFacts (BytesDigest 32)) → FlatReply → Type 0
+HasCertificate None f = f.has ≡ 0
+HasCertificate (Some (Notarized c)) f = (f.has ≡ certificate_number kind.Notarization) × IsFlatProposal f.proposal c.proposal
+HasCertificate (Some (Nullified c)) f = (f.has ≡ certificate_number kind.Nullification) × (c.round ≡ flat_round f.proposal.round)
+HasCertificate (Some (Finalized c)) f = (f.has ≡ certificate_number kind.Finalization) × IsFlatProposal f.proposal c.proposal
+
+-- why a handoff has to be given up, if it has
+abbrev pub HasReason : Option HandoffAbandonedReason → FlatReply → Type 0
+HasReason None f = f.has ≡ 0
+HasReason (Some reason) f = (f.has ≡ 1) × (f.reason ≡ abandoned_number reason)
+
+-- what a flat reply tells, but for what has no fixed size
+abbrev pub Tells : FlatReply → Told HostKey (BytesDigest 32) → Type 0
+Tells f Done = HasAnswer 0 f
+Tells f (Answered taken) = HasAnswer 1 f × (f.flag ≡ flag_number taken)
+Tells f (Added newly leader) = HasAnswer 2 f × (f.flag ≡ flag_number newly) × (f.member ≡ member_number leader)
+Tells f (AddedNullification newly) = HasAnswer 3 f × (f.flag ≡ flag_number newly)
+Tells f (Requested request) = HasAnswer 4 f × HasRequest request f
+Tells f (Standing work) = HasAnswer 5 f × HasWork work f
+Tells f (Candidates proposals fetches) = HasAnswer 6 f × (f.count ≡ length proposals) × (f.fetches ≡ length fetches)
+Tells f (Judged success notarization) = HasAnswer 7 f × (f.flag ≡ flag_number success) × HasNotarization notarization f
+Tells f (Notarize vote) = HasAnswer 8 f × HasNotarize vote f
+Tells f (Nullify vote) = HasAnswer 9 f × HasNullify vote f
+Tells f (Finalize vote) = HasAnswer 10 f × HasFinalize vote f
+Tells f (Handed certificate) = HasAnswer 11 f × HasCertificate certificate f
+Tells f (TimesOut (Some (moment, reason))) = HasAnswer 12 f × (f.moment ≡ moment) × (f.reason ≡ reason_number reason)
+Tells f (Dropped views) = HasAnswer 13 f × (f.count ≡ length views)
+Tells f (Released was_open) = HasAnswer 14 f × (f.flag ≡ flag_number was_open)
+Tells f (Triggered latched) = HasAnswer 15 f × (f.flag ≡ flag_number latched)
+Tells f (Abandoned reason) = HasAnswer 16 f × HasReason reason f
+Tells f Restarted = HasAnswer 17 f
+Tells f (Refused fault) = f.status ≡ fault_status fault
+Tells f NotAllowed = f.status ≡ 5
+Tells _ _ = ⊥

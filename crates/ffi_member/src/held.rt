@@ -1,0 +1,176 @@
+//! A member behind a handle, with its last reply: what flat replies leave out is read of it, and never lacks memory.
+
+ghost use Rattle.std.specs.Prelude.{IfOk, IfErr, ◌≡◌, ◌≤◌, MatchOption, Some, length, slice_get};
+
+use crate::asking::call_of;
+use crate::flat::{FlatCall, FlatFetch, FlatProposal, FlatReply, FlatSettings};
+use crate::replying::{HostReply, flat_proposal, flat_reply, unanswered};
+use crate::settings::{SettingsError, start_of};
+use bytes::BytesMut;
+use ffi_scheme::elector::HostElector;
+use ffi_scheme::scheme::{HostDigest, HostScheme};
+use simplex_member::member::{Member, RecoverError, Reply};
+use simplex_types::types::{Certificate, Proposal};
+use std::alloc::Global;
+
+/// A member of the host.
+pub type HostMember = Member<HostScheme, HostElector, HostDigest>;
+
+/// A reply's status where one of the call's numbers is no kind's, reason's or verdict's: no call was made.
+pub const STATUS_NO_CALL: u32 = 6;
+
+/// A reply's status where there was no memory for the call's certificate: no call was made.
+pub const STATUS_NOT_MADE: u32 = 7;
+
+/// Why no member starts.
+#[derive(Clone, Copy, PartialEq, Eq, Debug)]
+pub enum NotStarted {
+    Settings(SettingsError),
+    /// The floor is refused, or memory is wanting.
+    Recover(RecoverError),
+}
+
+/// A member, its last reply, and what it last showed beside that.
+#[derive(Drop)]
+pub struct Held {
+    pub(crate) alloc: Global,
+    pub(crate) member: HostMember,
+    last: HostReply,
+    /// What was last shown beside a reply.
+    pub(crate) shown: BytesMut,
+}
+
+impl Held {
+    ghost use Rattle.ffi_member.specs.Starting.{IsFresh, IsNotStarted, IsStarted};
+    ghost use Rattle.ffi_member.specs.Serving.{IsCallServed, IsFetchAt, IsProposalAt, dropped_in, fetches_in, proposals_in, reply_bytes};
+
+    /// A member that never voted, by flat settings with a table of leaders and the bytes of the floor's certificate.
+    pub fn start(
+        alloc: Global,
+        flat: &FlatSettings,
+        leaders: &[u32],
+        certificate: &[u8],
+        now: u64,
+    ) -> Result<Held, NotStarted>
+        ensures refused { IfErr result (IsNotStarted flat.now leaders.now certificate.now now) }
+        ensures started { IfOk result (IsStarted flat.now leaders.now certificate.now now) }
+    {
+        let start = match start_of(alloc, flat, leaders, certificate, now) {
+            Ok(start) => start,
+            Err(error) => return Err(NotStarted::Settings(error)),
+        };
+        match Member::start(alloc, start) {
+            Ok(member) => Ok(Held::new(alloc, member)),
+            Err(error) => Err(NotStarted::Recover(error)),
+        }
+    }
+
+    /// A member that no call was made of yet.
+    pub fn new(alloc: Global, member: HostMember) -> Held
+        ensures member { result.member ≡ member }
+        ensures fresh { IsFresh result }
+    {
+        Held {
+            alloc,
+            member,
+            last: Reply::Unit,
+            shown: BytesMut::new(alloc),
+        }
+    }
+
+    /// Makes a call of the member. The reply tells all but a certificate, a text to sign and lists, which are read below until
+    /// the next call is made.
+    pub fn call(&mut self, flat: &FlatCall, certificate: &[u8]) -> FlatReply
+        ensures { IsCallServed self.old flat.now certificate.now result self.new }
+    {
+        match call_of(self.alloc, flat, certificate) {
+            Ok(Some(call)) => {
+                let reply = self.member.call(call);
+                let told = flat_reply(&reply);
+                self.last = reply;
+                told
+            }
+            Ok(None) => unanswered(STATUS_NO_CALL),
+            Err(_) => unanswered(STATUS_NOT_MADE),
+        }
+    }
+
+    /// The member, to be asked what it shows.
+    pub fn member(&self) -> &HostMember
+        ensures { result.now ≡ self.now.member }
+    {
+        &self.member
+    }
+
+    /// What the vote of the last reply is to be signed on, or the bytes of its certificate; nothing where it has neither.
+    pub fn bytes(&self) -> &[u8]
+        ensures { result.now ≡ reply_bytes self.now.last }
+    {
+        match &self.last {
+            Reply::Notarize(Some(vote)) => vote.signature.text.as_slice(),
+            Reply::Nullify(Some((_, vote))) => vote.signature.text.as_slice(),
+            Reply::Finalize(Some(vote)) => vote.signature.text.as_slice(),
+            Reply::Certified(_, Some(it)) => it.certificate.bytes.as_slice(),
+            Reply::Certificate(Some(Certificate::Notarization(it))) => it
+                .certificate
+                .bytes
+                .as_slice(),
+            Reply::Certificate(Some(Certificate::Nullification(it))) => it
+                .certificate
+                .bytes
+                .as_slice(),
+            Reply::Certificate(Some(Certificate::Finalization(it))) => it
+                .certificate
+                .bytes
+                .as_slice(),
+            _ => &[],
+        }
+    }
+
+    /// A proposal that the last reply offers for certification.
+    pub fn proposal_at(&self, index: usize) -> Option<FlatProposal>
+        ensures { MatchOption result (length (proposals_in self.now.last) ≤ index) (IsProposalAt (proposals_in self.now.last) index) }
+    {
+        let proposal = self.offered(index)?;
+        Some(flat_proposal(proposal))
+    }
+
+    fn offered(&self, index: usize) -> Option<&Proposal<HostDigest>>
+        ensures { MatchOption result (length (proposals_in self.now.last) ≤ index)
+            (λ proposal. slice_get (proposals_in self.now.last) index ≡ Some proposal.now) }
+    {
+        match &self.last {
+            Reply::Candidates(proposals, _) => proposals.get(index),
+            _ => None,
+        }
+    }
+
+    /// A certificate that the last reply asks to be fetched.
+    pub fn fetch_at(&self, index: usize) -> Option<FlatFetch>
+        ensures { MatchOption result (length (fetches_in self.now.last) ≤ index) (IsFetchAt (fetches_in self.now.last) index) }
+    {
+        match &self.last {
+            Reply::Candidates(_, fetches) => {
+                let fetch = fetches.get(index)?;
+                Some(FlatFetch {
+                    proposal: fetch.proposal.get(),
+                    view: fetch.view.get(),
+                })
+            }
+            _ => None,
+        }
+    }
+
+    /// A view that the last reply dropped.
+    pub fn dropped_at(&self, index: usize) -> Option<u64>
+        ensures { MatchOption result (length (dropped_in self.now.last) ≤ index) (λ view. slice_get (dropped_in self.now.last) index ≡ Some view) }
+    {
+        match &self.last {
+            Reply::Views(views) => {
+                let view = views.get(index)?;
+                Some(view.get())
+            }
+            _ => None,
+        }
+    }
+}

@@ -1,0 +1,288 @@
+//! What flat replies tell of a member's replies. None of it takes memory: a certificate, a text to sign and lists stay in the
+//! reply, of which they are read.
+
+ghost use Rattle.std.specs.Prelude.{◌≡◌, option_map};
+ghost use Rattle.simplex_types.specs.Certificates.{certificate_facts};
+ghost use Rattle.ffi_scheme.specs.Host.{certificate_bytes};
+ghost use Rattle.simplex_member.specs.Calls.{told, told_notarize, told_nullify, told_finalize};
+ghost use Rattle.ffi_member.specs.Numbers.{abandoned_number, fault_status, flag_number, member_number, reason_number};
+ghost use Rattle.ffi_member.specs.Calls.{IsFlatProposal, flat_round};
+ghost use Rattle.ffi_member.specs.Replies.{HasAnswer, HasCertificate, HasFinalize, HasNotarize, HasNullify, HasRequest, HasWork, IsContext, Tells};
+
+use crate::flat::{FlatContext, FlatProposal, FlatReply, FlatRound};
+use crate::kinds::{CertificateKind, number_of_certificate, number_of_lacking};
+use crate::numbers::{
+    number_of_abandoned, number_of_fault, number_of_flag, number_of_member, number_of_reason,
+};
+use ffi_scheme::scheme::{HostDigest, HostKey, HostScheme};
+use simplex_member::member::Reply;
+use simplex_types::types::{Certificate, Context, Finalize, Notarize, Nullify, Proposal, Round};
+use simplex_voter::voter::{ProposalRequest, Verify};
+
+/// A reply of a member of the host.
+pub type HostReply = Reply<HostScheme, HostDigest>;
+
+/// What a reply tells, but for what has no fixed size.
+pub fn flat_reply(reply: &HostReply) -> FlatReply
+    ensures { Tells result (told certificate_bytes reply.now) }
+{
+    match reply {
+        Reply::Unit => answered(0),
+        Reply::Flag(flag) => flagged(1, *flag),
+        Reply::Added(is_new, leader) => FlatReply {
+            member: number_of_member(leader),
+            ..flagged(2, *is_new)
+        },
+        Reply::AddedNullification(is_new) => flagged(3, *is_new),
+        Reply::Request(request) => flat_request(request),
+        Reply::Work(work) => flat_work(work),
+        Reply::Candidates(proposals, fetches) => FlatReply {
+            count: proposals.len() as u64,
+            fetches: fetches.len() as u64,
+            ..answered(6)
+        },
+        Reply::Certified(success, Some(notarization)) => FlatReply {
+            has: 1,
+            proposal: flat_proposal(&notarization.proposal),
+            ..flagged(7, *success)
+        },
+        Reply::Certified(success, None) => flagged(7, *success),
+        Reply::Notarize(vote) => flat_notarize(vote),
+        Reply::Nullify(vote) => flat_nullify(vote),
+        Reply::Finalize(vote) => flat_finalize(vote),
+        Reply::Certificate(certificate) => flat_certificate(certificate),
+        Reply::Timeout(moment, reason) => FlatReply {
+            moment: *moment,
+            reason: number_of_reason(*reason),
+            ..answered(12)
+        },
+        Reply::Views(views) => FlatReply {
+            count: views.len() as u64,
+            ..answered(13)
+        },
+        Reply::Released(was_open) => flagged(14, *was_open),
+        Reply::Triggered(is_latched) => flagged(15, *is_latched),
+        Reply::Abandoned(Some(reason)) => FlatReply {
+            has: 1,
+            reason: number_of_abandoned(*reason),
+            ..answered(16)
+        },
+        Reply::Abandoned(None) => answered(16),
+        Reply::Restarted => answered(17),
+        Reply::Fault(fault) => unanswered(number_of_fault(*fault)),
+        Reply::NotAllowed => unanswered(5),
+    }
+}
+
+/// An answer of a kind with nothing in it.
+fn answered(kind: u32) -> FlatReply
+    ensures answered { HasAnswer kind result }
+    ensures nothing { result.has ≡ 0 }
+{
+    FlatReply {
+        kind,
+        ..unanswered(0)
+    }
+}
+
+/// A reply of a status with nothing in it.
+pub(crate) fn unanswered(status: u32) -> FlatReply
+    ensures status { result.status ≡ status }
+    ensures nothing { result.has ≡ 0 }
+{
+    let round = FlatRound { epoch: 0, view: 0 };
+    FlatReply {
+        status,
+        kind: 0,
+        has: 0,
+        flag: 0,
+        member: u32::MAX,
+        reason: 0,
+        moment: 0,
+        waiting: 0,
+        lacking: 0,
+        count: 0,
+        fetches: 0,
+        proposal: FlatProposal {
+            round,
+            parent: 0,
+            payload: [0; 32],
+        },
+        context: FlatContext {
+            round,
+            parent: 0,
+            payload: [0; 32],
+        },
+    }
+}
+
+fn flagged(kind: u32, flag: bool) -> FlatReply
+    ensures answered { HasAnswer kind result }
+    ensures flag { result.flag ≡ flag_number flag }
+    ensures nothing { result.has ≡ 0 }
+{
+    FlatReply {
+        flag: number_of_flag(flag),
+        ..answered(kind)
+    }
+}
+
+/// The numbers of a round.
+pub fn flat_round(round: Round) -> FlatRound
+    ensures { round ≡ flat_round result }
+{
+    FlatRound {
+        epoch: round.epoch.get(),
+        view: round.view.get(),
+    }
+}
+
+/// The numbers and bytes of a proposal.
+pub fn flat_proposal(proposal: &Proposal<HostDigest>) -> FlatProposal
+    ensures { IsFlatProposal result proposal.now }
+{
+    FlatProposal {
+        round: flat_round(proposal.round),
+        parent: proposal.parent.get(),
+        payload: <[u8; 32]>::from(proposal.payload),
+    }
+}
+
+/// The numbers and bytes of a context.
+pub fn flat_context(context: &Context<HostDigest, HostKey>) -> FlatContext
+    ensures { IsContext result context.now }
+{
+    let (parent, payload) = context.parent;
+    FlatContext {
+        round: flat_round(context.round),
+        parent: parent.get(),
+        payload: <[u8; 32]>::from(payload),
+    }
+}
+
+fn flat_request(request: &Option<ProposalRequest<HostDigest, HostKey>>) -> FlatReply
+    ensures answered { HasAnswer 4 result }
+    ensures request { HasRequest request.now result }
+{
+    match request {
+        Some(ProposalRequest::Propose(context)) => FlatReply {
+            has: 1,
+            member: context.leader.0,
+            context: flat_context(context),
+            ..answered(4)
+        },
+        Some(ProposalRequest::Prepare(context)) => FlatReply {
+            has: 2,
+            member: context.leader.0,
+            context: flat_context(context),
+            ..answered(4)
+        },
+        None => answered(4),
+    }
+}
+
+fn flat_work(work: &Verify<HostDigest, HostKey>) -> FlatReply
+    ensures answered { HasAnswer 5 result }
+    ensures work { HasWork work.now result }
+{
+    match work {
+        Verify::Wait => answered(5),
+        Verify::Ready(context, proposal) => FlatReply {
+            has: 1,
+            member: context.leader.0,
+            context: flat_context(context),
+            proposal: flat_proposal(proposal),
+            ..answered(5)
+        },
+        Verify::Resolve {
+            proposal,
+            view,
+            kind,
+            target: HostKey(leader),
+        } => FlatReply {
+            has: 2,
+            reason: number_of_lacking(*kind),
+            member: *leader,
+            waiting: proposal.get(),
+            lacking: view.get(),
+            ..answered(5)
+        },
+    }
+}
+
+fn flat_notarize(vote: &Option<Notarize<HostScheme, HostDigest>>) -> FlatReply
+    ensures answered { HasAnswer 8 result }
+    ensures vote { HasNotarize (told_notarize vote.now) result }
+{
+    match vote {
+        Some(vote) => FlatReply {
+            has: 1,
+            member: vote.signer.get(),
+            proposal: flat_proposal(&vote.proposal),
+            ..answered(8)
+        },
+        None => answered(8),
+    }
+}
+
+fn flat_nullify(vote: &Option<(bool, Nullify<HostScheme>)>) -> FlatReply
+    ensures answered { HasAnswer 9 result }
+    ensures vote { HasNullify (told_nullify vote.now) result }
+{
+    match vote {
+        Some((is_retry, vote)) => FlatReply {
+            has: 1,
+            member: vote.signer.get(),
+            proposal: FlatProposal {
+                round: flat_round(vote.round),
+                parent: 0,
+                payload: [0; 32],
+            },
+            ..flagged(9, *is_retry)
+        },
+        None => answered(9),
+    }
+}
+
+fn flat_finalize(vote: &Option<Finalize<HostScheme, HostDigest>>) -> FlatReply
+    ensures answered { HasAnswer 10 result }
+    ensures vote { HasFinalize (told_finalize vote.now) result }
+{
+    match vote {
+        Some(vote) => FlatReply {
+            has: 1,
+            member: vote.signer.get(),
+            proposal: flat_proposal(&vote.proposal),
+            ..answered(10)
+        },
+        None => answered(10),
+    }
+}
+
+fn flat_certificate(certificate: &Option<Certificate<HostScheme, HostDigest>>) -> FlatReply
+    ensures answered { HasAnswer 11 result }
+    ensures certificate { HasCertificate (option_map (certificate_facts certificate_bytes) certificate.now) result }
+{
+    match certificate {
+        Some(Certificate::Notarization(it)) => FlatReply {
+            has: number_of_certificate(CertificateKind::Notarization),
+            proposal: flat_proposal(&it.proposal),
+            ..answered(11)
+        },
+        Some(Certificate::Nullification(it)) => FlatReply {
+            has: number_of_certificate(CertificateKind::Nullification),
+            proposal: FlatProposal {
+                round: flat_round(it.round),
+                parent: 0,
+                payload: [0; 32],
+            },
+            ..answered(11)
+        },
+        Some(Certificate::Finalization(it)) => FlatReply {
+            has: number_of_certificate(CertificateKind::Finalization),
+            proposal: flat_proposal(&it.proposal),
+            ..answered(11)
+        },
+        None => answered(11),
+    }
+}

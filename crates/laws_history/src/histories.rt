@@ -1,0 +1,23 @@
+//! The law of histories. It does nothing: its contract is the law.
+
+ghost use Rattle.laws_history.specs.Histories.{NothingSaid, EventsAreShown, CallsAreShown, RecoveriesAreShown, RestartsAreShown, RunsAreShown};
+
+use simplex_types::types::{Digest, Elector, Scheme};
+
+/// What a state knows is what the events of its life say, `Shows`. It does nothing: its contract is the law.
+///
+/// - `begun`: of a new state nothing was said.
+/// - `kept`: each event that its state allows keeps it, with the event as the last of the history.
+/// - `called`: so does each call of a member where it is answered; one that is refused is no event.
+/// - `recovered`: a state that is made from a floor and a record knows what their events say.
+/// - `restarted`: so does the state that a restart makes, from an order by view of what is left of the record.
+/// - `ran`: and so, whatever the calls and restarts of a run, does the state at its end; its history goes by what the member
+///   itself has open at each call, and at each restart by what is left of its own record.
+pub fn histories_are_shown<S: Scheme<D>, L: Elector<S>, D: Digest>()
+    ensures begun { NothingSaid S.PublicKey D.eq L.elect }
+    ensures kept { EventsAreShown S.PublicKey D.eq L.elect }
+    ensures called { CallsAreShown S.PublicKey D.eq L.elect }
+    ensures recovered { RecoveriesAreShown S.PublicKey D.eq L.elect }
+    ensures restarted { RestartsAreShown S.PublicKey D.eq L.elect }
+    ensures ran { RunsAreShown S.PublicKey D.eq L.elect }
+{}

@@ -1,0 +1,37 @@
+//! What it is to go on.
+
+ghost use Rattle.laws_progress.specs.Continued.{
+  ExchangesBringWhatWas,
+  ExchangesGoOn,
+  FinalizationsAreNew,
+  MembersGoOn,
+  NothingIsForged,
+  OneExchangeIsTooFew,
+  TooManyAreFaulty,
+};
+
+use simplex_types::types::{Digest, Elector, Scheme};
+
+/// What it means that a network goes on to finalize a proposal (`GoesOnToFinalize`), and that exchanges of messages lead to a
+/// later network (`Exchanges`), in words that a driver can check. It does nothing: its contract is the law.
+///
+/// - `members`: the later network keeps the premises of `agreement`; the same members are faulty, and each honest one did what it
+///   had done, and more.
+/// - `new`: no proposal of that view or above could be finalized before; each honest member has signed the vote to finalize the
+///   proposal and accepted its finalization, which the honest members' votes alone make.
+/// - `nothing_forged`: no honest member accepted a certificate that none had accepted and that they don't make alone, nor was
+///   handed a proposal that none had been handed and that none of them built.
+/// - `too_many`: so where more than f members are faulty no network goes on, whatever else holds: the first premise of
+///   `no_network_is_stuck` is needed.
+/// - `exchanged`: what exchanges lead to, the network goes on to.
+/// - `brought`: within one exchange the same holds of what they had signed and built before it.
+/// - `too_few`: so within one exchange no view is finalized.
+pub fn continuations_are_honest<S: Scheme<D>, L: Elector<S>, D: Digest>()
+    ensures members { MembersGoOn S.PublicKey D.eq L.elect }
+    ensures new { FinalizationsAreNew S.PublicKey D.eq L.elect }
+    ensures nothing_forged { NothingIsForged S.PublicKey D.eq L.elect }
+    ensures too_many { TooManyAreFaulty S.PublicKey D.eq L.elect }
+    ensures exchanged { ExchangesGoOn S.PublicKey D.eq L.elect }
+    ensures brought { ExchangesBringWhatWas S.PublicKey D.eq L.elect }
+    ensures too_few { OneExchangeIsTooFew S.PublicKey D.eq L.elect }
+{}

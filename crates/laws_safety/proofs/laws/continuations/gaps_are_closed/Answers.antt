@@ -1,0 +1,16 @@
+-- How the contract of `gaps_are_closed` follows: the network of four and its continuation are computed.
+use Rattle.std.proofs.Common.{refl}
+use Rattle.laws_safety.proofs.networks.LackingNetwork.{lacking_network, lacking_goes_on, none_skipped, none_notarized}
+use Rattle.laws_safety.proofs.laws.continuations.gaps_are_closed.Goals as goal
+
+pub returns-clause-network : goal.returns-clause-network
+returns-clause-network c = lacking_network
+
+pub returns-clause-few : goal.returns-clause-few
+returns-clause-few c = (refl, refl)
+
+pub returns-clause-lacks : goal.returns-clause-lacks
+returns-clause-lacks c = (none_skipped, none_notarized)
+
+pub returns-clause-goes_on : goal.returns-clause-goes_on
+returns-clause-goes_on c = lacking_goes_on

@@ -1,0 +1,76 @@
+-- How a network goes on from what it did so far and finalizes a view, by what its honest members do alone.
+use Rattle.std.specs.Prelude.{◌≡◌, ℕ, ◌<◌, ◌⊎◌, ⊤, Bool, List, [], ◌∷◌, ◌++◌, length, map, slice_get, Contains, Some}
+use Rattle.simplex_types.specs.declared.types.messages.Proposal.{Proposal}
+use Rattle.simplex_types.specs.declared.types.messages.Subject.{Subject}
+use Rattle.simplex_types.specs.declared.types.messages.Subject.TheVariants.{Notarize, Finalize}
+use Rattle.simplex_voter.specs.Facts.{Elect}
+use Rattle.simplex_member.specs.Calls.{SetProposal, Proposed, Told}
+use Rattle.simplex_member.specs.Runs.{StepFacts, Calls}
+use Rattle.laws_safety.specs.Traces.{Accepts, Signs}
+use Rattle.laws_safety.specs.Replicas.{Replica, Faulty, Honest, AtLeastFrom, quorum, Backed, IsNetworkOf}
+use Rattle.laws_safety.specs.Executions.{Execution, trace_of}
+
+module _ {K L D : Type 0} where
+  -- an execution with more steps, each beside its reply
+  abbrev pub and_then : Execution K L D → List (StepFacts K L D × Told K D) → Execution K L D
+  and_then s more = record s { steps = s.steps ++ map (λ e. e.0) more; replies = s.replies ++ map (λ e. e.1) more }
+
+  -- the one execution goes on as the other
+  abbrev pub ExecutionGoesOn : Execution K L D → Execution K L D → Type 0
+  ExecutionGoesOn s later = (more : List (StepFacts K L D × Told K D)) × (later ≡ and_then s more)
+
+  -- each replica stays the same member: a faulty one, or an honest one whose execution goes on
+  abbrev pub ReplicasGoOn : List (Replica K L D) → List (Replica K L D) → Type 0
+  ReplicasGoOn [] [] = ⊤
+  ReplicasGoOn (Faulty ∷ network) (Faulty ∷ later) = ReplicasGoOn network later
+  ReplicasGoOn (Honest s ∷ network) (Honest t ∷ later) = ExecutionGoesOn s t × ReplicasGoOn network later
+  ReplicasGoOn _ _ = ⊥
+
+  -- of each honest member
+  abbrev pub EachHonest : List (Replica K L D) → (ℕ → Execution K L D → Type 0) → Type 0
+  EachHonest network P = (i : ℕ) (s : Execution K L D) → slice_get network i ≡ Some (Honest s) → P i s
+
+  -- of some honest member
+  abbrev pub SomeHonest : List (Replica K L D) → (ℕ → Execution K L D → Type 0) → Type 0
+  SomeHonest network P = (i : ℕ) × (s : Execution K L D) × (slice_get network i ≡ Some (Honest s)) × P i s
+
+  -- member `i` signed this vote, as `i`
+  abbrev pub HasSignedAs : Subject D → ℕ → Execution K L D → Type 0
+  HasSignedAs vote i s = Contains (trace_of s) (Signs i vote)
+
+  -- it accepted this certificate
+  abbrev pub HasAccepted : Subject D → ℕ → Execution K L D → Type 0
+  HasAccepted certificate i s = Contains (trace_of s) (Accepts certificate)
+
+  -- this proposal was handed to it as one of this view
+  abbrev pub HasHeard : ℕ → Proposal D → Execution K L D → Type 0
+  HasHeard v p s = Contains s.steps (Calls (SetProposal v p))
+
+  -- it built this proposal, and signed its own vote for it
+  abbrev pub HasBuilt : Proposal D → ℕ → Execution K L D → Type 0
+  HasBuilt p i s = ((now : ℕ) × Contains s.steps (Calls (Proposed p.round.view p.payload now))) × HasSignedAs (Notarize p) i s
+
+  -- an honest member signed this vote
+  abbrev pub IsHonestlySigned : Subject D → ℕ → Replica K L D → Type 0
+  IsHonestlySigned vote i Faulty = ⊥
+  IsHonestlySigned vote i (Honest s) = HasSignedAs vote i s
+
+  -- so many did that they alone make a certificate of it
+  abbrev pub HonestlyBacked : List (Replica K L D) → Subject D → Type 0
+  HonestlyBacked network vote = AtLeastFrom 0 (quorum (length network)) (IsHonestlySigned vote) network
+
+module _ {K L D : Type 0} (same : D → D → Bool) (elect : Elect L) where
+  -- the network may go on as this later one, where this proposal is finalized, by what its honest members do alone
+  pub record GoesOnToFinalize (term_length : ℕ) (network later : List (Replica K L D)) (final : Proposal D) : Type 0 where
+    pub goes_on : ReplicasGoOn network later
+    -- each honest member runs, and each certificate that it accepts is backed
+    pub runs : IsNetworkOf same elect term_length later
+    -- a certificate that an honest member accepts was accepted by an honest one before, or honest ones alone make it
+    pub certificates : EachHonest later (λ i s. (c : Subject D) → HasAccepted c i s → SomeHonest network (HasAccepted c) ⊎ HonestlyBacked later c)
+    -- a proposal that is handed to it was handed to an honest one before, or an honest one built it
+    pub proposals : EachHonest later (λ i s. (v : ℕ) (p : Proposal D) → HasHeard v p s
+        → SomeHonest network (λ j t. HasHeard v p t) ⊎ SomeHonest later (HasBuilt p))
+    -- each signs the vote to finalize the proposal, and accepts its finalization
+    pub finalized : EachHonest later (λ i s. HasSignedAs (Finalize final) i s × HasAccepted (Finalize final) i s)
+    -- the view lies above each that could be finalized before
+    pub new : (p : Proposal D) → Backed network (Finalize p) → p.round.view < final.round.view

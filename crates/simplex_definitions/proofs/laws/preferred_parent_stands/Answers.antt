@@ -1,6 +1,0 @@
--- inside a term the view before, at its start the highest explicit one or a handoff
-use Rattle.simplex_definitions.proofs.Parents.{preferred_stands}
-use Rattle.simplex_definitions.proofs.laws.preferred_parent_stands.Goals as goal
-
-pub returns : goal.returns
-returns g c same elect x v p d = preferred_stands same elect x v p d

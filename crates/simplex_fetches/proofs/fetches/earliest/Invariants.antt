@@ -1,6 +1,0 @@
-use Rattle.std.proofs.Common.{take}
-use Rattle.simplex_fetches.specs.Fetches.{IsEarliest}
-use Rattle.simplex_fetches.proofs.fetches.earliest.Given as goal
-
-abbrev pub invariant-loop-fetch : goal.invariant-loop-fetch
-invariant-loop-fetch l = IsEarliest (take l.fetch-index l.fetches) l.earliest

@@ -1,8 +1,0 @@
--- The loop of `write_entries`: the frames of the entries so far, each of which fits one.
-use Rattle.std.proofs.Common.{◌≡◌, ◌++◌, take}
-use Rattle.std.specs.List.{All}
-use Rattle.simplex_flat.specs.Journals.{FitsFrame, framed}
-use Rattle.simplex_flat.proofs.journal.write_entries.Given as goal
-
-abbrev pub invariant-loop-entry : goal.invariant-loop-entry
-invariant-loop-entry l = (l.out.items ≡ l.initial.out.items ++ framed (take l.entry-index l.entries)) × All FitsFrame (take l.entry-index l.entries)

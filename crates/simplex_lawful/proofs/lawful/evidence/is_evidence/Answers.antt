@@ -1,7 +1,0 @@
--- How the contract of `is_evidence` follows: two votes that contradict each other by the rules alone show a broken one.
-use Rattle.simplex_lawful.proofs.Evidence.{evidence_shows}
-use Rattle.simplex_lawful.specs.Evidence.{signed_vote_in}
-use Rattle.simplex_lawful.proofs.lawful.evidence.is_evidence.Goals as goal
-
-pub returns-clause-broken : goal.returns-clause-broken
-returns-clause-broken g c = λ yes. evidence_shows (signed_vote_in c.args.first.now) (signed_vote_in c.args.second.now) (c.contradict.ensures.0 yes)

@@ -1,3 +1,0 @@
--- For the code of `simplex_lawful`: a member's execution so far, and what the code shows of it.
-pub mod Living
-pub mod Shown

@@ -1,7 +1,0 @@
--- The steps so far and those that are left are what all come to.
-use Rattle.std.proofs.Common.{◌≡◌, ◌++◌, drop}
-use Rattle.simplex_plan.specs.Filling.{watching_all}
-use Rattle.simplex_plan.proofs.plan.due.watch_all.Given as goal
-
-abbrev pub invariant-loop-building : goal.invariant-loop-building
-invariant-loop-building g l = l.steps.items ++ watching_all l.current (drop l.building-index l.builds) ≡ l.initial.steps.items ++ watching_all l.current l.builds

@@ -1,0 +1,8 @@
+-- How the contract of `len` follows: as many entries stand in the rows as views in the map.
+use Rattle.std.proofs.Common.{◌∙◌}
+use Rattle.simplex_view_maps.proofs.Maps.{length_of_made}
+use Rattle.simplex_view_maps.proofs.Unboxed.{same_length}
+use Rattle.simplex_view_maps.proofs.tracked.Tracked.len.Goals as goal
+
+pub returns : goal.returns
+returns g c = c.len.ensures ∙ same_length c.self.inside.entries ∙ length_of_made _ _ c.self.view_is c.self.invariant
