@@ -29,13 +29,13 @@ STATEMENTS = [
             ("laws_safety", "Agreement", "OneProposal"),
             ("laws_safety", "Agreement", "FinalizedUncovered"),
             ("laws_safety", "Agreement", "ParentNotBelow"),
-            ("laws_safety", "Shown", "shown_trace"),
+            ("laws_safety", "ObservedTraces", "shown_trace"),
         ],
         EXECUTIONS,
     ),
-    ("no network is stuck", [("laws_progress", "Going", "NoNetworkIsStuck")], [*EXECUTIONS, ("laws_progress", "Living", "LivesWith")]),
+    ("no network is stuck", [("laws_progress", "NotStuck", "NoNetworkIsStuck")], [*EXECUTIONS, ("laws_progress", "NetworkStates", "LivesWith")]),
     ("chains reach genesis", [("laws_chains", "Chains", "FinalizedReachGenesis")], EXECUTIONS),
-    ("exactness", [("laws_safety", "Exactly", "ExactAt")], []),
+    ("exactness", [("laws_safety", "ExactVotes", "ExactAt")], []),
 ]
 
 DEFINITION = re.compile(r"^ {0,2}(?:(?:abbrev|unfoldable) (?:pub )?|pub (?:record|data) |record |data )([\w'-]+)")

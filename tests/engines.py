@@ -68,9 +68,9 @@ class Wrong(NamedTuple):
 
 WRONG = (
     Wrong("nothing is asked for again", "engine_fetches/src/fetches.rt", "moment: now.saturating_add(retry),", "moment: u64::MAX,"),
-    Wrong("a certificate of votes is thrown away", "simplex_engine/src/engine/counting.rt",
+    Wrong("a certificate of votes is thrown away", "simplex_engine/src/engine/votes.rt",
           "match self.accept(&certificate, now) {", "match self.see() {"),
-    Wrong("a timeout is never due", "engine_planner/src/plan/following.rt", "if moment <= now {", "if moment < moment.min(now) {"),
+    Wrong("a timeout is never due", "engine_planner/src/plan/replies.rt", "if moment <= now {", "if moment < moment.min(now) {"),
     Wrong("a long record is never made short", "engine_outbox/src/journaled/reach.rt",
           "long < self.member.record().len()", "self.member.record().len() < long"),
 )

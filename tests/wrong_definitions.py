@@ -86,11 +86,11 @@ WRONG_DEFINITIONS = (
         (("(is_payload same (parent_payload_for x v p.parent) bound.1 ||", "(is_payload same (ancestry_payload_for_child x v p.parent) bound.1 ||"),), VOTER,
     ),
     Wrong(
-        "a request is superseded though nothing else can be built on", "simplex_voter/specs/Proposing.antt",
+        "a request is superseded though nothing else can be built on", "simplex_voter/specs/ProposalRequests.antt",
         (("is_some (find_parent same elect x context.round.view) && not (context_stands x context)", "not (context_stands x context)"),), VOTER,
     ),
     Wrong(
-        "the lowest nullification of a term helps into the next one", "simplex_voter/specs/Serving.antt",
+        "the lowest nullification of a term helps into the next one", "simplex_voter/specs/StateAnswers.antt",
         (("map, filter}", "map, filter, slice_get}"),
          ("highest_nullification_in_term x v = last_or None (filter (λ u. covers x.terms.term_length u v) x.nullified)",
           "highest_nullification_in_term x v = slice_get (filter (λ u. covers x.terms.term_length u v) x.nullified) 0")), VOTER,
@@ -182,7 +182,7 @@ WRONG_DEFINITIONS = (
         (("let next = next_term_start x.terms.term_length c.round.view in\n      nullified_also", "let next = c.round.view + 1 in\n      nullified_also"),), VOTER,
     ),
     Wrong(
-        "a later entry of a view takes the first one's place", "simplex_voter/specs/Entering.antt",
+        "a later entry of a view takes the first one's place", "simplex_voter/specs/ViewEntry.antt",
         (("entered_at = Some (unwrap_or r.entered_at now)", "entered_at = Some now"),), VOTER,
     ),
     Wrong(
@@ -222,7 +222,7 @@ WRONG_DEFINITIONS = (
         (("nat_le (view - current) (max 1 optimistic))", "nat_le (view - current) (max 2 optimistic))"),), VOTER,
     ),
     Wrong(
-        "a certificate that was asked for is asked for again", "simplex_voter/specs/Verifying.antt",
+        "a certificate that was asked for is asked for again", "simplex_voter/specs/Verification.antt",
         (("fetch_once r w kind = if is_last_request r w then NothingToDo else Lacks w kind", "fetch_once r w kind = Lacks w kind"),), VOTER,
     ),
     Wrong(
@@ -259,11 +259,11 @@ WRONG_DEFINITIONS = (
         (("after_kept_entry x now e = if nat_lt (entry_view e) (min_active x) then x else after_entry x now e", "after_kept_entry x now e = after_entry x now e"),), RECORD,
     ),
     Wrong(
-        "a verification is answered that nobody asked for", "simplex_member/specs/Allowed.antt",
+        "a verification is answered that nobody asked for", "simplex_member/specs/CallConditions.antt",
         (("  is_allowed x o (Verified v) = is_verifying o v", "  is_allowed x o (Verified v) = true"),), MEMBER,
     ),
     Wrong(
-        "a call that is refused changes the member", "simplex_member/specs/Lives.antt",
+        "a call that is refused changes the member", "simplex_member/specs/MemberFacts.antt",
         (("  unless_kept (Some fault) m next = m", "  unless_kept (Some fault) m next = next"),), MEMBER,
     ),
     Wrong(
@@ -280,7 +280,7 @@ WRONG_DEFINITIONS = (
         (("is_anchor t floor v = nat_lt floor v && (is_term_start t v || v == floor + 1)", "is_anchor t floor v = nat_lt floor v && is_term_start t v"),), RESOLVER,
     ),
     Wrong(
-        "a failed view is not wanted", "simplex_resolver/specs/Received.antt",
+        "a failed view is not wanted", "simplex_resolver/specs/ReceivedFacts.antt",
         (("    || (list_any (is_false_verdict v) calls && nat_lt (floor_of calls) v))", "    || false)"),), RESOLVER,
     ),
     Wrong(
@@ -292,7 +292,7 @@ WRONG_DEFINITIONS = (
         (("if is_some (newest_notarization round.view before) then None else Some error.VerdictWithoutNotarization", "None"),), RESOLVER,
     ),
     Wrong(
-        "a nullification is served first, in the state", "simplex_resolver/specs/Held.antt",
+        "a nullification is served first, in the state", "simplex_resolver/specs/Served.antt",
         (("    (or_else (certified_encoding x.notarizations v)\n    (or_else (covering_encoding x.nullifications v) (floor_for x v)))",
           "    (or_else (covering_encoding x.nullifications v)\n    (or_else (certified_encoding x.notarizations v) (floor_for x v)))"),), RESOLVER,
     ),
@@ -362,32 +362,32 @@ WRONG_DEFINITIONS = (
         (("EachHonest network P = (i : ℕ) (s : Execution K L D) → slice_get network i ≡ Some (Honest s) → P i s", "EachHonest network P = ⊤"),), PROGRESS,
     ),
     Wrong(
-        "an exchange changes the members", "laws_progress/specs/Soon.antt",
+        "an exchange changes the members", "laws_progress/specs/MessageExchanges.antt",
         (("    pub goes_on : ReplicasGoOn network later\n", "    pub goes_on : ReplicasGoOn network network\n"),), PROGRESS,
     ),
     Wrong(
-        "an exchange brings votes of its own", "laws_progress/specs/Soon.antt",
+        "an exchange brings votes of its own", "laws_progress/specs/MessageExchanges.antt",
         (("⊎ HonestlyBacked network c)", "⊎ HonestlyBacked later c)"),), PROGRESS,
     ),
     Wrong(
-        "an exchange brings proposals of its own", "laws_progress/specs/Soon.antt",
+        "an exchange brings proposals of its own", "laws_progress/specs/MessageExchanges.antt",
         (("⊎ SomeHonest network (HasBuilt p))", "⊎ SomeHonest later (HasBuilt p))"),), PROGRESS,
     ),
     Wrong(
-        "one exchange counts for two", "laws_progress/specs/Soon.antt",
+        "one exchange counts for two", "laws_progress/specs/MessageExchanges.antt",
         (("(between : List (Replica K L D)) × IsExchange network between ×", "(half between : List (Replica K L D)) × IsExchange network half × IsExchange half between ×"),),
         PROGRESS,
     ),
     Wrong(
-        "no network may go on", "laws_progress/specs/Going.antt",
+        "no network may go on", "laws_progress/specs/NotStuck.antt",
         (("pub few_faulty : faults network ≤ max_faults (length network)", "pub few_faulty : ⊥"),), PROGRESS,
     ),
     Wrong(
-        "no faulty member is borne", "laws_progress/specs/Going.antt",
+        "no faulty member is borne", "laws_progress/specs/NotStuck.antt",
         (("pub few_faulty : faults network ≤ max_faults (length network)", "pub few_faulty : faults network ≤ 0"),), PROGRESS,
     ),
     Wrong(
-        "the next view alone may be finalized", "laws_progress/specs/Going.antt",
+        "the next view alone may be finalized", "laws_progress/specs/NotStuck.antt",
         (("(x.current < start))", "(start ≡ suc x.current))"),
          ("use Rattle.std.specs.Prelude.{◌≡◌, ℕ,", "use Rattle.std.specs.Prelude.{◌≡◌, ℕ, suc,")), PROGRESS,
     ),
@@ -409,43 +409,43 @@ WRONG_DEFINITIONS = (
         (("Contains (judged_of s) (true, q)", "Contains (judged_of s) (false, q)"),), CHAINS,
     ),
     Wrong(
-        "a verdict is of an engine's own accord", "engine_planner/specs/Matters.antt",
+        "a verdict is of an engine's own accord", "engine_planner/specs/Causes.antt",
         (("of_task (task.Verified view) = Message (task.Verified view) ∷ []", "of_task (task.Verified view) = []"),), ENGINE,
     ),
     Wrong(
-        "a view may be nullified before its timeout", "engine_planner/specs/Matters.antt",
+        "a view may be nullified before its timeout", "engine_planner/specs/Causes.antt",
         (("if nat_le moment now then Expiry ∷ [] else []", "Expiry ∷ []"),), ENGINE,
     ),
     Wrong(
-        "a resolver hears once more of a certificate that is known", "engine_planner/specs/Asking.antt",
+        "a resolver hears once more of a certificate that is known", "engine_planner/specs/FetchRequests.antt",
         (("(reply.Added is_new _) asked = if is_new then heard_of bytes asked else []", "(reply.Added is_new _) asked = heard_of bytes asked"),), ENGINE,
     ),
     Wrong(
-        "a resolver hears of genesis", "engine_planner/specs/Asking.antt",
+        "a resolver hears of genesis", "engine_planner/specs/FetchRequests.antt",
         (("above_genesis view it = if view == 0 then [] else it ∷ []", "above_genesis view it = it ∷ []"),), ENGINE,
     ),
     Wrong(
-        "what is settled of a kind ends fetches of each", "engine_planner/specs/Asking.antt",
+        "what is settled of a kind ends fetches of each", "engine_planner/specs/FetchRequests.antt",
         (("same_kind (fetch_kind of) kind && nat_le start view", "nat_le start view"),), ENGINE,
     ),
     Wrong(
-        "work may come of nothing", "simplex_engine/specs/Causes.antt",
+        "work may come of nothing", "simplex_engine/specs/Provenance.antt",
         (("[] matters asked m left end = AreAmong left matters ×", "[] matters asked m left end = AreAmong left left ×"),), ENGINE,
     ),
     Wrong(
-        "views that are kept may be forgotten", "simplex_engine/specs/Causes.antt",
+        "views that are kept may be forgotten", "simplex_engine/specs/Provenance.antt",
         (("Duty (Forget (min_active x))", "Duty (Forget x.finalized)"),), ENGINE,
     ),
     Wrong(
-        "the last finalized view is not yet final", "simplex_engine/specs/Causes.antt",
+        "the last finalized view is not yet final", "simplex_engine/specs/Provenance.antt",
         (("nat_le view x.finalized", "nat_lt view x.finalized"), ("nat_le, Bool", "nat_le, nat_lt, Bool")), ENGINE,
     ),
     Wrong(
-        "fetches may lie a view above all that was heard of", "simplex_engine/specs/Heights.antt",
+        "fetches may lie a view above all that was heard of", "simplex_engine/specs/FetchHeights.antt",
         (("highest_heard m x = max", "highest_heard m x = 1 + max"), ("{◌≡◌, ◌≤◌, ℕ", "{◌≡◌, ◌≤◌, ◌+◌, ℕ")), ENGINE,
     ),
     Wrong(
-        "an engine that had failed tells want of memory", "simplex_engine/specs/Failing.antt",
+        "an engine that had failed tells want of memory", "simplex_engine/specs/Failures.antt",
         (("(if had_failed then Failed else OutOfMemory)", "OutOfMemory"),), ENGINE,
     ),
     Wrong(
@@ -453,7 +453,7 @@ WRONG_DEFINITIONS = (
         (("  are_of_one_kind _ _ = false", "  are_of_one_kind _ _ = true"),), ENGINE,
     ),
     Wrong(
-        "a pruning asks the state alone what stays", "engine_outbox/specs/Reaching.antt",
+        "a pruning asks the state alone what stays", "engine_outbox/specs/RecordReach.antt",
         (("lowest_left m x = min (min_active x) (finalized_in m.entries - m.retention)", "lowest_left m x = min_active x"),), ENGINE,
     ),
     Wrong(

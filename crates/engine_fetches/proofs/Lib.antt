@@ -1,6 +1,6 @@
 pub mod Earlier
 pub mod Once
 pub mod Passing
-pub mod Wanted
+pub mod OutstandingFetches
 pub mod Opening
-pub mod Repairing
+pub mod Repairs

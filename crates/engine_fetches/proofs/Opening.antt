@@ -13,11 +13,11 @@ use Rattle.engine_fetches.specs.declared.fetches.Fetch.{Fetch}
 use Rattle.engine_fetches.specs.declared.fetches.Fetches.{Fetches}
 use Rattle.engine_fetches.specs.declared.fetches.FetchKind.{FetchKind}
 use Rattle.engine_fetches.specs.declared.fetches.FetchKind.TheVariants.{Notarization, Nullification, Decision}
-use Rattle.engine_fetches.specs.Asking.{ask_of, IsAsking}
+use Rattle.engine_fetches.specs.Requests.{ask_of, IsAsking}
 use Rattle.engine_fetches.specs.Fetches.{asked_again, due_at, is_of, is_fetch_open, fresh, opened, same_kind}
-use Rattle.engine_fetches.specs.Wanted.{after_effect, after_effects, fetching, wanting, wants, OpensNoOther}
+use Rattle.engine_fetches.specs.OutstandingFetches.{after_effect, after_effects, fetching, wanting, wants, OpensNoOther}
 use Rattle.engine_fetches.proofs.Once.{open_again}
-use Rattle.engine_fetches.proofs.Wanted.{effects_are, open_more}
+use Rattle.engine_fetches.proofs.OutstandingFetches.{effects_are, open_more}
 
 parts : (a b : Bool) → (a && b) ≡ true → (a ≡ true) × (b ≡ true)
 parts true b is = (refl, is)

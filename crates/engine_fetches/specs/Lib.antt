@@ -1,4 +1,4 @@
 pub mod Fetches
-pub mod Asking
-pub mod Wanted
-pub mod Repairing
+pub mod Requests
+pub mod OutstandingFetches
+pub mod Repairs

@@ -130,7 +130,7 @@ pub struct Fetches {
 }
 
 impl Fetches {
-    ghost use Rattle.engine_fetches.specs.Asking.{IsAsking};
+    ghost use Rattle.engine_fetches.specs.Requests.{IsAsking};
 
     /// None is open. Each is asked again after so many milliseconds.
     pub fn new(alloc: Global, peers: Peers, retry: u64) -> Fetches

@@ -5,11 +5,11 @@
 ghost use Rattle.std.specs.Prelude.{◌≡◌, ◌↔◌, ℕ, ◌≤◌, false, filter, max, None, OnOk, OnErr, IfOk, IfErr, IsFalse, IsOk};
 ghost use Rattle.simplex_types.specs.declared.types.fault.Fault.TheVariants.{Failed};
 ghost use Rattle.simplex_types.specs.Certificates.{certificate_facts, notarization_facts};
-ghost use Rattle.simplex_types.specs.Viewed.{certificate_view};
+ghost use Rattle.simplex_types.specs.MessageViews.{certificate_view};
 ghost use Rattle.simplex_resolver.specs.Steps.{highest_named, highest_view, update, verdict};
-ghost use Rattle.engine_fetches.specs.Asking.{IsAsking};
+ghost use Rattle.engine_fetches.specs.Requests.{IsAsking};
 ghost use Rattle.engine_fetches.specs.Fetches.{due_at, opened, closed, passed, place_of};
-ghost use Rattle.engine_fetches.specs.Wanted.{fetching, wanting, is_lacking, AsksForWanted, AsksForTheLacking, OpensNoOther};
+ghost use Rattle.engine_fetches.specs.OutstandingFetches.{fetching, wanting, is_lacking, AsksForWanted, AsksForTheLacking, OpensNoOther};
 
 use crate::fetches::{Ask, FetchKind, Fetches};
 use simplex_resolver::replay::LawfulResolver;
@@ -32,7 +32,7 @@ pub struct Repair {
 }
 
 impl Repair {
-    ghost use Rattle.engine_fetches.specs.Repairing.{HasFetches, HasPassed, IsRepaired, IsUnrepaired};
+    ghost use Rattle.engine_fetches.specs.Repairs.{HasFetches, HasPassed, IsRepaired, IsUnrepaired};
 
     /// What the resolver has open is asked for at once, beside what is open already.
     ///

@@ -6,18 +6,18 @@ use Rattle.simplex_types.specs.declared.types.messages.Artifact.{Artifact}
 use Rattle.simplex_record.specs.Entries.{entries_of}
 use Rattle.simplex_record.specs.Votes.{votes_of}
 use Rattle.simplex_member.specs.Journal.{stored_of}
-use Rattle.simplex_member.specs.Lives.{SignedMember}
+use Rattle.simplex_member.specs.MemberFacts.{SignedMember}
 use Rattle.simplex_member.specs.declared.member.journal.Stored.{Stored}
 use Rattle.engine_outbox.specs.declared.journaled.Journaled.{Journaled}
 use Rattle.engine_outbox.specs.declared.outbox.Outbox.{Outbox}
 use Rattle.engine_outbox.specs.declared.output.Output.{Output}
 use Rattle.engine_outbox.specs.Outboxes.{IsLawfulOutbox, IsReplaced}
 use Rattle.engine_outbox.specs.declared.output.Output.TheVariants as output
-use Rattle.engine_outbox.specs.Going.{IsKept}
-use Rattle.engine_outbox.specs.Leaving.{AllLeave}
-use Rattle.engine_outbox.specs.Reaching.{ReachesTo}
+use Rattle.engine_outbox.specs.Continuity.{IsKept}
+use Rattle.engine_outbox.specs.EmittedVotes.{AllLeave}
+use Rattle.engine_outbox.specs.RecordReach.{ReachesTo}
 use Rattle.engine_outbox.proofs.Kept.{replaced, told_last_still}
-use Rattle.engine_outbox.proofs.Leaving.{leave_begun}
+use Rattle.engine_outbox.proofs.EmittedVotes.{leave_begun}
 
 module _ {S L D K G C : Type 0} (bytes_of : C → List ℕ) (member : SignedMember K L D G) (old new : Outbox S D Stored K G C) (count reach : ℕ) where
   abbrev pub before : Journaled S L D K G C

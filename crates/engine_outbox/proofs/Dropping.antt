@@ -14,17 +14,17 @@ use Rattle.simplex_round.specs.declared.round.Decision.TheVariants as decision
 use Rattle.simplex_round.specs.Round.{RoundFacts, new_round, is_judged, has_no_latch, with_first_timeout, with_latch}
 use Rattle.simplex_view_maps.proofs.Maps.{is_eq-nat_cmp}
 use Rattle.simplex_voter.specs.Certification.{certified_answer, verdict_taken}
-use Rattle.simplex_voter.specs.Entering.{at_moment}
+use Rattle.simplex_voter.specs.ViewEntry.{at_moment}
 use Rattle.simplex_voter.specs.Facts.{StateFacts, Elect, round_at, round_of, round_number, with_round}
 use Rattle.simplex_voter.specs.Refusals.{is_started}
 use Rattle.simplex_voter.specs.Timeouts.{can_trigger, trigger_answer, after_trigger_timeout}
 use Rattle.simplex_voter.proofs.Gaps.{and_parts, not_true}
-use Rattle.simplex_member.specs.Allowed.{is_allowed, fault_of}
+use Rattle.simplex_member.specs.CallConditions.{is_allowed, fault_of}
 use Rattle.simplex_member.specs.CallSemantics.{answer, if_new}
 use Rattle.simplex_member.specs.Calls.{CallFacts, Told, NotAllowed, Judged, TryPropose, TriggerTimeout, Certified}
-use Rattle.simplex_member.specs.Lives.{MemberFacts, IsCall, AnswersAlive, unless_refused, unless_kept, with_call}
+use Rattle.simplex_member.specs.MemberFacts.{MemberFacts, IsCall, AnswersAlive, unless_refused, unless_kept, with_call}
 use Rattle.simplex_member.specs.OutstandingWork.{OutstandingWork, without_offer}
-use Rattle.engine_outbox.specs.Refusing.{is_refused, says_nothing, HasNoted, IsNoted, without_offer_at, IsLeftByCall}
+use Rattle.engine_outbox.specs.Refusals.{is_refused, says_nothing, HasNoted, IsNoted, without_offer_at, IsLeftByCall}
 
 -- a reason that does not count
 

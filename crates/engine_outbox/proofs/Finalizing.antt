@@ -9,12 +9,12 @@ use Rattle.simplex_voter.specs.Acceptance.{after_add_finalization}
 use Rattle.simplex_voter.specs.Facts.{StateFacts, Elect}
 use Rattle.simplex_record.specs.Events as event
 use Rattle.simplex_record.specs.Events.{Event, finalized_by_event}
-use Rattle.simplex_member.specs.Allowed.{is_allowed}
+use Rattle.simplex_member.specs.CallConditions.{is_allowed}
 use Rattle.simplex_member.specs.CallSemantics.{answer, after_call}
 use Rattle.simplex_member.specs.Calls as calls
 use Rattle.simplex_member.specs.Calls.{CallFacts, Told, asked, told}
 use Rattle.simplex_member.specs.Events.{in_context, events_of}
-use Rattle.simplex_member.specs.Lives.{MemberFacts, IsCall}
+use Rattle.simplex_member.specs.MemberFacts.{MemberFacts, IsCall}
 use Rattle.simplex_member.specs.OutstandingWork.{OutstandingWork, context_at}
 use Rattle.simplex_member.specs.declared.member.calls.Call.{Call}
 use Rattle.simplex_member.specs.declared.member.calls.Reply.{Reply}
@@ -23,12 +23,12 @@ use Rattle.laws_safety.proofs.executions.Shown.{made_shown}
 use Rattle.laws_safety.proofs.frames.CallsMake.{call_by_event}
 use Rattle.laws_safety.proofs.frames.Rising.{event_finalizes, event_goes, finalization_passes, call_goes}
 use Rattle.laws_safety.proofs.lives.WithinLives.{each_call}
-use Rattle.laws_safety.specs.LifeLaws.{WhileAlive}
-use Rattle.laws_safety.specs.Shown.{votes_in, certificates_in, taken_by}
+use Rattle.laws_safety.specs.LifetimeLaws.{WhileAlive}
+use Rattle.laws_safety.specs.ObservedTraces.{votes_in, certificates_in, taken_by}
 use Rattle.laws_safety.specs.Traces.{of_vote, handed_in, accepted_by, signed_in}
-use Rattle.engine_outbox.specs.Doing.{final_by}
-use Rattle.engine_outbox.specs.Finals.{finals_by, raised_to}
-use Rattle.engine_outbox.proofs.Finals.{finalized_by-append}
+use Rattle.engine_outbox.specs.SubjectActions.{final_by}
+use Rattle.engine_outbox.specs.Finalizations.{finals_by, raised_to}
+use Rattle.engine_outbox.proofs.Finalizations.{finalized_by-append}
 
 module _ {D : Type 0} where
   vote_none : (vote : ArtifactFacts D) → finals_by (of_vote vote) ≡ []

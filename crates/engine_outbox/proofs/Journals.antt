@@ -13,7 +13,7 @@ use Rattle.simplex_record.specs.Cuts.{is_vote}
 use Rattle.simplex_record.specs.Entries.{entries_of}
 use Rattle.simplex_record.specs.Votes.{SignedVote, signed_vote, votes_of}
 use Rattle.simplex_member.specs.Journal.{stored_of, votes_since}
-use Rattle.simplex_member.specs.Lives.{SignedMember}
+use Rattle.simplex_member.specs.MemberFacts.{SignedMember}
 use Rattle.simplex_member.specs.declared.member.journal.Stored.{Stored}
 use Rattle.engine_outbox.specs.declared.output.Output.{Output}
 use Rattle.engine_outbox.specs.declared.output.Output.TheVariants as output

@@ -12,29 +12,29 @@ use Rattle.simplex_voter.specs.Facts.{Elect}
 use Rattle.simplex_record.specs.Entries.{entries_of, entry_view}
 use Rattle.simplex_record.specs.Votes.{SignedVote, votes_of}
 use Rattle.simplex_member.specs.Journal.{stored_of, votes_since}
-use Rattle.simplex_member.specs.Lives.{HasGrown}
+use Rattle.simplex_member.specs.MemberFacts.{HasGrown}
 use Rattle.simplex_member.specs.declared.member.journal.Stored.{Stored}
-use Rattle.laws_safety.specs.Living.{DoesMore}
-use Rattle.laws_safety.specs.LifeLaws.{WhileAlive}
+use Rattle.laws_safety.specs.MemberHistory.{DoesMore}
+use Rattle.laws_safety.specs.LifetimeLaws.{WhileAlive}
 use Rattle.engine_outbox.specs.declared.journaled.Journaled.{Journaled}
 use Rattle.engine_outbox.specs.declared.output.Output.{Output}
 use Rattle.engine_outbox.specs.declared.output.Output.TheVariants as output
 use Rattle.engine_outbox.specs.declared.output.Work.{Work}
 use Rattle.engine_votes.specs.declared.votes.Vote.{Vote}
-use Rattle.engine_outbox.specs.Doing.{IsDoneOn}
-use Rattle.engine_outbox.specs.Finals.{TellsRising}
+use Rattle.engine_outbox.specs.SubjectActions.{IsDoneOn}
+use Rattle.engine_outbox.specs.Finalizations.{TellsRising}
 use Rattle.engine_outbox.specs.Outboxes.{IsLawfulOutbox, HasBecome, HasStayed, IsStored, IsReplaced, IsRepeated, IsToldWhere, IsTold, QueuesMore}
 use Rattle.engine_outbox.specs.Outputs.{entries_in, storing}
 use Rattle.engine_outbox.specs.Journals.{journal_of, IsRecordOf, IsBeginningOf}
 use Rattle.engine_outbox.specs.Signatures.{StaysSigned}
-use Rattle.engine_outbox.specs.Going.{IsKept, StaysTraced, GoesOn, HasRisen}
-use Rattle.engine_outbox.proofs.Finals.{stayed_tells, become_tells, storing_tells_none}
-use Rattle.engine_outbox.proofs.Going.{does_nothing, risen_not}
+use Rattle.engine_outbox.specs.Continuity.{IsKept, StaysTraced, GoesOn, HasRisen}
+use Rattle.engine_outbox.proofs.Finalizations.{stayed_tells, become_tells, storing_tells_none}
+use Rattle.engine_outbox.proofs.Continuity.{does_nothing, risen_not}
 use Rattle.engine_outbox.proofs.Journals.{behind_others, stored_behind, still_begun, stored_too, stored_whole, copied_votes}
-use Rattle.engine_outbox.proofs.Leaving.{leave_plain, leave_stored, leave_replaced, leave_told, was_stored, none_is_new}
-use Rattle.engine_outbox.specs.Leaving.{AllLeave}
-use Rattle.engine_outbox.specs.Reaching.{ReachesTo}
-use Rattle.engine_outbox.proofs.Reaching.{reaches_still}
+use Rattle.engine_outbox.proofs.EmittedVotes.{leave_plain, leave_stored, leave_replaced, leave_told, was_stored, none_is_new}
+use Rattle.engine_outbox.specs.EmittedVotes.{AllLeave}
+use Rattle.engine_outbox.specs.RecordReach.{ReachesTo}
+use Rattle.engine_outbox.proofs.RecordReach.{reaches_still}
 
 -- the last finalized view is the highest one that was told
 abbrev pub HasToldLast : {S L D K G C : Type 0} → Journaled S L D K G C → Type 0

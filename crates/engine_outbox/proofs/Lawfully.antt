@@ -10,12 +10,12 @@ use Rattle.engine_outbox.specs.declared.output.Work.{Work}
 use Rattle.engine_outbox.specs.declared.outbox.Outbox.{Outbox}
 use Rattle.engine_votes.specs.declared.votes.Vote.{Vote}
 use Rattle.engine_outbox.specs.Entries.{votes_of_entries, newest_from}
-use Rattle.engine_outbox.specs.Finals.{finals_in, RiseByView, EndsAt}
+use Rattle.engine_outbox.specs.Finalizations.{finals_in, RiseByView, EndsAt}
 use Rattle.engine_outbox.specs.Outputs.{stored_in, storing, AreBehind}
 use Rattle.engine_outbox.specs.Outboxes.{IsLawfulOutbox, HasBecome, HasStayed, IsStored, IsReplaced, IsRepeated, IsToldWhere, IsTold}
 use Rattle.engine_outbox.proofs.Behind.{votes_in-append, newest_recorded, stored_in-append, joined, storing_behind, stored_by}
 use Rattle.engine_votes.proofs.Contains.{contains_left}
-use Rattle.engine_outbox.proofs.Finals.{finalized_in-append, storing_tells_none, rising_further, ends_with}
+use Rattle.engine_outbox.proofs.Finalizations.{finalized_in-append, storing_tells_none, rising_further, ends_with}
 
 pub by_result : {X E : Type 0} (r : Result X E) {P Q R : Type 0} → OnOk r P → OnErr r Q → (P → R) → (Q → R) → R
 by_result (Ok x) ok err one other = one ok

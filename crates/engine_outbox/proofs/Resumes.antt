@@ -8,14 +8,14 @@ use Rattle.simplex_types.specs.declared.types.window.Terms.{Terms}
 use Rattle.simplex_voter.specs.Facts.{Elect}
 use Rattle.simplex_record.specs.Entries.{entries_of}
 use Rattle.simplex_member.specs.declared.member.journal.Stored.{Stored}
-use Rattle.laws_safety.specs.Living.{HasDone}
-use Rattle.laws_safety.specs.Shown.{floor_in}
+use Rattle.laws_safety.specs.MemberHistory.{HasDone}
+use Rattle.laws_safety.specs.ObservedTraces.{floor_in}
 use Rattle.laws_safety.specs.Traces.{Signs}
 use Rattle.engine_outbox.specs.Entries.{votes_of_entries}
 use Rattle.engine_outbox.specs.Journals.{Journal}
 use Rattle.engine_outbox.specs.Resumes.{EachResumeContinues}
-use Rattle.engine_outbox.specs.Stops.{votes_recorded, WereSigned}
-use Rattle.engine_outbox.proofs.Leaving.{all_signed, was_stored}
+use Rattle.engine_outbox.specs.HostStops.{votes_recorded, WereSigned}
+use Rattle.engine_outbox.proofs.EmittedVotes.{all_signed, was_stored}
 
 some_so : {X : Type 0} (x y : X) → Some x ≡ Some y → x ≡ y
 some_so x y e = cc

@@ -3,7 +3,7 @@
 use Rattle.std.proofs.Common.{◌≡◌, ◌∙◌, refl, ap, sym, subst, inl, inr, ℕ, zero, Bool, true, false, nat_lt, List, [], ◌∷◌, ◌++◌, filter, Option, Some, None, append_assoc, append-nil, arith}
 use Rattle.std.specs.Prelude.{Contains, IfSome, slice_get}
 use Rattle.std.proofs.lemmas.List.Elements.{Contains-append_cases}
-use Rattle.simplex_types.specs.Signing.{IsSignedAs}
+use Rattle.simplex_types.specs.Signatures.{IsSignedAs}
 use Rattle.simplex_types.specs.declared.types.messages.Artifact.{Artifact}
 use Rattle.simplex_types.specs.declared.types.messages.Proposal.{Proposal}
 use Rattle.simplex_types.specs.declared.types.messages.Subject.{Subject}
@@ -11,15 +11,15 @@ use Rattle.simplex_voter.specs.Facts.{StateFacts, Elect}
 use Rattle.simplex_record.specs.Votes.{SignedVote, votes_of}
 use Rattle.simplex_member.specs.Calls.{CallFacts, ConstructNullify, ConstructFinalize, ConstructNotarize, Told, Refused, told}
 use Rattle.simplex_member.specs.Journal.{votes_since}
-use Rattle.simplex_member.specs.Lives.{MemberFacts, IsCall, AnswersAlive}
-use Rattle.simplex_member.specs.Signed.{IsSignedReply, signed_reply}
+use Rattle.simplex_member.specs.MemberFacts.{MemberFacts, IsCall, AnswersAlive}
+use Rattle.simplex_member.specs.ReplySignatures.{IsSignedReply, signed_reply}
 use Rattle.simplex_member.specs.declared.member.calls.Reply.{Reply}
 use Rattle.simplex_member.specs.declared.member.calls.Reply.TheVariants as reply
 use Rattle.simplex_member.specs.declared.member.journal.Stored.{Stored}
-use Rattle.laws_safety.specs.Exactly.{ExactAt, IsSignedFor}
+use Rattle.laws_safety.specs.ExactVotes.{ExactAt, IsSignedFor}
 use Rattle.laws_safety.specs.Traces.{Signs, signed_in}
 use Rattle.simplex_member.specs.Runs.{Calls}
-use Rattle.laws_safety.specs.LifeLaws.{WhileAlive}
+use Rattle.laws_safety.specs.LifetimeLaws.{WhileAlive}
 use Rattle.laws_safety.proofs.frames.Rising.{call_goes}
 use Rattle.laws_safety.proofs.lists.Splits.{only_one}
 use Rattle.laws_safety.proofs.lives.WithinLives.{each_call}
@@ -31,12 +31,12 @@ use Rattle.engine_outbox.specs.Entries.{votes_of_entries}
 use Rattle.engine_outbox.specs.Outboxes.{HasStayed, IsRepeated, IsReplaced, IsStored, IsTold, IsToldWhere}
 use Rattle.engine_outbox.specs.Outputs.{stored_in, storing}
 use Rattle.engine_outbox.specs.Signatures.{SignsBy, AreSigned, StaysSigned}
-use Rattle.engine_outbox.specs.Stops.{votes_recorded}
+use Rattle.engine_outbox.specs.HostStops.{votes_recorded}
 use Rattle.engine_outbox.proofs.Behind.{votes_in-append, stored_in-append, stored_by}
 use Rattle.engine_outbox.proofs.Torn.{among_last}
 use Rattle.engine_outbox.proofs.Journals.{copied_votes}
-use Rattle.engine_outbox.proofs.Leaving.{all_signed, among_all}
-use Rattle.engine_outbox.proofs.Stops.{recorded_more}
+use Rattle.engine_outbox.proofs.EmittedVotes.{all_signed, among_all}
+use Rattle.engine_outbox.proofs.HostStops.{recorded_more}
 
 module _ {K D G : Type 0} (is_signature : K → Subject D → G → Type 0) (i : ℕ) (key : K) where
   pub both_signed : (votes others : List (Vote D G)) → AreSigned is_signature i key votes → AreSigned is_signature i key others → AreSigned is_signature i key (votes ++ others)

@@ -16,13 +16,13 @@ use Rattle.simplex_voter.specs.Facts.{StateFacts, Elect}
 use Rattle.simplex_record.specs.Cuts.{is_vote}
 use Rattle.simplex_record.specs.Entries.{entries_of}
 use Rattle.simplex_record.specs.Votes.{SignedVote, signed_vote, votes_of}
-use Rattle.simplex_member.specs.Allowed.{is_allowed, fault_of}
+use Rattle.simplex_member.specs.CallConditions.{is_allowed, fault_of}
 use Rattle.simplex_member.specs.Calls.{CallFacts, AddNotarization, AddNullification, AddFinalization, ConstructNotarize, Certified, ConstructNullify, ConstructFinalize, Told}
 use Rattle.simplex_member.specs.CallSemantics.{recorded_by, if_new, vote_entry, unrepeated_vote, notarize_vote, nullify_vote, finalize_vote}
 use Rattle.simplex_member.specs.Journal.{stored_of, votes_since}
-use Rattle.simplex_member.specs.Lives.{MemberFacts, SignedMember, IsCall, AnswersAlive, unless_kept, with_call}
+use Rattle.simplex_member.specs.MemberFacts.{MemberFacts, SignedMember, IsCall, AnswersAlive, unless_kept, with_call}
 use Rattle.simplex_member.specs.declared.member.journal.Stored.{Stored}
-use Rattle.laws_safety.specs.Living.{HasDone}
+use Rattle.laws_safety.specs.MemberHistory.{HasDone}
 use Rattle.laws_safety.specs.Traces.{TraceEvent}
 use Rattle.engine_votes.specs.declared.votes.Vote.{Vote}
 use Rattle.engine_outbox.specs.declared.outbox.Outbox.{Outbox}
@@ -32,11 +32,11 @@ use Rattle.engine_outbox.specs.Entries.{votes_of_entries}
 use Rattle.engine_outbox.specs.Journals.{Journal, journal_of, IsRecordOf, IsBeginningOf}
 use Rattle.engine_outbox.specs.Outboxes.{IsTold, IsToldWhere}
 use Rattle.engine_outbox.specs.Outputs.{stored_in}
-use Rattle.engine_outbox.specs.Stops.{vote_as, votes_recorded, WereSigned, MayStopAfter, MayStopAmid}
+use Rattle.engine_outbox.specs.HostStops.{vote_as, votes_recorded, WereSigned, MayStopAfter, MayStopAmid}
 use Rattle.engine_outbox.proofs.Behind.{stored_in-append}
 use Rattle.engine_outbox.proofs.Journals.{behind_others, entries_left, still_begun, votes_behind, votes_behind_counted, votes_counted, with_all_behind}
-use Rattle.engine_outbox.proofs.Leaving.{all_signed}
-use Rattle.engine_outbox.proofs.Stops.{StopsIn, stop_alike_then, stop_anew, stop_empty, stop_still}
+use Rattle.engine_outbox.proofs.EmittedVotes.{all_signed}
+use Rattle.engine_outbox.proofs.HostStops.{StopsIn, stop_alike_then, stop_anew, stop_empty, stop_still}
 
 -- ---- a call records one entry at most
 

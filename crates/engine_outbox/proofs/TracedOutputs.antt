@@ -10,13 +10,13 @@ use Rattle.simplex_voter.specs.Facts.{Elect}
 use Rattle.simplex_record.specs.Entries.{entries_of}
 use Rattle.simplex_record.specs.Votes.{SignedVote, votes_of}
 use Rattle.simplex_member.specs.Journal.{stored_of, votes_since}
-use Rattle.simplex_member.specs.Signed.{signed_reply}
+use Rattle.simplex_member.specs.ReplySignatures.{signed_reply}
 use Rattle.simplex_member.specs.declared.member.calls.Call.{Call}
 use Rattle.simplex_member.specs.declared.member.calls.Reply.{Reply}
 use Rattle.simplex_member.specs.declared.member.calls.Reply.TheVariants as reply
 use Rattle.simplex_member.specs.declared.member.journal.Stored.{Stored}
-use Rattle.laws_safety.specs.Living.{HasDone, DoesMore}
-use Rattle.laws_safety.specs.Shown.{votes_in, taken_by}
+use Rattle.laws_safety.specs.MemberHistory.{HasDone, DoesMore}
+use Rattle.laws_safety.specs.ObservedTraces.{votes_in, taken_by}
 use Rattle.laws_safety.specs.Traces.{TraceEvent, Signs}
 use Rattle.laws_safety.proofs.lists.Splits.{only_one}
 use Rattle.engine_votes.specs.declared.votes.Vote.{Vote}
@@ -24,18 +24,18 @@ use Rattle.engine_outbox.specs.declared.journaled.Journaled.{Journaled}
 use Rattle.engine_outbox.specs.declared.output.Output.{Output}
 use Rattle.engine_outbox.specs.declared.output.Output.TheVariants as output
 use Rattle.engine_outbox.specs.declared.output.Work.{Work}
-use Rattle.engine_outbox.specs.Finals.{finals_in, finals_by, WereAccepted, TellsRising}
-use Rattle.engine_outbox.specs.Going.{IsTraced, StaysTraced}
+use Rattle.engine_outbox.specs.Finalizations.{finals_in, finals_by, WereAccepted, TellsRising}
+use Rattle.engine_outbox.specs.Continuity.{IsTraced, StaysTraced}
 use Rattle.engine_outbox.specs.Journals.{Journal, journal_of, written, IsRecordOf}
 use Rattle.engine_outbox.specs.Outboxes.{HasBecome, HasStayed, IsStored, IsReplaced, IsRepeated, IsTold}
 use Rattle.engine_outbox.specs.Outputs.{entries_in, stored_in, storing}
-use Rattle.engine_outbox.specs.Stops.{votes_recorded, WereSigned, MayStopAfterEach, MayStopAmid}
+use Rattle.engine_outbox.specs.HostStops.{votes_recorded, WereSigned, MayStopAfterEach, MayStopAmid}
 use Rattle.engine_outbox.proofs.Behind.{stored_in-append}
-use Rattle.engine_outbox.proofs.Finals.{accepted_rising, become_tells, stayed_tells, storing_tells_none}
+use Rattle.engine_outbox.proofs.Finalizations.{accepted_rising, become_tells, stayed_tells, storing_tells_none}
 use Rattle.engine_outbox.proofs.Journals.{behind_others, copied_votes, stored_too, is_record}
 use Rattle.engine_outbox.proofs.Kept.{Keeps, counted}
-use Rattle.engine_outbox.proofs.Leaving.{all_signed}
-use Rattle.engine_outbox.proofs.Stops.{signed_still, signed_both, signed_left, recorded_more, stop_last, stops_still, stops_plain, stops_stored, stops_replaced, stops_told}
+use Rattle.engine_outbox.proofs.EmittedVotes.{all_signed}
+use Rattle.engine_outbox.proofs.HostStops.{signed_still, signed_both, signed_left, recorded_more, stop_last, stops_still, stops_plain, stops_stored, stops_replaced, stops_told}
 use Rattle.engine_outbox.proofs.Torn.{GrowsByOne, WritesAlike, among_last, amid_alike, amid_called, amid_none, amid_store, same_queue, told_alike}
 
 module _ {D G : Type 0} where

@@ -6,7 +6,7 @@ use Rattle.simplex_types.specs.declared.types.messages.Artifact.{Artifact}
 use Rattle.simplex_record.specs.Entries.{entries_of}
 use Rattle.simplex_record.specs.Votes.{SignedVote, votes_of}
 use Rattle.simplex_member.specs.Journal.{stored_of}
-use Rattle.simplex_member.specs.Lives.{SignedMember}
+use Rattle.simplex_member.specs.MemberFacts.{SignedMember}
 use Rattle.simplex_member.specs.declared.member.journal.Stored.{Stored}
 use Rattle.engine_outbox.specs.declared.output.Output.{Output}
 use Rattle.engine_outbox.specs.declared.output.Output.TheVariants.{Store, Replace}

@@ -2,7 +2,7 @@
 use Rattle.std.specs.Prelude.{◌≡◌, ◌≢◌, ◌<◌, ℕ, nat_lt, Bool, true, false, List, [], ◌∷◌, ◌++◌, Option, Some, None, IfSome, Contains, Vec}
 use Rattle.std.specs.VecDeque.{deque_len, deque_capacity}
 use Rattle.std.specs.declared.alloc.Global.{Global}
-use Rattle.simplex_types.specs.Viewed.{subject_view}
+use Rattle.simplex_types.specs.MessageViews.{subject_view}
 use Rattle.simplex_types.specs.declared.types.messages.Artifact.{Artifact}
 use Rattle.simplex_types.specs.declared.types.messages.Proposal.{Proposal}
 use Rattle.engine_outbox.specs.declared.outbox.Outbox.{Outbox}
@@ -10,7 +10,7 @@ use Rattle.engine_outbox.specs.declared.output.Output.{Output}
 use Rattle.engine_outbox.specs.declared.output.Output.TheVariants as output
 use Rattle.engine_votes.specs.declared.votes.Vote.{Vote}
 use Rattle.engine_outbox.specs.Entries.{votes_of_entries, newest_from, AreCopies}
-use Rattle.engine_outbox.specs.Finals.{finals_in, RiseByView, EndsAt}
+use Rattle.engine_outbox.specs.Finalizations.{finals_in, RiseByView, EndsAt}
 use Rattle.engine_outbox.specs.Outputs.{stored_in, storing, work_in, AreBehind}
 
 module _ {S D J K G C : Type 0} where

@@ -7,10 +7,10 @@ use Rattle.simplex_voter.specs.Facts.{Elect}
 use Rattle.simplex_record.specs.Entries.{entries_of}
 use Rattle.simplex_record.specs.Votes.{votes_of}
 use Rattle.simplex_record.specs.declared.record.start.Start.{Start}
-use Rattle.simplex_member.specs.Lives.{SignedMember}
+use Rattle.simplex_member.specs.MemberFacts.{SignedMember}
 use Rattle.simplex_member.specs.declared.member.journal.Stored.{Stored}
-use Rattle.laws_safety.specs.Living.{HasDone, HasGoneOn}
-use Rattle.laws_safety.specs.Shown.{StartsAs}
+use Rattle.laws_safety.specs.MemberHistory.{HasDone, HasGoneOn}
+use Rattle.laws_safety.specs.ObservedTraces.{StartsAs}
 use Rattle.laws_safety.specs.Traces.{TraceEvent, Signs}
 use Rattle.engine_votes.specs.declared.votes.Vote.{Vote}
 use Rattle.engine_outbox.specs.declared.output.Output.{Output}
@@ -19,7 +19,7 @@ use Rattle.engine_outbox.specs.Entries.{votes_of_entries}
 use Rattle.engine_outbox.specs.Journals.{journal_of}
 use Rattle.engine_outbox.specs.Outputs.{stored_in}
 use Rattle.engine_outbox.specs.Signatures.{AreSigned}
-use Rattle.engine_outbox.specs.Stops.{votes_recorded, WereSigned, IsLawfulStop}
+use Rattle.engine_outbox.specs.HostStops.{votes_recorded, WereSigned, IsLawfulStop}
 
 module _ {K L D G : Type 0} (same : D → D → Bool) (elect : Elect L) (is_signature : K → Subject D → G → Type 0) where
   -- a member continues where a lifetime stopped after these outputs, which began when the member had done `earlier`: it has done all that

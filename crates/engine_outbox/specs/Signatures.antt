@@ -1,14 +1,14 @@
 -- The signatures of votes: each vote that is stored, and so each that is emitted, is the member's, signed under its key on its own subject.
 use Rattle.std.specs.Prelude.{◌≡◌, ℕ, List, [], ◌++◌, Contains, Some, IfSome, slice_get}
 use Rattle.simplex_types.specs.declared.types.messages.Subject.{Subject}
-use Rattle.simplex_member.specs.Lives.{MemberFacts, SignedMember}
+use Rattle.simplex_member.specs.MemberFacts.{MemberFacts, SignedMember}
 use Rattle.simplex_member.specs.declared.member.journal.Stored.{Stored}
 use Rattle.engine_votes.specs.declared.votes.Vote.{Vote}
 use Rattle.engine_outbox.specs.declared.journaled.Journaled.{Journaled}
 use Rattle.engine_outbox.specs.declared.output.Output.{Output}
 use Rattle.engine_outbox.specs.Entries.{votes_of_entries}
 use Rattle.engine_outbox.specs.Outputs.{stored_in}
-use Rattle.engine_outbox.specs.Stops.{votes_recorded}
+use Rattle.engine_outbox.specs.HostStops.{votes_recorded}
 
 -- where the member signs, it signs as this one and under this key
 abbrev pub SignsBy : {K L D : Type 0} → ℕ → K → MemberFacts K L D → Type 0

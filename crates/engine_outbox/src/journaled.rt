@@ -9,11 +9,11 @@ ghost use Rattle.std.specs.Option.{option_copied};
 ghost use Rattle.simplex_types.specs.Certificates.{certificate_facts};
 ghost use Rattle.simplex_types.specs.Encoding.{certificate_subject};
 ghost use Rattle.laws_safety.specs.Traces.{Accepts};
-ghost use Rattle.laws_safety.specs.Shown.{certificates_in};
+ghost use Rattle.laws_safety.specs.ObservedTraces.{certificates_in};
 ghost use Rattle.simplex_member.specs.Calls.{asked};
-ghost use Rattle.engine_outbox.specs.Handing.{hands_in};
-ghost use Rattle.engine_outbox.specs.Doing.{IsDoneOn, final_by};
-ghost use Rattle.engine_outbox.specs.Finals.{finals_by};
+ghost use Rattle.engine_outbox.specs.CertificateCalls.{hands_in};
+ghost use Rattle.engine_outbox.specs.SubjectActions.{IsDoneOn, final_by};
+ghost use Rattle.engine_outbox.specs.Finalizations.{finals_by};
 ghost use Rattle.engine_outbox.specs.declared.output.Output.TheVariants as output;
 ghost use Rattle.engine_outbox.specs.Resumes.{EachResumeContinues};
 
@@ -50,24 +50,24 @@ pub struct Journaled<S: CertificateScheme, L: Elector<S>, D: Digest> {
 impl<S: Scheme<D>, L: Elector<S>, D: Digest> Journaled<S, L, D> {
     ghost use Rattle.simplex_voter.specs.Refusals.{is_started};
     ghost use Rattle.simplex_member.specs.Calls.{told};
-    ghost use Rattle.simplex_member.specs.Lives.{IsCall};
+    ghost use Rattle.simplex_member.specs.MemberFacts.{IsCall};
     ghost use Rattle.simplex_record.specs.Entries.{entries_of};
     ghost use Rattle.simplex_record.specs.Votes.{votes_of};
     ghost use Rattle.laws_safety.specs.Lawful.{IsLawful};
-    ghost use Rattle.laws_safety.specs.Living.{OfAllDone, MayBeDoneBy};
+    ghost use Rattle.laws_safety.specs.MemberHistory.{OfAllDone, MayBeDoneBy};
     ghost use Rattle.laws_safety.specs.RecordsOnce.{HoldsEachEntryOnce};
     ghost use Rattle.simplex_member.specs.Journal.{stored_of};
     ghost use Rattle.simplex_member.specs.OutstandingWork.{is_offered};
     ghost use Rattle.simplex_member.specs.Pruning.{pruned_member};
     ghost use Rattle.engine_outbox.specs.Outputs.{AreBehind};
     ghost use Rattle.engine_outbox.specs.Outboxes.{HasRoom, IsRepeated, QueuesNoWork};
-    ghost use Rattle.engine_outbox.specs.Finals.{finals_in, WereAccepted, RiseByView, EndsAt, TellsNoMore};
+    ghost use Rattle.engine_outbox.specs.Finalizations.{finals_in, WereAccepted, RiseByView, EndsAt, TellsNoMore};
     ghost use Rattle.engine_outbox.specs.Journals.{journal_of, IsRecordOf, BeginsWith};
-    ghost use Rattle.engine_outbox.specs.Going.{IsKept, IsTraced, BeginsTraced, EmitsTraced, IsWhole, StoresRecord, GoesOn, TellsNothing, IsUnchanged, IsUnpruned, has_failed};
-    ghost use Rattle.engine_outbox.specs.Leaving.{AllLeave};
-    ghost use Rattle.engine_outbox.specs.Stops.{EachStopIsLawful};
+    ghost use Rattle.engine_outbox.specs.Continuity.{IsKept, IsTraced, BeginsTraced, EmitsTraced, IsWhole, StoresRecord, GoesOn, TellsNothing, IsUnchanged, IsUnpruned, has_failed};
+    ghost use Rattle.engine_outbox.specs.EmittedVotes.{AllLeave};
+    ghost use Rattle.engine_outbox.specs.HostStops.{EachStopIsLawful};
     ghost use Rattle.engine_outbox.specs.Signatures.{AreSigned, IsSignedBy, StaysSigned, BeginsSigned, EmitsSigned};
-    ghost use Rattle.engine_outbox.specs.Refusing.{is_refused, says_nothing, IsLeftByCall};
+    ghost use Rattle.engine_outbox.specs.Refusals.{is_refused, says_nothing, IsLeftByCall};
 
     /// A life begins: the whole record is to be stored in place of all that is stored, before anything else. What is final already is
     /// never told.

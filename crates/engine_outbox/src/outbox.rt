@@ -32,7 +32,7 @@ pub struct Outbox<S: CertificateScheme, D, J> {
 
 impl<S: CertificateScheme, D: Digest, J: Drop> Outbox<S, D, J> {
     ghost use Rattle.engine_outbox.specs.Outputs.{AreBehind};
-    ghost use Rattle.engine_outbox.specs.Finals.{finals_in, RiseByView};
+    ghost use Rattle.engine_outbox.specs.Finalizations.{finals_in, RiseByView};
     ghost use Rattle.engine_outbox.specs.Outboxes.{IsLawfulOutbox, HasBecome, HasStayed, IsStored, IsReplaced, IsRepeated, HasRoom, IsToldWhere, IsTold, QueuesMore};
 
     /// Nothing is to be carried out, and no proposal of this view or below is ever told as final.

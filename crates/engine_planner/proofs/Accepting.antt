@@ -1,10 +1,10 @@
 -- Plans in which a certificate was accepted.
 use Rattle.std.proofs.Common.{◌≡◌, ℕ, List, ap, sym, subst}
-use Rattle.simplex_types.specs.Viewed.{certificate_view}
+use Rattle.simplex_types.specs.MessageViews.{certificate_view}
 use Rattle.simplex_types.specs.declared.types.messages.Certificate.{Certificate}
 use Rattle.engine_planner.specs.declared.plan.Plan.{Plan}
-use Rattle.engine_planner.specs.Following.{IsResolverTold, IsTakenIn}
-use Rattle.engine_planner.specs.Planning.{HasPlanned, touching, watching}
+use Rattle.engine_planner.specs.Consequences.{IsResolverTold, IsTakenIn}
+use Rattle.engine_planner.specs.PlanStates.{HasPlanned, touching, watching}
 
 module _ {S D K G C : Type 0} where
   -- the resolver is told, and then the view is touched

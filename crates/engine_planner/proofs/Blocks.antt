@@ -2,7 +2,7 @@
 use Rattle.std.proofs.Common.{◌≡◌, ◌∙◌, refl, ap, sym, ℕ, inl, inr, Bool, true, false, not, cond, ◌||◌, ◌==◌, List, [], ◌∷◌, ◌++◌, map}
 use Rattle.std.specs.List.{list_any}
 use Rattle.std.proofs.lemmas.Bool.{false≢true, and_from, and_parts, eq-eqb, eqb-true, false_from_ne_true, not_from_false, not-true, or_cases, or_from, or_left, or_parts, or_right}
-use Rattle.engine_planner.specs.declared.plan.building.Building.{Building}
+use Rattle.engine_planner.specs.declared.plan.builds.Building.{Building}
 use Rattle.engine_planner.specs.Blocks.{views_built, one_a_view, all_but_at, in_place, told_by, waits_for}
 
 module _ {K D : Type 0} where

@@ -2,7 +2,7 @@
 use Rattle.std.proofs.Common.{◌≡◌, ◌∙◌, refl, ap, sym, ℕ, Bool, true, false, not, ◌==◌, cond, List, [], ◌∷◌, ◌++◌, append_assoc, append-nil, filter, map, Option, Some, None, is_some}
 use Rattle.std.specs.Prelude.{nat_le, nat_lt, option_to_list}
 use Rattle.simplex_types.specs.Certificates.{certificate_facts}
-use Rattle.simplex_types.specs.Viewed.{certificate_view}
+use Rattle.simplex_types.specs.MessageViews.{certificate_view}
 use Rattle.simplex_types.specs.declared.reasons.TimeoutReason.{TimeoutReason}
 use Rattle.simplex_types.specs.declared.types.messages.Certificate.{Certificate}
 use Rattle.simplex_types.specs.declared.types.messages.Certificate.TheVariants as certificate
@@ -11,8 +11,8 @@ use Rattle.simplex_types.specs.declared.types.messages.Nullify.{Nullify}
 use Rattle.simplex_types.specs.declared.types.messages.Proposal.{Proposal}
 use Rattle.simplex_resolver.specs.declared.resolver.effect.Effect.{Effect}
 use Rattle.simplex_resolver.specs.Steps.{Call, effects}
-use Rattle.simplex_resolver.specs.Told.{LawfulResolverFacts}
-use Rattle.simplex_voter.specs.Proposing.{request_context}
+use Rattle.simplex_resolver.specs.CallHistory.{LawfulResolverFacts}
+use Rattle.simplex_voter.specs.ProposalRequests.{request_context}
 use Rattle.simplex_voter.specs.declared.voter.candidates.CertificateFetch.{CertificateFetch}
 use Rattle.simplex_voter.specs.declared.voter.propose.ProposalRequest.{ProposalRequest}
 use Rattle.simplex_voter.specs.declared.voter.propose.ProposalRequest.TheVariants.{Prepare, Propose}
@@ -26,12 +26,12 @@ use Rattle.engine_fetches.specs.declared.fetches.Fetch.{Fetch}
 use Rattle.engine_fetches.specs.declared.fetches.FetchKind.TheVariants as fetch
 use Rattle.engine_fetches.specs.declared.repair.Repair.{Repair}
 use Rattle.engine_fetches.specs.Fetches.{fetch_kind, is_of, is_fetch_open}
-use Rattle.engine_fetches.specs.Repairing.{IsRepaired}
-use Rattle.engine_fetches.specs.Wanted.{after_effects, fetching, wants, OpensNoOther}
+use Rattle.engine_fetches.specs.Repairs.{IsRepaired}
+use Rattle.engine_fetches.specs.OutstandingFetches.{after_effects, fetching, wants, OpensNoOther}
 use Rattle.engine_fetches.proofs.Opening.{open_asked, opens_after, opens_further, opens_left}
 use Rattle.engine_outbox.specs.declared.output.Work.TheVariants as work
-use Rattle.engine_outbox.specs.Handing.{hands_in}
-use Rattle.engine_planner.specs.declared.plan.building.Building.{Building}
+use Rattle.engine_outbox.specs.CertificateCalls.{hands_in}
+use Rattle.engine_planner.specs.declared.plan.builds.Building.{Building}
 use Rattle.engine_planner.specs.declared.plan.early.Early.{Early}
 use Rattle.engine_planner.specs.declared.plan.Plan.{Plan}
 use Rattle.engine_planner.specs.declared.plan.Step.{Step}
@@ -40,15 +40,15 @@ use Rattle.engine_planner.specs.declared.plan.Views.{Views}
 use Rattle.engine_planner.specs.declared.task.Task.{Task}
 use Rattle.engine_planner.specs.declared.task.Task.TheVariants as task
 use Rattle.engine_planner.specs.Blocks.{all_but_at}
-use Rattle.engine_planner.specs.Building.{IsEnded, IsStopped}
-use Rattle.engine_planner.specs.Entering.{asking_by, offering, offering_one, HasEntered, HasEnteredWhere, IsPassedWhere, HasSeen}
-use Rattle.engine_planner.specs.Filling.{fetching_one, watching_all, watching_where, AreWatched, HasTaken, IsFetchAsked, IsPruneAsked, IsReady, IsTimeoutAsked}
-use Rattle.engine_planner.specs.Following.{AreCertified, Consequence, Nothing, Touched, Built, Stopped, Ended, Asked, after_flag, after_refusal, after_watch, certifying, effects_due, showing, waits, without, IsBroadcastFollowed, IsBuilt, IsCertificateFollowed, IsConsequence, IsFollowed, IsNewFollowed, IsNullifyFollowed, IsRequestFollowed, IsResolverTold, IsTakenInAbove, IsTimeoutFollowed, IsVerdictFollowed, IsVerdictToldAbove, IsVerifyFollowed, later}
-use Rattle.engine_planner.specs.Matters.{Matter, Duty, Lack, Arrival, Expiry, given_by, of_block, of_blocks, of_early, of_fetches, of_repair, of_steps, of_task, planned_matters, shown_by}
-use Rattle.engine_planner.specs.Planning.{HasPlanned, touching, watching}
+use Rattle.engine_planner.specs.BuildPlans.{IsEnded, IsStopped}
+use Rattle.engine_planner.specs.ViewChanges.{asking_by, offering, offering_one, HasEntered, HasEnteredWhere, IsPassedWhere, HasSeen}
+use Rattle.engine_planner.specs.StepSelection.{fetching_one, watching_all, watching_where, AreWatched, HasTaken, IsFetchAsked, IsPruneAsked, IsReady, IsTimeoutAsked}
+use Rattle.engine_planner.specs.Consequences.{AreCertified, Consequence, Nothing, Touched, Built, Stopped, Ended, Asked, after_flag, after_refusal, after_watch, certifying, effects_due, showing, waits, without, IsBroadcastFollowed, IsBuilt, IsCertificateFollowed, IsConsequence, IsFollowed, IsNewFollowed, IsNullifyFollowed, IsRequestFollowed, IsResolverTold, IsTakenInAbove, IsTimeoutFollowed, IsVerdictFollowed, IsVerdictToldAbove, IsVerifyFollowed, later}
+use Rattle.engine_planner.specs.Causes.{Matter, Duty, Lack, Arrival, Expiry, given_by, of_block, of_blocks, of_early, of_fetches, of_repair, of_steps, of_task, planned_matters, shown_by}
+use Rattle.engine_planner.specs.PlanStates.{HasPlanned, touching, watching}
 use Rattle.engine_planner.specs.PlannedWork.{AreAmong}
 use Rattle.engine_planner.proofs.PlannedWork.{among_all, among_both, among_further, among_more, among_still}
-use Rattle.engine_planner.proofs.Matters.{among_each, among_last, among_none, asking_all, asking_of, blocks_left, built, each_part, fetches_alone, in_blocks, in_early, in_fetches, in_steps, more_steps, no_other, notarizations, of_blocks-append, of_steps-append, planned_alone, planned_more, repair_left, same_plan, still_blocks, still_early, still_fetches, stopping_of, told_blocks}
+use Rattle.engine_planner.proofs.Causes.{among_each, among_last, among_none, asking_all, asking_of, blocks_left, built, each_part, fetches_alone, in_blocks, in_early, in_fetches, in_steps, more_steps, no_other, notarizations, of_blocks-append, of_steps-append, planned_alone, planned_more, repair_left, same_plan, still_blocks, still_early, still_fetches, stopping_of, told_blocks}
 
 -- ---- other views
 

@@ -1,11 +1,11 @@
 pub mod Blocks
-pub mod Planning
+pub mod PlanStates
 pub mod PlannedWork
-pub mod Matters
+pub mod Causes
 pub mod Giving
-pub mod Asking
+pub mod FetchRequests
 pub mod StillAsking
 mod Accepting
-pub mod Following
-pub mod Entering
-pub mod Filling
+pub mod Consequences
+pub mod ViewChanges
+pub mod StepSelection

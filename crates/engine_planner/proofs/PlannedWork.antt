@@ -13,18 +13,18 @@ use Rattle.simplex_types.specs.declared.types.fault.Fault.TheVariants.{Failed}
 use Rattle.simplex_types.specs.declared.types.messages.Context.{Context}
 use Rattle.engine_fetches.specs.declared.fetches.Fetch.{Fetch}
 use Rattle.engine_fetches.specs.declared.repair.Repair.{Repair}
-use Rattle.engine_fetches.specs.Repairing.{HasFetches, HasPassed}
+use Rattle.engine_fetches.specs.Repairs.{HasFetches, HasPassed}
 use Rattle.simplex_member.specs.Calls.{Told}
 use Rattle.engine_outbox.specs.declared.output.Work.{Work}
 use Rattle.engine_outbox.specs.declared.output.Work.TheVariants as work
-use Rattle.engine_planner.specs.declared.plan.building.Building.{Building}
+use Rattle.engine_planner.specs.declared.plan.builds.Building.{Building}
 use Rattle.engine_planner.specs.declared.plan.Plan.{Plan}
 use Rattle.engine_planner.specs.declared.plan.Step.{Step}
 use Rattle.engine_planner.specs.declared.plan.Step.TheVariants as step
 use Rattle.engine_planner.specs.declared.task.Task.{Task}
 use Rattle.engine_planner.specs.Blocks.{views_built, all_but_at, in_place, waits_for}
-use Rattle.engine_planner.specs.Building.{asking_for, HasBuilds}
-use Rattle.engine_planner.specs.Planning.{HasPlanned}
+use Rattle.engine_planner.specs.BuildPlans.{asking_for, HasBuilds}
+use Rattle.engine_planner.specs.PlanStates.{HasPlanned}
 use Rattle.engine_planner.specs.PlannedWork.{AreAmong, Beside, work_planned, work_of, is_build_of, awaits, has_block, IsPlanned, KeepsPlanned, KeepsPlannedThen, PlansAnswer, PlansAnswerThen, constants_of, beside_of, views_requested, is_early}
 use Rattle.engine_planner.proofs.Blocks.{left_waiting, views_left}
 

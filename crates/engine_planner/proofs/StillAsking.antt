@@ -6,7 +6,7 @@ use Rattle.std.proofs.lemmas.Bool.{false≢true, and_parts, eqb-true, or_cases, 
 use Rattle.std.proofs.lemmas.Bool.Decides.{nat_tests}
 use Rattle.std.proofs.lemmas.List.Folds.{list_any-append}
 use Rattle.simplex_types.specs.Certificates.{certificate_facts, notarization_facts}
-use Rattle.simplex_types.specs.Viewed.{certificate_view}
+use Rattle.simplex_types.specs.MessageViews.{certificate_view}
 use Rattle.simplex_types.specs.declared.reasons.TimeoutReason.{TimeoutReason}
 use Rattle.simplex_types.specs.declared.types.messages.Certificate.{Certificate}
 use Rattle.simplex_types.specs.declared.types.messages.Certificate.TheVariants as certificate
@@ -14,7 +14,7 @@ use Rattle.simplex_types.specs.declared.types.messages.Notarization.{Notarizatio
 use Rattle.simplex_types.specs.declared.types.messages.Nullify.{Nullify}
 use Rattle.simplex_types.specs.declared.types.messages.Proposal.{Proposal}
 use Rattle.simplex_resolver.specs.Steps.{Call, after, effects, update, verdict}
-use Rattle.simplex_resolver.specs.Told.{LawfulResolverFacts}
+use Rattle.simplex_resolver.specs.CallHistory.{LawfulResolverFacts}
 use Rattle.simplex_voter.specs.Facts.{StateFacts}
 use Rattle.simplex_voter.specs.declared.voter.candidates.CertificateFetch.{CertificateFetch}
 use Rattle.simplex_voter.specs.declared.voter.propose.ProposalRequest.{ProposalRequest}
@@ -30,27 +30,27 @@ use Rattle.engine_fetches.specs.declared.fetches.FetchKind.{FetchKind}
 use Rattle.engine_fetches.specs.declared.fetches.FetchKind.TheVariants as fetch
 use Rattle.engine_fetches.specs.declared.repair.Repair.{Repair}
 use Rattle.engine_fetches.specs.Fetches.{fetch_kind, is_of, is_fetch_open, opened, same_kind}
-use Rattle.engine_fetches.specs.Repairing.{HasFetches, HasPassed, IsRepaired}
-use Rattle.engine_fetches.specs.Wanted.{after_effects, holds, is_lacking}
+use Rattle.engine_fetches.specs.Repairs.{HasFetches, HasPassed, IsRepaired}
+use Rattle.engine_fetches.specs.OutstandingFetches.{after_effects, holds, is_lacking}
 use Rattle.engine_fetches.proofs.Opening.{open_asked}
 use Rattle.engine_outbox.specs.declared.output.Work.TheVariants as work
-use Rattle.engine_outbox.specs.Handing.{hands_in}
-use Rattle.engine_planner.specs.declared.plan.building.Building.{Building}
+use Rattle.engine_outbox.specs.CertificateCalls.{hands_in}
+use Rattle.engine_planner.specs.declared.plan.builds.Building.{Building}
 use Rattle.engine_planner.specs.declared.plan.Plan.{Plan}
 use Rattle.engine_planner.specs.declared.plan.Step.{Step}
 use Rattle.engine_planner.specs.declared.plan.Step.TheVariants as step
 use Rattle.engine_planner.specs.declared.plan.Views.{Views}
 use Rattle.engine_planner.specs.declared.task.Task.{Task}
 use Rattle.engine_planner.specs.declared.task.Task.TheVariants as task
-use Rattle.engine_planner.specs.Asking.{asks, ended_by, ends_fetch, heard_by, heard_of, is_lack, is_notarized, is_plain, is_resolve, never, AreMade, KeepsAsking}
-use Rattle.engine_planner.specs.Building.{HasBuilds}
-use Rattle.engine_planner.specs.Entering.{asking_by, offering, HasEnteredWhere, IsPassedWhere, HasSeen}
-use Rattle.engine_planner.specs.Filling.{watching_where, AreWatched, HasTaken, IsFetchAsked, IsPruneAsked, IsReady, IsTimeoutAsked}
-use Rattle.engine_planner.specs.Following.{AreCertified, Consequence, Nothing, Touched, Built, Stopped, Ended, Asked, after_flag, after_refusal, after_watch, certifying, without, later, IsBroadcastFollowed, IsCertificateFollowed, IsConsequence, IsFollowed, IsNewFollowed, IsNullifyFollowed, IsRequestFollowed, IsTakenInAbove, IsTimeoutFollowed, IsVerdictFollowed, IsVerdictToldAbove, IsVerifyFollowed}
-use Rattle.engine_planner.specs.Matters.{Matter, Duty, Expiry, Lack, given_by, of_block, shown_by}
-use Rattle.engine_planner.specs.Planning.{HasPlanned, touching, watching}
+use Rattle.engine_planner.specs.FetchRequests.{asks, ended_by, ends_fetch, heard_by, heard_of, is_lack, is_notarized, is_plain, is_resolve, never, AreMade, KeepsAsking}
+use Rattle.engine_planner.specs.BuildPlans.{HasBuilds}
+use Rattle.engine_planner.specs.ViewChanges.{asking_by, offering, HasEnteredWhere, IsPassedWhere, HasSeen}
+use Rattle.engine_planner.specs.StepSelection.{watching_where, AreWatched, HasTaken, IsFetchAsked, IsPruneAsked, IsReady, IsTimeoutAsked}
+use Rattle.engine_planner.specs.Consequences.{AreCertified, Consequence, Nothing, Touched, Built, Stopped, Ended, Asked, after_flag, after_refusal, after_watch, certifying, without, later, IsBroadcastFollowed, IsCertificateFollowed, IsConsequence, IsFollowed, IsNewFollowed, IsNullifyFollowed, IsRequestFollowed, IsTakenInAbove, IsTimeoutFollowed, IsVerdictFollowed, IsVerdictToldAbove, IsVerifyFollowed}
+use Rattle.engine_planner.specs.Causes.{Matter, Duty, Expiry, Lack, given_by, of_block, shown_by}
+use Rattle.engine_planner.specs.PlanStates.{HasPlanned, touching, watching}
 use Rattle.engine_planner.specs.Tasks.{call_of}
-use Rattle.engine_planner.proofs.Asking.{asks_on, asks_same, kind_same, turned_over, behind_steps, open_each, open_fetched, open_further, open_kept, open_now, open_through, planned_still, queued_more}
+use Rattle.engine_planner.proofs.FetchRequests.{asks_on, asks_same, kind_same, turned_over, behind_steps, open_each, open_fetched, open_further, open_kept, open_now, open_through, planned_still, queued_more}
 use Rattle.engine_planner.proofs.PlannedWork.{any_right}
 
 not_or : (a b : Bool) → (a || b) ≡ false → (a ≡ false) × (b ≡ false)

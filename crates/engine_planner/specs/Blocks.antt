@@ -3,7 +3,7 @@ use Rattle.std.specs.Prelude.{ℕ, nat_le, nat_lt, Bool, true, not, ◌&&◌, �
 use Rattle.std.specs.List.{list_any, list_all}
 use Rattle.simplex_types.specs.Proposal.{same_round}
 use Rattle.simplex_types.specs.declared.types.messages.Context.{Context}
-use Rattle.engine_planner.specs.declared.plan.building.Building.{Building}
+use Rattle.engine_planner.specs.declared.plan.builds.Building.{Building}
 
 -- the same view and payload, by a test of payloads
 abbrev pub same_parent : {D : Type 0} → (D → D → Bool) → ℕ × D → ℕ × D → Bool

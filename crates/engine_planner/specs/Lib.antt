@@ -1,10 +1,10 @@
 pub mod Tasks
-pub mod Planning
+pub mod PlanStates
 pub mod Blocks
-pub mod Building
-pub mod Entering
-pub mod Filling
-pub mod Following
+pub mod BuildPlans
+pub mod ViewChanges
+pub mod StepSelection
+pub mod Consequences
 pub mod PlannedWork
-pub mod Matters
-pub mod Asking
+pub mod Causes
+pub mod FetchRequests

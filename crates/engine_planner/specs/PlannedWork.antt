@@ -1,7 +1,7 @@
 -- Work that is planned, and what an answer of the member asks for.
 use Rattle.std.specs.Prelude.{◌≡◌, ℕ, Bool, true, false, ◌&&◌, ◌||◌, ◌==◌, List, [], ◌∷◌, ◌++◌, map, filter, nat_lt, Some, is_some}
 use Rattle.std.specs.List.{list_any}
-use Rattle.simplex_voter.specs.Proposing.{request_context}
+use Rattle.simplex_voter.specs.ProposalRequests.{request_context}
 use Rattle.simplex_voter.specs.declared.voter.verify.Verify.TheVariants.{Ready}
 use Rattle.simplex_member.specs.Calls.{Told, Answered, Triggered, Released, Abandoned, NotAllowed, Standing, Requested, Candidates}
 use Rattle.engine_fetches.specs.declared.fetches.Peers.{Peers}
@@ -13,10 +13,10 @@ use Rattle.engine_planner.specs.declared.plan.Step.{Step}
 use Rattle.engine_planner.specs.declared.plan.Step.TheVariants.{Push}
 use Rattle.engine_planner.specs.declared.plan.Views.{Views}
 use Rattle.engine_planner.specs.declared.plan.early.Early.{Early}
-use Rattle.engine_planner.specs.declared.plan.building.Building.{Building}
+use Rattle.engine_planner.specs.declared.plan.builds.Building.{Building}
 use Rattle.engine_planner.specs.declared.task.Task.{Task}
 use Rattle.engine_planner.specs.Blocks.{views_built, waits_for}
-use Rattle.engine_planner.specs.Following.{Consequence, Nothing, Built, Stopped, Ended, after_flag, after_watch, after_refusal}
+use Rattle.engine_planner.specs.Consequences.{Consequence, Nothing, Built, Stopped, Ended, after_flag, after_watch, after_refusal}
 
 -- whether there is no other member, the options, whom fetches are asked of, and after how long again, in milliseconds
 pub record Constants : Type 0 where

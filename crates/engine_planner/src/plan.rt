@@ -2,24 +2,24 @@
 //!
 //! Each call says just what it plans. An error is want of memory, or what the resolver answers; after one a plan is of no use any more.
 
-mod accepting;
-mod building;
+mod certificates;
+mod builds;
 mod due;
 mod early;
-mod entering;
-mod following;
-mod working;
+mod views;
+mod replies;
+mod work;
 
 ghost use Rattle.std.specs.Prelude.{◌≡◌, ◌+◌, ◌-◌, ◌^◌, ℕ, min, max, true, [], ◌∷◌, ◌++◌, filter, OnOk, IfErr, IsOk, IsTrue, ◌↔◌, ◌≤◌, false};
 ghost use Rattle.simplex_types.specs.declared.types.fault.Fault.TheVariants.{Failed};
-ghost use Rattle.engine_fetches.specs.Repairing.{HasPassed};
-ghost use Rattle.engine_fetches.specs.Wanted.{is_lacking, AsksForTheLacking};
-ghost use Rattle.engine_planner.specs.Planning.{IsIdle, IsWake, HasPlanned, asking_for_votes, asking_for_certificates, touching, watching};
+ghost use Rattle.engine_fetches.specs.Repairs.{HasPassed};
+ghost use Rattle.engine_fetches.specs.OutstandingFetches.{is_lacking, AsksForTheLacking};
+ghost use Rattle.engine_planner.specs.PlanStates.{IsIdle, IsWake, HasPlanned, asking_for_votes, asking_for_certificates, touching, watching};
 ghost use Rattle.engine_planner.specs.Blocks.{builds_from};
 ghost use Rattle.engine_planner.specs.declared.plan.Step.TheVariants.{Ask, Push};
 
 use crate::task::Task;
-use building::{Builds, is_ahead};
+use builds::{Builds, is_ahead};
 use early::EarlyProposals;
 use engine_fetches::fetches::{FetchKind, Fetches};
 use engine_fetches::repair::Repair;

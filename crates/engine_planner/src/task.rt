@@ -2,7 +2,7 @@
 
 ghost use Rattle.std.specs.Prelude.{◌≡◌, []};
 ghost use Rattle.simplex_member.specs.Calls.{asked};
-ghost use Rattle.laws_safety.specs.Shown.{certificates_in};
+ghost use Rattle.laws_safety.specs.ObservedTraces.{certificates_in};
 ghost use Rattle.engine_planner.specs.Tasks.{call_of};
 
 use simplex_member::member::Call;

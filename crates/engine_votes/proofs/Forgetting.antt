@@ -10,7 +10,7 @@ use Rattle.simplex_view_maps.specs.Tracked.{at_or_above}
 use Rattle.engine_votes.specs.declared.batcher.Batcher.{Batcher}
 use Rattle.engine_votes.specs.declared.batcher.poll.Ballot.{Ballot}
 use Rattle.engine_votes.specs.Polls.{ballot_of, slots_at}
-use Rattle.engine_votes.specs.Batching.{Kind, Notarizes, Nullifies, Finalizes, held, HoldsFrom, HoldsNoOther, IsForgotten}
+use Rattle.engine_votes.specs.StoredVotes.{Kind, Notarizes, Nullifies, Finalizes, held, HoldsFrom, HoldsNoOther, IsForgotten}
 
 -- what is left is of views that are not below, and was held
 left_from : {D G : Type 0} (polls : map.FinMap nat_cmp (Vec (Option (Ballot D G)) Global)) (lowest view member : ℕ) (ballot : Ballot D G)

@@ -8,15 +8,15 @@ use Rattle.std.proofs.lemmas.Bool.{eq-eqb, eqb-true, false≢true}
 use Rattle.simplex_view_maps.proofs.Maps.{get-kept}
 use Rattle.simplex_view_maps.specs.Tracked.{at_or_above}
 use Rattle.simplex_types.specs.declared.types.messages.Subject.{Subject}
-use Rattle.simplex_types.specs.Viewed.{subject_view}
+use Rattle.simplex_types.specs.MessageViews.{subject_view}
 use Rattle.engine_votes.specs.declared.batcher.Batcher.{Batcher}
 use Rattle.engine_votes.specs.declared.batcher.Counted.{Counted}
 use Rattle.engine_votes.specs.declared.batcher.Counted.TheVariants.{Refused, Known, Taken, Certified, Equivocated}
 use Rattle.engine_votes.specs.declared.batcher.poll.Ballot.{Ballot}
 use Rattle.engine_votes.specs.declared.votes.Vote.{Vote}
 use Rattle.engine_votes.specs.Polls.{ballot_of, slots_at}
-use Rattle.engine_votes.specs.Counting.{cast_by, contradicted, IsAdded, IsCountedIn, IsMarked}
-use Rattle.engine_votes.specs.Batching.{Kind, Notarizes, Nullifies, Finalizes, kind_of, held, AreGiven, HoldsNothing, HoldsAllTheSame, KeepsOthers, IsForgotten, IsCounted, IsCountedAmong}
+use Rattle.engine_votes.specs.VoteCounts.{cast_by, contradicted, IsAdded, IsCountedIn, IsMarked}
+use Rattle.engine_votes.specs.StoredVotes.{Kind, Notarizes, Nullifies, Finalizes, kind_of, held, AreGiven, HoldsNothing, HoldsAllTheSame, KeepsOthers, IsForgotten, IsCounted, IsCountedAmong}
 use Rattle.engine_votes.proofs.Contains.{contains_left, contains_seam}
 
 pub same_or_not : (k l : Kind) → (k ≡ l) ⊎ (k ≡ l → ⊥)

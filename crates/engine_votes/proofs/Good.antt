@@ -6,7 +6,7 @@ use Rattle.simplex_types.specs.declared.types.numbers.Round.{Round}
 use Rattle.simplex_types.specs.declared.types.messages.Subject.{Subject}
 use Rattle.simplex_types.specs.declared.types.messages.Subject.TheVariants as subject
 use Rattle.simplex_types.specs.Proposal.{same_round}
-use Rattle.simplex_types.specs.Viewed.{subject_view}
+use Rattle.simplex_types.specs.MessageViews.{subject_view}
 use Rattle.simplex_types.proofs.Proposal.{same_proposal-true}
 use Rattle.engine_votes.specs.declared.batcher.Batcher.{Batcher}
 use Rattle.engine_votes.specs.declared.batcher.Counted.{Counted}
@@ -16,8 +16,8 @@ use Rattle.engine_votes.specs.declared.votes.Vote.{Vote}
 use Rattle.engine_votes.specs.Subjects.{same_subject}
 use Rattle.engine_votes.specs.Polls.{ballot_of, signature_on, signatures_on}
 use Rattle.simplex_types.specs.Quorums.{quorum_of, AreSigned, IsSignedByQuorum}
-use Rattle.engine_votes.specs.Counting.{certificate_of}
-use Rattle.engine_votes.specs.Batching.{kind_of, held, AreGiven, AreGood, is_found_good, IsGoodIfCertified, IsCounted}
+use Rattle.engine_votes.specs.VoteCounts.{certificate_of}
+use Rattle.engine_votes.specs.StoredVotes.{kind_of, held, AreGiven, AreGood, is_found_good, IsGoodIfCertified, IsCounted}
 use Rattle.engine_votes.proofs.Polls.{rising_on}
 
 both : (a b : Bool) → (a && b) ≡ true → (a ≡ true) × (b ≡ true)

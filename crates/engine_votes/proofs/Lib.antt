@@ -1,7 +1,7 @@
 pub mod Contains
 pub mod Polls
-pub mod Counting
-pub mod Batching
+pub mod VoteCounts
+pub mod StoredVotes
 pub mod Given
 pub mod Good
 pub mod Forgetting

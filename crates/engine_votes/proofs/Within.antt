@@ -2,14 +2,14 @@
 use Rattle.std.proofs.Common.{◌≡◌, ℕ, ◌≤◌, ◌<◌, Bool, true, List, Some, Result, Ok, Err, ap, sym, ◌∙◌, subst, inl, inr}
 use Rattle.std.specs.Prelude.{IfOk, OnErr}
 use Rattle.simplex_types.specs.declared.types.messages.Subject.{Subject}
-use Rattle.simplex_types.specs.Viewed.{subject_view}
+use Rattle.simplex_types.specs.MessageViews.{subject_view}
 use Rattle.engine_votes.specs.declared.batcher.Batcher.{Batcher}
 use Rattle.engine_votes.specs.declared.batcher.Counted.{Counted}
 use Rattle.engine_votes.specs.declared.batcher.Counted.TheVariants.{Refused, Known, Taken, Certified, Equivocated}
 use Rattle.engine_votes.specs.declared.batcher.poll.Ballot.{Ballot}
 use Rattle.engine_votes.specs.declared.votes.Vote.{Vote}
 use Rattle.engine_votes.specs.Polls.{ballot_of}
-use Rattle.engine_votes.specs.Batching.{Kind, kind_of, held, EachVote, HoldsUpTo, HoldsAllTheSame, KeepsOthers, IsCounted, IsCountedAmong}
+use Rattle.engine_votes.specs.StoredVotes.{Kind, kind_of, held, EachVote, HoldsUpTo, HoldsAllTheSame, KeepsOthers, IsCounted, IsCountedAmong}
 use Rattle.engine_votes.proofs.Given.{where_else, IsOldOr, counted_by}
 
 module _ {S D K G C : Type 0} (Holds : ℕ → ℕ → Type 0) (old new : Batcher S D K G C) (each : EachVote Holds old) where

@@ -1,4 +1,4 @@
 pub mod Subjects
 pub mod Polls
-pub mod Counting
-pub mod Batching
+pub mod VoteCounts
+pub mod StoredVotes

@@ -7,9 +7,9 @@
 
 ghost use Rattle.std.specs.Prelude.{◌≡◌, ◌≢◌, ◌≤◌, ◌++◌, ◌∷◌, [], ℕ, true, length, IfOk, OnOk, OnErr, MatchOption};
 ghost use Rattle.std.specs.FinMap as map;
-ghost use Rattle.simplex_types.specs.Viewed.{subject_view};
+ghost use Rattle.simplex_types.specs.MessageViews.{subject_view};
 ghost use Rattle.engine_votes.specs.Polls.{slots_at, HoldsTheSame};
-ghost use Rattle.engine_votes.specs.Counting.{IsCountedIn};
+ghost use Rattle.engine_votes.specs.VoteCounts.{IsCountedIn};
 
 mod poll;
 
@@ -53,7 +53,7 @@ pub struct Batcher<S: CertificateScheme, D> {
 }
 
 impl<S: Assembly<D>, D: Digest> Batcher<S, D> {
-    ghost use Rattle.engine_votes.specs.Batching.{held, kind_of, AreGiven, AreGood, IsGoodIfCertified, HoldsNothing, HoldsAllTheSame, HoldsNoOther, HoldsUpTo, HoldsFrom, KeepsOthers, MayCount, IsCounted, IsForgotten};
+    ghost use Rattle.engine_votes.specs.StoredVotes.{held, kind_of, AreGiven, AreGood, IsGoodIfCertified, HoldsNothing, HoldsAllTheSame, HoldsNoOther, HoldsUpTo, HoldsFrom, KeepsOthers, MayCount, IsCounted, IsForgotten};
 
     /// A batcher of the scheme's members that holds nothing.
     pub fn new(alloc: Global, scheme: S) -> Batcher<S, D>

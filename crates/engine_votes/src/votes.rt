@@ -2,7 +2,7 @@
 
 ghost use Rattle.std.specs.Prelude.{◌≡◌, ◌↔◌, IsTrue};
 ghost use Rattle.simplex_types.specs.Proposal.{same_proposal};
-ghost use Rattle.simplex_types.specs.Viewed.{subject_view};
+ghost use Rattle.simplex_types.specs.MessageViews.{subject_view};
 ghost use Rattle.engine_votes.specs.Subjects.{same_subject, subject_round};
 
 use simplex_types::types::{Digest, Participant, Proposal, Round, Subject};

@@ -1,1 +1,1 @@
-pub mod Finalizing
+pub mod FinalizeVotes

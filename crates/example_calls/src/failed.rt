@@ -4,7 +4,7 @@
 ghost use Rattle.std.specs.Prelude.{◌≡◌, ◌≤◌, true, Err};
 ghost use Rattle.simplex_types.specs.Certificates.{notarization_facts};
 ghost use Rattle.simplex_types.specs.declared.types.fault.Fault.TheVariants.{OutOfMemory};
-ghost use Rattle.simplex_types.specs.Viewed.{certificate_view};
+ghost use Rattle.simplex_types.specs.MessageViews.{certificate_view};
 ghost use Rattle.simplex_voter.specs.Acceptance.{takes_proposal_certificate};
 
 use simplex_resolver::resolver;

@@ -2,9 +2,9 @@
 
 ghost use Rattle.std.specs.Prelude.{◌≡◌, true};
 ghost use Rattle.simplex_types.specs.declared.types.messages.Subject.TheVariants.{Finalize};
-ghost use Rattle.laws_safety.specs.Living.{OfAllDone};
+ghost use Rattle.laws_safety.specs.MemberHistory.{OfAllDone};
 ghost use Rattle.laws_safety.specs.Replicas.{OfEachNetwork, Backed};
-ghost use Rattle.example_calls.specs.Finalizing.{FinalizesOneProposal};
+ghost use Rattle.example_calls.specs.FinalizeVotes.{FinalizesOneProposal};
 
 use lawful_member::lawful::LawfulMember;
 use laws_safety::laws::agreement;

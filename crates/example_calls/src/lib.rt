@@ -5,10 +5,10 @@ pub mod failed;
 pub mod lawful;
 
 ghost use Rattle.std.specs.Prelude.{◌≡◌, ◌++◌, OnOk, IfOk, IfSome, IsNone};
-ghost use Rattle.simplex_voter.specs.Serving.{broadcast_notarization_answer};
+ghost use Rattle.simplex_voter.specs.StateAnswers.{broadcast_notarization_answer};
 ghost use Rattle.simplex_member.specs.Calls.{told_finalize};
 ghost use Rattle.simplex_member.specs.CallSemantics.{vote_entry};
-ghost use Rattle.simplex_member.specs.Signed.{signed_finalize};
+ghost use Rattle.simplex_member.specs.ReplySignatures.{signed_finalize};
 ghost use Rattle.simplex_member.specs.MethodContracts.{HasNoneLeft};
 
 use simplex_member::member::{Member, Refusal};

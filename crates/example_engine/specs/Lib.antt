@@ -1,5 +1,5 @@
 pub mod Checksum
 pub mod Digests
-pub mod Rising
-pub mod Sealing
-pub mod Assembling
+pub mod MemberIndexes
+pub mod Seals
+pub mod SealedCertificates

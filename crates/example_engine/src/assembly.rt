@@ -2,7 +2,7 @@
 
 ghost use Rattle.std.specs.Prelude.{◌≡◌, ◌≤◌, IfOk};
 ghost use Rattle.simplex_types.specs.Quorums.{AreRising};
-ghost use Rattle.example_engine.specs.Assembling.{signers_of};
+ghost use Rattle.example_engine.specs.SealedCertificates.{signers_of};
 
 use crate::digest::BlockDigest;
 use crate::scheme::{Seal, SealScheme, Signature};
@@ -11,7 +11,7 @@ use simplex_types::types::{CertificateScheme, Participant, Subject};
 use std::alloc::{AllocError, Global};
 
 impl Assembly<BlockDigest> for SealScheme {
-    ghost use Rattle.example_engine.specs.Assembling.{IsSealOf, made_is_good};
+    ghost use Rattle.example_engine.specs.SealedCertificates.{IsSealOf, made_is_good};
 
     ghost IsMadeOf = { λ _ _ signatures seal. IsSealOf signatures seal };
 

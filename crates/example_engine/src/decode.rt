@@ -5,7 +5,7 @@ ghost use Rattle.simplex_types.specs.Certificates.{certificate_facts};
 ghost use Rattle.simplex_types.specs.Encoding.{encoding, IsEncodable};
 ghost use Rattle.simplex_codec.specs.Refusals.{IsCertificateRefusal, ReadsCertificates};
 ghost use Rattle.example_engine.specs.Digests.{block_bytes};
-ghost use Rattle.example_engine.specs.Sealing.{seal_bytes};
+ghost use Rattle.example_engine.specs.Seals.{seal_bytes};
 
 use crate::parts::Proof;
 use simplex_codec::certificate::decode_certificate;

@@ -2,7 +2,7 @@
 
 ghost use Rattle.std.specs.Prelude.{◌≡◌, ◌<◌, ◌^◌, ◌&&◌, ◌↔◌, ℕ, true, IsTrue, List, Option, Some, None, length, map, nat_le, IfOk, option_map};
 ghost use Rattle.std.specs.Option.{ForSome};
-ghost use Rattle.example_engine.specs.Rising.{are_members};
+ghost use Rattle.example_engine.specs.MemberIndexes.{are_members};
 
 use crate::checksum::checksum;
 use crate::digest::BlockDigest;
@@ -47,7 +47,7 @@ pub struct SealScheme {
 }
 
 impl SealScheme {
-    ghost use Rattle.example_engine.specs.Sealing.{seal_keys, seal_signer, IsSignedBy};
+    ghost use Rattle.example_engine.specs.Seals.{seal_keys, seal_signer, IsSignedBy};
 
     /// The scheme of so many members, for one of them.
     pub fn new(alloc: Global, members: u8, me: u8) -> Result<SealScheme, AllocError>
@@ -85,7 +85,7 @@ impl SealScheme {
 }
 
 impl Signature {
-    ghost use Rattle.example_engine.specs.Sealing.{IsSignature};
+    ghost use Rattle.example_engine.specs.Seals.{IsSignature};
 
     /// The signature under a key on a subject.
     fn of(
@@ -110,7 +110,7 @@ impl CertificateScheme for SealScheme {
 
     type Certificate = Seal;
 
-    ghost use Rattle.example_engine.specs.Sealing.{seal_keys, seal_signer, seal_bytes};
+    ghost use Rattle.example_engine.specs.Seals.{seal_keys, seal_signer, seal_bytes};
 
     ghost me = { seal_signer };
 
@@ -168,7 +168,7 @@ fn are_members(count: usize, signers: &[u8]) -> bool
 }
 
 impl Scheme<BlockDigest> for SealScheme {
-    ghost use Rattle.example_engine.specs.Sealing.{IsSignature, is_good};
+    ghost use Rattle.example_engine.specs.Seals.{IsSignature, is_good};
 
     ghost IsSignature = { IsSignature };
 

@@ -2,7 +2,7 @@
 
 ghost use Rattle.std.specs.Prelude.{◌≡◌, ◌<◌, IfOk, length};
 ghost use Rattle.simplex_types.specs.Plain.{members_of};
-ghost use Rattle.example_engine.specs.Sealing.{seal_keys};
+ghost use Rattle.example_engine.specs.Seals.{seal_keys};
 
 use crate::digest::BlockDigest;
 use crate::scheme::SealScheme;

@@ -2,8 +2,8 @@
 
 ghost use Rattle.std.specs.Prelude.{◌<◌};
 
-mod carrying;
-mod receiving;
+mod outputs;
+mod inputs;
 
 use crate::disk::Disk;
 use crate::error::RunError;

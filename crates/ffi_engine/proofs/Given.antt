@@ -6,15 +6,15 @@ use Rattle.simplex_codec.specs.Digests.{bytes_in_digest}
 use Rattle.ffi_scheme.specs.Host.{certificate_bytes, IsOrder}
 use Rattle.engine_planner.specs.PlannedWork.{AreAmong}
 use Rattle.engine_outbox.specs.Outputs.{work_in}
-use Rattle.simplex_engine.specs.Causes.{forgettable, held_by, Comes}
-use Rattle.simplex_engine.specs.Duties.{work_ahead, HasToldAll}
-use Rattle.engine_outbox.specs.Finals.{TellsNoMore}
-use Rattle.engine_outbox.specs.Going.{EmitsOn, HasGivenOut, IsKept}
-use Rattle.ffi_member.specs.Serving.{host_leader, same_host_payload}
-use Rattle.ffi_member.specs.declared.shown.FlatStored.{FlatStored}
+use Rattle.simplex_engine.specs.Provenance.{forgettable, held_by, Comes}
+use Rattle.simplex_engine.specs.ApplicationWork.{work_ahead, HasToldAll}
+use Rattle.engine_outbox.specs.Finalizations.{TellsNoMore}
+use Rattle.engine_outbox.specs.Continuity.{EmitsOn, HasGivenOut, IsKept}
+use Rattle.ffi_member.specs.MemberHandles.{host_leader, same_host_payload}
+use Rattle.ffi_member.specs.declared.view_types.FlatStored.{FlatStored}
 use Rattle.ffi_engine.specs.declared.held.HeldEngine.{HeldEngine}
-use Rattle.ffi_engine.specs.declared.told.FlatOutput.{FlatOutput}
-use Rattle.ffi_engine.specs.Handling.{IsAllGiven, IsGivenOut}
+use Rattle.ffi_engine.specs.declared.flat.FlatOutput.{FlatOutput}
+use Rattle.ffi_engine.specs.EngineHandles.{IsAllGiven, IsGivenOut}
 use Rattle.ffi_engine.specs.Outputs.{HostOutput}
 
 -- an error that is answered is one

@@ -3,20 +3,20 @@ use Rattle.std.proofs.Common.{◌≡◌, ◌∙◌, ap, sym, subst, ℕ, Bool, t
 use Rattle.simplex_member.specs.declared.member.resume.ResumeError.TheVariants as resume
 use Rattle.simplex_engine.specs.declared.engine.begin.StartError.{StartError}
 use Rattle.simplex_engine.specs.declared.engine.begin.StartError.TheVariants as start_error
-use Rattle.simplex_engine.specs.Beginning.{IsNotBegun}
+use Rattle.simplex_engine.specs.EngineStart.{IsNotBegun}
 use Rattle.ffi_scheme.specs.Host.{host_keys}
 use Rattle.simplex_record.specs.Settings as settings
 use Rattle.simplex_types.specs.Config.{first_broken, config_rules}
 use Rattle.simplex_types.specs.declared.config.ConfigError.{ConfigError}
 use Rattle.ffi_member.specs.declared.flat.FlatSettings.{FlatSettings}
-use Rattle.ffi_member.specs.declared.opening.NotResumed.{NotResumed}
-use Rattle.ffi_member.specs.declared.opening.NotResumed.TheVariants as not_resumed
-use Rattle.ffi_member.specs.declared.shown.FlatStored.{FlatStored}
-use Rattle.ffi_member.specs.Opening.{IsNotResumedBy}
+use Rattle.ffi_member.specs.declared.resumption.NotResumed.{NotResumed}
+use Rattle.ffi_member.specs.declared.resumption.NotResumed.TheVariants as not_resumed
+use Rattle.ffi_member.specs.declared.view_types.FlatStored.{FlatStored}
+use Rattle.ffi_member.specs.Resumption.{IsNotResumedBy}
 use Rattle.ffi_member.specs.Settings.{HostStart, IsStart}
 use Rattle.ffi_engine.specs.declared.begin.NotBegun.TheVariants as not_begun
-use Rattle.ffi_engine.specs.declared.told.FlatOptions.{FlatOptions}
-use Rattle.ffi_engine.specs.Beginning.{IsEngineNotBegun, IsEngineNotResumed, IsStartRefused, IsResumeRefused, not_begun_of}
+use Rattle.ffi_engine.specs.declared.flat.FlatOptions.{FlatOptions}
+use Rattle.ffi_engine.specs.EngineStarts.{IsEngineNotBegun, IsEngineNotResumed, IsStartRefused, IsResumeRefused, not_begun_of}
 
 -- no rule of a list is broken
 abbrev NoneIsBroken : List (Bool × ConfigError) → Type 0

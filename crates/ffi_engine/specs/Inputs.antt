@@ -19,8 +19,8 @@ use Rattle.ffi_member.specs.declared.kinds.CertificateKind.TheVariants as kind
 use Rattle.ffi_member.specs.declared.kinds.VoteKind.TheVariants as vote
 use Rattle.ffi_member.specs.Numbers.{certificate_number, flag_number, reason_number, vote_number}
 use Rattle.ffi_member.specs.Replies.{IsContext}
-use Rattle.ffi_engine.specs.declared.told.FlatInput.{FlatInput}
-use Rattle.ffi_engine.specs.declared.told.FlatSubject.{FlatSubject}
+use Rattle.ffi_engine.specs.declared.flat.FlatInput.{FlatInput}
+use Rattle.ffi_engine.specs.declared.flat.FlatSubject.{FlatSubject}
 
 -- an input, a certificate and a vote of an engine of the host
 abbrev pub HostInput : Type 0

@@ -1,5 +1,5 @@
 pub mod Inputs
 pub mod Outputs
-pub mod Beginning
-pub mod Handling
-pub mod Showing
+pub mod EngineStarts
+pub mod EngineHandles
+pub mod EngineViews

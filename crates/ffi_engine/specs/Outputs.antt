@@ -21,8 +21,8 @@ use Rattle.ffi_member.specs.Calls.{IsFlatProposal, flat_round}
 use Rattle.ffi_member.specs.declared.kinds.CertificateKind.TheVariants as kind
 use Rattle.ffi_member.specs.Numbers.{certificate_number, index_number}
 use Rattle.ffi_member.specs.Replies.{IsContext}
-use Rattle.ffi_engine.specs.declared.told.FlatOutput.{FlatOutput}
-use Rattle.ffi_engine.specs.declared.told.FlatSubject.{FlatSubject}
+use Rattle.ffi_engine.specs.declared.flat.FlatOutput.{FlatOutput}
+use Rattle.ffi_engine.specs.declared.flat.FlatSubject.{FlatSubject}
 use Rattle.ffi_engine.specs.Inputs.{HostCertified, HostVote, IsOn}
 
 -- an engine of the host

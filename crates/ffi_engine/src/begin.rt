@@ -1,16 +1,16 @@
 //! How an engine behind a handle begins: a first life at a floor, or another from the bytes of a journal.
 
 ghost use Rattle.std.specs.Prelude.{◌≡◌, Err, IfOk, IfErr};
-ghost use Rattle.ffi_engine.specs.Beginning.{not_begun_number, not_begun_of, options_of};
+ghost use Rattle.ffi_engine.specs.EngineStarts.{not_begun_number, not_begun_of, options_of};
 
 use crate::held::HeldEngine;
-use crate::told::FlatOptions;
+use crate::flat::FlatOptions;
 use simplex_engine::engine::{Engine, Options, StartError};
 use ffi_member::flat::FlatSettings;
-use ffi_member::opening::{NotResumed, going_on};
-use ffi_member::resolving::{NotReplayed, number_of_not_replayed};
+use ffi_member::resumption::{NotResumed, going_on};
+use ffi_member::resolver_calls::{NotReplayed, number_of_not_replayed};
 use ffi_member::settings::{SettingsError, start_of};
-use ffi_member::shown::FlatStored;
+use ffi_member::view_types::FlatStored;
 use ffi_member::statuses::number_of_not_resumed;
 use simplex_member::member::ResumeError;
 use simplex_record::record::StartError as RefusedStart;
@@ -30,7 +30,7 @@ pub enum NotBegun {
 }
 
 impl HeldEngine {
-    ghost use Rattle.ffi_engine.specs.Beginning.{IsEngineBegun, IsEngineNotBegun, IsEngineNotResumed, IsEngineResumed};
+    ghost use Rattle.ffi_engine.specs.EngineStarts.{IsEngineBegun, IsEngineNotBegun, IsEngineNotResumed, IsEngineResumed};
     ghost use Rattle.ffi_engine.specs.declared.begin.NotBegun.TheVariants.{FetchRetryZero};
 
     /// An engine whose member never voted, by flat settings with a table of leaders and the bytes of the floor's certificate.

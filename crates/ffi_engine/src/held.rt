@@ -2,18 +2,18 @@
 
 ghost use Rattle.std.specs.Prelude.{◌≡◌, ◌++◌, ◌+◌, ◌-◌, ◌^◌, [], true, false, min, length, Contains, None, OnOk};
 ghost use Rattle.ffi_member.specs.Journals.{framed};
-ghost use Rattle.ffi_member.specs.Opening.{IsFlatStored};
+ghost use Rattle.ffi_member.specs.Resumption.{IsFlatStored};
 ghost use Rattle.ffi_member.specs.Statuses.{not_written_number};
 
 use crate::input::{HostInput, input_of};
 use crate::output::{
     HostEngine, HostOutput, NOTHING_STORED, flat_output, other_signature, output_of, signature_in,
 };
-use crate::told::{FlatInput, FlatOutput, FlatTaken};
+use crate::flat::{FlatInput, FlatOutput, FlatTaken};
 use bytes::BytesMut;
 use ffi_member::journal::{HostArtifact, NotWritten, write_entries};
 use ffi_member::numbers::{number_of_fault, number_of_flag};
-use ffi_member::shown::FlatStored;
+use ffi_member::view_types::FlatStored;
 use ffi_member::statuses::number_of_not_written;
 use simplex_member::member::Stored;
 use engine_outbox::output::Output;
@@ -45,21 +45,21 @@ pub struct HeldEngine {
 }
 
 impl HeldEngine {
-    ghost use Rattle.ffi_engine.specs.Handling.{HasShownNothing, IsGivenOut, IsHandled, IsNothing, IsPolled, IsReadAs, AreFramed, Takes};
-    ghost use Rattle.ffi_engine.specs.Handling.{HoldsRecord, IsAllGiven, first_bytes, second_bytes};
+    ghost use Rattle.ffi_engine.specs.EngineHandles.{HasShownNothing, IsGivenOut, IsHandled, IsNothing, IsPolled, IsReadAs, AreFramed, Takes};
+    ghost use Rattle.ffi_engine.specs.EngineHandles.{HoldsRecord, IsAllGiven, first_bytes, second_bytes};
     ghost use Rattle.laws_safety.specs.Lawful.{IsLawful};
-    ghost use Rattle.laws_safety.specs.Living.{OfAllDone, MayBeDoneBy};
+    ghost use Rattle.laws_safety.specs.MemberHistory.{OfAllDone, MayBeDoneBy};
     ghost use Rattle.laws_safety.specs.RecordsOnce.{HoldsEachEntryOnce};
-    ghost use Rattle.engine_outbox.specs.Leaving.{AllLeave};
+    ghost use Rattle.engine_outbox.specs.EmittedVotes.{AllLeave};
     ghost use Rattle.engine_outbox.specs.Outputs.{AreBehind};
-    ghost use Rattle.engine_outbox.specs.Finals.{finals_in, RiseByView, WereAccepted};
-    ghost use Rattle.engine_outbox.specs.Going.{IsTraced};
+    ghost use Rattle.engine_outbox.specs.Finalizations.{finals_in, RiseByView, WereAccepted};
+    ghost use Rattle.engine_outbox.specs.Continuity.{IsTraced};
     ghost use Rattle.simplex_codec.specs.Digests.{bytes_in_digest};
     ghost use Rattle.engine_outbox.specs.Signatures.{IsSignedBy};
     ghost use Rattle.engine_outbox.specs.declared.output.Output.TheVariants as output;
-    ghost use Rattle.engine_outbox.specs.Stops.{EachStopIsLawful};
+    ghost use Rattle.engine_outbox.specs.HostStops.{EachStopIsLawful};
     ghost use Rattle.ffi_scheme.specs.Host.{certificate_bytes, IsOrder};
-    ghost use Rattle.ffi_member.specs.Serving.{host_leader, same_host_payload};
+    ghost use Rattle.ffi_member.specs.MemberHandles.{host_leader, same_host_payload};
     ghost use Rattle.ffi_scheme.specs.declared.scheme.HostKey.{HostKey};
 
     /// An engine that gave nothing out yet.

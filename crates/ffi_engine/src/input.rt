@@ -5,11 +5,11 @@ ghost use Rattle.ffi_member.specs.Numbers.{flag_number, reason_number};
 ghost use Rattle.ffi_member.specs.Replies.{IsContext};
 ghost use Rattle.ffi_engine.specs.Inputs.{HandsInBytes, HasKind, HasInputNumbers, IsCertificate, IsNoInput, IsNoKind, IsOn, IsToldAs, IsVote};
 
-use crate::told::{FlatInput, FlatSubject};
+use crate::flat::{FlatInput, FlatSubject};
 use bytes::Bytes;
 use engine_votes::votes::Vote;
 use simplex_engine::input::Input;
-use ffi_member::asking::{
+use ffi_member::flat_calls::{
     finalization_of, notarization_of, nullification_of, proposal_of, round_in,
 };
 use ffi_member::flat::FlatContext;

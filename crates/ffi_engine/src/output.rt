@@ -8,14 +8,14 @@ ghost use Rattle.ffi_member.specs.Replies.{IsContext};
 ghost use Rattle.ffi_engine.specs.Inputs.{IsOn};
 ghost use Rattle.ffi_engine.specs.Outputs.{HasOutputOf, IsOf, IsWork, certified_bytes, fetch_number, other_signature, first_bytes_in};
 
-use crate::told::{FlatOutput, FlatSubject};
+use crate::flat::{FlatOutput, FlatSubject};
 use engine_votes::votes::Vote;
 use simplex_engine::engine::Engine;
 use engine_fetches::fetches::{Ask, FetchKind};
 use ffi_member::flat::{FlatContext, FlatProposal, FlatRound};
 use ffi_member::kinds::{CertificateKind, number_of_certificate};
-use ffi_member::replying::{flat_context, flat_proposal, flat_round};
-use ffi_member::shown::FlatStored;
+use ffi_member::flat_replies::{flat_context, flat_proposal, flat_round};
+use ffi_member::view_types::FlatStored;
 use ffi_scheme::elector::HostElector;
 use ffi_scheme::scheme::{HostDigest, HostKey, HostScheme, Order};
 use simplex_member::member::Stored;

@@ -1,2 +1,2 @@
-pub mod Behind
-pub mod Opened
+pub mod HandleContents
+pub mod OpenStatuses

@@ -5,21 +5,21 @@
 ghost use Rattle.std.specs.Prelude.{◌≡◌};
 ghost use Rattle.std.specs.Borrow.{sem};
 ghost use Rattle.ffi_engine.specs.declared.held.HeldEngine.{HeldEngine};
-ghost use Rattle.ffi_engine.specs.Handling.{IsHandled, IsPolled};
-ghost use Rattle.ffi_engine.specs.Showing.{ShowsChunk, ShowsFound, ShowsOpenFetch, ShowsServed, ShowsStatus, ShowsView, ShowsWithheld};
-ghost use Rattle.ffi_exports.specs.Behind.{IsRead, engine_at, engine_left_at, engine_owned_at};
-ghost use Rattle.ffi_exports.specs.Opened.{IsBegunStatus, IsGoingOnStatus};
+ghost use Rattle.ffi_engine.specs.EngineHandles.{IsHandled, IsPolled};
+ghost use Rattle.ffi_engine.specs.EngineViews.{ShowsChunk, ShowsFound, ShowsOpenFetch, ShowsServed, ShowsStatus, ShowsView, ShowsWithheld};
+ghost use Rattle.ffi_exports.specs.HandleContents.{IsRead, engine_at, engine_left_at, engine_owned_at};
+ghost use Rattle.ffi_exports.specs.OpenStatuses.{IsBegunStatus, IsGoingOnStatus};
 
 use crate::handles::EngineHandle;
-use crate::loose::Loose;
-use ffi_member::absent;
+use crate::raw_box::Loose;
+use ffi_member::null_handle;
 use ffi_member::flat::FlatSettings;
-use ffi_member::resolved::FlatServed;
-use ffi_member::shown::{FlatChunk, FlatFound, FlatStored, FlatView, FlatWithheld};
-use ffi_engine::absent as absent_engine;
+use ffi_member::resolver_types::FlatServed;
+use ffi_member::view_types::{FlatChunk, FlatFound, FlatStored, FlatView, FlatWithheld};
+use ffi_engine::null_handle as absent_engine;
 use ffi_engine::begin::number_of_not_begun;
 use ffi_engine::held::HeldEngine;
-use ffi_engine::told::{
+use ffi_engine::flat::{
     FlatInput, FlatOpen, FlatOptions, FlatOutput, FlatStatus, FlatTaken,
 };
 use std::alloc::Global;
@@ -126,7 +126,7 @@ pub unsafe extern "C" fn simplex_engine_bytes(at: *mut u8, which: u32, from: u64
     ensures* { sem 𝓛 (engine_left_at at (result.status ≡ 15) (λ new. IsRead held new (ShowsChunk held which from result))) }
 {
     if at.is_null() {
-        return absent::chunk();
+        return null_handle::chunk();
     }
     hand_chunk(unsafe { &mut *(at as *mut HeldEngine) }, which, from)
 }
@@ -183,7 +183,7 @@ pub unsafe extern "C" fn simplex_engine_view(at: *mut u8, view: u64) -> FlatView
     ensures* { sem 𝓛 (engine_left_at at (result.status ≡ 15) (λ new. IsRead held new (ShowsView held view result))) }
 {
     if at.is_null() {
-        return absent::view();
+        return null_handle::view();
     }
     hand_view(unsafe { &mut *(at as *mut HeldEngine) }, view)
 }
@@ -202,7 +202,7 @@ pub unsafe extern "C" fn simplex_engine_withheld(at: *mut u8, kind: u32, view: u
     ensures* { sem 𝓛 (engine_left_at at (result.status ≡ 15) (λ new. IsRead held new (ShowsWithheld held kind view result))) }
 {
     if at.is_null() {
-        return absent::withheld();
+        return null_handle::withheld();
     }
     hand_withheld(unsafe { &mut *(at as *mut HeldEngine) }, kind, view)
 }
@@ -221,7 +221,7 @@ pub unsafe extern "C" fn simplex_engine_certificate(at: *mut u8, kind: u32, view
     ensures* { sem 𝓛 (engine_left_at at (result.status ≡ 15) (λ new. ShowsFound held kind view result new)) }
 {
     if at.is_null() {
-        return absent::found();
+        return null_handle::found();
     }
     hand_certificate(unsafe { &mut *(at as *mut HeldEngine) }, kind, view)
 }
@@ -240,7 +240,7 @@ pub unsafe extern "C" fn simplex_engine_serve(at: *mut u8, view: u64) -> FlatSer
     ensures* { sem 𝓛 (engine_left_at at (result.status ≡ 15) (λ new. ShowsServed held view result new)) }
 {
     if at.is_null() {
-        return absent::served();
+        return null_handle::served();
     }
     hand_served(unsafe { &mut *(at as *mut HeldEngine) }, view)
 }

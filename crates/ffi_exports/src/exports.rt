@@ -7,20 +7,20 @@ ghost use Rattle.std.specs.Borrow.{sem};
 ghost use Rattle.ffi_member.specs.declared.held.Held.{Held};
 ghost use Rattle.ffi_member.specs.Journals.{IsScan};
 ghost use Rattle.ffi_member.specs.Pruning.{IsPruned};
-ghost use Rattle.ffi_member.specs.Serving.{IsCallServed};
-ghost use Rattle.ffi_member.specs.Showing.{IsChunkOf, IsEntries, IsFound, IsItem, IsText, IsView};
+ghost use Rattle.ffi_member.specs.MemberHandles.{IsCallServed};
+ghost use Rattle.ffi_member.specs.ShownFacts.{IsChunkOf, IsEntries, IsFound, IsItem, IsText, IsView};
 ghost use Rattle.ffi_member.specs.Withheld.{IsWithheld};
-ghost use Rattle.ffi_exports.specs.Behind.{IsRead, held_at, member_left_at, owned_at};
-ghost use Rattle.ffi_exports.specs.Opened.{IsRestartStatus, IsResumeStatus, IsStartStatus};
+ghost use Rattle.ffi_exports.specs.HandleContents.{IsRead, held_at, member_left_at, owned_at};
+ghost use Rattle.ffi_exports.specs.OpenStatuses.{IsRestartStatus, IsResumeStatus, IsStartStatus};
 
 use crate::handles::MemberHandle;
-use crate::loose::Loose;
-use ffi_member::absent;
+use crate::raw_box::Loose;
+use ffi_member::null_handle;
 use ffi_member::flat::{FlatCall, FlatProposal, FlatReply, FlatSettings};
 use ffi_member::held::Held;
 use ffi_member::journal::scan;
-use ffi_member::showing::subject_text;
-use ffi_member::shown::{
+use ffi_member::views::subject_text;
+use ffi_member::view_types::{
     FlatChunk, FlatEntries, FlatFound, FlatItem, FlatRestart, FlatScan, FlatStored, FlatText,
     FlatView, FlatWithheld,
 };
@@ -85,7 +85,7 @@ pub unsafe extern "C" fn simplex_member_call(
     ensures* { sem 𝓛 (member_left_at at (result.status ≡ 15) (λ now. IsCallServed held call.now certificate.now result now)) }
 {
     if at.is_null() {
-        return absent::reply();
+        return null_handle::reply();
     }
     serve(unsafe { &mut *(at as *mut Held) }, call, certificate)
 }
@@ -104,7 +104,7 @@ pub unsafe extern "C" fn simplex_member_bytes(at: *mut u8, which: u32, from: u64
     ensures* { sem 𝓛 (member_left_at at (result.status ≡ 15) (λ now. IsRead held now (IsChunkOf held which from result))) }
 {
     if at.is_null() {
-        return absent::chunk();
+        return null_handle::chunk();
     }
     hand_chunk(unsafe { &mut *(at as *mut Held) }, which, from)
 }
@@ -123,7 +123,7 @@ pub unsafe extern "C" fn simplex_member_item(at: *mut u8, which: u32, index: u64
     ensures* { sem 𝓛 (member_left_at at (result.status ≡ 15) (λ now. IsRead held now (IsItem held.last which index result))) }
 {
     if at.is_null() {
-        return absent::item();
+        return null_handle::item();
     }
     hand_item(unsafe { &mut *(at as *mut Held) }, which, index)
 }
@@ -142,7 +142,7 @@ pub unsafe extern "C" fn simplex_member_certificate(at: *mut u8, kind: u32, view
     ensures* { sem 𝓛 (member_left_at at (result.status ≡ 15) (λ now. IsFound held kind view result now)) }
 {
     if at.is_null() {
-        return absent::found();
+        return null_handle::found();
     }
     hand_certificate(unsafe { &mut *(at as *mut Held) }, kind, view)
 }
@@ -161,7 +161,7 @@ pub unsafe extern "C" fn simplex_member_entries(at: *mut u8, count: u64) -> Flat
     ensures* { sem 𝓛 (member_left_at at (result.status ≡ 15) (λ now. IsEntries held count result now)) }
 {
     if at.is_null() {
-        return absent::entries();
+        return null_handle::entries();
     }
     hand_entries(unsafe { &mut *(at as *mut Held) }, count)
 }
@@ -180,7 +180,7 @@ pub unsafe extern "C" fn simplex_member_prune_record(at: *mut u8) -> FlatEntries
     ensures* { sem 𝓛 (member_left_at at (result.status ≡ 15) (λ now. IsPruned held result now)) }
 {
     if at.is_null() {
-        return absent::entries();
+        return null_handle::entries();
     }
     hand_pruned(unsafe { &mut *(at as *mut Held) })
 }
@@ -199,7 +199,7 @@ pub unsafe extern "C" fn simplex_member_view(at: *mut u8, view: u64) -> FlatView
     ensures* { sem 𝓛 (member_left_at at (result.status ≡ 15) (λ now. IsRead held now (IsView held.member.facts view result))) }
 {
     if at.is_null() {
-        return absent::view();
+        return null_handle::view();
     }
     hand_view(unsafe { &mut *(at as *mut Held) }, view)
 }
@@ -218,7 +218,7 @@ pub unsafe extern "C" fn simplex_member_withheld(at: *mut u8, kind: u32, view: u
     ensures* { sem 𝓛 (member_left_at at (result.status ≡ 15) (λ now. IsRead held now (IsWithheld held.member.facts kind view result))) }
 {
     if at.is_null() {
-        return absent::withheld();
+        return null_handle::withheld();
     }
     hand_withheld(unsafe { &mut *(at as *mut Held) }, kind, view)
 }
@@ -242,7 +242,7 @@ pub unsafe extern "C" fn simplex_member_restart(
     ensures* { sem 𝓛 (member_left_at at (result ≡ 15) (λ now. IsRestartStatus held restart.now leaders.now certificate.now result now)) }
 {
     if at.is_null() {
-        return absent::status();
+        return null_handle::status();
     }
     begin_anew(
         unsafe { &mut *(at as *mut Held) },

@@ -2,13 +2,13 @@
 
 ghost use Rattle.std.specs.Prelude.{◌≡◌, ◌⊎◌, Option, Some};
 ghost use Rattle.ffi_member.specs.declared.held.Held.{Held};
-ghost use Rattle.ffi_member.specs.declared.resolving.HeldResolver.{HeldResolver};
+ghost use Rattle.ffi_member.specs.declared.resolver_calls.HeldResolver.{HeldResolver};
 ghost use Rattle.ffi_engine.specs.declared.held.HeldEngine.{HeldEngine};
-ghost use Rattle.ffi_exports.specs.Behind.{coded_engine, coded_held, coded_resolver};
+ghost use Rattle.ffi_exports.specs.HandleContents.{coded_engine, coded_held, coded_resolver};
 
-use crate::loose::Loose;
+use crate::raw_box::Loose;
 use ffi_member::held::Held;
-use ffi_member::resolving::HeldResolver;
+use ffi_member::resolver_calls::HeldResolver;
 use ffi_engine::held::HeldEngine;
 use std::alloc::Global;
 use std::marker::Model;
@@ -22,13 +22,13 @@ pub struct MemberHandle {
 }
 
 impl Model for MemberHandle {
-    ghost use Rattle.ffi_exports.specs.Behind.{handed_at};
+    ghost use Rattle.ffi_exports.specs.HandleContents.{handed_at};
 
     ghost also_owns = { λ h. handed_at h.at h.held };
 }
 
 impl MemberHandle {
-    ghost use Rattle.ffi_exports.specs.Opened.{IsWritten};
+    ghost use Rattle.ffi_exports.specs.OpenStatuses.{IsWritten};
 
     fn of(member: Loose<Held, Global>) -> MemberHandle
         ensures { result.held ≡ Some member.value }
@@ -60,13 +60,13 @@ pub struct ResolverHandle {
 }
 
 impl Model for ResolverHandle {
-    ghost use Rattle.ffi_exports.specs.Behind.{resolver_handed_at};
+    ghost use Rattle.ffi_exports.specs.HandleContents.{resolver_handed_at};
 
     ghost also_owns = { λ h. resolver_handed_at h.at h.held };
 }
 
 impl ResolverHandle {
-    ghost use Rattle.ffi_exports.specs.Opened.{IsResolverWritten};
+    ghost use Rattle.ffi_exports.specs.OpenStatuses.{IsResolverWritten};
 
     fn of(resolver: Loose<HeldResolver, Global>) -> ResolverHandle
         ensures { result.held ≡ Some resolver.value }
@@ -98,13 +98,13 @@ pub struct EngineHandle {
 }
 
 impl Model for EngineHandle {
-    ghost use Rattle.ffi_exports.specs.Behind.{engine_handed_at};
+    ghost use Rattle.ffi_exports.specs.HandleContents.{engine_handed_at};
 
     ghost also_owns = { λ h. engine_handed_at h.at h.held };
 }
 
 impl EngineHandle {
-    ghost use Rattle.ffi_exports.specs.Opened.{IsEngineWritten};
+    ghost use Rattle.ffi_exports.specs.OpenStatuses.{IsEngineWritten};
 
     fn of(engine: Loose<HeldEngine, Global>) -> EngineHandle
         ensures { result.held ≡ Some engine.value }

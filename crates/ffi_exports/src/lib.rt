@@ -4,5 +4,5 @@
 pub mod engines;
 pub mod exports;
 pub mod handles;
-mod loose;
+mod raw_box;
 pub mod resolvers;

@@ -3,20 +3,20 @@
 
 ghost use Rattle.std.specs.Prelude.{◌≡◌};
 ghost use Rattle.std.specs.Borrow.{sem};
-ghost use Rattle.ffi_member.specs.declared.resolving.HeldResolver.{HeldResolver};
-ghost use Rattle.ffi_member.specs.Resolving.{AreOutstanding, IsEffectAt, IsHeard, IsServedFor, IsSettledAt};
-ghost use Rattle.ffi_member.specs.Showing.{IsChunk};
-ghost use Rattle.ffi_exports.specs.Behind.{IsRead, resolver_at, resolver_left_at, resolver_owned_at};
-ghost use Rattle.ffi_exports.specs.Opened.{IsReplayStatus};
+ghost use Rattle.ffi_member.specs.declared.resolver_calls.HeldResolver.{HeldResolver};
+ghost use Rattle.ffi_member.specs.ResolverHandles.{AreOutstanding, IsEffectAt, IsHeard, IsServedFor, IsSettledAt};
+ghost use Rattle.ffi_member.specs.ShownFacts.{IsChunk};
+ghost use Rattle.ffi_exports.specs.HandleContents.{IsRead, resolver_at, resolver_left_at, resolver_owned_at};
+ghost use Rattle.ffi_exports.specs.OpenStatuses.{IsReplayStatus};
 
 use crate::handles::ResolverHandle;
-use crate::loose::Loose;
-use ffi_member::absent;
-use ffi_member::resolved::{
+use crate::raw_box::Loose;
+use ffi_member::null_handle;
+use ffi_member::resolver_types::{
     FlatEffect, FlatEffects, FlatOutstanding, FlatServed, FlatSettled, FlatTold,
 };
-use ffi_member::resolving::{HeldResolver, number_of_not_replayed};
-use ffi_member::shown::FlatChunk;
+use ffi_member::resolver_calls::{HeldResolver, number_of_not_replayed};
+use ffi_member::view_types::FlatChunk;
 use std::alloc::Global;
 
 /// Starts a resolver from the bytes of a journal, and writes its handle. 0, or why there is none; then nothing is written.
@@ -47,7 +47,7 @@ pub unsafe extern "C" fn simplex_resolver_told(
     ensures* { sem 𝓛 (resolver_left_at at (result.status ≡ 15) (λ now. IsHeard held told.now certificate.now result now)) }
 {
     if at.is_null() {
-        return absent::effects();
+        return null_handle::effects();
     }
     tell(
         unsafe { &mut *(at as *mut HeldResolver) },
@@ -70,7 +70,7 @@ pub unsafe extern "C" fn simplex_resolver_effect(at: *mut u8, index: u64) -> Fla
     ensures* { sem 𝓛 (resolver_left_at at (result.status ≡ 15) (λ now. IsRead held now (IsEffectAt held.last.items index result))) }
 {
     if at.is_null() {
-        return absent::effect();
+        return null_handle::effect();
     }
     hand_effect(unsafe { &mut *(at as *mut HeldResolver) }, index)
 }
@@ -89,7 +89,7 @@ pub unsafe extern "C" fn simplex_resolver_settled(at: *mut u8, view: u64) -> Fla
     ensures* { sem 𝓛 (resolver_left_at at (result.status ≡ 15) (λ now. IsRead held now (IsSettledAt held.resolver view result))) }
 {
     if at.is_null() {
-        return absent::settled();
+        return null_handle::settled();
     }
     hand_settled(unsafe { &mut *(at as *mut HeldResolver) }, view)
 }
@@ -108,7 +108,7 @@ pub unsafe extern "C" fn simplex_resolver_outstanding(at: *mut u8) -> FlatOutsta
     ensures* { sem 𝓛 (resolver_left_at at (result.status ≡ 15) (λ now. AreOutstanding held result now)) }
 {
     if at.is_null() {
-        return absent::outstanding();
+        return null_handle::outstanding();
     }
     hand_outstanding(unsafe { &mut *(at as *mut HeldResolver) })
 }
@@ -127,7 +127,7 @@ pub unsafe extern "C" fn simplex_resolver_produce(at: *mut u8, view: u64) -> Fla
     ensures* { sem 𝓛 (resolver_left_at at (result.status ≡ 15) (λ now. IsServedFor held view result now)) }
 {
     if at.is_null() {
-        return absent::served();
+        return null_handle::served();
     }
     hand_served(unsafe { &mut *(at as *mut HeldResolver) }, view)
 }
@@ -146,7 +146,7 @@ pub unsafe extern "C" fn simplex_resolver_bytes(at: *mut u8, from: u64) -> FlatC
     ensures* { sem 𝓛 (resolver_left_at at (result.status ≡ 15) (λ now. IsRead held now (IsChunk held.served.items from result))) }
 {
     if at.is_null() {
-        return absent::chunk();
+        return null_handle::chunk();
     }
     hand_bytes(unsafe { &mut *(at as *mut HeldResolver) }, from)
 }

@@ -10,13 +10,13 @@ use Rattle.simplex_record.specs.Entries.{entries_of}
 use Rattle.ffi_member.specs.declared.flat.FlatProposal.{FlatProposal}
 use Rattle.ffi_member.specs.declared.journal.NotWritten.{NotWritten}
 use Rattle.ffi_member.specs.declared.journal.NotWritten.TheVariants as not_written
-use Rattle.ffi_member.specs.declared.shown.FlatEntries.{FlatEntries}
-use Rattle.ffi_member.specs.declared.shown.FlatItem.{FlatItem}
-use Rattle.ffi_member.specs.declared.shown.FlatStored.{FlatStored}
+use Rattle.ffi_member.specs.declared.view_types.FlatEntries.{FlatEntries}
+use Rattle.ffi_member.specs.declared.view_types.FlatItem.{FlatItem}
+use Rattle.ffi_member.specs.declared.view_types.FlatStored.{FlatStored}
 use Rattle.ffi_member.specs.Journals.{HostArtifact, IsNotWritten}
-use Rattle.ffi_member.specs.Opening.{IsFlatStored}
-use Rattle.ffi_member.specs.Serving.{IsProposalAt}
-use Rattle.ffi_member.specs.Showing.{AreShown, IsItemOr}
+use Rattle.ffi_member.specs.Resumption.{IsFlatStored}
+use Rattle.ffi_member.specs.MemberHandles.{IsProposalAt}
+use Rattle.ffi_member.specs.ShownFacts.{AreShown, IsItemOr}
 use Rattle.ffi_member.specs.Statuses.{not_written_number}
 
 -- the item of a proposal that is there or not

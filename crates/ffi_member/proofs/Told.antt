@@ -3,9 +3,9 @@ use Rattle.std.proofs.Common.{◌≡◌, ◌<◌, ◌≤◌, arith}
 use Rattle.simplex_types.specs.declared.types.messages.Proposal.{Proposal}
 use Rattle.simplex_codec.specs.declared.digest.BytesDigest.{BytesDigest}
 use Rattle.simplex_resolver.specs.Steps.{highest_named}
-use Rattle.ffi_member.specs.declared.resolved.FlatTold.{FlatTold}
+use Rattle.ffi_member.specs.declared.resolver_types.FlatTold.{FlatTold}
 use Rattle.ffi_member.specs.Calls.{IsFlatProposal}
-use Rattle.ffi_member.specs.Resolving.{HasTold, highest_told}
+use Rattle.ffi_member.specs.ResolverHandles.{HasTold, highest_told}
 
 -- each of them is one
 pub is_told_verdict : (f : FlatTold) → f.kind ≡ 4 → f.success < 2 → 1 ≤ f.proposal.round.view → HasTold f

@@ -15,7 +15,7 @@ use Rattle.ffi_member.specs.declared.journal.NotRead.{NotRead}
 use Rattle.ffi_member.specs.declared.journal.NotRead.TheVariants as not_read
 use Rattle.ffi_member.specs.declared.journal.NotWritten.{NotWritten}
 use Rattle.ffi_member.specs.declared.journal.NotWritten.TheVariants as not_written
-use Rattle.ffi_member.specs.declared.shown.FlatScan.{FlatScan}
+use Rattle.ffi_member.specs.declared.view_types.FlatScan.{FlatScan}
 
 -- an entry of a record of a member of the host
 abbrev pub HostArtifact : Type 0

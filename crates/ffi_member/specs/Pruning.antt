@@ -2,8 +2,8 @@
 use Rattle.std.specs.Prelude.{◌≡◌, length}
 use Rattle.simplex_member.specs.Pruning.{pruned_member, votes_within}
 use Rattle.ffi_member.specs.declared.held.Held.{Held}
-use Rattle.ffi_member.specs.declared.shown.FlatEntries.{FlatEntries}
-use Rattle.ffi_member.specs.Showing.{HasEntries, IsStoredBeside}
+use Rattle.ffi_member.specs.declared.view_types.FlatEntries.{FlatEntries}
+use Rattle.ffi_member.specs.ShownFacts.{HasEntries, IsStoredBeside}
 
 -- the record is pruned within the life, with the votes in it; nothing else changed, and all that is left is shown
 pub record IsPruned (old : Held) (r : FlatEntries) (new : Held) : Type 0 where

@@ -21,7 +21,7 @@ use Rattle.ffi_scheme.specs.declared.scheme.HostCertificate.{HostCertificate}
 use Rattle.ffi_scheme.specs.declared.scheme.HostKey.{HostKey}
 use Rattle.ffi_scheme.specs.declared.scheme.HostScheme.{HostScheme}
 use Rattle.ffi_scheme.specs.declared.scheme.Order.{Order}
-use Rattle.ffi_scheme.specs.Electing.{host_members, host_terms, table_of, is_early}
+use Rattle.ffi_scheme.specs.HostLeaders.{host_members, host_terms, table_of, is_early}
 use Rattle.ffi_scheme.specs.Host.{certificate_bytes, host_signer, host_keys, host_keys_below}
 use Rattle.ffi_member.specs.declared.flat.FlatSettings.{FlatSettings}
 use Rattle.ffi_member.specs.declared.settings.SettingsError.{SettingsError}

@@ -11,8 +11,8 @@ use Rattle.ffi_member.specs.declared.journal.NotRead.{NotRead}
 use Rattle.ffi_member.specs.declared.journal.NotRead.TheVariants as not_read
 use Rattle.ffi_member.specs.declared.journal.NotWritten.{NotWritten}
 use Rattle.ffi_member.specs.declared.journal.NotWritten.TheVariants as not_written
-use Rattle.ffi_member.specs.declared.opening.NotResumed.{NotResumed}
-use Rattle.ffi_member.specs.declared.opening.NotResumed.TheVariants as not_resumed
+use Rattle.ffi_member.specs.declared.resumption.NotResumed.{NotResumed}
+use Rattle.ffi_member.specs.declared.resumption.NotResumed.TheVariants as not_resumed
 use Rattle.ffi_member.specs.declared.settings.SettingsError.{SettingsError}
 use Rattle.ffi_member.specs.declared.settings.SettingsError.TheVariants as settings
 

@@ -5,10 +5,10 @@ use Rattle.simplex_voter.specs.declared.voter.withheld.Withheld.TheVariants as w
 use Rattle.simplex_voter.specs.Withheld.{finalize_withheld, notarize_withheld, nullify_withheld}
 use Rattle.ffi_member.specs.declared.kinds.VoteKind.{VoteKind}
 use Rattle.ffi_member.specs.declared.kinds.VoteKind.TheVariants as vote
-use Rattle.ffi_member.specs.declared.shown.FlatWithheld.{FlatWithheld}
+use Rattle.ffi_member.specs.declared.view_types.FlatWithheld.{FlatWithheld}
 use Rattle.ffi_member.specs.Numbers.{IsNoKind, vote_number}
-use Rattle.ffi_member.specs.Serving.{host_leader, same_host_payload}
-use Rattle.ffi_member.specs.Showing.{HostFacts, HostState}
+use Rattle.ffi_member.specs.MemberHandles.{host_leader, same_host_payload}
+use Rattle.ffi_member.specs.ShownFacts.{HostFacts, HostState}
 
 -- the number of a reason; 0 where the vote is not withheld
 abbrev pub withheld_number : Option Withheld → ℕ

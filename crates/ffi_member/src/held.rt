@@ -2,9 +2,9 @@
 
 ghost use Rattle.std.specs.Prelude.{IfOk, IfErr, ◌≡◌, ◌≤◌, MatchOption, Some, length, slice_get};
 
-use crate::asking::call_of;
+use crate::flat_calls::call_of;
 use crate::flat::{FlatCall, FlatFetch, FlatProposal, FlatReply, FlatSettings};
-use crate::replying::{HostReply, flat_proposal, flat_reply, unanswered};
+use crate::flat_replies::{HostReply, flat_proposal, flat_reply, unanswered};
 use crate::settings::{SettingsError, start_of};
 use bytes::BytesMut;
 use ffi_scheme::elector::HostElector;
@@ -41,8 +41,8 @@ pub struct Held {
 }
 
 impl Held {
-    ghost use Rattle.ffi_member.specs.Starting.{IsFresh, IsNotStarted, IsStarted};
-    ghost use Rattle.ffi_member.specs.Serving.{IsCallServed, IsFetchAt, IsProposalAt, dropped_in, fetches_in, proposals_in, reply_bytes};
+    ghost use Rattle.ffi_member.specs.MemberStart.{IsFresh, IsNotStarted, IsStarted};
+    ghost use Rattle.ffi_member.specs.MemberHandles.{IsCallServed, IsFetchAt, IsProposalAt, dropped_in, fetches_in, proposals_in, reply_bytes};
 
     /// A member that never voted, by flat settings with a table of leaders and the bytes of the floor's certificate.
     pub fn start(

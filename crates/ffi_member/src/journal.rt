@@ -7,7 +7,7 @@ ghost use Rattle.ffi_member.specs.Journals.{BeginsWithFrame, FitsFrame, IsEnding
 ghost use Rattle.ffi_member.specs.declared.journal.NotRead.TheVariants.{Damaged};
 ghost use Rattle.ffi_member.specs.declared.journal.NotWritten.TheVariants.{TooLong};
 
-use crate::shown::FlatScan;
+use crate::view_types::FlatScan;
 use bytes::BytesMut;
 use simplex_codec::artifact::{decode_artifact, encode_artifact};
 use simplex_codec::error::DecodeError;

@@ -1,7 +1,7 @@
 //! How a member's record is made short within its life.
 
 use crate::held::Held;
-use crate::shown::FlatEntries;
+use crate::view_types::FlatEntries;
 
 impl Held {
     ghost use Rattle.ffi_member.specs.Pruning.{IsPruned};

@@ -2,14 +2,14 @@
 
 ghost use Rattle.std.specs.Prelude.{◌≡◌, ◌<◌, Some, None, IfOk, IfErr, OnOk, MatchOption, length};
 ghost use Rattle.std.specs.Option.{ForSome, option_or};
-ghost use Rattle.ffi_scheme.specs.Electing.{host_members, host_terms};
+ghost use Rattle.ffi_scheme.specs.HostLeaders.{host_members, host_terms};
 ghost use Rattle.ffi_scheme.specs.Host.{certificate_bytes, host_signer, host_keys, host_keys_below};
 ghost use Rattle.ffi_member.specs.Calls.{IsFlatProposal};
 ghost use Rattle.ffi_member.specs.Settings.{IsConfig, IsSettingsErrorDue, IsElector, IsFloor, IsNoStart, IsSigner, IsSkip, IsStart, IsTerms};
 ghost use Rattle.ffi_member.specs.Numbers.{flag_number};
 ghost use Rattle.ffi_member.specs.Settings.{config_error, elector_error, flag_error, names_members, signer_error, table_error, terms_error};
 
-use crate::asking::finalization_of;
+use crate::flat_calls::finalization_of;
 use crate::flat::FlatSettings;
 use crate::numbers::flag_of;
 use ffi_scheme::elector::HostElector;

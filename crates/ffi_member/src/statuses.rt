@@ -6,7 +6,7 @@ ghost use Rattle.ffi_member.specs.Statuses.{restart_number, settings_number};
 
 use crate::held::NotStarted;
 use crate::journal::{NotRead, NotWritten};
-use crate::opening::NotResumed;
+use crate::resumption::NotResumed;
 use crate::settings::SettingsError;
 use simplex_member::member::RecoverError;
 use simplex_record::record::StartError;

@@ -4,7 +4,7 @@ use Rattle.std.specs.List.{flat_map}
 use Rattle.std.proofs.Math.Seq.{take-suc}
 use Rattle.std.proofs.lemmas.Grind.{common_steps, flat_map-append}
 use Rattle.ffi_scheme.specs.declared.scheme.Order.{Order}
-use Rattle.ffi_scheme.specs.Assembling.{signature_bytes, signed_bytes}
+use Rattle.ffi_scheme.specs.HostCertificates.{signature_bytes, signed_bytes}
 
 -- three parts, one behind the other
 pub three_behind : (old one two three first second : List ℕ) → first ≡ old ++ one → second ≡ first ++ two

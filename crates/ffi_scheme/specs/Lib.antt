@@ -1,3 +1,3 @@
-pub mod Electing
+pub mod HostLeaders
 pub mod Host
-pub mod Assembling
+pub mod HostCertificates

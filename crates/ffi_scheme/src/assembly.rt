@@ -2,7 +2,7 @@
 
 ghost use Rattle.std.specs.Prelude.{◌≡◌, refl, true, OnOk, ◌++◌};
 ghost use Rattle.ffi_scheme.specs.Host.{certificate_bytes};
-ghost use Rattle.ffi_scheme.specs.Assembling.{signed_bytes, signature_bytes};
+ghost use Rattle.ffi_scheme.specs.HostCertificates.{signed_bytes, signature_bytes};
 
 use crate::scheme::{HostCertificate, HostDigest, HostScheme, Order};
 use bytes::{BufMut, BytesMut};

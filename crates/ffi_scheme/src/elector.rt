@@ -20,7 +20,7 @@ pub struct HostElector {
 }
 
 impl HostElector {
-    ghost use Rattle.ffi_scheme.specs.Electing.{host_members, host_terms, table_of, is_early, in_table, number_in};
+    ghost use Rattle.ffi_scheme.specs.HostLeaders.{host_members, host_terms, table_of, is_early, in_table, number_in};
 
     /// The elector of this many members, who lead as the table says, whatever the certificates are.
     pub fn by_table(leaders: Vec<u32>, count: u32, terms: Terms) -> HostElector
@@ -77,7 +77,7 @@ impl HostElector {
 }
 
 impl<S: CertificateScheme> Elector<S> for HostElector {
-    ghost use Rattle.ffi_scheme.specs.Electing.{host_members, host_terms, is_early, leader_after, elected_below, early_alike};
+    ghost use Rattle.ffi_scheme.specs.HostLeaders.{host_members, host_terms, is_early, leader_after, elected_below, early_alike};
 
     ghost terms = { host_terms };
 

@@ -2,7 +2,7 @@
 
 mod evidence;
 mod journaled;
-mod living;
+mod member;
 
 pub use evidence::is_evidence;
-pub use living::{LawfulMember, run_lawfully};
+pub use member::{LawfulMember, run_lawfully};

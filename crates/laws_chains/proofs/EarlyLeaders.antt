@@ -7,9 +7,9 @@ use Rattle.simplex_types.specs.declared.types.messages.Subject.TheVariants as su
 use Rattle.simplex_voter.specs.Gaps.{first_unnullified_view}
 use Rattle.simplex_voter.specs.Parents.{has_valid_parent_span, ancestry_payload_for_child, parent_payload_for, find_parent, captured_parent_valid, verification_matches}
 use Rattle.simplex_voter.specs.Payloads.{explicit_ancestry_payload, optimistic_ancestry_payload, is_handoff_parent, is_voted_ancestor, can_chain_on}
-use Rattle.simplex_voter.specs.Proposing.{propose_answer, proposed_answer}
+use Rattle.simplex_voter.specs.ProposalRequests.{propose_answer, proposed_answer}
 use Rattle.simplex_voter.specs.Rules.{may_notarize, may_nullify, may_finalize, has_conflicting_nullify, required_certification_parent}
-use Rattle.simplex_voter.specs.Verifying.{standing}
+use Rattle.simplex_voter.specs.Verification.{standing}
 use Rattle.simplex_voter.specs.Windows.{is_admitted, in_issuance_window}
 use Rattle.simplex_record.specs.Check.{first_recover_error}
 use Rattle.simplex_record.specs.Cuts.{may_drop, pruned_entries}
@@ -24,7 +24,7 @@ use Rattle.laws_safety.proofs.agreement.Claims.{finalized_notarized}
 use Rattle.laws_safety.proofs.networks.ComputedRuns.{rises}
 use Rattle.laws_safety.proofs.networks.Continuations.{AreExecutions, network_of, backed_so, each_one, each_one-true}
 use Rattle.laws_safety.proofs.networks.ScenarioSteps.{told_in, FitsIn, ran_as_told}
-use Rattle.laws_progress.specs.Reaching.{judged_of}
+use Rattle.laws_progress.specs.ViewCauses.{judged_of}
 use Rattle.laws_chains.specs.Chains.{WasOffered, VerdictsAreOnOffers}
 use Rattle.laws_chains.specs.EarlyLeaders.{elects_by, second_of, leading_early, idle, both_lead_early, HasNoParent}
 use Rattle.laws_chains.proofs.ViewsAhead.{AllOf, each_of, each_judged}

@@ -16,8 +16,8 @@ use Rattle.simplex_types.proofs.Proposal.{same_proposal-true}
 use Rattle.simplex_round.specs.Round.{RoundFacts, is_ready, new_round}
 use Rattle.simplex_voter.specs.Certification.{candidates_answer, certification_parent_ready, certified_answer, offered_of}
 use Rattle.simplex_voter.specs.Facts.{StateFacts, Elect, round_at, round_number, round_of}
-use Rattle.simplex_voter.specs.Proposing.{propose_answer, supersede_answer}
-use Rattle.simplex_voter.specs.Verifying.{verify_answer}
+use Rattle.simplex_voter.specs.ProposalRequests.{propose_answer, supersede_answer}
+use Rattle.simplex_voter.specs.Verification.{verify_answer}
 use Rattle.simplex_voter.specs.declared.voter.candidates.CertificateFetch.{CertificateFetch}
 use Rattle.simplex_voter.specs.declared.voter.propose.ProposalRequest.{ProposalRequest}
 use Rattle.simplex_voter.specs.declared.voter.verify.Verify.{Verify}
@@ -25,10 +25,10 @@ use Rattle.simplex_voter.specs.declared.voter.verify.Verify.TheVariants as verif
 use Rattle.simplex_record.specs.declared.record.error.RecoverError.{RecoverError}
 use Rattle.simplex_record.specs.Recovery.{recover_error}
 use Rattle.simplex_record.specs.Start.{new_state}
-use Rattle.simplex_member.specs.Allowed.{is_allowed, fault_of}
+use Rattle.simplex_member.specs.CallConditions.{is_allowed, fault_of}
 use Rattle.simplex_member.specs.Calls.{CallFacts, TryPropose, SupersedeProposalRequest, TryVerify, CertifyCandidates, Certified, Told, Candidates, Judged, NotAllowed}
 use Rattle.simplex_member.specs.CallSemantics.{answer, outstanding_work_after}
-use Rattle.simplex_member.specs.Lives.{MemberFacts, IsCall, AnswersAlive, unless_refused, unless_kept, with_call, without_life}
+use Rattle.simplex_member.specs.MemberFacts.{MemberFacts, IsCall, AnswersAlive, unless_refused, unless_kept, with_call, without_life}
 use Rattle.simplex_member.specs.OutstandingWork.{OutstandingWork, no_outstanding_work, context_at, is_among, is_offered, with_open_request, with_verification, without_context}
 use Rattle.simplex_member.specs.Restarts.{RestartFacts, cut_member, new_life, retention_grows, IsRestart, IsRestartWhere}
 use Rattle.simplex_member.specs.Runs.{StepFacts, Calls, Prunes, Restarts, IsStep, IsRun}
@@ -38,7 +38,7 @@ use Rattle.laws_safety.specs.Traces.{Accepts}
 use Rattle.laws_safety.proofs.agreement.Claims.{one_proposal}
 use Rattle.laws_safety.proofs.lists.Splits.{Contains-cons_rest, only_one}
 use Rattle.laws_safety.proofs.votes.OutstandingWork.{among_others, now_among}
-use Rattle.laws_progress.specs.Reaching.{judged_by, judged_in, judged_of}
+use Rattle.laws_progress.specs.ViewCauses.{judged_by, judged_in, judged_of}
 use Rattle.laws_progress.proofs.runs.Led.{Led}
 use Rattle.laws_progress.proofs.runs.LedLives.{state_led, judged_are_notarized}
 use Rattle.laws_chains.specs.Chains.{WasOffered}

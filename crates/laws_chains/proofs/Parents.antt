@@ -15,7 +15,7 @@ use Rattle.laws_safety.specs.Replicas.{Replica, Honest, MayHaveSigned, Backed, I
 use Rattle.laws_safety.specs.Executions.{Execution, trace_of}
 use Rattle.laws_safety.proofs.agreement.Claims.{finalized_notarized}
 use Rattle.laws_safety.proofs.agreement.Quorums.{shared_member}
-use Rattle.laws_progress.specs.Reaching.{judged_of}
+use Rattle.laws_progress.specs.ViewCauses.{judged_of}
 use Rattle.laws_progress.proofs.runs.Ends.{end_shown}
 use Rattle.laws_progress.proofs.runs.Explicit.{explicit_led}
 use Rattle.laws_progress.proofs.runs.LedLives.{state_led, judged_are_notarized}

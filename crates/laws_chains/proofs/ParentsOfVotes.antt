@@ -18,7 +18,7 @@ use Rattle.simplex_voter.specs.Parents.{at_view, has_valid_parent_span, ancestry
 use Rattle.simplex_voter.specs.Rules.{NotarizeRule, FinalizeRule, was_handed_over, required_certification_parent, explicit_parent_ready}
 use Rattle.simplex_voter.proofs.Gaps.{and_parts, not_true}
 use Rattle.simplex_member.specs.OutstandingWork.{OutstandingWork}
-use Rattle.laws_safety.specs.Exactly.{proposal_at}
+use Rattle.laws_safety.specs.ExactVotes.{proposal_at}
 use Rattle.laws_safety.specs.Traces.{TraceEvent}
 use Rattle.laws_safety.proofs.votes.NotarizeVotes.{tracked_held}
 use Rattle.laws_safety.proofs.votes.NotarizeVotesShown.{NotesStand}

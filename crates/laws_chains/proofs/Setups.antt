@@ -7,7 +7,7 @@ use Rattle.simplex_record.specs.Events.{Event, SetFloor, after_event}
 use Rattle.simplex_record.specs.Recovery.{recover_error}
 use Rattle.simplex_record.specs.Start.{StartFacts, new_state}
 use Rattle.simplex_member.specs.Calls.{CallFacts, Told}
-use Rattle.simplex_member.specs.Lives.{MemberFacts, IsCall, without_life}
+use Rattle.simplex_member.specs.MemberFacts.{MemberFacts, IsCall, without_life}
 use Rattle.simplex_member.specs.Restarts.{RestartFacts, cut_member, new_life, retention_grows, RecoversByView, IsRestart, IsRestartWhere}
 use Rattle.simplex_member.specs.Runs.{StepFacts, Calls, Prunes, Restarts, IsRun}
 use Rattle.simplex_member.proofs.EventsMake.{call_by_any}
@@ -17,7 +17,7 @@ use Rattle.laws_safety.proofs.frames.Rising.{event_goes}
 use Rattle.laws_safety.proofs.frames.RunsKeep.{HoldsIn}
 use Rattle.laws_safety.proofs.lists.Splits.{Contains-cons_rest}
 use Rattle.laws_safety.proofs.lives.WithinLives.{call_outcome}
-use Rattle.laws_progress.specs.Living.{LivesWith}
+use Rattle.laws_progress.specs.NetworkStates.{LivesWith}
 
 module _ {K L D : Type 0} (same : D → D → Bool) (elect : Elect L) (P : StateFacts K L D → Type 0)
     (keeps : (x : StateFacts K L D) (e : Event K D) → P x → P (after_event same elect x e)) where

@@ -16,13 +16,13 @@ use Rattle.simplex_voter.specs.Payloads.{explicit_ancestry_payload}
 use Rattle.simplex_voter.specs.Rules.{required_certification_parent, was_handed_over}
 use Rattle.simplex_voter.specs.Certification.{certification_parent_ready, offered_of}
 use Rattle.simplex_voter.proofs.Gaps.{and_parts}
-use Rattle.simplex_member.specs.Allowed.{is_allowed, fault_of}
+use Rattle.simplex_member.specs.CallConditions.{is_allowed, fault_of}
 use Rattle.simplex_member.specs.Calls.{CallFacts, CertifyCandidates, Told, Candidates, NotAllowed}
 use Rattle.simplex_member.specs.CallSemantics.{answer}
-use Rattle.simplex_member.specs.Lives.{MemberFacts, IsCall, AnswersAlive, reply_of, unless_refused}
+use Rattle.simplex_member.specs.MemberFacts.{MemberFacts, IsCall, AnswersAlive, reply_of, unless_refused}
 use Rattle.simplex_member.specs.OutstandingWork.{OutstandingWork}
 use Rattle.simplex_member.specs.Runs.{StepFacts, Calls, Prunes, Restarts, IsStep, IsRun, IsRunFrom}
-use Rattle.laws_safety.specs.Exactly.{proposal_at}
+use Rattle.laws_safety.specs.ExactVotes.{proposal_at}
 use Rattle.laws_safety.specs.Executions.{new_member, Execution, IsExecution}
 use Rattle.laws_safety.proofs.lists.Splits.{Contains-cases}
 use Rattle.laws_chains.specs.Chains.{WasOffered}

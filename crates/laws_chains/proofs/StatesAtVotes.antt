@@ -10,15 +10,15 @@ use Rattle.simplex_types.specs.declared.types.messages.Subject.TheVariants as su
 use Rattle.simplex_voter.specs.Facts.{StateFacts, Elect, round_number}
 use Rattle.simplex_voter.specs.Rules.{NotarizeRule, NullifyRule, FinalizeRule}
 use Rattle.simplex_member.specs.Calls.{CallFacts, AddNotarization, AddNullification, AddFinalization, ConstructNotarize, ConstructNullify, ConstructFinalize, Told, Added, AddedNullification, Restarted}
-use Rattle.simplex_member.specs.Lives.{MemberFacts}
+use Rattle.simplex_member.specs.MemberFacts.{MemberFacts}
 use Rattle.simplex_member.specs.Runs.{StepFacts, Calls, Prunes, Restarts, IsStep, IsRun, IsRunFrom}
 use Rattle.laws_safety.specs.Traces.{TraceEvent, Signs, handed_in, of_floor, accepted_at, signed_in, trace_at, trace_of_steps}
-use Rattle.laws_safety.specs.Exactly.{IsExact, proposal_at, ExactAt}
+use Rattle.laws_safety.specs.ExactVotes.{IsExact, proposal_at, ExactAt}
 use Rattle.laws_safety.specs.Executions.{new_member, Execution, trace_of, IsExecution}
 use Rattle.laws_safety.proofs.agreement.Exactly.{step_exact}
 use Rattle.laws_safety.proofs.lists.Splits.{only_one}
-use Rattle.laws_progress.specs.Living.{LivesWith}
-use Rattle.laws_progress.specs.Reaching.{judged_in, judged_of}
+use Rattle.laws_progress.specs.NetworkStates.{LivesWith}
+use Rattle.laws_progress.specs.ViewCauses.{judged_in, judged_of}
 use Rattle.laws_progress.proofs.runs.Onward.{judged_joined, traces_joined}
 
 -- no vote is among what is accepted

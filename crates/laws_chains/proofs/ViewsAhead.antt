@@ -11,7 +11,7 @@ use Rattle.laws_safety.specs.Replicas.{Replica, Faulty, Honest}
 use Rattle.laws_safety.specs.ScenarioSteps.{one, two, in_turn}
 use Rattle.laws_safety.proofs.lists.Splits.{Contains-cases}
 use Rattle.laws_safety.proofs.networks.AheadNetwork.{ahead_network, ahead_finalized}
-use Rattle.laws_progress.specs.Reaching.{judged_of}
+use Rattle.laws_progress.specs.ViewCauses.{judged_of}
 use Rattle.laws_chains.specs.Parents.{EachLifetime, HandoffsAreWitnessed}
 use Rattle.laws_chains.specs.Chains.{WasOffered, VerdictsAreOnOffers, ReachesGenesis}
 use Rattle.laws_chains.proofs.ChainsToGenesis.{finalized_reach_genesis}

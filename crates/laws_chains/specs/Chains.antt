@@ -8,7 +8,7 @@ use Rattle.laws_safety.specs.Agreement.{Chain}
 use Rattle.laws_safety.specs.Continuations.{EachHonest}
 use Rattle.laws_safety.specs.Executions.{Execution}
 use Rattle.laws_safety.specs.Replicas.{Replica, Backed}
-use Rattle.laws_progress.specs.Reaching.{judged_of}
+use Rattle.laws_progress.specs.ViewCauses.{judged_of}
 use Rattle.laws_chains.specs.Parents.{EachLifetime, HandoffsAreWitnessed, IsCertifiedByHonest}
 
 -- the view that the last of these names as its parent

@@ -8,7 +8,7 @@ use Rattle.simplex_member.specs.Runs.{Restarts}
 use Rattle.laws_safety.specs.Continuations.{EachHonest, SomeHonest}
 use Rattle.laws_safety.specs.Executions.{Execution}
 use Rattle.laws_safety.specs.Replicas.{Replica, faults, max_faults, quorum, Backed}
-use Rattle.laws_progress.specs.Reaching.{judged_of}
+use Rattle.laws_progress.specs.ViewCauses.{judged_of}
 
 module _ {K L D : Type 0} where
   -- the setup of each lifetime of a member has a property

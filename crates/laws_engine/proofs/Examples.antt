@@ -12,7 +12,7 @@ use Rattle.simplex_resolver.specs.declared.resolver.effect.Effect.TheVariants as
 use Rattle.simplex_record.proofs.Examples.{Entry, proposal, round, nullify, finalize, notarization, nullification, finalization, verdict}
 use Rattle.simplex_record.proofs.RecoveryExamples.{settings}
 use Rattle.simplex_member.specs.Calls.{CallFacts, AddNotarization, AddNullification, Certified, NextTimeout}
-use Rattle.simplex_member.specs.Lives.{MemberFacts}
+use Rattle.simplex_member.specs.MemberFacts.{MemberFacts}
 use Rattle.simplex_member.specs.OutstandingWork.{no_outstanding_work}
 use Rattle.simplex_member.specs.Runs.{StepFacts, Calls, Prunes}
 use Rattle.simplex_member.specs.declared.member.calls.Reply.{Reply}
@@ -20,14 +20,14 @@ use Rattle.simplex_member.specs.declared.member.calls.Reply.TheVariants as reply
 use Rattle.laws_safety.specs.RecordsOnce.{are_alike}
 use Rattle.engine_fetches.specs.declared.fetches.FetchKind.TheVariants.{Notarization, Nullification, Decision}
 use Rattle.engine_fetches.specs.Fetches.{asked_again, due_at, fresh, opened, passed, peers_of, settled, whose_turn}
-use Rattle.engine_outbox.specs.Reaching.{is_far_below, lowest_left, lowest_of}
+use Rattle.engine_outbox.specs.RecordReach.{is_far_below, lowest_left, lowest_of}
 use Rattle.engine_outbox.specs.declared.output.Work.TheVariants.{Forget}
 use Rattle.engine_planner.specs.declared.plan.Step.TheVariants.{Resolve}
-use Rattle.engine_planner.specs.Asking.{ended_by, ends_fetch, heard_by, is_notarized}
-use Rattle.engine_planner.specs.Matters.{Matter, Duty, Expiry, given_by}
-use Rattle.simplex_engine.specs.Causes.{forgettable, heard_in, is_final}
-use Rattle.simplex_engine.specs.Failing.{IsFailure}
-use Rattle.simplex_engine.specs.Heights.{highest_heard, resolves_above}
+use Rattle.engine_planner.specs.FetchRequests.{ended_by, ends_fetch, heard_by, is_notarized}
+use Rattle.engine_planner.specs.Causes.{Matter, Duty, Expiry, given_by}
+use Rattle.simplex_engine.specs.Provenance.{forgettable, heard_in, is_final}
+use Rattle.simplex_engine.specs.Failures.{IsFailure}
+use Rattle.simplex_engine.specs.FetchHeights.{highest_heard, resolves_above}
 
 -- fetches
 

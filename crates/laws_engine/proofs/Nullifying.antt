@@ -9,19 +9,19 @@ use Rattle.simplex_types.specs.declared.reasons.TimeoutReason.{TimeoutReason}
 use Rattle.simplex_voter.specs.Facts.{Elect}
 use Rattle.simplex_voter.specs.declared.voter.verify.Verify.TheVariants as verify
 use Rattle.simplex_member.specs.Calls.{CallFacts, ConstructNullify}
-use Rattle.simplex_member.specs.Lives.{MemberFacts}
+use Rattle.simplex_member.specs.MemberFacts.{MemberFacts}
 use Rattle.simplex_member.specs.Runs.{StepFacts, Calls, Prunes, Restarts}
 use Rattle.simplex_member.specs.declared.member.calls.Reply.{Reply}
 use Rattle.simplex_member.specs.declared.member.calls.Reply.TheVariants as reply
 use Rattle.engine_fetches.specs.declared.fetches.FetchKind.{FetchKind}
-use Rattle.engine_outbox.specs.Handing.{hands_in}
-use Rattle.engine_planner.specs.Asking.{with_lack}
-use Rattle.engine_planner.specs.Matters.{Matter, Duty, Lack, Arrival, Message, Quorum, Expiry, given_by, of_task}
+use Rattle.engine_outbox.specs.CertificateCalls.{hands_in}
+use Rattle.engine_planner.specs.FetchRequests.{with_lack}
+use Rattle.engine_planner.specs.Causes.{Matter, Duty, Lack, Arrival, Message, Quorum, Expiry, given_by, of_task}
 use Rattle.engine_planner.specs.Tasks.{call_of}
 use Rattle.engine_planner.specs.declared.task.Task.{Task}
 use Rattle.engine_planner.specs.declared.task.Task.TheVariants as task
 use Rattle.engine_planner.proofs.PlannedWork.{any_either}
-use Rattle.simplex_engine.specs.Causes.{given_in, ComesBy, IsIn, IsMeant, IsStepMeant}
+use Rattle.simplex_engine.specs.Provenance.{given_in, ComesBy, IsIn, IsMeant, IsStepMeant}
 use Rattle.laws_engine.specs.Laws.{SaysDue}
 use Rattle.laws_engine.proofs.Told.{any_weaker, candidates_give_none, first_or_later, shown_gives_none}
 

@@ -3,14 +3,14 @@ use Rattle.std.proofs.Common.{◌≡◌, ap, sym, subst, ℕ, inl, inr, Bool, Li
 use Rattle.simplex_types.specs.Certificates.{CertificateFacts, Notarized, Nullified, Finalized}
 use Rattle.simplex_voter.specs.Facts.{Elect}
 use Rattle.simplex_member.specs.Calls.{CallFacts, Certified, Told, told}
-use Rattle.simplex_member.specs.Lives.{MemberFacts}
+use Rattle.simplex_member.specs.MemberFacts.{MemberFacts}
 use Rattle.simplex_member.specs.Runs.{StepFacts, Calls, Prunes, Restarts}
 use Rattle.simplex_member.specs.declared.member.calls.Reply.{Reply}
 use Rattle.engine_fetches.specs.declared.fetches.FetchKind.{FetchKind}
-use Rattle.engine_outbox.specs.Handing.{hands_in}
-use Rattle.engine_planner.specs.Asking.{with_lack}
-use Rattle.engine_planner.specs.Matters.{Matter}
-use Rattle.simplex_engine.specs.Causes.{given_in, ComesBy, IsMeant, IsStepMeant}
+use Rattle.engine_outbox.specs.CertificateCalls.{hands_in}
+use Rattle.engine_planner.specs.FetchRequests.{with_lack}
+use Rattle.engine_planner.specs.Causes.{Matter}
+use Rattle.simplex_engine.specs.Provenance.{given_in, ComesBy, IsMeant, IsStepMeant}
 use Rattle.simplex_engine.specs.declared.engine.Engine.{Engine}
 use Rattle.laws_chains.specs.Offers.{IsStepOnOffer, IsRunOnOffers}
 use Rattle.laws_engine.specs.Offers.{CallOf, GoesOnBy}

@@ -10,23 +10,23 @@ use Rattle.simplex_voter.specs.Facts.{Elect}
 use Rattle.simplex_voter.specs.declared.voter.candidates.CertificateFetch.{CertificateFetch}
 use Rattle.simplex_voter.specs.declared.voter.verify.Verify.TheVariants as verify
 use Rattle.simplex_member.specs.Calls.{CallFacts, AddNotarization, AddNullification, AddFinalization, SetProposal, Proposed, Verified, VerificationFailed, Certified, TriggerTimeout}
-use Rattle.simplex_member.specs.Lives.{MemberFacts}
+use Rattle.simplex_member.specs.MemberFacts.{MemberFacts}
 use Rattle.simplex_member.specs.Runs.{StepFacts, Calls, Prunes, Restarts}
 use Rattle.simplex_member.specs.declared.member.calls.Reply.{Reply}
 use Rattle.simplex_member.specs.declared.member.calls.Reply.TheVariants as reply
 use Rattle.engine_fetches.specs.declared.fetches.FetchKind.{FetchKind}
 use Rattle.engine_fetches.specs.declared.fetches.FetchKind.TheVariants.{Notarization}
-use Rattle.engine_outbox.specs.Handing.{hands_in}
+use Rattle.engine_outbox.specs.CertificateCalls.{hands_in}
 use Rattle.engine_outbox.specs.declared.output.Work.{Work}
 use Rattle.engine_outbox.specs.declared.output.Work.TheVariants.{Certify, ProposedTwice}
-use Rattle.engine_planner.specs.Asking.{with_lack}
-use Rattle.engine_planner.specs.Matters.{Matter, Duty, Lack, Arrival, Message, Quorum, Expiry, given_by, of_task, shown_by}
+use Rattle.engine_planner.specs.FetchRequests.{with_lack}
+use Rattle.engine_planner.specs.Causes.{Matter, Duty, Lack, Arrival, Message, Quorum, Expiry, given_by, of_task, shown_by}
 use Rattle.engine_planner.specs.PlannedWork.{AreAmong}
 use Rattle.engine_planner.specs.Tasks.{call_of}
 use Rattle.engine_planner.specs.declared.task.Task.{Task}
 use Rattle.engine_planner.specs.declared.task.Task.TheVariants as task
 use Rattle.engine_planner.proofs.PlannedWork.{any_either, among_all, among_further, among_more}
-use Rattle.simplex_engine.specs.Causes.{given_in, ComesBy, IsIn, IsMeant, IsStepMeant}
+use Rattle.simplex_engine.specs.Provenance.{given_in, ComesBy, IsIn, IsMeant, IsStepMeant}
 use Rattle.laws_engine.specs.Laws.{given_by_all, IsToldBy}
 
 pub any_weaker : {A : Type 0} (p q : A → Bool) → ((a : A) → p a ≡ true → q a ≡ true) → (items : List A) → list_any p items ≡ true → list_any q items ≡ true

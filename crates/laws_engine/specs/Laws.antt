@@ -10,10 +10,10 @@ use Rattle.simplex_member.specs.declared.member.calls.Reply.{Reply}
 use Rattle.simplex_member.specs.declared.member.calls.Reply.TheVariants.{Timeout}
 use Rattle.engine_fetches.specs.declared.fetches.FetchKind.{FetchKind}
 use Rattle.engine_outbox.specs.declared.output.Work.{Work}
-use Rattle.engine_planner.specs.Matters.{Matter, Arrival, Expiry, Message, Quorum, of_works}
+use Rattle.engine_planner.specs.Causes.{Matter, Arrival, Expiry, Message, Quorum, of_works}
 use Rattle.engine_planner.specs.PlannedWork.{AreAmong}
 use Rattle.engine_planner.specs.declared.task.Task.TheVariants as task
-use Rattle.simplex_engine.specs.Causes.{at_hand, given_in, Comes, IsIn}
+use Rattle.simplex_engine.specs.Provenance.{at_hand, given_in, Comes, IsIn}
 use Rattle.simplex_engine.specs.declared.engine.Engine.{Engine}
 
 module _ {S D K G C : Type 0} where

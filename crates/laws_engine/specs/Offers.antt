@@ -2,12 +2,12 @@
 use Rattle.std.specs.Prelude.{◌≡◌, ℕ, Bool, List, [], ◌∷◌, ◌++◌, map}
 use Rattle.simplex_voter.specs.Facts.{Elect}
 use Rattle.simplex_member.specs.Calls.{Told, told}
-use Rattle.simplex_member.specs.Lives.{MemberFacts}
+use Rattle.simplex_member.specs.MemberFacts.{MemberFacts}
 use Rattle.simplex_member.specs.Runs.{StepFacts}
 use Rattle.engine_fetches.specs.declared.fetches.FetchKind.{FetchKind}
 use Rattle.engine_outbox.specs.declared.output.Work.{Work}
-use Rattle.engine_planner.specs.Matters.{Matter}
-use Rattle.simplex_engine.specs.Causes.{Comes}
+use Rattle.engine_planner.specs.Causes.{Matter}
+use Rattle.simplex_engine.specs.Provenance.{Comes}
 use Rattle.simplex_engine.specs.declared.engine.Engine.{Engine}
 use Rattle.laws_chains.specs.Offers.{IsRunOnOffers}
 

@@ -14,16 +14,16 @@ use Rattle.simplex_record.specs.Events.{Event, IsEvent, after_event, SetFloor, A
 use Rattle.laws_history.specs.History.{History, with_event}
 use Rattle.laws_history.specs.HistoryFolds.{or_new, verdict_of_event, entered_by, moment_by, latest, sets_genesis, verdict_in, is_notarized_in, finalized_by_events, current_in, kept_in}
 use Rattle.laws_history.specs.OwnWork.{was_done, casts_nullify}
-use Rattle.laws_history.specs.Leading.{comes_to_track}
-use Rattle.laws_history.specs.Requested.{names}
-use Rattle.laws_history.specs.Timing.{enters}
-use Rattle.laws_history.specs.Shows.{Shows, kept_of, comes_up}
+use Rattle.laws_history.specs.LeaderHistory.{comes_to_track}
+use Rattle.laws_history.specs.WorkRequests.{names}
+use Rattle.laws_history.specs.Moments.{enters}
+use Rattle.laws_history.specs.HistoryFacts.{Shows, kept_of, comes_up}
 use Rattle.laws_history.proofs.Following.{FollowsEvent, left_from}
 use Rattle.laws_safety.proofs.frames.InOrder.{event_in_order}
 use Rattle.laws_history.proofs.UnchangedHistories.{from_T}
 use Rattle.laws_history.proofs.FollowingReplays.{event_follows}
 use Rattle.laws_history.proofs.EventsWorked.{event_works}
-use Rattle.laws_history.proofs.ShownRounds.{round_further}
+use Rattle.laws_history.proofs.HistoryRounds.{round_further}
 use Rattle.laws_history.proofs.ShownWork.{done_further, known_further}
 use Rattle.laws_history.proofs.Worked.{WorkFollows}
 use Rattle.laws_safety.proofs.frames.Untracked.{event_clear, event_dropped}

@@ -15,7 +15,7 @@ use Rattle.simplex_round.specs.declared.round.Certification.TheVariants as certi
 use Rattle.simplex_round.specs.Slot.{SlotFacts, after_certificate}
 use Rattle.simplex_round.specs.Round.{RoundFacts, with_notarization, with_nullification, with_finalization, certified_round, is_judged}
 use Rattle.simplex_voter.specs.Facts.{StateFacts, Elect, round_at, round_of, is_tracked, with_round}
-use Rattle.simplex_voter.specs.Entering.{at_moment, with_view_entered}
+use Rattle.simplex_voter.specs.ViewEntry.{at_moment, with_view_entered}
 use Rattle.simplex_voter.specs.Leaders.{with_elected_leader, with_window_leaders}
 use Rattle.simplex_voter.specs.Timeouts.{with_timeout}
 use Rattle.simplex_voter.specs.Certification.{named_also, with_finalized_view, with_waiting_candidate, with_verdict, takes_verdict, verdict_taken, after_certified}
@@ -26,7 +26,7 @@ use Rattle.simplex_member.specs.OutstandingWork.{is_among}
 use Rattle.simplex_record.specs.Events.{SetFloor, AddNotarization, AddNullification, AddFinalization, Certified}
 use Rattle.laws_history.specs.HistoryFolds.{entered_by}
 use Rattle.laws_history.specs.OwnWork.{contradicts}
-use Rattle.laws_history.specs.Shows.{verdict_of}
+use Rattle.laws_history.specs.HistoryFacts.{verdict_of}
 use Rattle.simplex_record.proofs.Growing.{round_of-same}
 use Rattle.laws_history.proofs.UnchangedHistories.{Known, known_of_round, UnchangedKnown, UnchangedButNumbers, UnchangedHistory, quiet, then_quiet, both_quiet, leaves_joined, quiet_where, moment_leaves, entered_leaves, raised_leaves, named_quiet, slid_quiet, triggered_quiet, elected_quiet, woken_quiet}
 use Rattle.laws_history.proofs.Following.{adds, FollowsEvent, nothing_added, put_between, put_follows}

@@ -12,17 +12,17 @@ use Rattle.simplex_round.specs.declared.round.Certification.TheVariants as certi
 use Rattle.simplex_round.specs.Slot.{after_mark}
 use Rattle.simplex_round.specs.Round.{RoundFacts, is_nullify, is_finalize, is_judged, has_no_retry, awaits_retry}
 use Rattle.simplex_voter.specs.Facts.{StateFacts, Elect, round_of, with_tracked}
-use Rattle.simplex_voter.specs.Entering.{at_moment}
+use Rattle.simplex_voter.specs.ViewEntry.{at_moment}
 use Rattle.simplex_voter.specs.Timeouts.{with_timeout, round_with_retry, after_trigger_timeout, after_next_timeout}
 use Rattle.simplex_voter.specs.Certification.{takes_certify_handle, after_candidates, after_set_certify_handle}
 use Rattle.simplex_voter.specs.declared.voter.propose.ProposalRequest.{ProposalRequest}
 use Rattle.simplex_voter.specs.declared.voter.verify.Standing.{Standing}
 use Rattle.simplex_voter.specs.declared.voter.verify.Standing.TheVariants.{NothingToDo, Invalid, Lacks, Ready}
-use Rattle.simplex_voter.specs.Proposing.{request_context, build_requested, with_build, propose_answer, after_try_propose, supersede_answer, after_supersede, after_release}
+use Rattle.simplex_voter.specs.ProposalRequests.{request_context, build_requested, with_build, propose_answer, after_try_propose, supersede_answer, after_supersede, after_release}
 use Rattle.simplex_voter.specs.Parents.{verification_matches}
-use Rattle.simplex_voter.specs.Verifying.{round_left, standing, was_scanned, scan_left, without_binding, with_mark, after_try_verify, after_verified, after_verification_failed}
+use Rattle.simplex_voter.specs.Verification.{round_left, standing, was_scanned, scan_left, without_binding, with_mark, after_try_verify, after_verified, after_verification_failed}
 use Rattle.simplex_voter.proofs.Gaps.{and_parts}
-use Rattle.laws_history.specs.Shows.{verdict_of}
+use Rattle.laws_history.specs.HistoryFacts.{verdict_of}
 use Rattle.simplex_record.proofs.Rounds.{round_changed}
 use Rattle.laws_history.proofs.UnchangedHistories.{known_of_round, decided_alike, UnchangedKnown, UnchangedButNumbers, UnchangedHistory, alike, latch_alike, alike_where, quiet, then_quiet, quiet_where, tracked_quiet, moment_leaves, triggered_quiet}
 

@@ -16,13 +16,13 @@ use Rattle.simplex_round.specs.Slot.{SlotFacts, after_own, after_vote, holds_or_
 use Rattle.simplex_round.specs.Round.{RoundFacts, new_round, after_nullify, is_pending, is_nullify, is_finalize}
 use Rattle.simplex_voter.specs.Facts.{StateFacts, Elect, round_of, round_number, with_round}
 use Rattle.simplex_voter.specs.Windows.{min_active}
-use Rattle.simplex_voter.specs.Entering.{at_moment}
+use Rattle.simplex_voter.specs.ViewEntry.{at_moment}
 use Rattle.simplex_voter.specs.Leaders.{with_next_view_ready}
 use Rattle.simplex_voter.specs.Rules.{may_notarize, may_nullify, may_finalize}
 use Rattle.simplex_voter.specs.Votes.{nullify_cast, finalize_cast, after_construct_notarize, after_construct_nullify, after_construct_finalize}
-use Rattle.simplex_voter.specs.Proposing.{proposal_of, proposed_round, proposed_answer, after_proposed}
-use Rattle.simplex_voter.specs.Verifying.{with_proposal, after_set_proposal}
-use Rattle.simplex_voter.specs.Serving.{after_broadcast_notarization, after_broadcast_nullification, after_broadcast_finalization, after_prune}
+use Rattle.simplex_voter.specs.ProposalRequests.{proposal_of, proposed_round, proposed_answer, after_proposed}
+use Rattle.simplex_voter.specs.Verification.{with_proposal, after_set_proposal}
+use Rattle.simplex_voter.specs.StateAnswers.{after_broadcast_notarization, after_broadcast_nullification, after_broadcast_finalization, after_prune}
 use Rattle.simplex_voter.proofs.Rules.{nullify_parts, finalize_parts}
 use Rattle.simplex_member.specs.OutstandingWork.{is_among}
 use Rattle.simplex_record.specs.Events.{ConstructNotarize, ConstructNullify, ConstructFinalize, SetProposal, Proposed, BroadcastNotarization, BroadcastNullification, BroadcastFinalization, Prune}

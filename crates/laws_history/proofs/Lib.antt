@@ -10,6 +10,6 @@ pub mod Worked
 pub mod work
 pub mod EventsWorked
 pub mod ShownWork
-pub mod ShownRounds
+pub mod HistoryRounds
 pub mod Events
 pub mod Lives

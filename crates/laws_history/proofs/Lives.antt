@@ -2,7 +2,7 @@
 use Rattle.std.proofs.Common.{◌≡◌, inl, inr, refl, ap, sym, ◌∙◌, subst, ℕ, ◌-◌, Bool, true, false, nat_lt, if◌then◌else◌, List, [], ◌∷◌, Option, Some, None, Result, Ok, Err}
 use Rattle.std.specs.Prelude.{map, MatchOption}
 use Rattle.simplex_types.specs.Certificates.{ArtifactFacts, NotarizeVote, NullifyVote, FinalizeVote, Verdict, Accepted, Notarized, Nullified, Finalized, artifact_facts}
-use Rattle.simplex_types.specs.Viewed.{artifact_view}
+use Rattle.simplex_types.specs.MessageViews.{artifact_view}
 use Rattle.simplex_types.specs.declared.types.fault.Fault.{Fault}
 use Rattle.simplex_voter.specs.Facts.{StateFacts, Elect}
 use Rattle.simplex_voter.specs.Windows.{min_active}
@@ -11,7 +11,7 @@ use Rattle.simplex_record.specs.declared.record.error.RecoverError.{RecoverError
 use Rattle.simplex_member.specs.OutstandingWork.{OutstandingWork}
 use Rattle.simplex_member.specs.Calls as calls
 use Rattle.simplex_member.specs.Calls.{CallFacts, Told, Restarted, NotRestarted}
-use Rattle.simplex_member.specs.Allowed.{is_allowed, fault_of}
+use Rattle.simplex_member.specs.CallConditions.{is_allowed, fault_of}
 use Rattle.simplex_member.specs.CallSemantics.{answer, after_call}
 use Rattle.simplex_record.specs.Check.{first_error, recovery_floor_rules, first_broken_after, first_recover_error}
 use Rattle.simplex_record.specs.Entries.{entry_view, entries_of}
@@ -20,11 +20,11 @@ use Rattle.laws_history.specs.History.{History, with_event}
 use Rattle.simplex_record.specs.Events.{SetFloor, AddNotarization, AddNullification, AddFinalization, Certified, Replay}
 use Rattle.simplex_member.specs.Events.{events_of}
 use Rattle.laws_history.specs.Histories.{retaken_events, with_events, with_call_events, with_entry_taken, with_entries, recovery, ShowsMember, LeadsTo}
-use Rattle.simplex_member.specs.Lives.{MemberFacts, without_life, reply_of, left_of, AnswersAlive, IsCall}
+use Rattle.simplex_member.specs.MemberFacts.{MemberFacts, without_life, reply_of, left_of, AnswersAlive, IsCall}
 use Rattle.simplex_record.specs.Recovery.{as_artifact, after_replaying, after_entry, after_kept_entry, after_entries, recovered_state, recover_error, TakesEntry, TakesEntries}
 use Rattle.simplex_member.specs.Restarts.{RestartFacts, IsByView, IsRestart, IsRestartWhere, RecoversByView, new_life, cut_member, retention_grows}
 use Rattle.simplex_member.specs.Runs.{StepFacts, Calls, Prunes, Restarts, restart_told, IsRun}
-use Rattle.laws_history.specs.Shows.{Shows}
+use Rattle.laws_history.specs.HistoryFacts.{Shows}
 use Rattle.simplex_record.specs.Start.{Setup, StartFacts, new_state}
 use Rattle.laws_history.specs.HistoryFolds.{finalized_by_events}
 use Rattle.simplex_record.proofs.Allowing.{new_bears}

@@ -15,11 +15,11 @@ use Rattle.simplex_round.specs.Round.{RoundFacts, leader_at, with_latch, is_null
 use Rattle.simplex_voter.specs.Facts.{StateFacts, Elect, round_at, round_of, round_number, is_tracked, with_round, with_tracked}
 use Rattle.simplex_voter.specs.Windows.{in_issuance_window}
 use Rattle.simplex_voter.specs.Payloads.{is_elected_early}
-use Rattle.simplex_voter.specs.Entering.{at_moment, with_view_entered, entered_round}
+use Rattle.simplex_voter.specs.ViewEntry.{at_moment, with_view_entered, entered_round}
 use Rattle.simplex_voter.specs.Leaders.{has_leader, with_leader_at, with_leader_of, opened_views, with_window_leaders, with_elected_leader, with_next_view_ready}
 use Rattle.simplex_voter.specs.Timeouts.{with_timeout, is_contradicted}
 use Rattle.simplex_voter.specs.Certification.{named_also, waits_for, with_waiting_candidate, without_token, with_finalized_view}
-use Rattle.laws_history.specs.Shows.{verdict_of}
+use Rattle.laws_history.specs.HistoryFacts.{verdict_of}
 use Rattle.simplex_record.proofs.Growing.{round_of-put, round_of-same}
 use Rattle.simplex_record.proofs.Rounds.{armed_nullify, armed_finalize, latched_nullify, latched_finalize, round_changed}
 

@@ -17,11 +17,11 @@ use Rattle.simplex_round.specs.Round.{RoundFacts}
 use Rattle.simplex_voter.specs.Facts.{Settings, StateFacts, Elect, round_of, is_tracked, with_round}
 use Rattle.simplex_member.specs.OutstandingWork.{is_among}
 use Rattle.simplex_record.specs.Events.{Event}
-use Rattle.laws_history.specs.Leading.{leader_by_event, comes_to_track}
+use Rattle.laws_history.specs.LeaderHistory.{leader_by_event, comes_to_track}
 use Rattle.laws_history.specs.OwnWork.{decides_nullify, decides_finalize}
-use Rattle.laws_history.specs.Requested.{names, sets_certification, sets_verified, asks_to_build, asks_to_verify, asks_for, binds}
+use Rattle.laws_history.specs.WorkRequests.{names, sets_certification, sets_verified, asks_to_build, asks_to_verify, asks_for, binds}
 use Rattle.laws_history.specs.HistoryFolds.{or_new}
-use Rattle.laws_history.specs.Timing.{enters, proposes, latches, retries}
+use Rattle.laws_history.specs.Moments.{enters, proposes, latches, retries}
 use Rattle.laws_history.proofs.Following.{left_from}
 use Rattle.simplex_record.proofs.Growing.{round_of-put, round_of-same}
 

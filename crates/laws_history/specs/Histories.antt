@@ -9,11 +9,11 @@ use Rattle.laws_safety.specs.Executions.{new_member}
 use Rattle.simplex_record.specs.Events.{Event, SetFloor, AddNotarization, AddNullification, AddFinalization, Certified, Replay, IsEvent, after_event}
 use Rattle.laws_history.specs.History.{History, with_event}
 use Rattle.simplex_member.specs.Events.{events_of}
-use Rattle.simplex_member.specs.Lives.{MemberFacts, IsCall}
+use Rattle.simplex_member.specs.MemberFacts.{MemberFacts, IsCall}
 use Rattle.simplex_record.specs.Recovery.{recovered_state, recover_error}
 use Rattle.simplex_member.specs.Restarts.{RestartFacts, IsByView, IsRestart, cut_member}
 use Rattle.simplex_member.specs.Runs.{StepFacts, Calls, Prunes, Restarts, IsStep, IsRun}
-use Rattle.laws_history.specs.Shows.{Shows}
+use Rattle.laws_history.specs.HistoryFacts.{Shows}
 use Rattle.simplex_record.specs.Start.{Setup, StartFacts, new_state}
 use Rattle.laws_history.specs.HistoryFolds.{finalized_by_events}
 

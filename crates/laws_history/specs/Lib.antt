@@ -1,9 +1,9 @@
 pub mod History
 pub mod HistoryFolds
 pub mod OwnWork
-pub mod Leading
-pub mod Requested
-pub mod Timing
-pub mod ShownRounds
-pub mod Shows
+pub mod LeaderHistory
+pub mod WorkRequests
+pub mod Moments
+pub mod HistoryRounds
+pub mod HistoryFacts
 pub mod Histories

@@ -9,7 +9,7 @@ use Rattle.simplex_types.specs.Config.{Finalized as FloorFinalized}
 use Rattle.simplex_types.specs.declared.types.messages.Proposal.{Proposal}
 use Rattle.simplex_round.specs.Round.{is_nullify}
 use Rattle.simplex_voter.specs.Facts.{StateFacts, Elect, round_of}
-use Rattle.simplex_voter.specs.Proposing.{proposal_of, proposed_answer}
+use Rattle.simplex_voter.specs.ProposalRequests.{proposal_of, proposed_answer}
 use Rattle.simplex_voter.specs.Rules.{may_notarize, may_nullify, may_finalize}
 use Rattle.simplex_record.specs.Events.{Event, after_event, SetFloor, AddNotarization, AddFinalization, ConstructNotarize, ConstructNullify, ConstructFinalize, SetProposal, Proposed, BroadcastNotarization, BroadcastNullification, BroadcastFinalization, Replay}
 use Rattle.laws_history.specs.HistoryFolds.{at, or_new}

@@ -5,15 +5,15 @@ use Rattle.std.specs.Io.KnownBytes.{Appends}
 use Rattle.simplex_types.specs.declared.types.fault.Fault.{Fault}
 use Rattle.simplex_types.specs.declared.types.fault.Fault.TheVariants as fault
 use Rattle.simplex_resolver.specs.Facts.{ResolverFacts, empty}
-use Rattle.simplex_resolver.specs.Received.{NamesAView}
+use Rattle.simplex_resolver.specs.ReceivedFacts.{NamesAView}
 use Rattle.simplex_resolver.specs.Steps.{Call, Replayed as EndOfReplay, Refused}
-use Rattle.simplex_resolver.specs.Told.{LawfulResolverFacts, HasBeenTold}
-use Rattle.simplex_resolver.proofs.Told.{still_told, opens_the_wanted, opens_none, opens_none_again, answers_the_told}
+use Rattle.simplex_resolver.specs.CallHistory.{LawfulResolverFacts, HasBeenTold}
+use Rattle.simplex_resolver.proofs.CallHistory.{still_told, opens_the_wanted, opens_none, opens_none_again, answers_the_told}
 use Rattle.simplex_program.specs.declared.resolver.Answer.{Answer}
 use Rattle.simplex_program.specs.declared.resolver.Answer.TheVariants as answer
 use Rattle.simplex_program.specs.declared.resolver_line.ResolverLine.{ResolverLine}
 use Rattle.simplex_program.specs.declared.resolver_line.ResolverLine.TheVariants.{Notarization, Nullification, Finalization, Certified, Replayed, Settled, KeySettled, Uncertifiable, Produce, Outstanding}
-use Rattle.simplex_program.specs.Answers.{ResolverAnswers, Calls, Reports, IsUnchanged, notarization_call, nullification_call, finalization_call, verdict_call}
+use Rattle.simplex_program.specs.ResolverReplies.{ResolverAnswers, Calls, Reports, IsUnchanged, notarization_call, nullification_call, finalization_call, verdict_call}
 use Rattle.simplex_program.specs.Line.{without_feed}
 use Rattle.simplex_program.specs.ResolverLine.{line_words}
 use Rattle.simplex_program.specs.ResolverText.{resolver_reply_text}

@@ -2,7 +2,7 @@
 use Rattle.std.specs.Prelude.{◌≡◌, ◌⊎◌, ℕ, ◌+◌, ⊤, List, [], ◌∷◌, ◌++◌, length, Option, Result, Err}
 use Rattle.std.specs.Io.KnownBytes.{Keeps, Appends}
 use Rattle.simplex_resolver.specs.Steps.{Call, Replayed as EndOfReplay}
-use Rattle.simplex_resolver.specs.Told.{LawfulResolverFacts, HasBeenTold, OpensTheWanted, OpensNone, OpensNoneAgain, AnswersTheTold}
+use Rattle.simplex_resolver.specs.CallHistory.{LawfulResolverFacts, HasBeenTold, OpensTheWanted, OpensNone, OpensNoneAgain, AnswersTheTold}
 use Rattle.simplex_program.specs.declared.mode.Mode.TheVariants.{Resolver}
 use Rattle.simplex_program.specs.declared.serve_error.ServeError.{ServeError}
 use Rattle.simplex_program.specs.declared.serve_error.ServeError.TheVariants.{OutOfMemory}
@@ -10,7 +10,7 @@ use Rattle.simplex_program.specs.declared.resolver.Answer.{Answer}
 use Rattle.simplex_program.specs.declared.resolver.Answer.TheVariants as answer
 use Rattle.simplex_program.specs.declared.resolver_line.ResolverLine.{ResolverLine}
 use Rattle.simplex_program.specs.declared.resolver_line.ResolverLine.TheVariants.{Notarization, Nullification, Finalization, Certified, Replayed}
-use Rattle.simplex_program.specs.Answers.{notarization_call, nullification_call, finalization_call, verdict_call}
+use Rattle.simplex_program.specs.ResolverReplies.{notarization_call, nullification_call, finalization_call, verdict_call}
 use Rattle.simplex_program.specs.Line.{without_feed}
 use Rattle.simplex_program.specs.Mode.{IsServed}
 use Rattle.simplex_program.specs.ResolverLine.{line_words}

@@ -5,8 +5,8 @@ use Rattle.simplex_voter.specs.Refusals.{is_too_large}
 use Rattle.laws_safety.specs.Continuations.{GoesOnToFinalize}
 use Rattle.laws_safety.specs.Replicas.{Replica, Honest, faults, max_faults, IsNetworkOf}
 use Rattle.laws_safety.specs.Executions.{Execution}
-use Rattle.laws_progress.specs.Living.{IsSetUpAs, LivesWith, EachLives}
-use Rattle.laws_progress.specs.Standing.{IsFreshStart, CanStandOn, BuildsOn, proposal_in}
+use Rattle.laws_progress.specs.NetworkStates.{IsSetUpAs, LivesWith, EachLives}
+use Rattle.laws_progress.specs.ViewPositions.{IsFreshStart, CanStandOn, BuildsOn, proposal_in}
 
 module _ (K : Type 0) {L D : Type 0} (same : D → D → Bool) (elect : Elect L) where
   -- where each honest member stands at it on one parent, the honest ones alone go on to finalize what its leader builds

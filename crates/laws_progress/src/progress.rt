@@ -2,17 +2,17 @@
 //! laws.
 
 mod continuations;
-mod going;
+mod not_stuck;
 mod instances;
-mod reaching;
-mod soon;
+mod view_causes;
+mod exchanges;
 mod starts;
 
 pub use continuations::continuations_are_honest;
-pub use going::no_network_is_stuck;
+pub use not_stuck::no_network_is_stuck;
 pub use instances::{overrun_network_is_stuck, started_networks_go_on, worked_networks_may_go_on};
-pub use reaching::views_are_led_to;
-pub use soon::starts_are_finalized_soon;
+pub use view_causes::views_are_led_to;
+pub use exchanges::starts_are_finalized_soon;
 pub use starts::{
     current_views_may_be_given_up, fresh_starts_are_finalized, none_is_decided_ahead,
 };

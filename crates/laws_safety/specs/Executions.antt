@@ -3,7 +3,7 @@ use Rattle.std.specs.Prelude.{◌≡◌, ◌⊎◌, ℕ, Bool, List, ◌++◌, C
 use Rattle.simplex_voter.specs.Facts.{Elect}
 use Rattle.simplex_record.specs.Start.{Setup, StartFacts, new_state}
 use Rattle.simplex_member.specs.Calls.{Told}
-use Rattle.simplex_member.specs.Lives.{MemberFacts}
+use Rattle.simplex_member.specs.MemberFacts.{MemberFacts}
 use Rattle.simplex_member.specs.Runs.{StepFacts, Restarts, IsRunFrom}
 use Rattle.simplex_member.specs.Start.{started_member}
 use Rattle.laws_safety.specs.Traces.{TraceEvent, of_floor, trace_of_steps}

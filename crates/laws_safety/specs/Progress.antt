@@ -4,7 +4,7 @@ use Rattle.simplex_types.specs.Certificates.{ProposalFacts, NullificationFacts}
 use Rattle.simplex_round.specs.Round.{is_judged}
 use Rattle.simplex_voter.specs.Facts.{StateFacts, Elect, round_number, round_of}
 use Rattle.simplex_voter.specs.Refusals.{has_late_deadline, is_too_large, names_too_large}
-use Rattle.simplex_member.specs.Allowed.{is_allowed, fault_of}
+use Rattle.simplex_member.specs.CallConditions.{is_allowed, fault_of}
 use Rattle.simplex_member.specs.Calls.{CallFacts, AddNullification, AddFinalization, Certified}
 use Rattle.simplex_member.specs.CallSemantics.{after_call}
 use Rattle.simplex_member.specs.OutstandingWork.{OutstandingWork}

@@ -5,7 +5,7 @@ use Rattle.simplex_record.specs.declared.record.error.RecoverError.{RecoverError
 use Rattle.simplex_member.specs.declared.member.resume.ResumeError.TheVariants.{Recover}
 use Rattle.simplex_member.specs.Calls.{Told, Restarted}
 use Rattle.simplex_member.specs.Journal.{stored_of, whole_restart, has_lost, IsResumed, IsNotResumed}
-use Rattle.simplex_member.specs.Lives.{MemberFacts}
+use Rattle.simplex_member.specs.MemberFacts.{MemberFacts}
 use Rattle.simplex_member.specs.Pruning.{pruned_member}
 use Rattle.simplex_member.specs.Restarts.{cut_member}
 use Rattle.simplex_member.specs.Runs.{StepFacts, Restarts, IsStep, IsRun, IsRefused}

@@ -5,13 +5,13 @@ use Rattle.simplex_types.specs.Certificates.{ArtifactFacts, FinalizeVote, Verdic
 use Rattle.simplex_types.specs.Config.{FloorFacts}
 use Rattle.simplex_round.specs.Round.{is_nullify}
 use Rattle.simplex_voter.specs.Facts.{StateFacts, Elect, round_of}
-use Rattle.simplex_voter.specs.Proposing.{voted_nullify}
+use Rattle.simplex_voter.specs.ProposalRequests.{voted_nullify}
 use Rattle.simplex_voter.specs.Acceptance.{after_set_floor}
 use Rattle.simplex_voter.specs.Timeouts.{has_timeout}
 use Rattle.simplex_record.specs.Events.{Event, SetFloor, Replay, IsEvent, after_event}
 use Rattle.simplex_record.specs.Recovery.{recover_error, recovered_state}
 use Rattle.simplex_record.specs.Start.{Setup, StartFacts, new_state}
-use Rattle.laws_safety.specs.LifeLaws.{CurrentTimesOut}
+use Rattle.laws_safety.specs.LifetimeLaws.{CurrentTimesOut}
 
 -- the event replays a true verdict of the view, or this member's vote to finalize it
 abbrev pub settles : {K D : Type 0} → ℕ → Event K D → Bool

@@ -11,7 +11,7 @@ use Rattle.simplex_types.specs.Certificates.{ProposalFacts, NullificationFacts, 
 use Rattle.simplex_types.specs.Encoding.{round_bytes, proposal_bytes, encoding, IsEncodableRound, IsEncodable, EncodingTellsApart}
 use Rattle.simplex_codec.specs.declared.error.DecodeError.{DecodeError}
 use Rattle.simplex_codec.specs.declared.error.DecodeError.TheVariants.{OutOfMemory, TooShort, UnknownKind, UnreadablePayload, UnreadableCertificate, UnreadableSignature, UnknownVerdict, TrailingBytes}
-use Rattle.simplex_codec.specs.Reading.{NoneHas, ReadsBack}
+use Rattle.simplex_codec.specs.Decoded.{NoneHas, ReadsBack}
 use Rattle.simplex_codec.specs.Refusals.{IsEncodableProposal, IsPayloadRefusal, IsProposalRefusal, IsRoundRefusal, IsCertificateRefusal, ReadsCertificates}
 
 pub none_read : {X : Type 0} (bytes_of : X → List ℕ) (bytes : List ℕ) (read : Option X) → ReadsBack bytes_of bytes read → read ≡ None → NoneHas bytes_of bytes

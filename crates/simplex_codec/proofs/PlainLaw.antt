@@ -13,7 +13,7 @@ use Rattle.simplex_types.specs.declared.types.plain.PlainDigest.{PlainDigest}
 use Rattle.simplex_types.specs.declared.types.plain.PlainSignature.{PlainSignature}
 use Rattle.simplex_types.specs.Encoding.{round_bytes, proposal_bytes, subject_bytes, IsEncodableRound}
 use Rattle.simplex_types.specs.Plain.{digest_bytes, same_digest}
-use Rattle.simplex_codec.specs.Reading.{NoneHas}
+use Rattle.simplex_codec.specs.Decoded.{NoneHas}
 use Rattle.simplex_codec.specs.Refusals.{IsEncodableProposal, IsEncodableSubject}
 use Rattle.simplex_codec.specs.Plain.{plain_signature_bytes, digest_if, plain_digest_of, number_at, front_round, plain_round_of, plain_proposal_of, plain_subject_of, plain_signature_of}
 

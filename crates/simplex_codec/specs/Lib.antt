@@ -1,6 +1,6 @@
 pub mod Digests
 pub mod Plain
-pub mod Reading
+pub mod Decoded
 pub mod Refusals
 pub mod Artifacts
 pub mod Frames

@@ -9,7 +9,7 @@ use Rattle.simplex_types.specs.Certificates.{certificate_facts}
 use Rattle.simplex_types.specs.Encoding.{round_bytes, proposal_bytes, encoding, IsEncodableRound, IsEncodable}
 use Rattle.simplex_codec.specs.declared.error.DecodeError.{DecodeError}
 use Rattle.simplex_codec.specs.declared.error.DecodeError.TheVariants.{OutOfMemory, TooShort, UnknownKind, UnreadablePayload, UnreadableCertificate}
-use Rattle.simplex_codec.specs.Reading.{NoneHas}
+use Rattle.simplex_codec.specs.Decoded.{NoneHas}
 
 -- its numbers fit in the bytes that an encoding has for them
 abbrev pub IsEncodableProposal : {D : Type 0} → Proposal D → Type 0

@@ -1,7 +1,7 @@
 //! What reading back asks of digests and schemes, beside what the protocol asks of them.
 
 ghost use Rattle.std.specs.Prelude.{◌≡◌, ◌++◌, List, ℕ, Option, Some, IfOk, IfSome, OnOk};
-ghost use Rattle.simplex_codec.specs.Reading.{ReadsBack};
+ghost use Rattle.simplex_codec.specs.Decoded.{ReadsBack};
 
 use bytes::BytesMut;
 use simplex_types::types::{CertificateScheme, Digest};

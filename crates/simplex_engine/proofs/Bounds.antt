@@ -7,19 +7,19 @@ use Rattle.simplex_types.specs.Terms.{next_term_start}
 use Rattle.simplex_view_maps.proofs.Terms.{start_monotone}
 use Rattle.simplex_types.specs.declared.types.messages.Subject.{Subject}
 use Rattle.simplex_types.specs.declared.types.messages.Subject.TheVariants as subject
-use Rattle.simplex_types.specs.Viewed.{subject_view}
+use Rattle.simplex_types.specs.MessageViews.{subject_view}
 use Rattle.simplex_voter.specs.Facts.{Elect, StateFacts}
 use Rattle.simplex_voter.specs.Refusals.{is_started}
 use Rattle.simplex_voter.specs.Windows.{min_active, admits_vote}
-use Rattle.laws_safety.specs.LifeLaws.{WhileAlive}
+use Rattle.laws_safety.specs.LifetimeLaws.{WhileAlive}
 use Rattle.engine_votes.specs.declared.batcher.Batcher.{Batcher}
 use Rattle.engine_outbox.specs.declared.journaled.Journaled.{Journaled}
-use Rattle.simplex_engine.specs.Admitting.{admits_votes, is_so}
+use Rattle.simplex_engine.specs.Admission.{admits_votes, is_so}
 use Rattle.engine_votes.specs.Subjects.{subject_round}
-use Rattle.engine_votes.specs.Batching.{held, AreGiven, EachVote, HoldsUpTo, HoldsFrom}
-use Rattle.simplex_engine.specs.Backing.{TakesNone}
+use Rattle.engine_votes.specs.StoredVotes.{held, AreGiven, EachVote, HoldsUpTo, HoldsFrom}
+use Rattle.simplex_engine.specs.CertificateVotes.{TakesNone}
 use Rattle.simplex_engine.specs.Bounds.{HoldsFromKept, HoldsNoneAhead, StaysBounded, HoldsAdmitted}
-use Rattle.engine_outbox.specs.Going.{GoesOn, HasRisen}
+use Rattle.engine_outbox.specs.Continuity.{GoesOn, HasRisen}
 
 module _ {L S D K G C : Type 0} where
   -- where none is below the lowest view that is kept

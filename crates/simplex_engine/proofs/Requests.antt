@@ -10,24 +10,24 @@ use Rattle.simplex_types.specs.Terms.{next_term_start}
 use Rattle.simplex_types.specs.declared.types.fault.Fault.{Fault}
 use Rattle.simplex_types.specs.declared.types.fault.Fault.TheVariants as fault
 use Rattle.simplex_voter.specs.Facts.{StateFacts, Elect}
-use Rattle.simplex_voter.specs.Proposing.{propose_answer, request_context, supersede_answer}
+use Rattle.simplex_voter.specs.ProposalRequests.{propose_answer, request_context, supersede_answer}
 use Rattle.simplex_voter.specs.Timeouts.{trigger_answer}
-use Rattle.simplex_voter.specs.Verifying.{set_proposal_answer, verified_answer, verify_answer}
+use Rattle.simplex_voter.specs.Verification.{set_proposal_answer, verified_answer, verify_answer}
 use Rattle.simplex_voter.specs.declared.voter.propose.ProposalRequest.{ProposalRequest}
 use Rattle.simplex_voter.specs.declared.voter.verify.Verify.{Verify}
 use Rattle.simplex_voter.specs.declared.voter.verify.Verify.TheVariants as verify
 use Rattle.simplex_voter.proofs.Found.{find-filtered}
-use Rattle.simplex_member.specs.Allowed.{is_allowed, fault_of}
+use Rattle.simplex_member.specs.CallConditions.{is_allowed, fault_of}
 use Rattle.simplex_member.specs.Calls as call
 use Rattle.simplex_member.specs.Calls.{Told}
 use Rattle.simplex_member.specs.CallSemantics.{answer, outstanding_work_after}
-use Rattle.simplex_member.specs.Lives.{MemberFacts, AnswersAlive, IsCall, unless_refused, unless_kept, with_call}
+use Rattle.simplex_member.specs.MemberFacts.{MemberFacts, AnswersAlive, IsCall, unless_refused, unless_kept, with_call}
 use Rattle.simplex_member.specs.OutstandingWork.{OutstandingWork, context_at, with_open_request, with_verification, without_context}
 use Rattle.laws_safety.proofs.votes.OutstandingWork.{now_open, still_open}
 use Rattle.laws_safety.proofs.votes.Requests.{requested_ahead}
 use Rattle.engine_planner.specs.declared.task.Task.{Task}
 use Rattle.engine_planner.specs.declared.task.Task.TheVariants as task
-use Rattle.engine_planner.specs.Following.{Nothing, Touched}
+use Rattle.engine_planner.specs.Consequences.{Nothing, Touched}
 use Rattle.engine_planner.specs.PlannedWork.{ended_in, ends, views_requested}
 use Rattle.engine_planner.specs.Tasks.{call_of}
 

@@ -12,7 +12,7 @@ use Rattle.simplex_record.specs.Recovery.{recover_error}
 use Rattle.simplex_record.specs.Start.{new_state}
 use Rattle.simplex_member.specs.Calls.{Told}
 use Rattle.simplex_member.specs.CallSemantics.{outstanding_work_after}
-use Rattle.simplex_member.specs.Lives.{MemberFacts, IsCall, SignedMember, without_life}
+use Rattle.simplex_member.specs.MemberFacts.{MemberFacts, IsCall, SignedMember, without_life}
 use Rattle.simplex_member.specs.Restarts.{RestartFacts, cut_member, new_life, retention_grows, RecoversByView, IsRestart, IsRestartWhere}
 use Rattle.simplex_member.specs.OutstandingWork.{OutstandingWork, no_outstanding_work}
 use Rattle.simplex_member.specs.declared.member.journal.Stored.{Stored}
@@ -23,20 +23,20 @@ use Rattle.engine_outbox.specs.declared.journaled.Journaled.{Journaled}
 use Rattle.engine_outbox.specs.declared.output.Output.{Output}
 use Rattle.engine_outbox.specs.declared.output.Output.TheVariants as output
 use Rattle.engine_outbox.specs.declared.output.Work.{Work}
-use Rattle.engine_outbox.specs.Handing.{hands_in}
-use Rattle.engine_outbox.specs.Going.{GoesOn, HasRisen}
-use Rattle.engine_outbox.proofs.Going.{risen_not}
-use Rattle.laws_safety.specs.LifeLaws.{WhileAlive}
-use Rattle.simplex_engine.specs.Views.{HasComeTo}
+use Rattle.engine_outbox.specs.CertificateCalls.{hands_in}
+use Rattle.engine_outbox.specs.Continuity.{GoesOn, HasRisen}
+use Rattle.engine_outbox.proofs.Continuity.{risen_not}
+use Rattle.laws_safety.specs.LifetimeLaws.{WhileAlive}
+use Rattle.simplex_engine.specs.MemberViews.{HasComeTo}
 use Rattle.engine_outbox.specs.Outputs.{work_in}
 use Rattle.engine_outbox.proofs.Working.{work_in-append}
-use Rattle.simplex_engine.specs.Duties.{work_ahead, IsToldIn, KeepsDuties, KeepsTaken, HasToldAll, AllIsGivenOut}
+use Rattle.simplex_engine.specs.ApplicationWork.{work_ahead, IsToldIn, KeepsDuties, KeepsTaken, HasToldAll, AllIsGivenOut}
 use Rattle.engine_planner.specs.declared.task.Task.{Task}
 use Rattle.engine_planner.specs.Tasks.{call_of}
 use Rattle.engine_planner.specs.PlannedWork.{AreAmong, awaits, beside_of, constants_of, is_build_of, views_requested, work_planned, work_of, IsPlanned, KeepsPlanned, KeepsPlannedThen, PlansAnswerThen}
 use Rattle.engine_outbox.specs.Outboxes.{QueuesMore}
-use Rattle.simplex_engine.proofs.Building.{come_beside, come_same, early_anyway, early_further, early_planned, near_by_views, near_kept, near_same, risen_on, risen_same}
-use Rattle.simplex_engine.proofs.Duties.{IsWorkIn, among_behind, among_swapped, block_further, told_among, told_by, told_none, waits_as_before, work_among, work_by_call}
+use Rattle.simplex_engine.proofs.BuildBounds.{come_beside, come_same, early_anyway, early_further, early_planned, near_by_views, near_kept, near_same, risen_on, risen_same}
+use Rattle.simplex_engine.proofs.ApplicationWork.{IsWorkIn, among_behind, among_swapped, block_further, told_among, told_by, told_none, waits_as_before, work_among, work_by_call}
 use Rattle.simplex_engine.proofs.Requests.{near_by_call, open_by_call}
 use Rattle.engine_planner.proofs.PlannedWork.{among_all, among_both, among_further, among_more, among_still, has_further, keeps_own, plans_same, planned-append}
 

@@ -4,7 +4,7 @@ use Rattle.simplex_types.specs.Terms.{next_term_start}
 use Rattle.simplex_voter.specs.Windows.{min_active, admits_vote}
 use Rattle.engine_votes.specs.declared.batcher.Batcher.{Batcher}
 use Rattle.engine_outbox.specs.declared.journaled.Journaled.{Journaled}
-use Rattle.engine_votes.specs.Batching.{EachVote, HoldsUpTo, HoldsFrom}
+use Rattle.engine_votes.specs.StoredVotes.{EachVote, HoldsUpTo, HoldsFrom}
 
 module _ {S L D K G C : Type 0} (keys_of : S → List K) where
   -- each vote that is held is a member's, and of a view that is not above those whose votes the member's state takes

@@ -6,11 +6,11 @@
 ghost use Rattle.std.specs.Prelude.{◌≡◌, ◌++◌, [], length, Contains, None, Err, if◌then◌else◌, IfOk, IfErr, IfSome, OnOk, OnErr, IsNone, IsFalse, IsTrue, true, false};
 ghost use Rattle.std.specs.Option.{option_copied};
 ghost use Rattle.simplex_types.specs.declared.types.fault.Fault.TheVariants.{OutOfMemory, Failed};
-ghost use Rattle.simplex_engine.specs.Failing.{IsFailure};
+ghost use Rattle.simplex_engine.specs.Failures.{IsFailure};
 
-mod asking;
+mod calls;
 mod begin;
-mod counting;
+mod votes;
 mod inputs;
 mod steps;
 
@@ -49,34 +49,34 @@ impl<S: Assembly<D>, L: Elector<S>, D: Digest> Engine<S, L, D> {
     ghost use Rattle.simplex_record.specs.Entries.{entries_of};
     ghost use Rattle.simplex_record.specs.Votes.{votes_of};
     ghost use Rattle.laws_safety.specs.Lawful.{IsLawful};
-    ghost use Rattle.laws_safety.specs.Living.{OfAllDone, MayBeDoneBy};
+    ghost use Rattle.laws_safety.specs.MemberHistory.{OfAllDone, MayBeDoneBy};
     ghost use Rattle.laws_safety.specs.RecordsOnce.{HoldsEachEntryOnce};
     ghost use Rattle.engine_outbox.specs.Outputs.{AreBehind};
-    ghost use Rattle.engine_outbox.specs.Finals.{finals_in, RiseByView, EndsAt, TellsNoMore, WereAccepted};
+    ghost use Rattle.engine_outbox.specs.Finalizations.{finals_in, RiseByView, EndsAt, TellsNoMore, WereAccepted};
     ghost use Rattle.engine_outbox.specs.Journals.{journal_of, IsRecordOf};
-    ghost use Rattle.engine_outbox.specs.Leaving.{AllLeave};
-    ghost use Rattle.engine_outbox.specs.Reaching.{IsShort};
-    ghost use Rattle.engine_outbox.specs.Going.{IsKept, IsTraced, IsWhole, GoesOn, EmitsOn, DoesMoreOn, HasGivenOut, has_failed};
+    ghost use Rattle.engine_outbox.specs.EmittedVotes.{AllLeave};
+    ghost use Rattle.engine_outbox.specs.RecordReach.{IsShort};
+    ghost use Rattle.engine_outbox.specs.Continuity.{IsKept, IsTraced, IsWhole, GoesOn, EmitsOn, DoesMoreOn, HasGivenOut, has_failed};
     ghost use Rattle.engine_outbox.specs.Signatures.{IsSignedBy};
-    ghost use Rattle.engine_outbox.specs.Stops.{EachStopIsLawful};
+    ghost use Rattle.engine_outbox.specs.HostStops.{EachStopIsLawful};
     ghost use Rattle.engine_outbox.specs.declared.output.Output.TheVariants as output;
-    ghost use Rattle.simplex_engine.specs.Settled.{IsSettled, ReturnsFirst};
+    ghost use Rattle.simplex_engine.specs.AtRest.{IsSettled, ReturnsFirst};
     ghost use Rattle.engine_planner.specs.PlannedWork.{constants_of, AreAmong};
-    ghost use Rattle.engine_planner.specs.Planning.{IsIdle, IsWake};
+    ghost use Rattle.engine_planner.specs.PlanStates.{IsIdle, IsWake};
     ghost use Rattle.simplex_engine.specs.Inputs.{subject_in, given_out};
-    ghost use Rattle.simplex_engine.specs.Alone.{ForgetsNoOther};
-    ghost use Rattle.simplex_engine.specs.Backing.{votes_of_input, KeepsVotes, TakesVotes, TakesNone, IsBackedInput};
+    ghost use Rattle.simplex_engine.specs.OwnSteps.{ForgetsNoOther};
+    ghost use Rattle.simplex_engine.specs.CertificateVotes.{votes_of_input, KeepsVotes, TakesVotes, TakesNone, IsBackedInput};
     ghost use Rattle.simplex_engine.specs.Bounds.{HoldsFromKept, HoldsNoneAhead, StaysBounded, HoldsAdmitted};
-    ghost use Rattle.simplex_engine.specs.Building.{BuildsAhead, BuildsNear};
-    ghost use Rattle.simplex_engine.specs.Lacking.{AsksForItsLacking};
-    ghost use Rattle.simplex_engine.specs.Heights.{AsksNoHigher};
-    ghost use Rattle.simplex_engine.specs.Views.{HasComeTo, StaysEarly};
-    ghost use Rattle.simplex_engine.specs.Dropping.{IsDropped};
-    ghost use Rattle.simplex_engine.specs.Admitting.{is_input_admitted, one_more, IsTurnedAway, ignoring};
-    ghost use Rattle.simplex_engine.specs.Acting.{IsActedOn};
-    ghost use Rattle.simplex_engine.specs.Causes.{came_in, forgettable, held_by, Comes, ComesWith};
+    ghost use Rattle.simplex_engine.specs.BuildBounds.{BuildsAhead, BuildsNear};
+    ghost use Rattle.simplex_engine.specs.MissingCertificates.{AsksForItsLacking};
+    ghost use Rattle.simplex_engine.specs.FetchHeights.{AsksNoHigher};
+    ghost use Rattle.simplex_engine.specs.MemberViews.{HasComeTo, StaysEarly};
+    ghost use Rattle.simplex_engine.specs.DroppedInputs.{IsDropped};
+    ghost use Rattle.simplex_engine.specs.Admission.{is_input_admitted, one_more, IsTurnedAway, ignoring};
+    ghost use Rattle.simplex_engine.specs.InputEffects.{IsActedOn};
+    ghost use Rattle.simplex_engine.specs.Provenance.{came_in, forgettable, held_by, Comes, ComesWith};
     ghost use Rattle.engine_outbox.specs.Outputs.{work_in};
-    ghost use Rattle.simplex_engine.specs.Duties.{work_ahead, KeepsTelling, HasToldAll, AllIsGivenOut};
+    ghost use Rattle.simplex_engine.specs.ApplicationWork.{work_ahead, KeepsTelling, HasToldAll, AllIsGivenOut};
 
     /// Takes an input at a moment in milliseconds, and returns whether it was of use. One that was not is ignored and counted.
     ///

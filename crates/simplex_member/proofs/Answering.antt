@@ -7,12 +7,12 @@ use Rattle.simplex_types.specs.declared.types.fault.Fault.{Fault}
 use Rattle.simplex_types.specs.declared.types.fault.Fault.TheVariants as fault
 use Rattle.simplex_voter.specs.Facts.{StateFacts, Elect}
 use Rattle.simplex_voter.specs.Refusals.{is_started}
-use Rattle.simplex_member.specs.Allowed.{is_allowed, fault_of, needs_room, may_fall}
+use Rattle.simplex_member.specs.CallConditions.{is_allowed, fault_of, needs_room, may_fall}
 use Rattle.simplex_member.specs.Calls.{CallFacts, Told, Refused, NotAllowed}
-use Rattle.simplex_member.specs.Lives.{MemberFacts, without_life, with_call, IsCall}
+use Rattle.simplex_member.specs.MemberFacts.{MemberFacts, without_life, with_call, IsCall}
 use Rattle.simplex_member.specs.CallSemantics.{answer, after_call, outstanding_work_after, recorded_by}
 use Rattle.simplex_member.specs.OutstandingWork.{OutstandingWork}
-use Rattle.simplex_member.specs.Parts.{IsLoss}
+use Rattle.simplex_member.specs.PartialFailures.{IsLoss}
 use Rattle.simplex_member.specs.MethodContracts.{IsAnswered}
 use Rattle.simplex_member.proofs.CallsKeepSettings.{goes}
 

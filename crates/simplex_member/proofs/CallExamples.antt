@@ -11,12 +11,12 @@ use Rattle.simplex_voter.specs.Facts.{StateFacts, new_facts}
 use Rattle.simplex_voter.specs.Gaps.{first_unnullified_view}
 use Rattle.simplex_voter.specs.Parents.{has_valid_parent_span, ancestry_payload_for_child, parent_payload_for, find_parent, captured_parent_valid, verification_matches}
 use Rattle.simplex_voter.specs.Payloads.{explicit_ancestry_payload, optimistic_ancestry_payload, is_handoff_parent, is_voted_ancestor, can_chain_on}
-use Rattle.simplex_voter.specs.Proposing.{propose_answer, proposed_answer}
+use Rattle.simplex_voter.specs.ProposalRequests.{propose_answer, proposed_answer}
 use Rattle.simplex_voter.specs.Rules.{may_notarize, may_nullify, may_finalize, has_conflicting_nullify, required_certification_parent}
-use Rattle.simplex_voter.specs.Verifying.{standing}
+use Rattle.simplex_voter.specs.Verification.{standing}
 use Rattle.simplex_voter.specs.Windows.{is_admitted, in_issuance_window}
 use Rattle.simplex_member.specs.Calls.{CallFacts, AddNotarization, SetProposal, TryPropose, Proposed, TryVerify, Verified, CertifyCandidates, SetCertifyHandle, ConstructNullify, Told, Added, Requested, Answered, Standing, Candidates, Nullify, Done, Refused, NotAllowed}
-use Rattle.simplex_member.specs.Lives.{MemberFacts, reply_of, left_of}
+use Rattle.simplex_member.specs.MemberFacts.{MemberFacts, reply_of, left_of}
 use Rattle.simplex_member.specs.Start.{started_member}
 use Rattle.simplex_record.proofs.Examples.{Entry, proposal, round, floor_at, finalization}
 use Rattle.simplex_record.proofs.RecoveryExamples.{in_turn, settings}

@@ -8,9 +8,9 @@ use Rattle.simplex_types.specs.Certificates.{CertificateFacts, Notarized, Nullif
 use Rattle.simplex_view_maps.proofs.Maps.{is_eq-nat_cmp}
 use Rattle.simplex_round.specs.Round.{RoundFacts, once}
 use Rattle.simplex_voter.specs.Facts.{StateFacts, Elect, round_at, round_of, with_round, with_tracked}
-use Rattle.simplex_voter.specs.Serving.{broadcast_notarization_answer, after_broadcast_notarization, broadcast_nullification_answer, after_broadcast_nullification, broadcast_finalization_answer, after_broadcast_finalization}
+use Rattle.simplex_voter.specs.StateAnswers.{broadcast_notarization_answer, after_broadcast_notarization, broadcast_nullification_answer, after_broadcast_nullification, broadcast_finalization_answer, after_broadcast_finalization}
 use Rattle.simplex_member.specs.Calls.{BroadcastNotarization, BroadcastNullification, BroadcastFinalization, Told, Handed}
-use Rattle.simplex_member.specs.Lives.{MemberFacts}
+use Rattle.simplex_member.specs.MemberFacts.{MemberFacts}
 use Rattle.simplex_member.specs.MethodContracts.{IsAnswered, HasNoneLeft}
 use Rattle.simplex_member.proofs.Voted.{at_life, from_life}
 

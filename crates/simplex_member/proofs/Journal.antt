@@ -15,7 +15,7 @@ use Rattle.simplex_record.specs.Entries.{entries_of}
 use Rattle.simplex_record.specs.Votes.{votes_of}
 use Rattle.simplex_member.specs.Journal.{stored_facts, has_lost, IsResumed, IsNotResumed}
 use Rattle.simplex_record.specs.Recovery.{with_floor}
-use Rattle.simplex_member.specs.Remade.{IsRemadeBy, IsRefusedBy}
+use Rattle.simplex_member.specs.RestartedStates.{IsRemadeBy, IsRefusedBy}
 use Rattle.simplex_member.specs.Restarts.{IsRestart}
 use Rattle.simplex_record.specs.Start.{StartFacts}
 use Rattle.simplex_member.proofs.Restarts.{gone_on, not_gone_on}

@@ -8,8 +8,8 @@ pub mod CallsKeepSettings
 pub mod Answering
 pub mod MethodContracts
 pub mod Pruning
-pub mod Parts
+pub mod PartialFailures
 pub mod Voted
 pub mod HandedOut
 pub mod Opening
-pub mod Waiting
+pub mod WaitingValues

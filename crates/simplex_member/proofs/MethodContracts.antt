@@ -4,9 +4,9 @@ use Rattle.std.proofs.lemmas.List.{append-nil}
 use Rattle.simplex_types.specs.declared.types.fault.Fault.{Fault}
 use Rattle.simplex_types.specs.declared.types.fault.Fault.TheVariants as fault
 use Rattle.simplex_voter.specs.Facts.{StateFacts, Elect}
-use Rattle.simplex_member.specs.Allowed.{is_allowed, fault_of}
+use Rattle.simplex_member.specs.CallConditions.{is_allowed, fault_of}
 use Rattle.simplex_member.specs.Calls.{CallFacts, AddNotarization, AddNullification, AddFinalization, SetProposal, TryPropose, Proposed, SupersedeProposalRequest, PendingHandoffAbandonment, ReleaseProposalRequest, TryVerify, Verified, VerificationFailed, ConstructNotarize, CertifyCandidates, SetCertifyHandle, Certified, ConstructNullify, ConstructFinalize, BroadcastNotarization, BroadcastNullification, BroadcastFinalization, GetBestCertificate, TriggerTimeout, NextTimeout, Prune, Told, Refused, NotAllowed}
-use Rattle.simplex_member.specs.Lives.{MemberFacts, HasGrown, with_call, unless_refused, unless_kept, Answers, AnswersAlive, IsCall}
+use Rattle.simplex_member.specs.MemberFacts.{MemberFacts, HasGrown, with_call, unless_refused, unless_kept, Answers, AnswersAlive, IsCall}
 use Rattle.simplex_member.specs.CallSemantics.{answer, recorded_by}
 use Rattle.simplex_member.specs.OutstandingWork.{OutstandingWork}
 use Rattle.simplex_member.specs.MethodContracts.{is_reply_to, IfAnswered, IfRefused, IsAnswered, UnchangedButLife}

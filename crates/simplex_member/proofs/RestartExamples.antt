@@ -3,11 +3,11 @@ use Rattle.std.proofs.Common.{◌≡◌, refl, ℕ, true, false, List, [], ◌�
 use Rattle.simplex_types.specs.Config.{Genesis}
 use Rattle.simplex_voter.specs.Facts.{StateFacts, new_facts}
 use Rattle.simplex_voter.specs.Windows.{min_active}
-use Rattle.simplex_voter.specs.Serving.{notarization_of, prune_answer, after_prune}
+use Rattle.simplex_voter.specs.StateAnswers.{notarization_of, prune_answer, after_prune}
 use Rattle.simplex_member.specs.OutstandingWork.{no_outstanding_work}
 use Rattle.simplex_record.specs.Cuts.{may_drop, pruned_entries}
 use Rattle.simplex_member.specs.Journal.{has_lost}
-use Rattle.simplex_member.specs.Lives.{MemberFacts}
+use Rattle.simplex_member.specs.MemberFacts.{MemberFacts}
 use Rattle.simplex_record.specs.Recovery.{after_kept_entry, recovered_state}
 use Rattle.simplex_member.specs.Pruning.{pruned_member}
 use Rattle.simplex_member.specs.Restarts.{retention_grows, cut_member}

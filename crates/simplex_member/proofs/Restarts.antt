@@ -5,7 +5,7 @@ use Rattle.std.specs.List.Sorted.{IsNonDecreasingBy, IsStableByKey, ties}
 use Rattle.std.specs.Ordering.{is_lt, nat_cmp}
 use Rattle.std.proofs.lemmas.Bool.Decides.{nat_tests}
 use Rattle.std.proofs.lemmas.List.{get_or-map, length-map}
-use Rattle.simplex_types.specs.Viewed.{artifact_view}
+use Rattle.simplex_types.specs.MessageViews.{artifact_view}
 use Rattle.simplex_types.specs.Certificates.{ArtifactFacts, Accepted, Finalized, artifact_facts, finalization_facts}
 use Rattle.simplex_types.specs.declared.types.messages.Artifact.{Artifact}
 use Rattle.simplex_types.specs.declared.types.messages.Artifact.TheVariants as artifact
@@ -16,12 +16,12 @@ use Rattle.simplex_record.specs.Check.{stands}
 use Rattle.simplex_record.specs.Entries.{entries_of, entry_view}
 use Rattle.simplex_voter.specs.Facts.{StateFacts, Elect}
 use Rattle.simplex_member.specs.OutstandingWork.{no_outstanding_work}
-use Rattle.simplex_member.specs.Lives.{MemberFacts, without_life}
-use Rattle.simplex_member.specs.Remade.{IsRefusedBy, IsRemadeBy}
+use Rattle.simplex_member.specs.MemberFacts.{MemberFacts, without_life}
+use Rattle.simplex_member.specs.RestartedStates.{IsRefusedBy, IsRemadeBy}
 use Rattle.simplex_record.specs.Recovery.{recover_error, is_finalization_entry, with_finalization_entry, with_floor}
 use Rattle.simplex_member.specs.Restarts.{IsByView, RecoversByView}
 use Rattle.simplex_record.specs.Start.{StartFacts, IsErrorDue, new_state}
-use Rattle.simplex_record.proofs.Seen.{entries_from, view_of_entry}
+use Rattle.simplex_record.proofs.CheckState.{entries_from, view_of_entry}
 
 view_ties : (v w : ℕ) → (not (is_lt (nat_cmp v w)) && not (is_lt (nat_cmp w v))) ≡ (w == v)
 view_ties v w = grind (arith, nat_tests)

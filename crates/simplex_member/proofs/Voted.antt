@@ -13,7 +13,7 @@ use Rattle.simplex_voter.specs.Votes.{nullify_cast, notarize_cast, after_constru
 use Rattle.simplex_voter.proofs.Rules.{nullify_parts, notarize_round, finalize_parts}
 use Rattle.simplex_voter.proofs.Proposals.{round_of-prepared}
 use Rattle.simplex_member.specs.Calls.{ConstructNotarize, ConstructNullify, ConstructFinalize, Told, Notarize, Nullify, Finalize}
-use Rattle.simplex_member.specs.Lives.{MemberFacts}
+use Rattle.simplex_member.specs.MemberFacts.{MemberFacts}
 use Rattle.simplex_member.specs.CallSemantics.{nullify_vote, notarize_vote, finalize_vote}
 use Rattle.simplex_member.specs.MethodContracts.{IsAnswered, HasNotarizeVote, HasNullifyVote, HasFinalizeVote}
 use Rattle.simplex_record.proofs.Growing.{round_of-same}

@@ -6,7 +6,7 @@ use Rattle.simplex_member.specs.declared.member.journal.Stored.{Stored}
 use Rattle.simplex_member.specs.declared.member.resume.ResumeError.{ResumeError}
 use Rattle.simplex_member.specs.declared.member.resume.ResumeError.TheVariants as error
 use Rattle.simplex_member.specs.OutstandingWork.{no_outstanding_work}
-use Rattle.simplex_member.specs.Lives.{MemberFacts, SignedMember}
+use Rattle.simplex_member.specs.MemberFacts.{MemberFacts, SignedMember}
 use Rattle.simplex_member.specs.Restarts.{RestartFacts, IsRestart}
 use Rattle.simplex_record.specs.Cuts.{is_vote}
 use Rattle.simplex_record.specs.Start.{StartFacts}

@@ -9,7 +9,7 @@ use Rattle.simplex_types.specs.declared.types.messages.Proposal.{Proposal}
 use Rattle.simplex_voter.specs.declared.voter.propose.ProposalRequest.{ProposalRequest}
 use Rattle.simplex_voter.specs.declared.voter.verify.Verify.{Verify}
 use Rattle.simplex_voter.specs.declared.voter.verify.Verify.TheVariants.{Ready, Resolve, Wait}
-use Rattle.simplex_voter.specs.Proposing.{request_context}
+use Rattle.simplex_voter.specs.ProposalRequests.{request_context}
 
 -- what is open
 pub record OutstandingWork (K D : Type 0) : Type 0 where

@@ -5,7 +5,7 @@ use Rattle.simplex_voter.specs.Facts.{StateFacts, is_tracked}
 use Rattle.simplex_record.specs.Cuts.{finalized_in}
 use Rattle.simplex_record.specs.Entries.{entry_view}
 use Rattle.simplex_record.specs.Votes.{SignedVote}
-use Rattle.simplex_member.specs.Lives.{MemberFacts}
+use Rattle.simplex_member.specs.MemberFacts.{MemberFacts}
 use Rattle.simplex_member.specs.Restarts.{closed_at}
 
 module _ {K L D : Type 0} where

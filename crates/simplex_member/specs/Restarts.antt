@@ -10,7 +10,7 @@ use Rattle.simplex_record.specs.declared.record.error.RecoverError.TheVariants a
 use Rattle.simplex_record.specs.Entries.{entry_view}
 use Rattle.simplex_record.specs.Cuts.{without_last, pruned_entries}
 use Rattle.simplex_member.specs.OutstandingWork.{no_outstanding_work}
-use Rattle.simplex_member.specs.Lives.{MemberFacts, without_life}
+use Rattle.simplex_member.specs.MemberFacts.{MemberFacts, without_life}
 use Rattle.simplex_record.specs.Votes.{SignedVote, pruned_votes}
 use Rattle.simplex_record.specs.Recovery.{recovered_state, recover_error, with_floor}
 use Rattle.simplex_record.specs.Start.{StartFacts, start_facts, new_state}

@@ -5,7 +5,7 @@ use Rattle.simplex_voter.specs.Facts.{StateFacts, Elect}
 use Rattle.simplex_voter.specs.Acceptance.{after_set_floor}
 use Rattle.simplex_record.specs.Recovery.{with_floor}
 use Rattle.simplex_member.specs.OutstandingWork.{no_outstanding_work}
-use Rattle.simplex_member.specs.Lives.{MemberFacts}
+use Rattle.simplex_member.specs.MemberFacts.{MemberFacts}
 
 -- a member whose state sets the floor, and whose record is the floor's finalization
 abbrev pub started_member : {K L D : Type 0} → (D → D → Bool) → Elect L → StateFacts K L D → FloorFacts D → ℕ → MemberFacts K L D

@@ -12,7 +12,7 @@ use Rattle.simplex_resolver.specs.Steps.{Call, after, effects, highest_named, up
 use Rattle.simplex_resolver.specs.Repair.{IsApplied}
 use Rattle.simplex_program.specs.declared.resolver.Answer.{Answer}
 use Rattle.simplex_program.specs.declared.resolver.Answer.TheVariants.{Effects}
-use Rattle.simplex_program.specs.Answers.{Reports, IsProposedAt, nullification_call, verdict_call}
+use Rattle.simplex_program.specs.ResolverReplies.{Reports, IsProposedAt, nullification_call, verdict_call}
 use Rattle.simplex_program.specs.Plain.{round_in_epoch}
 
 -- `made` is the call that was made, `call` the one that the line stands for

@@ -4,7 +4,7 @@ pub mod Mode
 pub mod ResolverLine
 pub mod Status
 pub mod Line
-pub mod Answers
+pub mod ResolverReplies
 pub mod VoterLine
 pub mod Plain
 pub mod Setup

@@ -8,7 +8,7 @@ use Rattle.simplex_types.specs.declared.types.plain.PlainElector.{PlainElector}
 use Rattle.simplex_types.specs.declared.types.plain.PlainKey.{PlainKey}
 use Rattle.simplex_types.specs.Plain.{digest_bytes, leader_in_turn}
 use Rattle.simplex_member.specs.Calls.{CallFacts}
-use Rattle.simplex_member.specs.Lives.{MemberFacts}
+use Rattle.simplex_member.specs.MemberFacts.{MemberFacts}
 
 -- two payloads have the same bytes
 abbrev pub same_payload : PlainDigest → PlainDigest → Bool

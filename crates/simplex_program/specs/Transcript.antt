@@ -12,7 +12,7 @@ use Rattle.simplex_program.specs.declared.resolver.Answer.{Answer}
 use Rattle.simplex_program.specs.declared.resolver_line.ResolverLine.{ResolverLine}
 use Rattle.simplex_program.specs.declared.voter.VoterAnswer.{VoterAnswer}
 use Rattle.simplex_program.specs.declared.voter_line.VoterLine.{VoterLine}
-use Rattle.simplex_program.specs.Answers.{ResolverAnswers}
+use Rattle.simplex_program.specs.ResolverReplies.{ResolverAnswers}
 use Rattle.simplex_program.specs.Line.{without_feed, IsNextLine}
 use Rattle.simplex_program.specs.Plain.{PlainMember}
 use Rattle.simplex_program.specs.ResolverLine.{HasSmallView, line_words}

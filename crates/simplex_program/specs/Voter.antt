@@ -10,7 +10,7 @@ use Rattle.simplex_types.specs.Plain.{digest_bytes}
 use Rattle.simplex_voter.specs.Facts.{StateFacts}
 use Rattle.simplex_voter.specs.Windows.{min_active}
 use Rattle.simplex_member.specs.Calls.{AddNotarization, AddNullification, AddFinalization, SetProposal, TryPropose, Proposed, SupersedeProposalRequest, PendingHandoffAbandonment, ReleaseProposalRequest, TryVerify, Verified, VerificationFailed, ConstructNotarize, CertifyCandidates, SetCertifyHandle, Certified, ConstructNullify, ConstructFinalize, BroadcastNotarization, BroadcastNullification, BroadcastFinalization, GetBestCertificate, TriggerTimeout, NextTimeout, Prune as PruneCall, told}
-use Rattle.simplex_member.specs.Lives.{IsCall}
+use Rattle.simplex_member.specs.MemberFacts.{IsCall}
 use Rattle.simplex_member.specs.Restarts.{IsRestart}
 use Rattle.simplex_record.specs.Start.{StartFacts}
 use Rattle.simplex_program.specs.declared.network.Network.{Network}

@@ -13,7 +13,7 @@ use Rattle.simplex_types.specs.declared.types.plain.PlainSignature.{PlainSignatu
 use Rattle.simplex_types.specs.declared.types.fault.Fault.TheVariants as fault
 use Rattle.simplex_types.specs.Plain.{digest_bytes}
 use Rattle.simplex_types.specs.Reasons.{kind_text, timeout_reason_text, handoff_abandoned_reason_text}
-use Rattle.simplex_types.specs.Viewed.{certificate_view}
+use Rattle.simplex_types.specs.MessageViews.{certificate_view}
 use Rattle.simplex_voter.specs.declared.voter.candidates.CertificateFetch.{CertificateFetch}
 use Rattle.simplex_voter.specs.declared.voter.propose.ProposalRequest.{ProposalRequest}
 use Rattle.simplex_voter.specs.declared.voter.propose.ProposalRequest.TheVariants as request

@@ -5,7 +5,7 @@ ghost use Rattle.simplex_types.specs.declared.types.fault.Fault.TheVariants.{Out
 ghost use Rattle.simplex_resolver.specs.Facts.{empty};
 ghost use Rattle.simplex_resolver.specs.Steps.{Replayed};
 ghost use Rattle.simplex_resolver.specs.Repair.{IsApplied};
-ghost use Rattle.simplex_program.specs.Answers.{ResolverAnswers, Calls, Reports, IsProposedAt, notarization_call, nullification_call, finalization_call, verdict_call};
+ghost use Rattle.simplex_program.specs.ResolverReplies.{ResolverAnswers, Calls, Reports, IsProposedAt, notarization_call, nullification_call, finalization_call, verdict_call};
 ghost use Rattle.simplex_program.specs.declared.resolver.Answer.TheVariants.{Effects as AreEffects, Fault as IsFault};
 
 use crate::resolver_line::ResolverLine;

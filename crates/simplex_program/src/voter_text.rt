@@ -3,7 +3,7 @@
 ghost use Rattle.std.specs.Prelude.{◌≡◌, ◌++◌, ◌∷◌, [], map, codes, decimal, Some};
 ghost use Rattle.std.specs.List.{flat_map};
 ghost use Rattle.std.specs.Fmt.{WritesOnOk};
-ghost use Rattle.simplex_types.specs.Viewed.{certificate_view};
+ghost use Rattle.simplex_types.specs.MessageViews.{certificate_view};
 ghost use Rattle.simplex_program.specs.Texts.{text_of};
 ghost use Rattle.simplex_program.specs.VoterText.{voter_reply_words, reply_words, equivocator_word, request_words, context_words, verify_words, certificate_word, proposal_words, offer_word, fetch_word};
 ghost use Rattle.simplex_program.specs.Words.{flag_word};

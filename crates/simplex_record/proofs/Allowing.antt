@@ -18,7 +18,7 @@ use Rattle.simplex_record.specs.Check.{stands, is_notarization, is_verdict, is_n
 use Rattle.simplex_record.specs.Recovery.{after_adding, after_replaying, after_entry, after_kept_entry, GivesVerdict, TakesEntry, TakesNext, TakesEntries}
 use Rattle.simplex_record.proofs.Recovery.{added_goes}
 use Rattle.simplex_record.proofs.Taking.{taken_goes}
-use Rattle.simplex_record.proofs.Seen.{view_of_entry, from_not_false, none_left}
+use Rattle.simplex_record.proofs.CheckState.{view_of_entry, from_not_false, none_left}
 use Rattle.simplex_record.proofs.Growing.{round_of-same}
 use Rattle.simplex_record.proofs.GrowingStates.{added_kept}
 use Rattle.simplex_record.proofs.EntryRules.{GoodRound, Allowed, entry_parent, allowed, round_of_entry, small_entry, none_first}

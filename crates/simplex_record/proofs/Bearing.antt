@@ -8,7 +8,7 @@ use Rattle.simplex_round.specs.Round.{RoundFacts, certified_round, is_judged, is
 use Rattle.simplex_round.specs.declared.round.Decision.TheVariants.{Nullify, Finalize}
 use Rattle.simplex_voter.specs.Facts.{StateFacts, Elect, round_of, is_tracked, with_round}
 use Rattle.simplex_voter.specs.Windows.{min_active}
-use Rattle.simplex_voter.specs.Entering.{at_moment}
+use Rattle.simplex_voter.specs.ViewEntry.{at_moment}
 use Rattle.simplex_voter.specs.Leaders.{with_elected_leader}
 use Rattle.simplex_voter.specs.Certification.{with_verdict, verdict_taken}
 use Rattle.simplex_voter.specs.Acceptance.{with_notarization_at}

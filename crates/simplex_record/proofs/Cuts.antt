@@ -3,13 +3,13 @@ use Rattle.std.proofs.Common.{◌≡◌, refl, sym, ap, ◌∙◌, ℕ, zero, su
 use Rattle.std.proofs.lemmas.Bool.Decides.{nat_tests}
 use Rattle.std.proofs.lemmas.Option.{slice_get-map}
 use Rattle.std.specs.Ordering.{nat_cmp, is_lt, ord_max}
-use Rattle.simplex_types.specs.Viewed.{artifact_view}
+use Rattle.simplex_types.specs.MessageViews.{artifact_view}
 use Rattle.std.proofs.lemmas.List.{take-map, length-map}
 use Rattle.simplex_types.specs.Certificates.{ArtifactFacts, artifact_facts}
 use Rattle.simplex_types.specs.declared.types.messages.Artifact.{Artifact}
 use Rattle.simplex_record.specs.Entries.{entries_of, entry_view}
 use Rattle.simplex_record.specs.Cuts.{is_vote, may_drop, without_last, finalized_by, finalized_in}
-use Rattle.simplex_record.proofs.Seen.{entries_from, view_of_entry}
+use Rattle.simplex_record.proofs.CheckState.{entries_from, view_of_entry}
 
 shut : (closed n : ℕ) (b : Bool) → n ≤ closed → false ≡ (nat_lt closed n && b)
 shut closed n b most = let past : nat_lt closed n ≡ false = grind (arith, nat_tests) in rw past refl

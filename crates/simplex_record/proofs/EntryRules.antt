@@ -14,7 +14,7 @@ use Rattle.simplex_record.specs.declared.record.error.RecoverError.{RecoverError
 use Rattle.simplex_record.specs.declared.record.error.RecoverError.TheVariants as error
 use Rattle.simplex_record.specs.Entries.{certificate_round, certificate_parent, entry_round}
 use Rattle.simplex_record.specs.Check.{first_error, round_rules, vote_rules, own_rules, beside_rules, entry_rules, lacks_notarization, contradicts_verdict, meets_opposite, contradicts_vote, lacks_true_verdict}
-use Rattle.simplex_record.proofs.Seen.{from_not_false, unbroken, rest_unbroken, none_left, first_error-append}
+use Rattle.simplex_record.proofs.CheckState.{from_not_false, unbroken, rest_unbroken, none_left, first_error-append}
 
 pub none_first : (a b : Option RecoverError) → option_or a b ≡ None → a ≡ None
 none_first None b h = refl

@@ -14,7 +14,7 @@ use Rattle.simplex_round.specs.declared.round.Certification.{Certification}
 use Rattle.simplex_round.specs.declared.round.Certification.TheVariants.{Ready, Outstanding, Judged, Aborted}
 use Rattle.simplex_round.specs.Round.{RoundFacts, new_round, is_judged, is_nullify, is_finalize, with_latch, after_abort, awaits_retry, token_of, with_notarization}
 use Rattle.simplex_voter.specs.Facts.{StateFacts, round_of, round_number, with_round}
-use Rattle.simplex_voter.specs.Entering.{entered_round}
+use Rattle.simplex_voter.specs.ViewEntry.{entered_round}
 use Rattle.simplex_voter.specs.Certification.{without_token}
 use Rattle.simplex_record.proofs.Rounds.{armed_nullify, armed_finalize, latched_nullify, latched_finalize, awaited_nullify, round_changed}
 

@@ -1,4 +1,4 @@
-pub mod Seen
+pub mod CheckState
 pub mod Cuts
 pub mod Votes
 pub mod Examples

@@ -22,7 +22,7 @@ use Rattle.simplex_round.specs.Round.{RoundFacts, new_round, with_decision_deadl
 use Rattle.simplex_voter.specs.Facts.{StateFacts, Elect, round_at, round_of, round_number, is_tracked, with_round, with_tracked}
 use Rattle.simplex_voter.specs.Windows.{in_issuance_window}
 use Rattle.simplex_voter.specs.Payloads.{is_elected_early}
-use Rattle.simplex_voter.specs.Entering.{at_moment, with_view_entered, entered_round}
+use Rattle.simplex_voter.specs.ViewEntry.{at_moment, with_view_entered, entered_round}
 use Rattle.simplex_voter.specs.Leaders.{has_leader, with_leader_at, with_leader_of, with_window_leaders, with_elected_leader, with_next_view_ready}
 use Rattle.simplex_voter.specs.Timeouts.{with_timeout, is_contradicted, round_with_retry}
 use Rattle.simplex_voter.specs.Certification.{named_also, with_finalized_view, waits_for, with_waiting_candidate, with_verdict, verdict_taken, after_certified, takes_verdict, takes_certify_handle, after_set_certify_handle}
@@ -31,8 +31,8 @@ use Rattle.simplex_voter.specs.Parents.{verification_matches}
 use Rattle.simplex_voter.specs.Rules.{may_notarize, may_nullify, may_finalize}
 use Rattle.simplex_voter.specs.Votes.{nullify_cast, finalize_cast, after_construct_notarize, after_construct_nullify, after_construct_finalize}
 use Rattle.simplex_voter.specs.declared.voter.propose.ProposalRequest.{ProposalRequest}
-use Rattle.simplex_voter.specs.Proposing.{request_context, propose_answer, proposed_answer, supersede_answer, context_stands, with_build, proposed_round, proposal_of, after_proposed}
-use Rattle.simplex_voter.specs.Verifying.{with_mark, without_binding, after_set_proposal}
+use Rattle.simplex_voter.specs.ProposalRequests.{request_context, propose_answer, proposed_answer, supersede_answer, context_stands, with_build, proposed_round, proposal_of, after_proposed}
+use Rattle.simplex_voter.specs.Verification.{with_mark, without_binding, after_set_proposal}
 use Rattle.simplex_voter.specs.Refusals.{is_started}
 use Rattle.simplex_voter.specs.Replay.{bound_again, restored_binding}
 use Rattle.simplex_voter.proofs.Gaps.{and_parts, not_true}

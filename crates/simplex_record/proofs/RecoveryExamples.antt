@@ -6,7 +6,7 @@ use Rattle.simplex_types.specs.Config.{FloorFacts, Genesis}
 use Rattle.simplex_voter.specs.Facts.{Settings, StateFacts, Elect, new_facts}
 use Rattle.simplex_voter.specs.Windows.{is_admitted}
 use Rattle.simplex_voter.specs.Rules.{may_nullify, may_finalize, has_conflicting_nullify, required_certification_parent}
-use Rattle.simplex_voter.specs.Serving.{notarization_of, nullification_of}
+use Rattle.simplex_voter.specs.StateAnswers.{notarization_of, nullification_of}
 use Rattle.simplex_voter.specs.Votes.{nullify_answer, finalize_answer}
 use Rattle.simplex_record.specs.declared.record.error.RecoverError.TheVariants as error
 use Rattle.simplex_record.specs.Check.{first_recover_error}

@@ -15,7 +15,7 @@ use Rattle.simplex_record.specs.Recovery.{after_entries, recovered_state, recove
 use Rattle.simplex_record.specs.Start.{IsErrorDue}
 use Rattle.simplex_record.proofs.UnchangedSettings.{event_goes, floor_goes, still_in_time}
 use Rattle.simplex_record.specs.Events.{SetFloor}
-use Rattle.simplex_record.proofs.Seen.{none_left}
+use Rattle.simplex_record.proofs.CheckState.{none_left}
 use Rattle.simplex_record.proofs.Taking.{all_taken_goes}
 use Rattle.simplex_record.proofs.GrowingStates.{floor_view, floor_kept}
 use Rattle.simplex_record.proofs.EntryRules.{none_first}

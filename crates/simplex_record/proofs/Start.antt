@@ -14,7 +14,7 @@ use Rattle.simplex_record.specs.declared.record.error.RecoverError.TheVariants a
 use Rattle.simplex_record.specs.Check.{first_error, recovery_floor_rules, first_recover_error}
 use Rattle.simplex_record.specs.Recovery.{recover_error}
 use Rattle.simplex_record.specs.Start.{IsErrorDue, error_of}
-use Rattle.simplex_record.proofs.Seen.{unbroken, rest_unbroken, from_not_false, option_or_none}
+use Rattle.simplex_record.proofs.CheckState.{unbroken, rest_unbroken, from_not_false, option_or_none}
 
 all_of : (a b c : Bool) → a ≡ true → b ≡ true → c ≡ true → (a && b && c) ≡ true
 all_of a b c h k l = rw (h, k, l) refl

@@ -17,15 +17,15 @@ use Rattle.simplex_round.specs.declared.round.Certification.TheVariants as certi
 use Rattle.simplex_round.specs.Slot.{after_own, after_vote, after_mark}
 use Rattle.simplex_round.specs.Round.{RoundFacts, is_nullify, is_finalize, is_judged, token_of, after_abort, certified_round, with_latch, with_recovered, awaits_retry}
 use Rattle.simplex_voter.specs.Facts.{StateFacts, Elect, round_of, is_tracked, with_round}
-use Rattle.simplex_voter.specs.Entering.{at_moment, entered_round}
+use Rattle.simplex_voter.specs.ViewEntry.{at_moment, entered_round}
 use Rattle.simplex_voter.specs.Certification.{without_token}
 use Rattle.simplex_voter.specs.Acceptance.{nullified_also}
 use Rattle.simplex_voter.specs.Parents.{verification_matches}
 use Rattle.simplex_voter.specs.Rules.{may_notarize}
-use Rattle.simplex_voter.specs.Proposing.{build_requested, proposed_round, proposed_answer}
-use Rattle.simplex_voter.specs.Verifying.{standing, verifying_round, with_request, scan_left}
+use Rattle.simplex_voter.specs.ProposalRequests.{build_requested, proposed_round, proposed_answer}
+use Rattle.simplex_voter.specs.Verification.{standing, verifying_round, with_request, scan_left}
 use Rattle.simplex_voter.specs.declared.voter.verify.Standing.TheVariants.{Ready}
-use Rattle.simplex_voter.specs.Serving.{after_prune}
+use Rattle.simplex_voter.specs.StateAnswers.{after_prune}
 use Rattle.simplex_voter.specs.Replay.{restored_binding}
 use Rattle.simplex_record.specs.Events.{Event, IsEvent, SetFloor, AddNotarization, AddNullification, AddFinalization, Certified, ConstructNotarize, ConstructNullify, ConstructFinalize, SetProposal, Proposed, TryVerify, Verified, VerificationFailed, SetCertifyHandle, NextTimeout, Replay}
 use Rattle.simplex_record.specs.Events.{covers_from, finalized_by_event, is_prune}

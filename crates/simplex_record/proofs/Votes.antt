@@ -3,7 +3,7 @@ use Rattle.std.proofs.Common.{◌≡◌, refl, sym, ap, ◌∙◌, ℕ, suc, ◌
 use Rattle.std.specs.Option.{option_map_or}
 use Rattle.std.proofs.lemmas.List.Elements.{filter-append}
 use Rattle.simplex_types.specs.Certificates.{ArtifactFacts, artifact_facts}
-use Rattle.simplex_types.specs.Viewed.{artifact_view}
+use Rattle.simplex_types.specs.MessageViews.{artifact_view}
 use Rattle.simplex_types.specs.declared.types.messages.Artifact.{Artifact}
 use Rattle.simplex_types.specs.declared.types.messages.Artifact.TheVariants as artifact
 use Rattle.simplex_record.specs.Cuts.{is_vote, may_drop}

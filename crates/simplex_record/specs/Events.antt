@@ -8,11 +8,11 @@ use Rattle.simplex_types.specs.declared.types.messages.Proposal.{Proposal}
 use Rattle.simplex_voter.specs.Facts.{StateFacts, Elect}
 use Rattle.simplex_voter.specs.Acceptance.{takes_floor, takes_proposal_certificate, takes_nullification, after_set_floor, after_add_notarization, after_add_nullification, after_add_finalization}
 use Rattle.simplex_voter.specs.Certification.{takes_verdict, takes_certify_handle, after_certified, after_candidates, after_set_certify_handle}
-use Rattle.simplex_voter.specs.Proposing.{after_try_propose, after_proposed, after_supersede, after_release}
+use Rattle.simplex_voter.specs.ProposalRequests.{after_try_propose, after_proposed, after_supersede, after_release}
 use Rattle.simplex_voter.specs.Replay.{TakesReplay}
-use Rattle.simplex_voter.specs.Serving.{after_broadcast_notarization, after_broadcast_nullification, after_broadcast_finalization, after_prune}
+use Rattle.simplex_voter.specs.StateAnswers.{after_broadcast_notarization, after_broadcast_nullification, after_broadcast_finalization, after_prune}
 use Rattle.simplex_voter.specs.Timeouts.{after_trigger_timeout, after_next_timeout}
-use Rattle.simplex_voter.specs.Verifying.{takes_proposal, after_set_proposal, after_try_verify, after_verified, after_verification_failed}
+use Rattle.simplex_voter.specs.Verification.{takes_proposal, after_set_proposal, after_try_verify, after_verified, after_verification_failed}
 use Rattle.simplex_voter.specs.Votes.{after_construct_notarize, after_construct_nullify, after_construct_finalize}
 use Rattle.simplex_record.specs.Recovery.{as_artifact, after_replaying}
 

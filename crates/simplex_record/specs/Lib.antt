@@ -1,7 +1,7 @@
 pub mod Errors
 pub mod Entries
 pub mod Check
-pub mod Seen
+pub mod CheckState
 pub mod Cuts
 pub mod Votes
 pub mod Recovery

@@ -11,7 +11,7 @@ use Rattle.simplex_resolver.specs.declared.resolver.effect.Effect.{Effect}
 use Rattle.simplex_resolver.specs.declared.resolver.effect.Effect.TheVariants.{Settled, Raised}
 use Rattle.simplex_resolver.specs.Facts.{ResolverFacts, term_length, last_finalized, starts_term}
 use Rattle.simplex_resolver.specs.Steps.{Call, Nullification, Notarization, Finalization, Verdict, Replayed, scan_start, scan_end, scan_fetches, missing_fetches, missing, without_finalized, with_kept_finalization, before_scan, settle_effects, after, effects}
-use Rattle.simplex_resolver.specs.Received.{NamesAView, greatest, floor_raised_to, current_view, are_alike}
+use Rattle.simplex_resolver.specs.ReceivedFacts.{NamesAView, greatest, floor_raised_to, current_view, are_alike}
 use Rattle.simplex_resolver.specs.Repair.{fetches, facts_of, RecordedAgainFetchesNothing}
 use Rattle.simplex_resolver.proofs.Terms.{AreTerms, terms}
 use Rattle.simplex_resolver.proofs.Anchors.{uncovered-none}

@@ -12,8 +12,8 @@ use Rattle.simplex_types.specs.declared.reasons.Kind.{Kind}
 use Rattle.simplex_types.specs.declared.reasons.Kind.TheVariants.{Nullification as OfNullification, Notarization as OfNotarization}
 use Rattle.simplex_resolver.specs.Facts.{ResolverFacts, empty, term_length, last_finalized, covering_encoding, certified_encoding}
 use Rattle.simplex_resolver.specs.Steps.{Call, Nullification, Notarization, Finalization, Verdict, Replayed, before_scan, after}
-use Rattle.simplex_resolver.specs.Held.{is_settled, or_else, finalized_for, floor_for}
-use Rattle.simplex_resolver.specs.Received.{NamesAView, greatest, finalized_view, floor_raised_to, finalized_of, floor_of, is_true_verdict, is_false_verdict, is_notarizing, is_covering, WasMade}
+use Rattle.simplex_resolver.specs.Served.{is_settled, or_else, finalized_for, floor_for}
+use Rattle.simplex_resolver.specs.ReceivedFacts.{NamesAView, greatest, finalized_view, floor_raised_to, finalized_of, floor_of, is_true_verdict, is_false_verdict, is_notarizing, is_covering, WasMade}
 use Rattle.simplex_resolver.specs.Repair.{facts_of}
 use Rattle.simplex_resolver.specs.Answers.{is_settled_by, is_failed_by, Source, OfFinalization, OfCertified, OfNullified, covering_view, bringing, ServesReceived, NoContradiction, AnswersAreOfTheReceived}
 use Rattle.simplex_resolver.proofs.Terms.{covers_upto}

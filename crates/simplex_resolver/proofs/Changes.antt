@@ -11,7 +11,7 @@ use Rattle.simplex_resolver.specs.declared.resolver.effect.Effect.{Effect}
 use Rattle.simplex_resolver.specs.declared.resolver.effect.Effect.TheVariants.{Settled, Finalized, Raised}
 use Rattle.simplex_resolver.specs.Facts.{ResolverFacts, term_length, last_finalized, starts_term}
 use Rattle.simplex_resolver.specs.Steps.{Call, Nullification, Notarization, Finalization, Verdict, Replayed, insert_new, with_kept_nullification, with_kept_finalization, without_finalized, after_raise, raise_effects, before_scan, settle_effects}
-use Rattle.simplex_resolver.specs.Received.{finalized_view, floor_raised_to, current_view, is_covering, is_false_verdict, is_notarizing, is_replayed, NamesAView}
+use Rattle.simplex_resolver.specs.ReceivedFacts.{finalized_view, floor_raised_to, current_view, is_covering, is_false_verdict, is_notarizing, is_replayed, NamesAView}
 use Rattle.simplex_resolver.specs.Repair.{fetches, settles, is_outstanding}
 use Rattle.simplex_resolver.proofs.Terms.{covers_upto}
 use Rattle.simplex_resolver.proofs.Maps.{any_key-insert_new, contains-insert, contains-insert_new, contains-at_or_above, has_covering-not_ended}

@@ -7,7 +7,7 @@ use Rattle.simplex_resolver.specs.declared.replay.error.ReplayError.TheVariants 
 use Rattle.simplex_types.specs.declared.reasons.Kind.TheVariants.{Notarization as OfNotarization}
 use Rattle.simplex_resolver.specs.Facts.{empty}
 use Rattle.simplex_resolver.specs.Answers.{OfFinalization, OfCertified, OfNullified, source}
-use Rattle.simplex_resolver.specs.Received.{is_wanted}
+use Rattle.simplex_resolver.specs.ReceivedFacts.{is_wanted}
 use Rattle.simplex_resolver.specs.RecordCalls.{newest_notarization}
 use Rattle.simplex_resolver.specs.RecordRules.{record_error}
 use Rattle.simplex_resolver.specs.Repair.{facts_of}

@@ -11,7 +11,7 @@ use Rattle.simplex_view_maps.specs.Tracked.{at_or_above}
 use Rattle.simplex_view_maps.proofs.Maps.{get-insert, get-kept}
 use Rattle.simplex_resolver.specs.Facts.{ResolverFacts, term_length, last_finalized, certified_encoding, starts_term}
 use Rattle.simplex_resolver.specs.Steps.{Call, Nullification, Notarization, Finalization, Verdict, Replayed, insert_new, with_kept_nullification, with_kept_finalization, without_finalized, before_scan}
-use Rattle.simplex_resolver.specs.Received.{is_true_verdict, is_false_verdict}
+use Rattle.simplex_resolver.specs.ReceivedFacts.{is_true_verdict, is_false_verdict}
 use Rattle.simplex_resolver.proofs.Maps.{contains-insert, contains-insert_new, contains-kept}
 use Rattle.simplex_resolver.proofs.Changes.{last-put}
 

@@ -17,5 +17,5 @@ pub mod ViewSets
 pub mod Sound
 pub mod CallLists
 pub mod Replayed
-pub mod Told
+pub mod CallHistory
 pub mod Made

@@ -5,11 +5,11 @@ use Rattle.simplex_types.specs.declared.types.fault.Fault.TheVariants.{OutOfMemo
 use Rattle.simplex_resolver.specs.declared.resolver.effect.Effect.{Effect}
 use Rattle.simplex_resolver.specs.Facts.{ResolverFacts, term_length}
 use Rattle.simplex_resolver.specs.Steps.{Call, after, effects}
-use Rattle.simplex_resolver.specs.Received.{NamesAView}
+use Rattle.simplex_resolver.specs.ReceivedFacts.{NamesAView}
 use Rattle.simplex_resolver.specs.Repair.{IsApplied}
-use Rattle.simplex_resolver.specs.Told.{LawfulResolverFacts, IsMade, IsToldMore, IsBegun, IsLeftBy}
+use Rattle.simplex_resolver.specs.CallHistory.{LawfulResolverFacts, IsMade, IsToldMore, IsBegun, IsLeftBy}
 use Rattle.simplex_resolver.proofs.CallLists.{same_terms}
-use Rattle.simplex_resolver.proofs.Told.{still_told}
+use Rattle.simplex_resolver.proofs.CallHistory.{still_told}
 
 -- the state has made the call, and its effects are applied
 pub made_of : (r : Result (Vec Effect Global) Fault) (es : Vec Effect Global) (call : Call) (old new : LawfulResolverFacts) (middle : ResolverFacts)

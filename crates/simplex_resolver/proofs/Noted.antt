@@ -11,7 +11,7 @@ use Rattle.simplex_types.specs.declared.types.messages.Artifact.{Artifact}
 use Rattle.simplex_view_maps.proofs.Maps.{get-insert}
 use Rattle.simplex_resolver.specs.declared.replay.places.Places.{Places}
 use Rattle.simplex_resolver.specs.RecordCalls.{newest_first, notarization_at, newest_notarization}
-use Rattle.simplex_resolver.specs.Places.{with_place, AreNoted}
+use Rattle.simplex_resolver.specs.RecordPositions.{with_place, AreNoted}
 use Rattle.simplex_resolver.proofs.Newest.{newest_more}
 
 -- ---- results and options

@@ -4,7 +4,7 @@ use Rattle.std.specs.List.{list_any, AllByRecursion}
 use Rattle.std.proofs.lemmas.List.Folds.{list_any-append}
 use Rattle.simplex_types.specs.Certificates.{ProposalFacts, Notarized, Nullified, Finalized, ArtifactFacts, NotarizeVote, NullifyVote, FinalizeVote, Verdict, Accepted}
 use Rattle.simplex_resolver.specs.Steps.{Call, Replayed, effects, highest_named}
-use Rattle.simplex_resolver.specs.Received.{NamesAView, is_replayed, is_wanted}
+use Rattle.simplex_resolver.specs.ReceivedFacts.{NamesAView, is_replayed, is_wanted}
 use Rattle.simplex_resolver.specs.Repair.{settles, is_outstanding, facts_of, effects_of}
 use Rattle.simplex_resolver.proofs.RepairLaw.{all_fetched, stands, outstanding_is_wanted}
 use Rattle.simplex_resolver.proofs.Views.{is_outstanding-append}

@@ -7,8 +7,8 @@ use Rattle.simplex_types.specs.declared.reasons.Kind.{Kind}
 use Rattle.simplex_types.specs.declared.reasons.Kind.TheVariants.{Nullification as OfNullification, Notarization as OfNotarization}
 use Rattle.simplex_resolver.specs.Facts.{ResolverFacts}
 use Rattle.simplex_resolver.specs.Steps.{Call, Nullification, Finalization, Verdict}
-use Rattle.simplex_resolver.specs.Held.{is_settled, served_encoding}
-use Rattle.simplex_resolver.specs.Received.{NamesAView, greatest, finalized_of, floor_of, is_true_verdict, is_false_verdict, is_notarizing, is_covering, WasMade}
+use Rattle.simplex_resolver.specs.Served.{is_settled, served_encoding}
+use Rattle.simplex_resolver.specs.ReceivedFacts.{NamesAView, greatest, finalized_of, floor_of, is_true_verdict, is_false_verdict, is_notarizing, is_covering, WasMade}
 use Rattle.simplex_resolver.specs.Repair.{facts_of}
 
 -- ---- what is settled

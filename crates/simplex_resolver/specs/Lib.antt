@@ -1,12 +1,12 @@
 pub mod Facts
 pub mod Steps
-pub mod Held
-pub mod Received
+pub mod Served
+pub mod ReceivedFacts
 pub mod Repair
 pub mod Answers
 pub mod ReplayErrors
 pub mod RecordCalls
 pub mod RecordRules
-pub mod Places
+pub mod RecordPositions
 pub mod ViewSets
-pub mod Told
+pub mod CallHistory

@@ -6,7 +6,7 @@ use Rattle.simplex_resolver.specs.declared.resolver.effect.Effect.{Effect}
 use Rattle.simplex_resolver.specs.declared.resolver.effect.Effect.TheVariants.{Fetch, Settled, Finalized, Raised}
 use Rattle.simplex_resolver.specs.Facts.{ResolverFacts, empty}
 use Rattle.simplex_resolver.specs.Steps.{Call, after, effects}
-use Rattle.simplex_resolver.specs.Received.{is_replayed, are_alike, NamesAView, is_wanted}
+use Rattle.simplex_resolver.specs.ReceivedFacts.{is_replayed, are_alike, NamesAView, is_wanted}
 
 -- ---- the effects
 

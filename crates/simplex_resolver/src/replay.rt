@@ -3,7 +3,7 @@
 
 mod check;
 mod error;
-mod handing;
+mod calls;
 mod lawful;
 mod places;
 mod start;

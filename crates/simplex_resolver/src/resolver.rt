@@ -7,7 +7,7 @@
 //! `State::produce` serves a peer that repairs below the current view.
 
 mod effect;
-mod held;
+mod served;
 mod laws;
 mod notarizations;
 mod outstanding;

@@ -3,7 +3,7 @@ use Rattle.std.proofs.Common.{◌≡◌, ℕ, ◌+◌, ◌*◌, ◌/◌, ◌-◌
 use Rattle.std.proofs.Math.Nat.{div-mul-le_self, lt-div-mul-add}
 use Rattle.std.proofs.lemmas.Bool.{and_parts, le-leb, lt-leb, leb-true, eq-eqb, eqb-true}
 use Rattle.simplex_types.specs.Terms.{term_start, term_end, next_term_start, covers}
-use Rattle.simplex_types.specs.Covering.{CoveringLaws}
+use Rattle.simplex_types.specs.CoveringLaws.{CoveringLaws}
 use Rattle.std.proofs.lemmas.Nat.{div-mul-add}
 
 -- views of one term have one start

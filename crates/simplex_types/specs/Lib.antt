@@ -1,5 +1,5 @@
 pub mod Terms
-pub mod Covering
+pub mod CoveringLaws
 pub mod Plain
 pub mod Proposal
 pub mod Certificates
@@ -8,6 +8,6 @@ pub mod Reasons
 pub mod Config
 pub mod Fault
 pub mod Encoding
-pub mod Signing
-pub mod Viewed
+pub mod Signatures
+pub mod MessageViews
 pub mod Quorums

@@ -5,7 +5,7 @@ use Rattle.std.proofs.lemmas.Bool.{false≢true}
 use Rattle.simplex_types.specs.Certificates.{ProposalFacts}
 use Rattle.simplex_round.specs.Round.{RoundFacts, new_round, token_of, after_abort}
 use Rattle.simplex_voter.specs.Facts.{StateFacts, Elect, round_of, round_number}
-use Rattle.simplex_voter.specs.Entering.{at_moment, with_view_entered}
+use Rattle.simplex_voter.specs.ViewEntry.{at_moment, with_view_entered}
 use Rattle.simplex_voter.specs.Leaders.{with_elected_leader, with_window_leaders}
 use Rattle.simplex_voter.specs.Certification.{named_also, with_finalized_view, without_token, with_waiting_candidate}
 use Rattle.simplex_voter.specs.Acceptance.{added_answer, notarization_added, with_notarization_at, after_add_notarization, finalization_added, with_finalization_at, after_add_finalization}

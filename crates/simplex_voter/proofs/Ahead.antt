@@ -12,7 +12,7 @@ use Rattle.simplex_voter.specs.declared.voter.propose.ProposalRequest.{ProposalR
 use Rattle.simplex_voter.specs.Facts.{StateFacts, Elect}
 use Rattle.simplex_voter.specs.Windows.{is_admitted}
 use Rattle.simplex_voter.specs.Parents.{find_parent}
-use Rattle.simplex_voter.specs.Proposing.{views_within, request_on, request_in, propose_answer}
+use Rattle.simplex_voter.specs.ProposalRequests.{views_within, request_on, request_in, propose_answer}
 use Rattle.simplex_voter.proofs.Scanning.{far_off}
 
 within_is : (low high v : ℕ) → low ≤ v → v ≤ high → (leb low v && leb v high) ≡ true

@@ -14,7 +14,7 @@ use Rattle.simplex_voter.specs.declared.voter.propose.ProposalRequest.TheVariant
 use Rattle.simplex_voter.specs.Facts.{StateFacts, Elect, round_of, round_number}
 use Rattle.simplex_voter.specs.Windows.{is_term_start, is_admitted}
 use Rattle.simplex_voter.specs.Parents.{find_parent}
-use Rattle.simplex_voter.specs.Proposing.{request_context, context_on, parent_certified, voted_nullify, request_on, request_in, views_ahead, propose_answer}
+use Rattle.simplex_voter.specs.ProposalRequests.{request_context, context_on, parent_certified, voted_nullify, request_on, request_in, views_ahead, propose_answer}
 use Rattle.simplex_voter.proofs.Gaps.{and_parts}
 use Rattle.simplex_voter.proofs.Found.{found_each, found_filtered, first_giver}
 

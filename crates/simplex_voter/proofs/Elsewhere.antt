@@ -8,7 +8,7 @@ use Rattle.simplex_view_maps.proofs.Maps.{is_eq-nat_cmp}
 use Rattle.simplex_types.specs.Certificates.{ProposalFacts}
 use Rattle.simplex_round.specs.Round.{RoundFacts, leader_at, new_round}
 use Rattle.simplex_voter.specs.Facts.{StateFacts, Elect, round_of, round_number, with_round}
-use Rattle.simplex_voter.specs.Entering.{with_view_entered, entered_round}
+use Rattle.simplex_voter.specs.ViewEntry.{with_view_entered, entered_round}
 use Rattle.simplex_voter.specs.Leaders.{has_leader, with_leader_at, with_elected_leader}
 use Rattle.simplex_voter.specs.Acceptance.{added_answer}
 

@@ -8,7 +8,7 @@ use Rattle.std.proofs.lemmas.Bool.{cases_eq, cases_order, eq-eqb, ne_eqb, lt-ltb
 use Rattle.std.proofs.lemmas.Bool.Decides.{nat_tests}
 use Rattle.simplex_view_maps.proofs.Maps.{is_eq-nat_cmp}
 use Rattle.simplex_view_maps.proofs.RisingEntries.{AllAbove, Rises, find_above}
-use Rattle.simplex_voter.specs.Verifying.{through}
+use Rattle.simplex_voter.specs.Verification.{through}
 use Rattle.simplex_voter.proofs.Gaps.{cases_bool}
 
 le_of : (a b : ℕ) → leb a b ≡ true → a ≤ b

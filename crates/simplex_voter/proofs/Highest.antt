@@ -7,7 +7,7 @@ use Rattle.simplex_view_maps.specs.ByTerm.{ByTermFacts, covering}
 use Rattle.simplex_types.specs.Terms.{covers}
 use Rattle.simplex_view_maps.proofs.Maps.{entries-retain_keys}
 use Rattle.simplex_voter.specs.Facts.{StateFacts}
-use Rattle.simplex_voter.specs.Serving.{highest_nullification_in_term}
+use Rattle.simplex_voter.specs.StateAnswers.{highest_nullification_in_term}
 use Rattle.simplex_voter.proofs.RoundsKept.{filter-keys}
 
 -- the last key is that of the last entry

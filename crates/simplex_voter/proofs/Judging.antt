@@ -8,7 +8,7 @@ use Rattle.simplex_voter.specs.declared.voter.rounds.Deadlines.{Deadlines}
 use Rattle.simplex_voter.specs.Facts.{StateFacts, Elect, is_tracked, round_of, with_round}
 use Rattle.simplex_voter.specs.StateView.{largest_current}
 use Rattle.simplex_voter.specs.Setup.{HasSameSetup, deadlines_at}
-use Rattle.simplex_voter.specs.Entering.{at_moment, with_view_entered}
+use Rattle.simplex_voter.specs.ViewEntry.{at_moment, with_view_entered}
 use Rattle.simplex_voter.specs.Timeouts.{can_trigger, with_timeout}
 use Rattle.simplex_voter.specs.Certification.{with_verdict, takes_verdict, with_waiting_candidate, verdict_taken}
 

@@ -20,7 +20,7 @@ pub mod Walked
 pub mod Elsewhere
 pub mod Raising
 pub mod Accepting
-pub mod Entering
+pub mod ViewEntry
 pub mod Judging
 pub mod Recalled
 pub mod Refused
@@ -39,4 +39,4 @@ pub mod Building
 pub mod Near
 pub mod Scanning
 pub mod Worked
-pub mod Due
+pub mod DueVotes

@@ -10,7 +10,7 @@ use Rattle.simplex_types.specs.declared.types.fault.Fault.TheVariants.{TimeOverf
 use Rattle.simplex_round.specs.Round.{RoundFacts, new_round, awaits_retry, with_retry, round_timeout, RetryOverflows}
 use Rattle.simplex_voter.specs.Facts as facts
 use Rattle.simplex_voter.specs.Facts.{StateFacts, with_tracked}
-use Rattle.simplex_voter.specs.Entering.{at_moment}
+use Rattle.simplex_voter.specs.ViewEntry.{at_moment}
 use Rattle.simplex_voter.specs.Refusals.{is_past_u64}
 use Rattle.simplex_voter.specs.Rounds.{RoundsFacts, find_round, round_in, round_id}
 use Rattle.simplex_voter.proofs.RoundsKept.{insert-same}

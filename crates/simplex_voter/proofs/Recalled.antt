@@ -1,7 +1,7 @@
 -- Rounds that take an entry of the record, as changes of a state's facts.
 use Rattle.std.proofs.Common.{◌≡◌, ℕ, Bool, Option, Result, Ok, Err, OnOk, ap, ◌∙◌}
 use Rattle.simplex_types.specs.Proposal.{same_proposal}
-use Rattle.simplex_types.specs.Viewed.{artifact_view}
+use Rattle.simplex_types.specs.MessageViews.{artifact_view}
 use Rattle.std.specs.Prelude.{option_and_then}
 use Rattle.simplex_types.specs.declared.types.messages.Proposal.{Proposal}
 use Rattle.simplex_types.specs.declared.types.messages.Artifact.{Artifact}

@@ -6,7 +6,7 @@ use Rattle.std.specs.FinMap as map
 use Rattle.simplex_view_maps.proofs.Maps.{is_eq-nat_cmp}
 use Rattle.std.proofs.lemmas.Bool.Decides.{nat_tests}
 use Rattle.simplex_voter.specs.Facts.{StateFacts}
-use Rattle.simplex_voter.specs.Proposing.{voted_nullify}
+use Rattle.simplex_voter.specs.ProposalRequests.{voted_nullify}
 
 module _ {K L D : Type 0} (x : StateFacts K L D) where
   any_same : (v : ℕ) (us : List ℕ) → list_any (eq_by_cmp nat_cmp v) us ≡ list_any (λ u. eqb u v) us

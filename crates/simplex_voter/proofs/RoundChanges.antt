@@ -16,7 +16,7 @@ use Rattle.simplex_voter.specs.declared.voter.rounds.Bounds.{Bounds}
 use Rattle.simplex_voter.specs.Rounds.{with_entry, is_explicit, MayBeRefused, MayBeJudged, MayBeRecalled}
 use Rattle.simplex_voter.specs.Certification.{without_token}
 use Rattle.simplex_voter.specs.Replay.{bound_again}
-use Rattle.simplex_voter.specs.Verifying.{with_proposal}
+use Rattle.simplex_voter.specs.Verification.{with_proposal}
 
 abort_explicit : (b : Bool) (c : Certification) → (b || is_certified (after_abort c)) ≡ true → (b || is_certified c) ≡ true
 abort_explicit true c is = refl

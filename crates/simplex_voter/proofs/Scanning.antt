@@ -22,8 +22,8 @@ use Rattle.simplex_voter.specs.declared.voter.verify.Verify.TheVariants as verif
 use Rattle.simplex_types.specs.declared.reasons.Kind.{Kind}
 use Rattle.simplex_voter.specs.Facts.{StateFacts, Elect, round_at, round_of, round_number, with_round, with_tracked}
 use Rattle.simplex_voter.specs.Windows.{is_admitted}
-use Rattle.simplex_voter.specs.Proposing.{views_within, views_ahead}
-use Rattle.simplex_voter.specs.Verifying.{with_request, verifying_round, round_left, is_answered, answer_at, left_at, parent_standing, standing, answer_in, verify_answer, was_scanned, scan_left, after_try_verify}
+use Rattle.simplex_voter.specs.ProposalRequests.{views_within, views_ahead}
+use Rattle.simplex_voter.specs.Verification.{with_request, verifying_round, round_left, is_answered, answer_at, left_at, parent_standing, standing, answer_in, verify_answer, was_scanned, scan_left, after_try_verify}
 use Rattle.simplex_voter.proofs.Gaps.{cases_bool}
 use Rattle.simplex_voter.proofs.Walked.{first_of, none_of, find-changed, sorted-changed}
 use Rattle.simplex_voter.proofs.Containers.{entries-insert}

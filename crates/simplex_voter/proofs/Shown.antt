@@ -10,14 +10,14 @@ use Rattle.std.specs.Option.{option_map_or}
 use Rattle.simplex_voter.specs.Setup.{HasSameSetup, deadlines_at}
 use Rattle.simplex_round.specs.declared.round.Leader.{Leader}
 use Rattle.simplex_voter.specs.Rounds.{RoundsFacts, HasSameOrigin, put_round, with_change, with_entry}
-use Rattle.simplex_voter.specs.Entering.{with_view_entered}
+use Rattle.simplex_voter.specs.ViewEntry.{with_view_entered}
 use Rattle.simplex_voter.specs.declared.voter.rounds.Deadlines.{Deadlines}
 use Rattle.simplex_types.specs.declared.types.window.Terms.{Terms}
 use Rattle.simplex_voter.specs.declared.voter.state.State.TheInside.{Inside}
 use Rattle.simplex_voter.specs.StateView.{IsStateKept}
 use Rattle.simplex_voter.specs.Facts as facts
 use Rattle.simplex_voter.specs.Facts.{StateFacts}
-use Rattle.simplex_voter.specs.Serving.{after_prune}
+use Rattle.simplex_voter.specs.StateAnswers.{after_prune}
 use Rattle.simplex_voter.specs.Acceptance.{nullified_also}
 use Rattle.simplex_view_maps.specs.ByTerm.{ByTermFacts}
 use Rattle.std.specs.BTreeSet.{insert_key}

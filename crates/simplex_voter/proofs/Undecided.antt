@@ -15,7 +15,7 @@ use Rattle.simplex_voter.specs.Gaps.{first_unnullified_view}
 use Rattle.simplex_voter.specs.Windows.{is_open, in_issuance_window, is_admitted}
 use Rattle.simplex_voter.specs.Payloads.{certified_payload, has_failed_optimistic_ancestry, explicit_ancestry_payload, is_handoff_parent, is_voted_ancestor, can_chain_on, voted_payload, served_payload, payload_by, payload_within, optimistic_ancestry_payload}
 use Rattle.simplex_voter.specs.Parents.{has_valid_parent_span, ancestry_payload_for_child}
-use Rattle.simplex_voter.specs.Verifying.{fetch_once, payload_standing, parent_standing, standing}
+use Rattle.simplex_voter.specs.Verification.{fetch_once, payload_standing, parent_standing, standing}
 use Rattle.simplex_voter.proofs.Walked.{find-changed}
 
 module _ {K D : Type 0} where

@@ -10,8 +10,8 @@ use Rattle.simplex_types.specs.Proposal.{same_proposal}
 use Rattle.simplex_types.specs.declared.types.messages.Context.{Context}
 use Rattle.simplex_round.specs.Slot.{after_mark, after_own}
 use Rattle.simplex_round.specs.Round.{RoundFacts, new_round, is_nullify, should_verify, pending_proposal, can_notarize}
-use Rattle.simplex_voter.specs.Verifying.{with_mark, verifying_round}
-use Rattle.simplex_voter.specs.Proposing.{proposal_of, proposed_round}
+use Rattle.simplex_voter.specs.Verification.{with_mark, verifying_round}
+use Rattle.simplex_voter.specs.ProposalRequests.{proposal_of, proposed_round}
 use Rattle.simplex_voter.specs.declared.voter.rounds.Bounds.{Bounds}
 use Rattle.simplex_voter.specs.Rounds.{RoundsFacts, round_in, round_id, put_round}
 use Rattle.simplex_voter.proofs.RoundChanges.{IsAlike, unchanged}

@@ -11,7 +11,7 @@ use Rattle.simplex_types.specs.declared.types.messages.Proposal.{Proposal}
 use Rattle.simplex_round.specs.Round.{RoundFacts, equivocator, with_notarization, with_nullification, with_finalization}
 use Rattle.simplex_voter.specs.Facts.{StateFacts, Elect, round_of, with_round}
 use Rattle.simplex_voter.specs.Refusals.{first_fault, is_too_large, names_too_large, enters_late, proposal_refusal, takes_round}
-use Rattle.simplex_voter.specs.Entering.{with_view_entered, at_moment}
+use Rattle.simplex_voter.specs.ViewEntry.{with_view_entered, at_moment}
 use Rattle.simplex_voter.specs.Leaders.{with_elected_leader, with_window_leaders}
 use Rattle.simplex_voter.specs.Certification.{named_also, with_finalized_view, with_waiting_candidate}
 

@@ -17,7 +17,7 @@ use Rattle.simplex_voter.specs.Refusals.{first_fault, enters_late, is_started}
 use Rattle.simplex_voter.specs.Payloads.{explicit_ancestry_payload}
 use Rattle.simplex_voter.specs.Parents.{has_valid_parent_span}
 use Rattle.simplex_voter.specs.Rules.{required_certification_parent}
-use Rattle.simplex_voter.specs.Entering.{with_view_entered, at_moment}
+use Rattle.simplex_voter.specs.ViewEntry.{with_view_entered, at_moment}
 use Rattle.simplex_voter.specs.Timeouts.{with_timeout}
 
 -- a certification that is under way ends without a verdict

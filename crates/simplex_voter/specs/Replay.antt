@@ -4,7 +4,7 @@ use Rattle.std.specs.Option.{option_map_or}
 use Rattle.std.specs.Ordering.{nat_cmp}
 use Rattle.std.specs.BTreeSet.{insert_key}
 use Rattle.simplex_types.specs.Proposal.{same_proposal}
-use Rattle.simplex_types.specs.Viewed.{artifact_view}
+use Rattle.simplex_types.specs.MessageViews.{artifact_view}
 use Rattle.simplex_types.specs.declared.types.fault.Fault.{Fault}
 use Rattle.simplex_types.specs.declared.types.messages.Proposal.{Proposal}
 use Rattle.simplex_types.specs.declared.types.messages.Artifact.{Artifact}

@@ -9,7 +9,7 @@ use Rattle.simplex_round.specs.Slot.{is_unequivocated}
 use Rattle.simplex_round.specs.Round.{RoundFacts, awaits_latch, with_latch, with_retry, awaits_retry, round_timeout}
 use Rattle.simplex_voter.specs.Facts.{StateFacts, round_at, round_of, is_tracked, with_round, with_tracked}
 use Rattle.simplex_voter.specs.Refusals.{first_fault, is_past_u64}
-use Rattle.simplex_voter.specs.Entering.{at_moment}
+use Rattle.simplex_voter.specs.ViewEntry.{at_moment}
 
 -- the reason that says: the vote to nullify is sent again
 abbrev pub is_retry : TimeoutReason → Bool

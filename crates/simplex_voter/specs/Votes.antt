@@ -10,7 +10,7 @@ use Rattle.simplex_types.specs.declared.types.messages.Finalize as message
 use Rattle.simplex_types.specs.declared.types.messages.Notarize.{Notarize}
 use Rattle.simplex_types.specs.declared.types.messages.Subject.{Subject}
 use Rattle.simplex_types.specs.declared.types.messages.Subject.TheVariants as subject
-use Rattle.simplex_types.specs.Signing.{IsSignedAs}
+use Rattle.simplex_types.specs.Signatures.{IsSignedAs}
 use Rattle.simplex_voter.specs.Facts.{StateFacts, Elect, round_number, round_of, with_round}
 use Rattle.simplex_voter.specs.Leaders.{with_next_view_ready}
 use Rattle.simplex_voter.specs.Rules.{may_notarize, may_nullify, may_finalize}

@@ -8,7 +8,7 @@ mod chains;
 mod changes;
 mod conditions;
 mod due;
-mod entering;
+mod view_entry;
 mod finalizations;
 mod floor;
 mod getters;

@@ -1,7 +1,7 @@
 //! Records, and the fetches that a resolver starts with. The fetches were found by hand, from the rule that names them.
 
 ghost use Rattle.std.specs.Prelude.{◌≡◌};
-ghost use Rattle.simplex_types.specs.Viewed.{certificate_view};
+ghost use Rattle.simplex_types.specs.MessageViews.{certificate_view};
 
 use simplex_resolver::replay::{LawfulResolver, ReplayError, replay_record};
 use simplex_resolver::resolver::{Effect, State, apply};

@@ -2,7 +2,7 @@
 //! program `viewstate`.
 
 ghost use Rattle.std.specs.Prelude.{◌≤◌};
-ghost use Rattle.simplex_types.specs.Viewed.{certificate_view};
+ghost use Rattle.simplex_types.specs.MessageViews.{certificate_view};
 
 use simplex_resolver::resolver::{Effect, State, apply};
 use simplex_types::reasons::Kind;

@@ -1,7 +1,7 @@
 //! What the resolver says of fetches: which are opened, and which are over.
 
 ghost use Rattle.std.specs.Prelude.{◌≡◌, OnOk};
-ghost use Rattle.engine_fetches.specs.Wanted.{after_effect, after_effects, wanting};
+ghost use Rattle.engine_fetches.specs.OutstandingFetches.{after_effect, after_effects, wanting};
 
 use super::{FetchKind, Fetches, fetch_kind};
 use simplex_resolver::resolver::Effect;

@@ -2,7 +2,7 @@
 
 ghost use Rattle.std.specs.Prelude.{◌≡◌, filter};
 ghost use Rattle.simplex_resolver.specs.Repair.{has};
-ghost use Rattle.engine_fetches.specs.Wanted.{is_held, is_lacking};
+ghost use Rattle.engine_fetches.specs.OutstandingFetches.{is_held, is_lacking};
 
 use super::{Fetch, FetchKind, Fetches};
 use simplex_types::types::{CertificateScheme, Digest, Elector, View};

@@ -4,8 +4,8 @@ ghost use Rattle.std.specs.Prelude.{◌≡◌, ◌-◌, min, IsFalse};
 ghost use Rattle.simplex_voter.specs.Windows.{min_active};
 ghost use Rattle.simplex_record.specs.Cuts.{finalized_in};
 ghost use Rattle.simplex_record.specs.Entries.{entries_of};
-ghost use Rattle.engine_outbox.specs.Overgrown.{is_overgrown};
-ghost use Rattle.engine_outbox.specs.Reaching.{lowest_of, is_far_below, ReachesTo, IsShort};
+ghost use Rattle.engine_outbox.specs.RecordLimit.{is_overgrown};
+ghost use Rattle.engine_outbox.specs.RecordReach.{lowest_of, is_far_below, ReachesTo, IsShort};
 
 use super::Journaled;
 use simplex_record::record::lowest_kept;
@@ -13,7 +13,7 @@ use simplex_types::types::{Artifact, CertificateScheme, Digest, Elector, Scheme,
 use simplex_voter::voter::State;
 
 impl<S: Scheme<D>, L: Elector<S>, D: Digest> Journaled<S, L, D> {
-    ghost use Rattle.engine_outbox.specs.Going.{IsWhole};
+    ghost use Rattle.engine_outbox.specs.Continuity.{IsWhole};
 
     /// Whether the record has more than so many entries, and by a pruning more views of it go than stay. So a record of which half
     /// its views are kept is not written once more.

@@ -1,10 +1,10 @@
 //! The next step, and what is planned where none is queued.
 
 ghost use Rattle.std.specs.Prelude.{◌≡◌, ◌++◌, false, IfOk, OnOk};
-ghost use Rattle.engine_planner.specs.Planning.{HasPlanned};
-ghost use Rattle.engine_planner.specs.Filling.{watching_one, watching_all, watching_where, IsFetchAsked, IsPruneAsked, IsTimeoutAsked, IsReady, HasTaken};
+ghost use Rattle.engine_planner.specs.PlanStates.{HasPlanned};
+ghost use Rattle.engine_planner.specs.StepSelection.{watching_one, watching_all, watching_where, IsFetchAsked, IsPruneAsked, IsTimeoutAsked, IsReady, HasTaken};
 
-use super::building::Building;
+use super::builds::Building;
 use super::{Plan, Step, queue};
 use crate::task::Task;
 use engine_outbox::output::Work;

@@ -4,7 +4,7 @@ ghost use Rattle.std.specs.Prelude.{◌≡◌, ◌≢◌, ◌≤◌, ◌<◌, �
 ghost use Rattle.std.specs.Option.{option_copied};
 ghost use Rattle.engine_votes.specs.Polls.{ballot_of, is_on, signature_on, signatures_on, signed_by, HoldsTheSame};
 ghost use Rattle.simplex_types.specs.Quorums.{quorum_of};
-ghost use Rattle.engine_votes.specs.Counting.{certificate_of, is_pair, IsCountedIn, IsMarked, ShowsBoth};
+ghost use Rattle.engine_votes.specs.VoteCounts.{certificate_of, is_pair, IsCountedIn, IsMarked, ShowsBoth};
 
 use super::Counted;
 use crate::votes::{Vote, is_same_subject};

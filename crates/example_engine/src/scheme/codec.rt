@@ -6,7 +6,7 @@ use simplex_codec::hooks::SchemeCodec;
 use std::alloc::{AllocError, Global};
 
 impl SchemeCodec for SealScheme {
-    ghost use Rattle.example_engine.specs.Sealing.{signature_encoding, signature_from_bytes};
+    ghost use Rattle.example_engine.specs.Seals.{signature_encoding, signature_from_bytes};
 
     ghost signature_bytes = { signature_encoding };
 

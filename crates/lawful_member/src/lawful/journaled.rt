@@ -5,7 +5,7 @@ ghost use Rattle.std.specs.Option.{option_copied};
 ghost use Rattle.simplex_record.specs.Start.{start_facts};
 ghost use Rattle.simplex_voter.specs.Refusals.{is_started};
 
-use super::living::LawfulMember;
+use super::member::LawfulMember;
 use simplex_member::member::{Member, NotResumed, Start, Stored};
 use simplex_types::types::{Artifact, Digest, Elector, Scheme, View};
 use simplex_voter::voter::State;
@@ -15,7 +15,7 @@ impl<S: Scheme<D>, L: Elector<S>, D: Digest> LawfulMember<S, L, D> {
     ghost use Rattle.simplex_record.specs.Entries.{entries_of};
     ghost use Rattle.simplex_record.specs.Votes.{votes_of};
     ghost use Rattle.simplex_member.specs.Journal.{stored_of, votes_since, IsResumed, IsNotResumed};
-    ghost use Rattle.laws_safety.specs.Living.{HasGoneOn};
+    ghost use Rattle.laws_safety.specs.MemberHistory.{HasGoneOn};
     ghost use Rattle.simplex_member.specs.OutstandingWork.{is_offered};
 
     /// The state, while the member has not failed: it has a floor, and has not failed either.

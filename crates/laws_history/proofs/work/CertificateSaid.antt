@@ -7,11 +7,11 @@ use Rattle.simplex_round.specs.declared.round.Certification.{Certification}
 use Rattle.simplex_voter.specs.Facts.{StateFacts, Elect}
 use Rattle.simplex_member.specs.OutstandingWork.{is_among}
 use Rattle.simplex_record.specs.Events.{Event}
-use Rattle.laws_history.specs.Leading.{leader_by_event, comes_to_track}
+use Rattle.laws_history.specs.LeaderHistory.{leader_by_event, comes_to_track}
 use Rattle.laws_history.specs.OwnWork.{decides_nullify, decides_finalize}
-use Rattle.laws_history.specs.Requested.{names, sets_certification, sets_verified, asks_to_build, asks_to_verify, asks_for, binds}
+use Rattle.laws_history.specs.WorkRequests.{names, sets_certification, sets_verified, asks_to_build, asks_to_verify, asks_for, binds}
 use Rattle.laws_history.specs.HistoryFolds.{or_new}
-use Rattle.laws_history.specs.Timing.{enters, proposes, latches, retries}
+use Rattle.laws_history.specs.Moments.{enters, proposes, latches, retries}
 use Rattle.laws_history.proofs.work.Certificates.{with_settled, with_certification}
 use Rattle.laws_history.proofs.work.SetUp.{UnchangedSetUp}
 use Rattle.laws_history.proofs.work.Leaders.{with_leader, work_entered_at}

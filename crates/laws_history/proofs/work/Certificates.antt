@@ -17,7 +17,7 @@ use Rattle.simplex_voter.specs.Certification.{without_token, with_finalized_view
 use Rattle.simplex_voter.proofs.Walked.{find-changed}
 use Rattle.simplex_member.specs.OutstandingWork.{is_among}
 use Rattle.laws_history.specs.OwnWork.{contradicts}
-use Rattle.laws_history.specs.Requested.{ends_certification}
+use Rattle.laws_history.specs.WorkRequests.{ends_certification}
 use Rattle.laws_history.proofs.Worked.{Worked, work_in, work_of, work_put, work_elsewhere}
 
 -- with a certificate of the view, which overrules what was held or not

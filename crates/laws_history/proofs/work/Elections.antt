@@ -8,9 +8,9 @@ use Rattle.simplex_round.specs.declared.round.Leader.{Leader}
 use Rattle.simplex_round.specs.Round.{leader_at}
 use Rattle.simplex_voter.specs.Facts.{StateFacts, Elect, round_at, round_of}
 use Rattle.simplex_voter.specs.Leaders.{with_elected_leader, with_window_leaders}
-use Rattle.simplex_voter.specs.Entering.{with_view_entered}
+use Rattle.simplex_voter.specs.ViewEntry.{with_view_entered}
 use Rattle.simplex_voter.specs.Certification.{named_also, waits_for, with_waiting_candidate}
-use Rattle.laws_history.specs.Leading.{same_member, window_leader, opens, elected_leader}
+use Rattle.laws_history.specs.LeaderHistory.{same_member, window_leader, opens, elected_leader}
 use Rattle.laws_history.specs.OwnWork.{contradicts}
 use Rattle.laws_history.proofs.work.Certificates.{with_settled, with_certification, settled_by}
 use Rattle.laws_history.proofs.work.Windows.{SameLeaders, window_alike, slid_work}

@@ -10,17 +10,17 @@ use Rattle.simplex_types.specs.Certificates.{ProposalFacts, NullificationFacts}
 use Rattle.simplex_round.specs.Round.{RoundFacts, with_finalization}
 use Rattle.simplex_voter.specs.Facts.{StateFacts, Elect, round_of, is_tracked, with_round}
 use Rattle.simplex_voter.specs.Leaders.{with_elected_leader, with_window_leaders}
-use Rattle.simplex_voter.specs.Entering.{at_moment, with_view_entered}
+use Rattle.simplex_voter.specs.ViewEntry.{at_moment, with_view_entered}
 use Rattle.simplex_voter.specs.Certification.{named_also, with_finalized_view, with_waiting_candidate}
 use Rattle.simplex_voter.specs.Acceptance.{with_notarization_at, with_finalization_at, after_add_notarization, after_add_nullification, after_add_finalization, after_set_floor}
 use Rattle.simplex_voter.proofs.Elsewhere.{round_of-with_round}
 use Rattle.simplex_member.specs.OutstandingWork.{is_among}
 use Rattle.simplex_record.specs.Events.{SetFloor, AddNotarization, AddNullification, AddFinalization}
-use Rattle.laws_history.specs.Leading.{elected_leader}
+use Rattle.laws_history.specs.LeaderHistory.{elected_leader}
 use Rattle.laws_history.specs.OwnWork.{contradicts}
-use Rattle.laws_history.specs.Requested.{names, ends_certification, wakes}
+use Rattle.laws_history.specs.WorkRequests.{names, ends_certification, wakes}
 use Rattle.laws_history.proofs.UnchangedHistories.{known_of_round, UnchangedKnown, UnchangedButNumbers, UnchangedHistory, leaves_joined, then_quiet, moment_leaves, entered_leaves, raised_leaves, elected_quiet}
-use Rattle.simplex_record.proofs.Seen.{option_or_none}
+use Rattle.simplex_record.proofs.CheckState.{option_or_none}
 use Rattle.laws_history.proofs.work.Certificates.{with_settled, with_certification, settled_by, notarized_work, nullified_work, finalized_work, raised_work, raised_among}
 use Rattle.laws_history.proofs.work.Elections.{without_entry, named_work, woken_work, entered_said, entered_named, proposal_said, proposal_work, entry_said, entry_work}
 use Rattle.laws_history.proofs.work.Windows.{slid_only}

@@ -7,9 +7,9 @@ use Rattle.simplex_round.specs.declared.round.Decision.{Decision}
 use Rattle.simplex_round.specs.declared.round.Decision.TheVariants.{Pending, Nullify, Finalize}
 use Rattle.simplex_round.specs.Round.{RoundFacts, leader_at, new_round, with_decision_deadlines}
 use Rattle.simplex_voter.specs.Facts.{Settings, StateFacts, Elect, round_at, round_of, round_number, is_tracked, with_round}
-use Rattle.simplex_voter.specs.Entering.{with_view_entered, entered_round}
+use Rattle.simplex_voter.specs.ViewEntry.{with_view_entered, entered_round}
 use Rattle.simplex_voter.specs.Leaders.{has_leader, with_leader_at, with_leader_of, with_elected_leader}
-use Rattle.laws_history.specs.Leading.{same_member, elected_leader}
+use Rattle.laws_history.specs.LeaderHistory.{same_member, elected_leader}
 use Rattle.laws_history.specs.HistoryFolds.{or_new}
 use Rattle.laws_history.proofs.Worked.{Worked, work_in, work_of, timed, work_put, work_elsewhere, untimed}
 

@@ -14,7 +14,7 @@ use Rattle.simplex_voter.specs.Facts.{StateFacts, Elect, round_of, round_number,
 use Rattle.simplex_voter.specs.Leaders.{has_leader, with_leader_at, with_leader_of, with_elected_leader, with_next_view_ready}
 use Rattle.simplex_voter.specs.Payloads.{is_elected_early}
 use Rattle.simplex_voter.specs.Windows.{is_notarized, is_open, in_issuance_window}
-use Rattle.laws_history.specs.Leading.{same_member, elected_leader, leads_after, tracks_after}
+use Rattle.laws_history.specs.LeaderHistory.{same_member, elected_leader, leads_after, tracks_after}
 use Rattle.std.proofs.Math.Bool.{and-true, and-false}
 use Rattle.simplex_record.proofs.Growing.{round_of-put, round_of-same}
 use Rattle.laws_safety.proofs.votes.NullifyVotes.{tied}

@@ -5,12 +5,12 @@ use Rattle.std.proofs.lemmas.Bool.{cases_eq, eq-eqb, ne_eqb}
 use Rattle.std.proofs.lemmas.Bool.Decides.{nat_tests}
 use Rattle.simplex_round.specs.Round.{RoundFacts}
 use Rattle.simplex_voter.specs.Facts.{StateFacts, Elect, round_of, is_tracked, with_round, with_tracked}
-use Rattle.simplex_voter.specs.Entering.{at_moment}
+use Rattle.simplex_voter.specs.ViewEntry.{at_moment}
 use Rattle.simplex_member.specs.OutstandingWork.{is_among}
 use Rattle.simplex_record.specs.Events.{Event}
-use Rattle.laws_history.specs.Requested.{names, is_at}
+use Rattle.laws_history.specs.WorkRequests.{names, is_at}
 use Rattle.laws_history.specs.HistoryFolds.{entered_by}
-use Rattle.laws_history.specs.Timing.{enters}
+use Rattle.laws_history.specs.Moments.{enters}
 use Rattle.laws_history.proofs.Following.{left_from}
 use Rattle.laws_history.proofs.Worked.{work_in, work_of, adds_work, WorkFollows, SaysNoWork, work_put, work_elsewhere}
 

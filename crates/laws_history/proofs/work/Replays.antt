@@ -18,7 +18,7 @@ use Rattle.simplex_voter.specs.Replay.{bound_again, restored_binding}
 use Rattle.simplex_member.specs.OutstandingWork.{is_among}
 use Rattle.simplex_record.specs.Recovery.{after_replaying}
 use Rattle.simplex_record.specs.Events.{Replay}
-use Rattle.laws_history.specs.Leading.{leads_after, tracks_after}
+use Rattle.laws_history.specs.LeaderHistory.{leads_after, tracks_after}
 use Rattle.laws_history.proofs.Worked.{work_in, work_of, WorkFollows, work_put, work_elsewhere}
 use Rattle.laws_history.proofs.work.Leaders.{OnlyRounds, with_leader}
 use Rattle.laws_history.proofs.work.NextView.{prepared_only, readied_work}

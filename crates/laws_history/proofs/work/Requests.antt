@@ -13,16 +13,16 @@ use Rattle.simplex_round.specs.Slot.{holds_or_empty, after_mark}
 use Rattle.simplex_round.specs.Round.{RoundFacts, new_round, is_nullify}
 use Rattle.simplex_voter.specs.Facts.{StateFacts, Elect, round_at, round_of, round_number, is_tracked, with_round, with_tracked}
 use Rattle.simplex_voter.specs.Windows.{min_active}
-use Rattle.simplex_voter.specs.Entering.{at_moment}
+use Rattle.simplex_voter.specs.ViewEntry.{at_moment}
 use Rattle.simplex_voter.specs.Certification.{after_candidates, after_set_certify_handle}
 use Rattle.simplex_voter.specs.declared.voter.propose.ProposalRequest.{ProposalRequest}
-use Rattle.simplex_voter.specs.Proposing.{request_context, build_requested, proposal_of, proposed_round, with_build, propose_answer, proposed_answer, supersede_answer, after_try_propose, after_proposed, after_supersede, after_release}
+use Rattle.simplex_voter.specs.ProposalRequests.{request_context, build_requested, proposal_of, proposed_round, with_build, propose_answer, proposed_answer, supersede_answer, after_try_propose, after_proposed, after_supersede, after_release}
 use Rattle.simplex_voter.specs.Parents.{verification_matches}
-use Rattle.simplex_voter.specs.Serving.{after_broadcast_notarization, after_broadcast_nullification, after_broadcast_finalization, after_prune}
-use Rattle.simplex_voter.specs.Verifying.{without_binding, with_mark, after_verified}
+use Rattle.simplex_voter.specs.StateAnswers.{after_broadcast_notarization, after_broadcast_nullification, after_broadcast_finalization, after_prune}
+use Rattle.simplex_voter.specs.Verification.{without_binding, with_mark, after_verified}
 use Rattle.simplex_voter.proofs.Gaps.{and_parts}
 use Rattle.simplex_record.specs.Events.{Event, TryPropose, Proposed, Supersede, Release, Verified, CertifyCandidates, SetCertifyHandle, BroadcastNotarization, BroadcastNullification, BroadcastFinalization, Prune}
-use Rattle.laws_history.specs.Requested.{names, is_at}
+use Rattle.laws_history.specs.WorkRequests.{names, is_at}
 use Rattle.laws_safety.proofs.votes.NullifyVotes.{tied}
 use Rattle.laws_history.proofs.Worked.{Worked, work_in, work_of, adds_work, WorkFollows, SaysNoWork, untimed}
 use Rattle.laws_history.proofs.work.Puts.{unentered, idle_follows, tracked_follows}

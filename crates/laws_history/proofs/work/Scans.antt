@@ -7,10 +7,10 @@ use Rattle.simplex_round.specs.Round.{RoundFacts}
 use Rattle.simplex_voter.specs.declared.voter.verify.Standing.{Standing}
 use Rattle.simplex_voter.specs.declared.voter.verify.Standing.TheVariants.{NothingToDo, Invalid, Lacks, Ready}
 use Rattle.simplex_voter.specs.Facts.{Settings, StateFacts, Elect, round_of, is_tracked}
-use Rattle.simplex_voter.specs.Verifying.{round_left, standing, was_scanned, after_try_verify}
+use Rattle.simplex_voter.specs.Verification.{round_left, standing, was_scanned, after_try_verify}
 use Rattle.simplex_record.specs.Events.{Event, TryVerify}
-use Rattle.laws_safety.specs.Standings.{is_given_out, is_invalid, lacked_view}
-use Rattle.laws_history.specs.Requested.{bound_by}
+use Rattle.laws_safety.specs.ProposalStandings.{is_given_out, is_invalid, lacked_view}
+use Rattle.laws_history.specs.WorkRequests.{bound_by}
 use Rattle.laws_safety.proofs.votes.Scanned.{round_scanned, tracked_scanned}
 use Rattle.laws_history.proofs.Worked.{Worked, work_in, work_of, timed, adds_work, WorkFollows, untimed}
 use Rattle.laws_history.proofs.work.Puts.{unentered, shared_follows}

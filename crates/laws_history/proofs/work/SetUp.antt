@@ -2,7 +2,7 @@
 use Rattle.std.proofs.Common.{◌≡◌, refl, ap, ◌∙◌, ℕ, ◌+◌, Bool, true, false, if◌then◌else◌, nat_lt, List, [], Option, None}
 use Rattle.std.specs.Option.{option_map_or}
 use Rattle.simplex_voter.specs.Facts.{StateFacts, Elect, round_at}
-use Rattle.simplex_voter.specs.Entering.{with_view_entered}
+use Rattle.simplex_voter.specs.ViewEntry.{with_view_entered}
 use Rattle.simplex_voter.specs.Leaders.{with_elected_leader, with_window_leaders}
 use Rattle.simplex_voter.specs.Certification.{named_also, with_finalized_view, waits_for, with_waiting_candidate}
 use Rattle.laws_history.proofs.work.Windows.{slid_only}

@@ -7,14 +7,14 @@ use Rattle.simplex_round.specs.declared.round.Decision.{Decision}
 use Rattle.simplex_round.specs.declared.round.Decision.TheVariants.{Pending, Nullify, Finalize}
 use Rattle.simplex_round.specs.Round.{RoundFacts, with_first_timeout, with_latch, has_no_retry, awaits_retry}
 use Rattle.simplex_voter.specs.Facts.{Settings, StateFacts, Elect, round_of, is_tracked, with_round}
-use Rattle.simplex_voter.specs.Entering.{at_moment}
+use Rattle.simplex_voter.specs.ViewEntry.{at_moment}
 use Rattle.simplex_voter.specs.Parents.{verification_matches}
 use Rattle.simplex_voter.specs.Timeouts.{with_timeout, round_with_retry, after_trigger_timeout, after_next_timeout}
-use Rattle.simplex_voter.specs.Verifying.{without_binding, after_verification_failed}
+use Rattle.simplex_voter.specs.Verification.{without_binding, after_verification_failed}
 use Rattle.simplex_voter.proofs.Gaps.{and_parts}
 use Rattle.simplex_record.specs.Events.{Event, VerificationFailed, TriggerTimeout, NextTimeout}
-use Rattle.laws_history.specs.Requested.{is_at}
-use Rattle.laws_history.specs.Timing.{triggers}
+use Rattle.laws_history.specs.WorkRequests.{is_at}
+use Rattle.laws_history.specs.Moments.{triggers}
 use Rattle.laws_history.proofs.Worked.{work_in, work_of, timed, adds_work, WorkFollows, SaysNoWork, work_put, work_elsewhere, untimed}
 use Rattle.laws_history.proofs.work.Puts.{unentered, shared_of, shared_follows, tracked_follows}
 

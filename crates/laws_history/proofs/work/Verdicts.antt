@@ -6,13 +6,13 @@ use Rattle.simplex_types.specs.declared.reasons.TimeoutReason.TheVariants.{Faile
 use Rattle.simplex_round.specs.declared.round.Certification.TheVariants.{Judged}
 use Rattle.simplex_round.specs.Round.{RoundFacts, certified_round}
 use Rattle.simplex_voter.specs.Facts.{StateFacts, Elect, round_of, is_tracked, with_round}
-use Rattle.simplex_voter.specs.Entering.{with_view_entered, entered_round, at_moment}
+use Rattle.simplex_voter.specs.ViewEntry.{with_view_entered, entered_round, at_moment}
 use Rattle.simplex_voter.specs.Timeouts.{with_timeout}
 use Rattle.simplex_voter.specs.Certification.{with_verdict, with_waiting_candidate, verdict_taken, after_certified}
 use Rattle.simplex_member.specs.OutstandingWork.{is_among}
 use Rattle.simplex_record.specs.Events.{Event, Certified}
-use Rattle.laws_history.specs.Requested.{is_at, wakes, names}
-use Rattle.laws_history.specs.Timing.{triggers}
+use Rattle.laws_history.specs.WorkRequests.{is_at, wakes, names}
+use Rattle.laws_history.specs.Moments.{triggers}
 use Rattle.simplex_record.proofs.Growing.{round_of-put}
 use Rattle.laws_history.proofs.UnchangedHistories.{known_of_round, UnchangedKnown, entered_leaves}
 use Rattle.laws_history.proofs.work.Elections.{woken_work}

@@ -14,12 +14,12 @@ use Rattle.simplex_round.specs.Round.{RoundFacts, after_nullify, is_nullify, is_
 use Rattle.simplex_voter.specs.Facts.{StateFacts, Elect, round_of, with_round}
 use Rattle.simplex_voter.specs.Leaders.{with_next_view_ready}
 use Rattle.simplex_voter.specs.Rules.{may_notarize, may_nullify, may_finalize}
-use Rattle.simplex_voter.specs.Verifying.{with_proposal, after_set_proposal}
+use Rattle.simplex_voter.specs.Verification.{with_proposal, after_set_proposal}
 use Rattle.simplex_voter.specs.Votes.{nullify_cast, finalize_cast, after_construct_notarize, after_construct_nullify, after_construct_finalize}
 use Rattle.simplex_voter.proofs.Rules.{nullify_parts}
 use Rattle.simplex_member.specs.OutstandingWork.{is_among}
 use Rattle.simplex_record.specs.Events.{ConstructNotarize, ConstructNullify, ConstructFinalize, SetProposal}
-use Rattle.laws_history.specs.Leading.{leads_after, tracks_after}
+use Rattle.laws_history.specs.LeaderHistory.{leads_after, tracks_after}
 use Rattle.laws_history.specs.OwnWork.{contradicts}
 use Rattle.laws_history.specs.HistoryFolds.{or_new}
 use Rattle.laws_history.proofs.Worked.{Worked, work_in, work_of, adds_work, WorkFollows, work_put, work_elsewhere}

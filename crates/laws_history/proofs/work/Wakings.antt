@@ -10,7 +10,7 @@ use Rattle.simplex_voter.specs.Facts.{StateFacts, Elect, round_at, round_of, rou
 use Rattle.simplex_voter.specs.Payloads.{is_elected_early}
 use Rattle.simplex_voter.specs.Rules.{required_certification_parent}
 use Rattle.simplex_member.specs.OutstandingWork.{is_among}
-use Rattle.laws_history.specs.Requested.{wakes}
+use Rattle.laws_history.specs.WorkRequests.{wakes}
 use Rattle.laws_safety.proofs.votes.OutstandingWork.{among_noted}
 use Rattle.laws_history.proofs.UnchangedHistories.{UnchangedKnown}
 

@@ -8,7 +8,7 @@ use Rattle.simplex_round.specs.declared.round.Leader.{Leader}
 use Rattle.simplex_voter.specs.Facts.{StateFacts, round_of}
 use Rattle.simplex_voter.specs.Leaders.{with_leader_of, opened_views, with_window_leaders}
 use Rattle.simplex_member.specs.OutstandingWork.{is_among}
-use Rattle.laws_history.specs.Leading.{same_member, nearest_leader, window_leader}
+use Rattle.laws_history.specs.LeaderHistory.{same_member, nearest_leader, window_leader}
 use Rattle.laws_history.specs.HistoryFolds.{or_new}
 use Rattle.laws_history.proofs.Worked.{Worked, work_of}
 use Rattle.laws_history.proofs.work.Leaders.{OnlyRounds, only_joined, with_leader, inherited_only, inherited_work}

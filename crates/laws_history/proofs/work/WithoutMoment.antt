@@ -5,11 +5,11 @@ use Rattle.simplex_round.specs.declared.round.Decision.TheVariants.{Nullify, Fin
 use Rattle.simplex_round.specs.Round.{RoundFacts}
 use Rattle.simplex_voter.specs.Facts.{StateFacts, Elect, is_tracked, with_round}
 use Rattle.simplex_record.specs.Events.{Event}
-use Rattle.laws_history.specs.Leading.{leader_by_event, comes_to_track}
+use Rattle.laws_history.specs.LeaderHistory.{leader_by_event, comes_to_track}
 use Rattle.laws_history.specs.OwnWork.{decides_nullify, decides_finalize}
-use Rattle.laws_history.specs.Requested.{sets_certification, sets_verified, asks_to_build, asks_to_verify, asks_for, binds}
+use Rattle.laws_history.specs.WorkRequests.{sets_certification, sets_verified, asks_to_build, asks_to_verify, asks_for, binds}
 use Rattle.laws_history.specs.HistoryFolds.{or_new, entered_by, moment_by}
-use Rattle.laws_history.specs.Timing.{enters, proposes, latches, retries}
+use Rattle.laws_history.specs.Moments.{enters, proposes, latches, retries}
 use Rattle.laws_history.proofs.Worked.{Worked, work_in, work_of, adds_work, work_put, work_elsewhere, untimed}
 
 module _ {K L D : Type 0} (same : D → D → Bool) (elect : Elect L) (x : StateFacts K L D) (e : Event K D) where

@@ -1,7 +1,7 @@
 -- The premises hold of some network: four members in terms of one view, one of which is faulty, which have just started.
 use Rattle.std.proofs.Common.{◌≡◌, refl, ap, sym, ◌∙◌, subst, ◌<◌, inl, ℕ, zero, suc, slice_get, Contains, Some, nat_eq, unwrap_or, arith}
 use Rattle.std.proofs.lemmas.Bool.{eq-eqb, eqb-true}
-use Rattle.simplex_member.specs.Lives.{MemberFacts}
+use Rattle.simplex_member.specs.MemberFacts.{MemberFacts}
 use Rattle.simplex_types.specs.Config.{Genesis}
 use Rattle.simplex_voter.specs.Acceptance.{after_set_floor}
 use Rattle.simplex_voter.specs.Facts.{StateFacts}
@@ -14,9 +14,9 @@ use Rattle.laws_safety.specs.Executions.{Execution, trace_of, IsExecution}
 use Rattle.laws_safety.specs.Traces.{Accepts}
 use Rattle.laws_safety.specs.ScenarioSteps.{in_turn, begin_at}
 use Rattle.laws_safety.proofs.networks.ScenarioSteps.{begins, ran_as_told}
-use Rattle.laws_progress.specs.Standing.{BuildsOn}
-use Rattle.laws_progress.specs.Living.{LivesWith, EachLives}
-use Rattle.laws_progress.specs.Started.{idle, with_first_leader, StandsFirst, Finalizes}
+use Rattle.laws_progress.specs.ViewPositions.{BuildsOn}
+use Rattle.laws_progress.specs.NetworkStates.{LivesWith, EachLives}
+use Rattle.laws_progress.specs.StartedNetworks.{idle, with_first_leader, StandsFirst, Finalizes}
 use Rattle.laws_progress.proofs.networks.FreshStarts.{fresh_starts_are_finalized}
 
 abbrev pub state : ℕ → StateFacts ℕ ℕ ℕ

@@ -7,7 +7,7 @@ use Rattle.simplex_voter.specs.Gaps.{first_unnullified_view}
 use Rattle.simplex_voter.specs.Parents.{has_valid_parent_span, ancestry_payload_for_child, parent_payload_for, verification_matches}
 use Rattle.simplex_voter.specs.Payloads.{explicit_ancestry_payload}
 use Rattle.simplex_voter.specs.Rules.{may_notarize}
-use Rattle.simplex_voter.specs.Verifying.{standing}
+use Rattle.simplex_voter.specs.Verification.{standing}
 use Rattle.simplex_voter.specs.Windows.{is_admitted, in_issuance_window}
 use Rattle.simplex_record.specs.Check.{first_recover_error}
 use Rattle.simplex_record.specs.Cuts.{may_drop, pruned_entries}
@@ -17,9 +17,9 @@ use Rattle.laws_safety.specs.DividedNetwork.{rival, divided}
 use Rattle.laws_safety.specs.ScenarioSteps.{one, in_turn}
 use Rattle.laws_safety.proofs.networks.ComputedRuns.{rises}
 use Rattle.laws_safety.proofs.networks.DividedNetwork.{divided_network}
-use Rattle.laws_progress.specs.Living.{IsSetUpAs, LivesWith}
-use Rattle.laws_progress.specs.Together.{terms_on}
-use Rattle.laws_progress.specs.Worked.{ReachesWithin}
+use Rattle.laws_progress.specs.NetworkStates.{IsSetUpAs, LivesWith}
+use Rattle.laws_progress.specs.SharedView.{terms_on}
+use Rattle.laws_progress.specs.WorkedNetworks.{ReachesWithin}
 use Rattle.laws_progress.proofs.instances.DividedNetwork.{first, first_worked, second, second_worked, third, third_worked}
 use Rattle.laws_progress.proofs.instances.Worked.{state_at_end, lives_there, each_lives_so, agree}
 use Rattle.laws_progress.proofs.networks.InTurn.{finalized_in_turn}

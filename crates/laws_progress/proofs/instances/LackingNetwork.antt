@@ -5,16 +5,16 @@ use Rattle.simplex_voter.specs.Facts.{StateFacts, is_tracked}
 use Rattle.simplex_voter.specs.Gaps.{first_unnullified_view}
 use Rattle.simplex_voter.specs.Parents.{has_valid_parent_span, ancestry_payload_for_child, parent_payload_for, find_parent, captured_parent_valid, verification_matches}
 use Rattle.simplex_voter.specs.Payloads.{explicit_ancestry_payload, optimistic_ancestry_payload, is_handoff_parent, is_voted_ancestor, can_chain_on}
-use Rattle.simplex_voter.specs.Proposing.{propose_answer, proposed_answer}
+use Rattle.simplex_voter.specs.ProposalRequests.{propose_answer, proposed_answer}
 use Rattle.simplex_voter.specs.Rules.{may_notarize, may_nullify, may_finalize, has_conflicting_nullify, required_certification_parent}
-use Rattle.simplex_voter.specs.Verifying.{standing}
+use Rattle.simplex_voter.specs.Verification.{standing}
 use Rattle.simplex_voter.specs.Windows.{is_admitted, in_issuance_window}
-use Rattle.laws_safety.specs.LackingNetwork.{lacks_nullification, skips_two, member_without_notarization, lacking_certificates}
+use Rattle.laws_safety.specs.MissingCertificatesNetwork.{lacks_nullification, skips_two, member_without_notarization, lacking_certificates}
 use Rattle.laws_safety.specs.Executions.{Execution}
 use Rattle.laws_safety.specs.ScenarioSteps.{in_turn}
 use Rattle.laws_safety.proofs.networks.LackingNetwork.{lacking_network}
-use Rattle.laws_progress.specs.Living.{IsSetUpAs, LivesWith}
-use Rattle.laws_progress.specs.Worked.{MayReach, Reaches}
+use Rattle.laws_progress.specs.NetworkStates.{IsSetUpAs, LivesWith}
+use Rattle.laws_progress.specs.WorkedNetworks.{MayReach, Reaches}
 use Rattle.laws_progress.proofs.instances.Worked.{IsWorked, lives_by, each_lives_so, agree}
 use Rattle.laws_progress.proofs.networks.Going.{no_network_is_stuck}
 

@@ -10,8 +10,8 @@ use Rattle.laws_safety.specs.Replicas.{Honest, IsNetworkOf}
 use Rattle.laws_safety.specs.Executions.{Execution, trace_of, IsExecution, BeginsAs}
 use Rattle.laws_safety.specs.ScenarioSteps.{in_turn}
 use Rattle.laws_safety.proofs.networks.ScenarioSteps.{ran_as_told}
-use Rattle.laws_progress.specs.Living.{IsSetUpAs, LivesWith, EachLives}
-use Rattle.laws_progress.specs.Overrun.{idle_of_five, with_two_faulty, MayGoOnOtherwise, IsStuck}
+use Rattle.laws_progress.specs.NetworkStates.{IsSetUpAs, LivesWith, EachLives}
+use Rattle.laws_progress.specs.TooManyFaulty.{idle_of_five, with_two_faulty, MayGoOnOtherwise, IsStuck}
 use Rattle.laws_progress.proofs.instances.Worked.{agree}
 use Rattle.laws_progress.proofs.networks.Continued.{too_many_are_faulty}
 

@@ -11,8 +11,8 @@ use Rattle.laws_safety.specs.Traces.{Accepts}
 use Rattle.laws_safety.specs.Replicas.{Honest, IsNetworkOf}
 use Rattle.laws_safety.specs.Executions.{Execution, trace_of, IsExecution}
 use Rattle.laws_safety.specs.ScenarioSteps.{in_turn}
-use Rattle.laws_progress.specs.Living.{LivesWith, EachLives}
-use Rattle.laws_progress.specs.Started.{idle, with_second_leader, StandsBeforeSecond, Finalizes}
+use Rattle.laws_progress.specs.NetworkStates.{LivesWith, EachLives}
+use Rattle.laws_progress.specs.StartedNetworks.{idle, with_second_leader, StandsBeforeSecond, Finalizes}
 use Rattle.laws_progress.proofs.instances.FreshNetwork.{state, idle_ran, lives}
 use Rattle.laws_progress.proofs.networks.Passed.{together_they_go_on}
 use Rattle.laws_progress.proofs.states.Waiting.{explicit_by}

@@ -15,8 +15,8 @@ use Rattle.laws_safety.specs.ScenarioSteps.{in_turn}
 use Rattle.laws_safety.proofs.lists.Splits.{Contains-cases}
 use Rattle.laws_safety.proofs.networks.ComputedRuns.{end_from, fits_run}
 use Rattle.laws_safety.proofs.networks.ScenarioSteps.{told_in, FitsIn}
-use Rattle.laws_progress.specs.Living.{IsSetUpAs, LivesWith, EachLives}
-use Rattle.laws_progress.specs.Reaching.{HasCertified, judged_of}
+use Rattle.laws_progress.specs.NetworkStates.{IsSetUpAs, LivesWith, EachLives}
+use Rattle.laws_progress.specs.ViewCauses.{HasCertified, judged_of}
 use Rattle.laws_progress.proofs.runs.Explicit.{verdict_led}
 use Rattle.laws_progress.proofs.runs.LedLives.{state_led}
 

@@ -5,7 +5,7 @@ use Rattle.simplex_voter.specs.Facts.{StateFacts, Elect}
 use Rattle.laws_safety.specs.Continuations.{SomeHonest}
 use Rattle.laws_safety.specs.Replicas.{Replica, Faulty, Honest}
 use Rattle.laws_safety.specs.Executions.{Execution}
-use Rattle.laws_progress.specs.Living.{LivesWith, EachLives}
+use Rattle.laws_progress.specs.NetworkStates.{LivesWith, EachLives}
 
 module _ {K L D : Type 0} (same : D → D → Bool) (elect : Elect L) where
   -- 0, where no member is honest; a member stands there, and each stands there or below

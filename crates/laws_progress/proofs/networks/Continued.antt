@@ -6,8 +6,8 @@ use Rattle.simplex_voter.specs.Facts.{Elect}
 use Rattle.laws_safety.specs.Continuations.{ReplicasGoOn, SomeHonest, HasBuilt, HonestlyBacked}
 use Rattle.laws_safety.specs.Replicas.{Replica, Honest, quorum}
 use Rattle.laws_safety.specs.Executions.{Execution}
-use Rattle.laws_progress.specs.Continued.{IsVotedFor, IsGiven, MembersGoOn, FinalizationsAreNew, NothingIsForged, TooManyAreFaulty, ExchangesGoOn, ExchangesBringWhatWas, OneExchangeIsTooFew}
-use Rattle.laws_progress.specs.Soon.{IsExchange, Exchanges}
+use Rattle.laws_progress.specs.Continuation.{IsVotedFor, IsGiven, MembersGoOn, FinalizationsAreNew, NothingIsForged, TooManyAreFaulty, ExchangesGoOn, ExchangesBringWhatWas, OneExchangeIsTooFew}
+use Rattle.laws_progress.specs.MessageExchanges.{IsExchange, Exchanges}
 use Rattle.laws_progress.proofs.networks.Replicas.{same_length, same_faults, still_there, honest_fit, replicas_same, replicas_joined, alone_backed, trace_stays}
 
 -- who built a proposal gave its payload, and voted for it

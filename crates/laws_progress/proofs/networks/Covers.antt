@@ -14,7 +14,7 @@ use Rattle.laws_safety.specs.Replicas.{Replica, Honest, IsNetworkOf}
 use Rattle.laws_safety.specs.Executions.{Execution, trace_of}
 use Rattle.laws_safety.proofs.agreement.Quorums.{shared_member}
 use Rattle.laws_safety.proofs.lists.Splits.{Contains-cases, Contains-cons_rest}
-use Rattle.laws_progress.specs.Reaching.{HasFinalized, HasCertified, IsLedTo, First, PastFinalized, PastCertified, PastNullified, judged_of}
+use Rattle.laws_progress.specs.ViewCauses.{HasFinalized, HasCertified, IsLedTo, First, PastFinalized, PastCertified, PastNullified, judged_of}
 use Rattle.laws_progress.proofs.runs.LedLives.{nullified_led}
 
 -- a view that was led to is not genesis

@@ -8,7 +8,7 @@ use Rattle.laws_safety.specs.Replicas.{Honest, Backed}
 use Rattle.laws_safety.specs.Executions.{Execution}
 use Rattle.laws_safety.proofs.agreement.Quorums.{shared_member}
 use Rattle.laws_progress.specs.FreshStarts.{FreshStartsAreFinalized}
-use Rattle.laws_progress.specs.Standing.{BuildsOn, proposal_in}
+use Rattle.laws_progress.specs.ViewPositions.{BuildsOn, proposal_in}
 use Rattle.laws_progress.proofs.networks.Passed.{enough}
 use Rattle.laws_progress.proofs.networks.Together.{ContinuesBy, goes_on_to_finalize}
 use Rattle.laws_progress.proofs.runs.Ends.{end_shown}

@@ -4,8 +4,8 @@ use Rattle.std.proofs.lemmas.Bool.{cases_eq}
 use Rattle.simplex_types.specs.Terms.{term_start, next_term_start}
 use Rattle.simplex_view_maps.proofs.Gaps.{next_above}
 use Rattle.simplex_voter.specs.Facts.{Elect}
-use Rattle.laws_progress.specs.Going.{NoNetworkIsStuck}
-use Rattle.laws_progress.specs.Together.{terms_on}
+use Rattle.laws_progress.specs.NotStuck.{NoNetworkIsStuck}
+use Rattle.laws_progress.specs.SharedView.{terms_on}
 use Rattle.laws_progress.proofs.networks.Meeting.{who_meets_goes_on}
 use Rattle.laws_progress.proofs.networks.Met.{next_before, have_met, some}
 

@@ -8,9 +8,9 @@ use Rattle.simplex_voter.specs.Facts.{Elect}
 use Rattle.laws_safety.specs.Replicas.{Replica, Faulty, Honest, faults, max_faults}
 use Rattle.laws_safety.specs.Executions.{Execution}
 use Rattle.laws_safety.proofs.agreement.Quorums.{faults-cons}
-use Rattle.laws_progress.specs.Going.{MayGoOn}
-use Rattle.laws_progress.specs.Soon.{Exchanges, IsFinalizedInTurn}
-use Rattle.laws_progress.specs.Together.{terms_on}
+use Rattle.laws_progress.specs.NotStuck.{MayGoOn}
+use Rattle.laws_progress.specs.MessageExchanges.{Exchanges, IsFinalizedInTurn}
+use Rattle.laws_progress.specs.SharedView.{terms_on}
 use Rattle.laws_progress.proofs.networks.Passed.{there}
 use Rattle.laws_progress.proofs.networks.Soon.{index_on, index_up, starts_are_finalized_soon}
 use Rattle.laws_progress.proofs.runs.Ends.{end_shown}

@@ -2,8 +2,8 @@
 use Rattle.std.proofs.Common.{◌≡◌, ◌≤◌, Bool, true, length, arith}
 use Rattle.simplex_voter.specs.Facts.{Elect}
 use Rattle.laws_safety.specs.Replicas.{faults, max_faults}
-use Rattle.laws_progress.specs.Meeting.{WhoMeetsGoesOn}
-use Rattle.laws_progress.specs.Standing.{proposal_in}
+use Rattle.laws_progress.specs.CommonViews.{WhoMeetsGoesOn}
+use Rattle.laws_progress.specs.ViewPositions.{proposal_in}
 use Rattle.laws_progress.proofs.networks.Joined.{joined}
 use Rattle.laws_progress.proofs.networks.Replicas.{same_length, same_faults, honest_still}
 use Rattle.laws_progress.proofs.networks.Passed.{together_they_go_on}

@@ -15,19 +15,19 @@ use Rattle.simplex_round.specs.declared.round.Certification.TheVariants as certi
 use Rattle.simplex_round.specs.Round.{is_judged}
 use Rattle.simplex_voter.specs.Facts.{StateFacts, Elect, round_of, is_tracked}
 use Rattle.simplex_member.specs.Calls.{SetProposal}
-use Rattle.simplex_member.specs.Lives.{MemberFacts}
+use Rattle.simplex_member.specs.MemberFacts.{MemberFacts}
 use Rattle.simplex_member.specs.Runs.{Calls}
 use Rattle.laws_safety.specs.Continuations.{ExecutionGoesOn, EachHonest, SomeHonest, HasAccepted, HasHeard}
 use Rattle.laws_safety.specs.Traces.{TraceEvent, Accepts, trace_of_steps}
 use Rattle.laws_safety.specs.Replicas.{Replica, Honest, faults, FewFaulty, quorum, AtLeastFrom, MayHaveSigned, IsNetworkOf}
-use Rattle.laws_history.specs.Shows.{verdict_of}
+use Rattle.laws_history.specs.HistoryFacts.{verdict_of}
 use Rattle.laws_safety.specs.Executions.{Execution, trace_of, IsExecution}
 use Rattle.laws_safety.proofs.agreement.Claims.{finalized_uncovered, parent_before}
-use Rattle.laws_progress.specs.Going.{MayGoOn, NetworksMeet}
-use Rattle.laws_progress.specs.Living.{IsSetUpAs, LivesWith, EachLives}
-use Rattle.laws_progress.specs.Meeting.{Meets}
-use Rattle.laws_progress.specs.Reaching.{IsInEpoch, HasFinalized, HasCertified, IsLedTo, First, PastFinalized, PastCertified, PastNullified, judged_in, judged_of}
-use Rattle.laws_progress.specs.Standing.{StandsBefore}
+use Rattle.laws_progress.specs.NotStuck.{MayGoOn, NetworksMeet}
+use Rattle.laws_progress.specs.NetworkStates.{IsSetUpAs, LivesWith, EachLives}
+use Rattle.laws_progress.specs.CommonViews.{Meets}
+use Rattle.laws_progress.specs.ViewCauses.{IsInEpoch, HasFinalized, HasCertified, IsLedTo, First, PastFinalized, PastCertified, PastNullified, judged_in, judged_of}
+use Rattle.laws_progress.specs.ViewPositions.{StandsBefore}
 use Rattle.laws_progress.proofs.networks.Chosen.{HighestCurrent, highest_current}
 use Rattle.laws_progress.proofs.networks.Covers.{Skips, Covered, covered}
 use Rattle.laws_progress.proofs.networks.Followed.{ReplicasFollow, all_follow, replicas_follow, same_many, was_there, backed_still}

@@ -7,14 +7,14 @@ use Rattle.simplex_types.specs.declared.types.messages.Subject.{Subject}
 use Rattle.simplex_types.specs.declared.types.messages.Subject.TheVariants.{Notarize}
 use Rattle.simplex_voter.specs.Facts.{Elect}
 use Rattle.simplex_member.specs.Calls.{CallFacts, SetProposal, Proposed}
-use Rattle.simplex_member.specs.Lives.{MemberFacts}
+use Rattle.simplex_member.specs.MemberFacts.{MemberFacts}
 use Rattle.simplex_member.specs.Runs.{StepFacts, Calls, IsRun}
 use Rattle.laws_safety.specs.Continuations.{ExecutionGoesOn, SomeHonest, HasBuilt, IsHonestlySigned, HonestlyBacked}
 use Rattle.laws_safety.specs.Traces.{TraceEvent, Accepts, Signs}
 use Rattle.laws_safety.specs.Replicas.{Replica, Honest, faults, max_faults, quorum}
 use Rattle.laws_safety.specs.Executions.{new_member, Execution, trace_of, IsExecution}
 use Rattle.laws_safety.proofs.lists.Splits.{Contains-cases, Contains-cons_rest}
-use Rattle.laws_progress.specs.Soon.{IsExchange, Exchanges}
+use Rattle.laws_progress.specs.MessageExchanges.{IsExchange, Exchanges}
 use Rattle.laws_progress.proofs.networks.Followed.{quorum_fits, honest_enough, ReplicasFollow, follows_so, one_further, replicas_follow, same_many, was_there, is_there}
 use Rattle.laws_progress.proofs.networks.Replicas.{map_joined, execution_joined}
 use Rattle.laws_progress.proofs.runs.Onward.{and_calls, calls_go_on, calls_run, calls_ran, calls_trace}

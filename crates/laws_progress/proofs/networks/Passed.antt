@@ -20,9 +20,9 @@ use Rattle.laws_safety.specs.Replicas.{Replica as Member, Honest, Backed, IsNetw
 use Rattle.laws_safety.specs.Executions.{Execution, IsExecution}
 use Rattle.laws_safety.proofs.agreement.Quorums.{shared_member}
 use Rattle.laws_safety.proofs.lists.Splits.{Contains-cases, Contains-cons_rest}
-use Rattle.laws_progress.specs.Living.{IsSetUpAs, LivesWith, EachLives}
-use Rattle.laws_progress.specs.Standing.{proposal_in, StandsBefore}
-use Rattle.laws_progress.specs.Together.{terms_on, TogetherTheyGoOn}
+use Rattle.laws_progress.specs.NetworkStates.{IsSetUpAs, LivesWith, EachLives}
+use Rattle.laws_progress.specs.ViewPositions.{proposal_in, StandsBefore}
+use Rattle.laws_progress.specs.SharedView.{terms_on, TogetherTheyGoOn}
 use Rattle.laws_progress.proofs.states.Standing.{StandingMember}
 use Rattle.laws_progress.proofs.states.Highest.{highest_at}
 use Rattle.laws_progress.proofs.runs.Members.{AllHave, one_has, HearsOnly, follower_hears, leader_hears}

@@ -11,7 +11,7 @@ use Rattle.simplex_member.specs.Calls.{CallFacts, SetProposal, Proposed}
 use Rattle.laws_safety.specs.Traces.{TraceEvent, Accepts, Signs}
 use Rattle.laws_safety.proofs.lists.Splits.{Contains-cases, only_one}
 use Rattle.laws_progress.proofs.networks.Parts.{Part, at_member, parts_of, PartFits, IsPlan}
-use Rattle.laws_progress.specs.Standing.{proposal_in}
+use Rattle.laws_progress.specs.ViewPositions.{proposal_in}
 use Rattle.laws_progress.proofs.runs.Members.{one_has}
 use Rattle.laws_progress.proofs.runs.Starts.{replica_of}
 use Rattle.laws_progress.proofs.states.Passing.{gives_up_now, skips_now, skip_sequence}

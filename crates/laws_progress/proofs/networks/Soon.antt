@@ -17,11 +17,11 @@ use Rattle.laws_safety.specs.Continuations.{GoesOnToFinalize}
 use Rattle.laws_safety.specs.Traces.{TraceEvent, Accepts}
 use Rattle.laws_safety.specs.Replicas.{Replica, Honest, faults, max_faults, IsNetworkOf}
 use Rattle.laws_safety.specs.Executions.{Execution, trace_of}
-use Rattle.laws_progress.specs.Going.{MayGoOn}
-use Rattle.laws_progress.specs.Living.{IsSetUpAs, LivesWith, EachLives}
-use Rattle.laws_progress.specs.Soon.{IsExchange, Exchanges, IsFinalizedSoon}
-use Rattle.laws_progress.specs.Standing.{StandsBefore, proposal_in}
-use Rattle.laws_progress.specs.Together.{terms_on}
+use Rattle.laws_progress.specs.NotStuck.{MayGoOn}
+use Rattle.laws_progress.specs.NetworkStates.{IsSetUpAs, LivesWith, EachLives}
+use Rattle.laws_progress.specs.MessageExchanges.{IsExchange, Exchanges, IsFinalizedSoon}
+use Rattle.laws_progress.specs.ViewPositions.{StandsBefore, proposal_in}
+use Rattle.laws_progress.specs.SharedView.{terms_on}
 use Rattle.laws_progress.proofs.networks.Followed.{ReplicasFollow, all_follow, follows_so, replicas_follow, was_there}
 use Rattle.laws_progress.proofs.networks.Going.{terms_to}
 use Rattle.laws_progress.proofs.networks.Joined.{joined}

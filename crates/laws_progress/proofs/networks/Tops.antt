@@ -11,7 +11,7 @@ use Rattle.laws_safety.specs.Traces.{TraceEvent, Accepts, Signs}
 use Rattle.laws_safety.specs.Replicas.{Replica, Faulty, Honest}
 use Rattle.laws_safety.specs.Executions.{Execution}
 use Rattle.laws_safety.proofs.lists.Splits.{Contains-cases, Contains-cons_rest}
-use Rattle.laws_progress.specs.Reaching.{HasFinalized, HasCertified}
+use Rattle.laws_progress.specs.ViewCauses.{HasFinalized, HasCertified}
 
 -- 0, where none has it
 pub record Highest (P : ℕ → Type 0) : Type 0 where

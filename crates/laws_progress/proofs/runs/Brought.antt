@@ -19,12 +19,12 @@ use Rattle.laws_safety.specs.Traces.{TraceEvent, Accepts}
 use Rattle.simplex_record.specs.Events as event
 use Rattle.simplex_record.specs.Events.{Event, IsEvent, after_event, finalized_by_event, is_prune}
 use Rattle.laws_history.specs.OwnWork.{first_certificate_by, hears_of, owns}
-use Rattle.laws_history.specs.Shows.{verdict_of}
+use Rattle.laws_history.specs.HistoryFacts.{verdict_of}
 use Rattle.laws_history.specs.HistoryFolds.{or_new, brings_notarization, brings_finalization, verdict_of_event, entered_by, sets_genesis}
 use Rattle.laws_safety.proofs.frames.EachRound.{pruned_view, prune_alone}
 use Rattle.laws_history.proofs.Following.{FollowsEvent, left_from}
 use Rattle.laws_history.proofs.FollowingReplays.{event_follows}
-use Rattle.laws_progress.specs.Reaching.{IsInEpoch, IsLedTo, First, PastFinalized, PastCertified, PastNullified, HasJudged}
+use Rattle.laws_progress.specs.ViewCauses.{IsInEpoch, IsLedTo, First, PastFinalized, PastCertified, PastNullified, HasJudged}
 
 module _ {K L D : Type 0} (epoch : ℕ) (trace : List (TraceEvent D)) (verdicts : List (Bool × Proposal D)) (x : StateFacts K L D) where
   -- what an event brings was accepted or certified

@@ -19,24 +19,24 @@ use Rattle.simplex_voter.specs.Facts.{StateFacts, Elect, round_at, round_of, rou
 use Rattle.simplex_voter.specs.Refusals.{is_too_large, names_too_large, is_started, enters_late}
 use Rattle.simplex_voter.proofs.Gaps.{and_both, or_right}
 use Rattle.simplex_member.specs.OutstandingWork.{is_among}
-use Rattle.simplex_member.specs.Allowed.{is_allowed, fault_of}
+use Rattle.simplex_member.specs.CallConditions.{is_allowed, fault_of}
 use Rattle.simplex_member.specs.Calls.{CallFacts, Told, Judged, SetProposal, AddNotarization, AddNullification, AddFinalization, Certified}
-use Rattle.simplex_member.specs.Lives.{MemberFacts, with_call}
+use Rattle.simplex_member.specs.MemberFacts.{MemberFacts, with_call}
 use Rattle.simplex_member.specs.CallSemantics.{answer, after_call}
 use Rattle.simplex_member.specs.Runs.{StepFacts, Calls, IsRun}
 use Rattle.laws_safety.specs.Traces.{Accepts, trace_of_call, trace_of_steps}
 use Rattle.simplex_record.specs.Events as event
 use Rattle.simplex_record.specs.Events.{Event, after_event}
-use Rattle.laws_history.specs.Leading.{tracks_by}
-use Rattle.laws_history.specs.Shows.{verdict_of}
+use Rattle.laws_history.specs.LeaderHistory.{tracks_by}
+use Rattle.laws_history.specs.HistoryFacts.{verdict_of}
 use Rattle.laws_history.specs.HistoryFolds.{or_new}
 use Rattle.laws_history.proofs.EventsWorked.{event_works}
 use Rattle.laws_history.proofs.Following.{FollowsEvent}
 use Rattle.laws_history.proofs.FollowingReplays.{event_follows}
 use Rattle.laws_safety.proofs.lists.Splits.{Contains-cases, Contains-cons_rest, only_one}
 use Rattle.laws_safety.proofs.lives.Progress.{no_fault_due}
-use Rattle.laws_progress.specs.Living.{IsSetUpAs}
-use Rattle.laws_progress.specs.Reaching.{judged_by, judged_in}
+use Rattle.laws_progress.specs.NetworkStates.{IsSetUpAs}
+use Rattle.laws_progress.specs.ViewCauses.{judged_by, judged_in}
 use Rattle.laws_progress.proofs.runs.Brought.{some_brought}
 use Rattle.laws_progress.proofs.runs.Nearing.{Nears, event_nears, no_window_there, takes_it, not_late, given_less, nullified_nears}
 use Rattle.laws_progress.proofs.states.Sequences.{answered}

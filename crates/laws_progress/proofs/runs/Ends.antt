@@ -3,7 +3,7 @@ use Rattle.std.proofs.Common.{◌≡◌, refl, subst, inl, inr, ℕ, ◌≤◌, 
 use Rattle.std.proofs.lemmas.Bool.{cases_Bool}
 use Rattle.simplex_round.specs.Round.{is_finalize}
 use Rattle.simplex_voter.specs.Facts.{StateFacts, Elect, round_of}
-use Rattle.simplex_member.specs.Lives.{MemberFacts}
+use Rattle.simplex_member.specs.MemberFacts.{MemberFacts}
 use Rattle.simplex_member.specs.Runs.{StepFacts, Calls, Prunes, Restarts}
 use Rattle.laws_safety.specs.Traces.{of_floor}
 use Rattle.laws_safety.specs.Executions.{new_member, Execution, trace_of, BeginsAs, IsExecution}
@@ -14,7 +14,7 @@ use Rattle.laws_safety.proofs.lives.TimingOut.{TimesOut, floor_times_out, event_
 use Rattle.laws_safety.proofs.records.NewLives.{Living}
 use Rattle.laws_safety.proofs.records.RunsLawful.{LivesOn, run_lives, start_lives}
 use Rattle.laws_progress.proofs.runs.Owned.{Owns, event_owns, floor_owns}
-use Rattle.laws_progress.specs.Living.{LivesWith}
+use Rattle.laws_progress.specs.NetworkStates.{LivesWith}
 
 -- the lives of a member of a network share a length of terms
 pub terms_kept : {K L D : Type 0} (term_length i : ℕ) (steps : List (StepFacts K L D)) → ((r : _) → Contains steps (Restarts r) → BeginsAs term_length i r.start.setup) → KeepTerms term_length steps

@@ -16,11 +16,11 @@ use Rattle.simplex_voter.specs.Payloads.{certified_payload, explicit_ancestry_pa
 use Rattle.simplex_voter.proofs.Gaps.{first_unnullified_view-is, or_right}
 use Rattle.simplex_member.specs.OutstandingWork.{is_among}
 use Rattle.laws_safety.specs.Traces.{TraceEvent}
-use Rattle.laws_history.specs.Shows.{verdict_of}
+use Rattle.laws_history.specs.HistoryFacts.{verdict_of}
 use Rattle.laws_safety.proofs.lives.TimingOut.{TimesOut}
 use Rattle.laws_safety.proofs.votes.ShownVotes.{ShowsVotesInLife}
-use Rattle.laws_progress.specs.Reaching.{HasFinalized, HasCertified, HasJudged}
-use Rattle.laws_progress.specs.Standing.{StandsBefore}
+use Rattle.laws_progress.specs.ViewCauses.{HasFinalized, HasCertified, HasJudged}
+use Rattle.laws_progress.specs.ViewPositions.{StandsBefore}
 use Rattle.laws_progress.proofs.runs.Coming.{Came}
 use Rattle.laws_progress.proofs.runs.Led.{Led}
 use Rattle.laws_progress.proofs.states.Waiting.{explicit_by}

@@ -17,7 +17,7 @@ use Rattle.simplex_record.specs.Events.{Event, IsEvent, after_event}
 use Rattle.laws_safety.proofs.frames.Rising.{event_goes}
 use Rattle.laws_safety.proofs.frames.Sound.{event_ahead}
 use Rattle.laws_history.proofs.FollowingReplays.{event_follows}
-use Rattle.laws_progress.specs.Reaching.{HasJudged, IsLedTo, First, PastFinalized, PastCertified, PastNullified}
+use Rattle.laws_progress.specs.ViewCauses.{HasJudged, IsLedTo, First, PastFinalized, PastCertified, PastNullified}
 use Rattle.laws_progress.proofs.runs.Brought.{BringsAccepted, RoundsLed, brings_nothing, rounds_led, final_after, genesis_still, reached_after}
 
 -- what was done and certified stays so

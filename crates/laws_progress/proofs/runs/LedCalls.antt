@@ -18,7 +18,7 @@ use Rattle.simplex_voter.specs.Rules.{may_nullify}
 use Rattle.simplex_voter.specs.Votes.{notarize_answer, finalize_answer}
 use Rattle.simplex_voter.proofs.Gaps.{and_parts}
 use Rattle.simplex_voter.proofs.Rules.{nullify_parts}
-use Rattle.simplex_member.specs.Allowed.{is_allowed}
+use Rattle.simplex_member.specs.CallConditions.{is_allowed}
 use Rattle.simplex_member.specs.Calls as calls
 use Rattle.simplex_member.specs.Calls.{CallFacts, Notarize, Nullify, Finalize, Judged}
 use Rattle.simplex_member.specs.CallSemantics.{answer, after_call, recorded_by, if_new, vote_entry, unrepeated_vote, nullify_vote}
@@ -32,7 +32,7 @@ use Rattle.laws_safety.proofs.frames.CallsMake.{call_by_event}
 use Rattle.laws_safety.proofs.lists.Signed.{signed_none, only_signed}
 use Rattle.laws_safety.proofs.votes.LifeCalls.{nullify_silent, nullify_told, no_key, no_rule}
 use Rattle.laws_safety.proofs.lists.Splits.{only_one}
-use Rattle.laws_progress.specs.Reaching.{IsLedTo, judged_by, HasJudged}
+use Rattle.laws_progress.specs.ViewCauses.{IsLedTo, judged_by, HasJudged}
 use Rattle.laws_progress.proofs.runs.Brought.{BringsAccepted, brings_nothing}
 use Rattle.laws_progress.proofs.runs.Led.{Led, event_led, state_more}
 

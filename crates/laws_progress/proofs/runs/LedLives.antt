@@ -24,9 +24,9 @@ use Rattle.simplex_record.proofs.Allowing.{new_bears}
 use Rattle.simplex_record.proofs.Bearing.{BearsAll}
 use Rattle.simplex_record.proofs.Remaking.{set_takes}
 use Rattle.simplex_record.proofs.Start.{good_floor}
-use Rattle.simplex_member.specs.Allowed.{is_allowed, fault_of}
+use Rattle.simplex_member.specs.CallConditions.{is_allowed, fault_of}
 use Rattle.simplex_member.specs.Calls.{CallFacts, Told}
-use Rattle.simplex_member.specs.Lives.{MemberFacts, AnswersAlive, IsCall, reply_of, left_of, without_life}
+use Rattle.simplex_member.specs.MemberFacts.{MemberFacts, AnswersAlive, IsCall, reply_of, left_of, without_life}
 use Rattle.simplex_member.specs.CallSemantics.{answer, recorded_by}
 use Rattle.simplex_member.specs.Restarts.{RestartFacts, cut_member, new_life, retention_grows, RecoversByView, IsRestart, IsRestartWhere}
 use Rattle.simplex_member.specs.Runs.{StepFacts, Calls, Prunes, Restarts, restart_told, IsRun, IsRunFrom}
@@ -45,8 +45,8 @@ use Rattle.laws_safety.proofs.lists.Splits.{Contains-cons_rest, only_one}
 use Rattle.laws_safety.proofs.records.Lifetimes.{Between}
 use Rattle.laws_safety.proofs.records.NewLives.{all_of_epoch, first_none}
 use Rattle.laws_safety.proofs.records.RunsLawful.{MemberLives, between_of, cut_between, call_lives_on, prune_lives_on, restart_lives_on, start_lives}
-use Rattle.laws_progress.specs.Living.{LivesWith}
-use Rattle.laws_progress.specs.Reaching.{HasJudged, IsLedTo, judged_by, judged_in, judged_of}
+use Rattle.laws_progress.specs.NetworkStates.{LivesWith}
+use Rattle.laws_progress.specs.ViewCauses.{HasJudged, IsLedTo, judged_by, judged_in, judged_of}
 use Rattle.laws_progress.proofs.runs.Brought.{BringsAccepted, brings_nothing}
 use Rattle.laws_progress.proofs.runs.Ends.{terms_kept}
 use Rattle.laws_progress.proofs.runs.Led.{Led, event_led, led_more, judged_more, floor_led}

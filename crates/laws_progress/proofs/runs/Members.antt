@@ -14,8 +14,8 @@ use Rattle.simplex_member.specs.Runs.{StepFacts, Calls}
 use Rattle.laws_safety.specs.Continuations.{ExecutionGoesOn, HasHeard}
 use Rattle.laws_safety.specs.Executions.{Execution, trace_of, IsExecution}
 use Rattle.laws_safety.proofs.lists.Splits.{Contains-cases}
-use Rattle.laws_progress.specs.Standing.{IsFreshStart, CanStandOn, BuildsOn, proposal_in}
-use Rattle.laws_progress.specs.Living.{IsSetUpAs, LivesWith}
+use Rattle.laws_progress.specs.ViewPositions.{IsFreshStart, CanStandOn, BuildsOn, proposal_in}
+use Rattle.laws_progress.specs.NetworkStates.{IsSetUpAs, LivesWith}
 use Rattle.laws_progress.proofs.states.Standing.{StandingMember, StandsAtView}
 use Rattle.laws_progress.proofs.states.Calls.{with_work, nothing_done}
 use Rattle.laws_progress.proofs.runs.Onward.{execution_on}

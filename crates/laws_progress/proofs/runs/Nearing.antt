@@ -17,16 +17,16 @@ use Rattle.simplex_voter.proofs.Gaps.{and_both, or_right}
 use Rattle.simplex_member.specs.OutstandingWork.{is_among}
 use Rattle.simplex_record.specs.Events as event
 use Rattle.simplex_record.specs.Events.{Event, IsEvent, after_event, finalized_by_event, covers_from, is_prune}
-use Rattle.laws_history.specs.Leading.{comes_to_track, tracks_by, opens}
-use Rattle.laws_history.specs.Shows.{verdict_of}
+use Rattle.laws_history.specs.LeaderHistory.{comes_to_track, tracks_by, opens}
+use Rattle.laws_history.specs.HistoryFacts.{verdict_of}
 use Rattle.laws_history.specs.HistoryFolds.{or_new, brings_notarization, verdict_of_event, entered_by}
-use Rattle.laws_history.specs.Timing.{enters}
+use Rattle.laws_history.specs.Moments.{enters}
 use Rattle.laws_safety.proofs.frames.Rising.{event_goes}
 use Rattle.laws_safety.proofs.frames.Sound.{event_ahead}
 use Rattle.laws_history.proofs.EventsWorked.{event_works}
 use Rattle.laws_history.proofs.Following.{FollowsEvent, left_from}
 use Rattle.laws_history.proofs.FollowingReplays.{event_follows}
-use Rattle.laws_progress.specs.Living.{IsSetUpAs}
+use Rattle.laws_progress.specs.NetworkStates.{IsSetUpAs}
 use Rattle.laws_progress.proofs.runs.Brought.{new_or_old, notarizes_by}
 
 -- the member stands at the view or below it, with this finalized view, and this verdict on the parent; these nullifications are

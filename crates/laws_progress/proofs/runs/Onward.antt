@@ -3,13 +3,13 @@ use Rattle.std.proofs.Common.{◌≡◌, refl, ap, sym, ◌∙◌, subst, inl, i
 use Rattle.std.proofs.lemmas.List.Elements.{Contains-append_cases}
 use Rattle.simplex_voter.specs.Facts.{Elect}
 use Rattle.simplex_member.specs.Calls.{CallFacts, Told}
-use Rattle.simplex_member.specs.Lives.{MemberFacts}
+use Rattle.simplex_member.specs.MemberFacts.{MemberFacts}
 use Rattle.simplex_member.specs.Runs.{StepFacts, Calls, Restarts, IsRun, IsRunFrom}
 use Rattle.laws_safety.specs.Continuations.{ExecutionGoesOn}
 use Rattle.laws_safety.specs.Traces.{TraceEvent, of_floor, trace_at, trace_of_steps}
 use Rattle.laws_safety.specs.Executions.{new_member, Execution, trace_of, IsExecution}
 use Rattle.laws_safety.proofs.lists.Splits.{Contains-cases}
-use Rattle.laws_progress.specs.Reaching.{judged_by, judged_in}
+use Rattle.laws_progress.specs.ViewCauses.{judged_by, judged_in}
 use Rattle.laws_progress.proofs.states.Sequences.{Does}
 
 -- verdicts that are told one after another

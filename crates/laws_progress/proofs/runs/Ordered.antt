@@ -9,7 +9,7 @@ use Rattle.simplex_types.specs.declared.types.messages.Subject.TheVariants as su
 use Rattle.simplex_types.specs.declared.types.numbers.Round.{Round}
 use Rattle.simplex_voter.specs.Facts.{Elect}
 use Rattle.simplex_member.specs.Calls.{CallFacts, Told, Added, AddedNullification, Nullify, Finalize, Notarize, Restarted, AddNotarization, AddNullification, AddFinalization}
-use Rattle.simplex_member.specs.Lives.{MemberFacts}
+use Rattle.simplex_member.specs.MemberFacts.{MemberFacts}
 use Rattle.simplex_member.specs.Runs.{StepFacts, Calls, Prunes, Restarts, IsRun, IsRunFrom}
 use Rattle.laws_safety.specs.Continuations.{ExecutionGoesOn}
 use Rattle.laws_safety.specs.Traces.{TraceEvent, Accepts, Signs, handed_in, of_floor, of_vote, trace_at, trace_of_steps}
@@ -19,7 +19,7 @@ use Rattle.laws_safety.proofs.agreement.VoteOrder.{Contains-middle}
 use Rattle.laws_safety.proofs.lives.WithinRuns.{run_from_before}
 use Rattle.laws_safety.proofs.lists.Splits.{only_one}
 use Rattle.laws_safety.proofs.records.Remembering.{append_split, none_split}
-use Rattle.laws_progress.specs.Reaching.{IsLedTo, First, PastFinalized, PastCertified, PastNullified, judged_by, judged_in, judged_of}
+use Rattle.laws_progress.specs.ViewCauses.{IsLedTo, First, PastFinalized, PastCertified, PastNullified, judged_by, judged_in, judged_of}
 use Rattle.laws_progress.proofs.runs.LedLives.{floor_signs_none, nullified_led}
 use Rattle.laws_progress.proofs.runs.Onward.{judged_joined, paired}
 

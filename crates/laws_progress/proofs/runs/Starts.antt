@@ -12,10 +12,10 @@ use Rattle.simplex_voter.specs.Parents.{at_view, explicit_below, highest_explici
 use Rattle.simplex_voter.specs.Payloads.{explicit_ancestry_payload}
 use Rattle.simplex_voter.specs.Refusals.{is_too_large}
 use Rattle.simplex_voter.specs.Rules.{has_conflicting_nullify}
-use Rattle.simplex_member.specs.Lives.{MemberFacts}
+use Rattle.simplex_member.specs.MemberFacts.{MemberFacts}
 use Rattle.laws_safety.specs.Executions.{Execution}
-use Rattle.laws_progress.specs.Standing.{IsFreshStart, CanStandOn}
-use Rattle.laws_progress.specs.Living.{IsSetUpAs}
+use Rattle.laws_progress.specs.ViewPositions.{IsFreshStart, CanStandOn}
+use Rattle.laws_progress.specs.NetworkStates.{IsSetUpAs}
 use Rattle.laws_progress.proofs.states.Standing.{StandingMember, StandsAtView}
 use Rattle.laws_progress.proofs.states.Calls.{with_work, nothing_done}
 use Rattle.laws_progress.proofs.runs.Ends.{Shown}

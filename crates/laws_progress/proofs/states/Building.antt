@@ -12,9 +12,9 @@ use Rattle.simplex_round.specs.declared.round.Leader.{Leader}
 use Rattle.simplex_round.specs.Round.{RoundFacts, is_pending, signs_as}
 use Rattle.simplex_voter.specs.declared.voter.propose.ProposalRequest.TheVariants.{Propose}
 use Rattle.simplex_voter.specs.Facts.{StateFacts, Elect}
-use Rattle.simplex_voter.specs.Entering.{at_moment}
+use Rattle.simplex_voter.specs.ViewEntry.{at_moment}
 use Rattle.simplex_voter.specs.Parents.{highest_explicit, find_parent, captured_parent_valid}
-use Rattle.simplex_voter.specs.Proposing.{views_ahead, request_in, propose_answer, proposed_answer}
+use Rattle.simplex_voter.specs.ProposalRequests.{views_ahead, request_in, propose_answer, proposed_answer}
 use Rattle.simplex_voter.proofs.Found.{first_given}
 use Rattle.simplex_member.specs.Calls.{TryPropose, Proposed}
 use Rattle.simplex_member.specs.CallSemantics.{outstanding_work_after}

@@ -13,15 +13,15 @@ use Rattle.simplex_round.specs.Round.{RoundFacts, is_pending}
 use Rattle.simplex_voter.specs.Facts.{StateFacts, Elect, round_of, round_number, is_tracked}
 use Rattle.simplex_voter.specs.Acceptance.{with_notarization_at}
 use Rattle.simplex_voter.specs.Certification.{with_verdict}
-use Rattle.simplex_voter.specs.Entering.{at_moment}
+use Rattle.simplex_voter.specs.ViewEntry.{at_moment}
 use Rattle.simplex_voter.specs.Leaders.{with_elected_leader, with_next_view_ready}
 use Rattle.simplex_voter.specs.Refusals.{names_too_large, is_started, enters_late, has_late_deadline}
 use Rattle.simplex_voter.specs.Payloads.{explicit_ancestry_payload}
 use Rattle.simplex_voter.specs.Rules.{may_notarize, may_finalize, required_certification_parent, explicit_parent_ready}
-use Rattle.simplex_voter.specs.Verifying.{with_proposal}
+use Rattle.simplex_voter.specs.Verification.{with_proposal}
 use Rattle.simplex_voter.proofs.Gaps.{and_both}
 use Rattle.simplex_voter.proofs.Rules.{notarize_whole, finalize_whole}
-use Rattle.simplex_member.specs.Allowed.{is_allowed, fault_of}
+use Rattle.simplex_member.specs.CallConditions.{is_allowed, fault_of}
 use Rattle.simplex_member.specs.Calls.{CallFacts, Added, Notarize, Finalize, SetProposal, Verified, ConstructNotarize, AddNotarization, Certified, ConstructFinalize, AddFinalization}
 use Rattle.simplex_member.specs.CallSemantics.{answer, after_call}
 use Rattle.simplex_member.specs.OutstandingWork.{OutstandingWork, is_verifying}

@@ -11,13 +11,13 @@ use Rattle.simplex_round.specs.Round.{RoundFacts, leader_at, is_pending}
 use Rattle.simplex_voter.specs.Facts.{StateFacts, Elect, round_at}
 use Rattle.simplex_voter.specs.Payloads.{explicit_ancestry_payload}
 use Rattle.simplex_member.specs.Calls.{CallFacts, AddedNullification, ConstructNullify, AddNullification}
-use Rattle.simplex_member.specs.Lives.{MemberFacts, with_call}
+use Rattle.simplex_member.specs.MemberFacts.{MemberFacts, with_call}
 use Rattle.simplex_member.specs.CallSemantics.{after_call}
 use Rattle.simplex_member.specs.OutstandingWork.{OutstandingWork}
 use Rattle.laws_safety.specs.Traces.{TraceEvent, Accepts, Signs}
 use Rattle.laws_safety.proofs.frames.Rising.{call_goes}
 use Rattle.laws_safety.proofs.lives.Progress.{no_fault_due}
-use Rattle.laws_progress.specs.Together.{terms_on}
+use Rattle.laws_progress.specs.SharedView.{terms_on}
 use Rattle.laws_progress.proofs.states.Calls.{with_work, nothing_done}
 use Rattle.laws_progress.proofs.states.Standing.{StandingMember, StandsAtView}
 use Rattle.laws_progress.proofs.states.Sequences.{Sequence, call_then, calls_in, whole_trace}

@@ -15,8 +15,8 @@ use Rattle.simplex_round.specs.Round.{RoundFacts, is_pending, signs_as, pending_
 use Rattle.simplex_voter.specs.declared.voter.verify.Standing.TheVariants.{Ready}
 use Rattle.simplex_voter.specs.declared.voter.verify.Verify.TheVariants as verify
 use Rattle.simplex_voter.specs.Facts.{StateFacts, Elect, round_at}
-use Rattle.simplex_voter.specs.Proposing.{views_ahead}
-use Rattle.simplex_voter.specs.Verifying.{is_answered, answer_in, standing, verify_answer, verify_context, was_scanned, scan_left, after_try_verify}
+use Rattle.simplex_voter.specs.ProposalRequests.{views_ahead}
+use Rattle.simplex_voter.specs.Verification.{is_answered, answer_in, standing, verify_answer, verify_context, was_scanned, scan_left, after_try_verify}
 use Rattle.simplex_voter.proofs.Found.{found_each, rises-filtered, find-filtered, any_nowhere, first_given, any-through}
 use Rattle.simplex_voter.proofs.Gaps.{and_both}
 use Rattle.simplex_voter.proofs.Walked.{find-changed, sorted-changed}

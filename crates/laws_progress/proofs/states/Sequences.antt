@@ -8,9 +8,9 @@ use Rattle.simplex_round.specs.declared.round.Leader.{Leader}
 use Rattle.simplex_round.specs.Round.{RoundFacts, is_pending, signs_as}
 use Rattle.simplex_voter.specs.Facts.{StateFacts, Elect}
 use Rattle.simplex_voter.specs.Parents.{highest_explicit}
-use Rattle.simplex_member.specs.Allowed.{is_allowed, fault_of}
+use Rattle.simplex_member.specs.CallConditions.{is_allowed, fault_of}
 use Rattle.simplex_member.specs.Calls.{CallFacts, Told, Added, Requested, Standing, Answered, Judged, SetProposal, TryPropose, Proposed, TryVerify, Verified, ConstructNotarize, AddNotarization, Certified, ConstructFinalize, AddFinalization}
-use Rattle.simplex_member.specs.Lives.{MemberFacts, AnswersAlive, IsCall, with_call}
+use Rattle.simplex_member.specs.MemberFacts.{MemberFacts, AnswersAlive, IsCall, with_call}
 use Rattle.simplex_member.specs.CallSemantics.{answer, after_call, outstanding_work_after}
 use Rattle.simplex_member.specs.OutstandingWork.{is_among, is_verifying}
 use Rattle.simplex_member.specs.Runs.{StepFacts, Calls, IsRun}

@@ -12,7 +12,7 @@ use Rattle.simplex_types.specs.declared.types.numbers.Round.{Round}
 use Rattle.simplex_round.specs.Round.{RoundFacts, new_round, leader_at, is_finalize, is_nullify, after_nullify, with_nullification}
 use Rattle.simplex_view_maps.proofs.Gaps.{next_above}
 use Rattle.simplex_voter.specs.Acceptance.{with_nullification_at}
-use Rattle.simplex_voter.specs.Entering.{at_moment, with_view_entered, entered_round}
+use Rattle.simplex_voter.specs.ViewEntry.{at_moment, with_view_entered, entered_round}
 use Rattle.simplex_voter.specs.Facts.{StateFacts, Elect, round_at, round_of, round_number, with_round}
 use Rattle.simplex_voter.specs.Leaders.{has_leader, with_elected_leader}
 use Rattle.simplex_voter.specs.Payloads.{certified_payload}
@@ -21,7 +21,7 @@ use Rattle.simplex_voter.specs.Rules.{may_nullify}
 use Rattle.simplex_voter.specs.Windows.{admits_certificate, min_active}
 use Rattle.simplex_voter.proofs.Gaps.{and_both}
 use Rattle.simplex_voter.proofs.Rules.{nullify_whole}
-use Rattle.simplex_member.specs.Allowed.{is_allowed, fault_of}
+use Rattle.simplex_member.specs.CallConditions.{is_allowed, fault_of}
 use Rattle.simplex_member.specs.Calls.{Nullify, ConstructNullify, AddNullification}
 use Rattle.simplex_member.specs.CallSemantics.{answer, after_call}
 use Rattle.simplex_member.specs.OutstandingWork.{OutstandingWork}

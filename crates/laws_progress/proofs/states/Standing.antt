@@ -18,7 +18,7 @@ use Rattle.simplex_voter.specs.Payloads.{explicit_ancestry_payload, is_elected_e
 use Rattle.simplex_voter.specs.Gaps.{first_unnullified_view, is_gapless}
 use Rattle.simplex_voter.specs.Rules.{has_conflicting_nullify}
 use Rattle.simplex_voter.specs.Refusals.{is_too_large, has_late_deadline}
-use Rattle.simplex_voter.specs.Entering.{with_view_entered, entered_round}
+use Rattle.simplex_voter.specs.ViewEntry.{with_view_entered, entered_round}
 use Rattle.simplex_voter.specs.Leaders.{has_leader, with_leader_at, with_leader_of, with_window_leaders, with_next_view_ready}
 use Rattle.simplex_voter.specs.Certification.{named_also, waits_for, with_waiting_candidate}
 

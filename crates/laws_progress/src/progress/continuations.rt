@@ -1,6 +1,6 @@
 //! What it is to go on.
 
-ghost use Rattle.laws_progress.specs.Continued.{
+ghost use Rattle.laws_progress.specs.Continuation.{
   ExchangesBringWhatWas,
   ExchangesGoOn,
   FinalizationsAreNew,

@@ -3,13 +3,13 @@
 ghost use Rattle.std.specs.Prelude.{◌≡◌, nat_eq, length};
 ghost use Rattle.laws_safety.specs.DividedNetwork.{divided};
 ghost use Rattle.laws_safety.specs.HandoffNetwork.{taken_over};
-ghost use Rattle.laws_safety.specs.LackingNetwork.{lacking_certificates};
+ghost use Rattle.laws_safety.specs.MissingCertificatesNetwork.{lacking_certificates};
 ghost use Rattle.laws_safety.specs.Replicas.{faults, IsNetworkOf};
 ghost use Rattle.laws_safety.specs.ScenarioSteps.{in_turn};
-ghost use Rattle.laws_progress.specs.Living.{EachLives};
-ghost use Rattle.laws_progress.specs.Overrun.{with_two_faulty, IsStuck, MayGoOnOtherwise};
-ghost use Rattle.laws_progress.specs.Started.{with_first_leader, with_second_leader, StandsFirst, StandsBeforeSecond, Finalizes};
-ghost use Rattle.laws_progress.specs.Worked.{MayReach, Reaches, ReachesWithin};
+ghost use Rattle.laws_progress.specs.NetworkStates.{EachLives};
+ghost use Rattle.laws_progress.specs.TooManyFaulty.{with_two_faulty, IsStuck, MayGoOnOtherwise};
+ghost use Rattle.laws_progress.specs.StartedNetworks.{with_first_leader, with_second_leader, StandsFirst, StandsBeforeSecond, Finalizes};
+ghost use Rattle.laws_progress.specs.WorkedNetworks.{MayReach, Reaches, ReachesWithin};
 
 /// Two networks of four in terms of one view, one of which is faulty, where the others have just started: the premises of
 /// `fresh_starts_are_finalized` hold, and a view is finalized. It does nothing: its contract is the law.

@@ -1,9 +1,9 @@
 //! Starts of a correct leader's term, and what leads to them.
 
 ghost use Rattle.laws_progress.specs.FreshStarts.{FreshStartsAreFinalized};
-ghost use Rattle.laws_progress.specs.Meeting.{WhoMeetsGoesOn};
-ghost use Rattle.laws_progress.specs.Together.{TogetherTheyGoOn};
-ghost use Rattle.laws_progress.specs.Undecided.{CurrentViewsMayBeGivenUp, NoneIsDecidedAhead};
+ghost use Rattle.laws_progress.specs.CommonViews.{WhoMeetsGoesOn};
+ghost use Rattle.laws_progress.specs.SharedView.{TogetherTheyGoOn};
+ghost use Rattle.laws_progress.specs.UndecidedViews.{CurrentViewsMayBeGivenUp, NoneIsDecidedAhead};
 
 use simplex_types::types::{Digest, Elector, Scheme};
 

@@ -16,14 +16,14 @@ use Rattle.simplex_round.specs.Round.{is_nullify}
 use Rattle.simplex_voter.specs.Rules.{may_notarize, may_nullify, may_finalize, NotarizeRule, NullifyRule, FinalizeRule}
 use Rattle.simplex_voter.proofs.Rules.{nullify_parts, nullify_whole, finalize_parts, finalize_whole, notarize_parts, notarize_whole}
 use Rattle.simplex_record.specs.declared.record.error.RecoverError.{RecoverError}
-use Rattle.simplex_member.specs.Allowed.{is_allowed, fault_of}
+use Rattle.simplex_member.specs.CallConditions.{is_allowed, fault_of}
 use Rattle.simplex_member.specs.Calls.{CallFacts, ConstructNotarize, ConstructNullify, ConstructFinalize, Told, Nullify, Finalize, Notarize, Refused, NotAllowed, Done}
 use Rattle.simplex_member.specs.CallSemantics.{answer}
-use Rattle.simplex_member.specs.Lives.{MemberFacts, IsCall, AnswersAlive, reply_of, unless_refused}
+use Rattle.simplex_member.specs.MemberFacts.{MemberFacts, IsCall, AnswersAlive, reply_of, unless_refused}
 use Rattle.simplex_member.specs.OutstandingWork.{OutstandingWork}
 use Rattle.simplex_member.specs.Runs.{StepFacts, Calls, Prunes, Restarts, restart_told, IsStep, IsRun, IsRunFrom}
 use Rattle.simplex_member.specs.Restarts.{RestartFacts}
-use Rattle.laws_safety.specs.Exactly.{ends_in_fault, IsSignedFor, IsExact, proposal_at, ExactAt, RunsExactly, SignsExactly}
+use Rattle.laws_safety.specs.ExactVotes.{ends_in_fault, IsSignedFor, IsExact, proposal_at, ExactAt, RunsExactly, SignsExactly}
 use Rattle.laws_safety.specs.Traces.{TraceEvent, Signs, signed_in}
 use Rattle.laws_safety.specs.Executions.{new_member, Execution}
 use Rattle.laws_safety.proofs.lists.Splits.{only_one}

@@ -6,13 +6,13 @@ use Rattle.simplex_voter.specs.Facts.{Elect}
 use Rattle.simplex_record.specs.declared.record.error.RecoverError.{RecoverError}
 use Rattle.simplex_member.specs.Calls.{CallFacts, Told, Done}
 use Rattle.simplex_member.specs.Pruning.{pruned_member}
-use Rattle.simplex_member.specs.Lives.{MemberFacts, IsCall}
+use Rattle.simplex_member.specs.MemberFacts.{MemberFacts, IsCall}
 use Rattle.simplex_record.specs.Recovery.{recover_error}
 use Rattle.simplex_member.specs.Restarts.{RestartFacts, IsRestart}
 use Rattle.simplex_member.specs.Runs.{StepFacts, Calls, Prunes, Restarts, restart_told, IsStep, IsRun, IsRunFrom}
 use Rattle.simplex_record.specs.Start.{StartFacts, new_state}
 use Rattle.std.proofs.lemmas.List.{append-nil}
-use Rattle.laws_safety.specs.Living.{new_execution, with_step, HasExecution, HasDone}
+use Rattle.laws_safety.specs.MemberHistory.{new_execution, with_step, HasExecution, HasDone}
 use Rattle.laws_safety.specs.Traces.{TraceEvent, of_floor, trace_at, trace_of_steps}
 use Rattle.laws_safety.specs.Lawful.{IsLawful}
 use Rattle.laws_safety.specs.Executions.{new_member, Execution, trace_of, BeginsAs, LivesAs, IsExecution}

@@ -18,8 +18,8 @@ use Rattle.simplex_member.specs.Runs.{Calls, Restarts, step_facts, steps_of, res
 use Rattle.simplex_record.specs.Start.{start_facts}
 use Rattle.simplex_record.specs.declared.record.error.RecoverError.{RecoverError}
 use Rattle.std.proofs.lemmas.List.{append-nil}
-use Rattle.laws_safety.specs.Living.{execution_of}
-use Rattle.laws_safety.specs.Shown.{votes_in, certificates_in, floor_in, taken_by, taken_in, begun_by, shown_by, shown_trace, StartsAs, AllStartAs}
+use Rattle.laws_safety.specs.MemberHistory.{execution_of}
+use Rattle.laws_safety.specs.ObservedTraces.{votes_in, certificates_in, floor_in, taken_by, taken_in, begun_by, shown_by, shown_trace, StartsAs, AllStartAs}
 use Rattle.laws_safety.specs.Traces.{TraceEvent, handed_in, accepted_by, of_floor, signed_in, accepted_at, trace_at, trace_of_steps}
 use Rattle.laws_safety.specs.Executions.{trace_of, BeginsAs, LivesAs}
 use Rattle.laws_safety.proofs.lists.Splits.{Contains-cases, Contains-cons_rest}

@@ -5,7 +5,7 @@ use Rattle.simplex_types.specs.declared.types.messages.Context.{Context}
 use Rattle.simplex_types.specs.declared.types.messages.Proposal.{Proposal}
 use Rattle.simplex_round.specs.Round.{RoundFacts, new_round}
 use Rattle.simplex_voter.specs.Facts.{StateFacts, Elect, round_of, round_number}
-use Rattle.simplex_voter.specs.Proposing.{proposal_of}
+use Rattle.simplex_voter.specs.ProposalRequests.{proposal_of}
 use Rattle.simplex_record.specs.Events.{Event, after_event, Proposed}
 use Rattle.std.specs.Option.{option_or}
 use Rattle.laws_safety.proofs.frames.EachRound.{rounds_or_gone}

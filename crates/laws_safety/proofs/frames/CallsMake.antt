@@ -11,7 +11,7 @@ use Rattle.simplex_voter.specs.Certification.{takes_certify_handle}
 use Rattle.simplex_voter.specs.Acceptance.{after_set_floor}
 use Rattle.simplex_voter.proofs.Gaps.{and_parts}
 use Rattle.simplex_member.specs.Calls as calls
-use Rattle.simplex_member.specs.Allowed.{is_allowed}
+use Rattle.simplex_member.specs.CallConditions.{is_allowed}
 use Rattle.simplex_member.specs.Calls.{CallFacts}
 use Rattle.simplex_record.specs.Entries.{entry_view}
 use Rattle.simplex_member.specs.CallSemantics.{after_call}

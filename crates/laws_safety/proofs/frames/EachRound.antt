@@ -7,10 +7,10 @@ use Rattle.simplex_round.specs.Round.{RoundFacts, new_round, token_of, after_abo
 use Rattle.simplex_voter.specs.Facts.{StateFacts, Elect, round_at, round_of, round_number, with_round}
 use Rattle.simplex_voter.specs.Windows.{min_active}
 use Rattle.simplex_voter.specs.Certification.{without_token}
-use Rattle.simplex_voter.specs.Serving.{after_prune}
+use Rattle.simplex_voter.specs.StateAnswers.{after_prune}
 use Rattle.simplex_voter.specs.declared.voter.verify.Standing.{Standing}
 use Rattle.simplex_voter.specs.declared.voter.verify.Standing.TheVariants.{NothingToDo, Invalid, Lacks, Ready}
-use Rattle.simplex_voter.specs.Verifying.{standing, round_left, was_scanned, scan_left}
+use Rattle.simplex_voter.specs.Verification.{standing, round_left, was_scanned, scan_left}
 use Rattle.simplex_types.specs.declared.reasons.TimeoutReason.TheVariants.{InvalidProposal}
 use Rattle.simplex_voter.proofs.Elsewhere.{round_of-with_round}
 use Rattle.simplex_record.specs.Events.{Event, after_event, TryVerify, Prune, is_prune}

@@ -10,7 +10,7 @@ use Rattle.simplex_types.specs.declared.types.window.Terms.{Terms}
 use Rattle.simplex_voter.specs.Facts.{Settings, StateFacts, Elect, new_facts}
 use Rattle.simplex_voter.specs.Windows.{min_active}
 use Rattle.simplex_voter.specs.Certification.{without_token}
-use Rattle.simplex_voter.specs.Verifying.{scan_left}
+use Rattle.simplex_voter.specs.Verification.{scan_left}
 use Rattle.simplex_voter.proofs.Walked.{sorted-changed}
 use Rattle.simplex_member.specs.Calls.{CallFacts}
 use Rattle.simplex_member.specs.CallSemantics.{after_call}

@@ -4,14 +4,14 @@ use Rattle.std.proofs.lemmas.Bool.Decides.{nat_tests}
 use Rattle.simplex_types.specs.Certificates.{ProposalFacts}
 use Rattle.simplex_voter.specs.Facts.{StateFacts, Elect}
 use Rattle.simplex_voter.specs.Windows.{min_active}
-use Rattle.simplex_voter.specs.Entering.{at_moment}
+use Rattle.simplex_voter.specs.ViewEntry.{at_moment}
 use Rattle.simplex_voter.specs.Certification.{with_finalized_view}
 use Rattle.simplex_voter.specs.Acceptance.{after_add_finalization}
 use Rattle.simplex_member.specs.Calls.{CallFacts}
 use Rattle.simplex_member.specs.CallSemantics.{after_call}
 use Rattle.simplex_member.specs.OutstandingWork.{OutstandingWork}
 use Rattle.simplex_record.specs.Events.{Event, AddFinalization, after_event, finalized_by_event}
-use Rattle.laws_safety.specs.LifeLaws.{NeverFalls}
+use Rattle.laws_safety.specs.LifetimeLaws.{NeverFalls}
 use Rattle.simplex_member.proofs.EventsMake.{call_by_any}
 use Rattle.simplex_record.proofs.Paths.{event_path, asked_of_all, from_raised}
 use Rattle.simplex_record.proofs.Steps.{Step, Path, Reaches, Raises, Still, along}

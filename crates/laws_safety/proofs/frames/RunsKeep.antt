@@ -8,7 +8,7 @@ use Rattle.simplex_record.specs.declared.record.error.RecoverError.{RecoverError
 use Rattle.simplex_member.specs.Calls.{CallFacts, Told}
 use Rattle.laws_safety.specs.Executions.{new_member}
 use Rattle.simplex_record.specs.Events.{Event, after_event}
-use Rattle.simplex_member.specs.Lives.{MemberFacts, IsCall, without_life}
+use Rattle.simplex_member.specs.MemberFacts.{MemberFacts, IsCall, without_life}
 use Rattle.simplex_record.specs.Recovery.{recover_error}
 use Rattle.simplex_member.specs.Restarts.{RestartFacts, cut_member, new_life, retention_grows, RecoversByView, IsRestart, IsRestartWhere}
 use Rattle.simplex_member.specs.Runs.{StepFacts, Calls, Prunes, Restarts, IsRun}

@@ -9,12 +9,12 @@ use Rattle.simplex_round.specs.Round.{new_round}
 use Rattle.simplex_types.specs.declared.types.numbers.Round.{Round}
 use Rattle.simplex_types.specs.declared.types.window.Terms.{Terms}
 use Rattle.simplex_voter.specs.Facts.{Settings, StateFacts, Elect, new_facts, round_at, round_of, round_number}
-use Rattle.simplex_voter.specs.Entering.{at_moment, with_view_entered}
+use Rattle.simplex_voter.specs.ViewEntry.{at_moment, with_view_entered}
 use Rattle.simplex_voter.specs.Certification.{with_finalized_view}
 use Rattle.simplex_voter.specs.Acceptance.{after_add_finalization, after_set_floor}
 use Rattle.simplex_record.specs.Events as event
 use Rattle.simplex_record.specs.Events.{Event, after_event, finalized_by_event, is_prune}
-use Rattle.laws_safety.specs.LifeLaws.{KindOfCertificate, Notarization, Nullification, Finalization}
+use Rattle.laws_safety.specs.LifetimeLaws.{KindOfCertificate, Notarization, Nullification, Finalization}
 use Rattle.laws_safety.proofs.frames.Fresh.{IsNewState}
 use Rattle.laws_safety.proofs.frames.CallsMake.{is_floor}
 use Rattle.laws_safety.proofs.frames.EachRound.{IsGone}

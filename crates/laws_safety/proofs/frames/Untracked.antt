@@ -16,11 +16,11 @@ use Rattle.simplex_voter.specs.Facts.{StateFacts, Elect, round_at, is_tracked, w
 use Rattle.simplex_voter.specs.Windows.{min_active, admits_certificate}
 use Rattle.simplex_voter.specs.Certification.{without_token}
 use Rattle.simplex_voter.specs.Refusals.{takes_round, is_started}
-use Rattle.simplex_voter.specs.Verifying.{scan_left}
+use Rattle.simplex_voter.specs.Verification.{scan_left}
 use Rattle.simplex_voter.specs.Replay.{artifact_round}
-use Rattle.simplex_voter.specs.Serving.{prune_answer}
+use Rattle.simplex_voter.specs.StateAnswers.{prune_answer}
 use Rattle.simplex_voter.proofs.Gaps.{and_parts}
-use Rattle.simplex_member.specs.Allowed.{is_allowed}
+use Rattle.simplex_member.specs.CallConditions.{is_allowed}
 use Rattle.simplex_member.specs.Calls.{CallFacts, Prune, Dropped}
 use Rattle.simplex_record.specs.Entries.{entry_view}
 use Rattle.simplex_member.specs.CallSemantics.{answer, after_call}

@@ -4,12 +4,12 @@ use Rattle.std.proofs.Common.{◌≡◌, refl, ap, sym, ◌∙◌, subst, ℕ, i
 use Rattle.std.specs.Prelude.{option_map}
 use Rattle.simplex_types.specs.Certificates.{CertificateFacts, Notarized, Nullified, Finalized}
 use Rattle.simplex_voter.specs.Facts.{StateFacts, Elect}
-use Rattle.simplex_voter.specs.Serving.{broadcast_notarization_answer, broadcast_nullification_answer, broadcast_finalization_answer}
+use Rattle.simplex_voter.specs.StateAnswers.{broadcast_notarization_answer, broadcast_nullification_answer, broadcast_finalization_answer}
 use Rattle.simplex_member.specs.Calls.{CallFacts, BroadcastNotarization, BroadcastNullification, BroadcastFinalization, GetBestCertificate, Told, Handed}
 use Rattle.simplex_record.specs.Entries.{certificate_round}
 use Rattle.simplex_member.specs.CallSemantics.{answer}
 use Rattle.simplex_member.specs.OutstandingWork.{OutstandingWork}
-use Rattle.laws_safety.specs.LifeLaws.{KindOfCertificate, Notarization, Nullification, Finalization, kind_of_certificate, IsAsAsked}
+use Rattle.laws_safety.specs.LifetimeLaws.{KindOfCertificate, Notarization, Nullification, Finalization, kind_of_certificate, IsAsAsked}
 use Rattle.laws_safety.proofs.frames.Sound.{IsPlaced}
 use Rattle.laws_safety.proofs.lives.HandedOut.{asked}
 

@@ -4,10 +4,10 @@ use Rattle.std.proofs.Common.{◌≡◌, refl, subst, ℕ, ◌≤◌, inl, inr, 
 use Rattle.std.proofs.lemmas.List.Elements.{Contains-append_left}
 use Rattle.simplex_voter.specs.Facts.{StateFacts, Elect}
 use Rattle.simplex_voter.specs.Windows.{min_active}
-use Rattle.simplex_member.specs.Allowed.{is_allowed}
+use Rattle.simplex_member.specs.CallConditions.{is_allowed}
 use Rattle.simplex_member.specs.Calls.{CallFacts, Told, Refused, NotAllowed}
-use Rattle.laws_safety.specs.LifeLaws.{IsLife, WhileAlive, WasDropped, ConflictsStay}
-use Rattle.simplex_member.specs.Lives.{MemberFacts, IsCall}
+use Rattle.laws_safety.specs.LifetimeLaws.{IsLife, WhileAlive, WasDropped, ConflictsStay}
+use Rattle.simplex_member.specs.MemberFacts.{MemberFacts, IsCall}
 use Rattle.simplex_member.specs.CallSemantics.{answer, after_call}
 use Rattle.simplex_member.specs.OutstandingWork.{OutstandingWork}
 use Rattle.laws_safety.proofs.lists.Splits.{Contains-cons_rest}

@@ -8,11 +8,11 @@ use Rattle.simplex_voter.specs.Facts.{StateFacts, new_facts, is_tracked}
 use Rattle.simplex_voter.specs.Windows.{min_active, in_issuance_window}
 use Rattle.simplex_voter.specs.Parents.{verification_matches}
 use Rattle.simplex_voter.specs.Acceptance.{after_set_floor}
-use Rattle.simplex_voter.specs.Serving.{prune_answer}
-use Rattle.simplex_member.specs.Allowed.{is_allowed}
+use Rattle.simplex_voter.specs.StateAnswers.{prune_answer}
+use Rattle.simplex_member.specs.CallConditions.{is_allowed}
 use Rattle.simplex_member.specs.Calls.{CallFacts, AddNotarization, AddNullification, AddFinalization, SetProposal, ReleaseProposalRequest, Verified, BroadcastNotarization, BroadcastFinalization, GetBestCertificate, Prune, Told}
 use Rattle.simplex_member.specs.CallSemantics.{answer, after_call}
-use Rattle.laws_safety.specs.LifeLaws.{has_conflict, KindOfCertificate, Notarization, Finalization, handed_out_in}
+use Rattle.laws_safety.specs.LifetimeLaws.{has_conflict, KindOfCertificate, Notarization, Finalization, handed_out_in}
 use Rattle.simplex_member.specs.OutstandingWork.{no_outstanding_work}
 use Rattle.simplex_record.proofs.Examples.{proposal}
 use Rattle.simplex_record.proofs.RecoveryExamples.{in_turn, settings}

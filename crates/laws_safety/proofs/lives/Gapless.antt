@@ -6,13 +6,13 @@ use Rattle.simplex_types.specs.Certificates.{ArtifactFacts}
 use Rattle.simplex_voter.specs.Facts.{StateFacts, Elect}
 use Rattle.simplex_voter.proofs.Rules.{notarize_whole}
 use Rattle.simplex_member.specs.Calls.{Told}
-use Rattle.simplex_member.specs.Lives.{MemberFacts}
+use Rattle.simplex_member.specs.MemberFacts.{MemberFacts}
 use Rattle.simplex_member.specs.OutstandingWork.{OutstandingWork}
 use Rattle.simplex_member.specs.Runs.{StepFacts, IsRun}
 use Rattle.simplex_record.specs.Start.{StartFacts}
 use Rattle.laws_safety.specs.Executions.{new_member}
 use Rattle.laws_safety.specs.Traces.{TraceEvent, of_floor, trace_of_steps}
-use Rattle.laws_safety.specs.LifeLaws.{NotarizesGapless}
+use Rattle.laws_safety.specs.LifetimeLaws.{NotarizesGapless}
 use Rattle.laws_safety.specs.TermLengths.{HasTerms, KeepTerms}
 use Rattle.laws_safety.proofs.records.RunsLawful.{LivesOn, run_lives, start_lives}
 use Rattle.laws_safety.proofs.votes.NotarizeVotes.{held_reaches}

@@ -9,11 +9,11 @@ use Rattle.simplex_types.specs.declared.types.fault.Fault.{Fault}
 use Rattle.simplex_round.specs.Round.{RoundFacts, new_round, once}
 use Rattle.simplex_voter.specs.Facts.{StateFacts, Elect, round_at, round_of, round_number, is_tracked, with_round}
 use Rattle.simplex_voter.specs.Windows.{min_active}
-use Rattle.simplex_voter.specs.Serving.{broadcast_notarization_answer, after_broadcast_notarization, broadcast_nullification_answer, after_broadcast_nullification, broadcast_finalization_answer, after_broadcast_finalization, best_certificate}
-use Rattle.simplex_member.specs.Allowed.{is_allowed}
+use Rattle.simplex_voter.specs.StateAnswers.{broadcast_notarization_answer, after_broadcast_notarization, broadcast_nullification_answer, after_broadcast_nullification, broadcast_finalization_answer, after_broadcast_finalization, best_certificate}
+use Rattle.simplex_member.specs.CallConditions.{is_allowed}
 use Rattle.simplex_member.specs.Calls.{CallFacts, BroadcastNotarization, BroadcastNullification, BroadcastFinalization, GetBestCertificate, Told, Handed, Refused}
-use Rattle.laws_safety.specs.LifeLaws.{IsLife, KindOfCertificate, Notarization, Nullification, Finalization, asked_by, handed_out_by, handed_out_in, HandedOnce}
-use Rattle.simplex_member.specs.Lives.{MemberFacts, IsCall}
+use Rattle.laws_safety.specs.LifetimeLaws.{IsLife, KindOfCertificate, Notarization, Nullification, Finalization, asked_by, handed_out_by, handed_out_in, HandedOnce}
+use Rattle.simplex_member.specs.MemberFacts.{MemberFacts, IsCall}
 use Rattle.simplex_member.specs.CallSemantics.{answer, after_call}
 use Rattle.simplex_member.specs.OutstandingWork.{OutstandingWork}
 use Rattle.laws_safety.proofs.lives.Lasting.{is_handed, standing_view, handed, none_comes, brings_kept, event_lasts}

@@ -15,17 +15,17 @@ use Rattle.simplex_voter.specs.Windows.{min_active}
 use Rattle.simplex_record.specs.Events as event
 use Rattle.simplex_record.specs.Events.{Event, IsEvent, after_event, is_prune}
 use Rattle.simplex_member.specs.Events.{in_context, events_of}
-use Rattle.simplex_member.specs.Allowed.{is_allowed}
+use Rattle.simplex_member.specs.CallConditions.{is_allowed}
 use Rattle.simplex_member.specs.Calls.{CallFacts, Proposed, SupersedeProposalRequest, Prune, Told}
 use Rattle.simplex_member.specs.CallSemantics.{answer, after_call}
 use Rattle.simplex_member.specs.OutstandingWork.{OutstandingWork, context_at}
-use Rattle.simplex_voter.specs.Serving.{prune_answer}
+use Rattle.simplex_voter.specs.StateAnswers.{prune_answer}
 use Rattle.simplex_view_maps.proofs.Maps.{is_eq-nat_cmp}
 use Rattle.std.specs.FinMap.Entries.{find}
 use Rattle.std.specs.Ordering.{nat_cmp}
 use Rattle.std.specs.List.{list_any}
 use Rattle.std.proofs.lemmas.Bool.Decides.{nat_tests}
-use Rattle.laws_safety.specs.LifeLaws.{KindOfCertificate, Notarization, Nullification, Finalization, WasDropped}
+use Rattle.laws_safety.specs.LifetimeLaws.{KindOfCertificate, Notarization, Nullification, Finalization, WasDropped}
 use Rattle.laws_safety.proofs.frames.CallsMake.{is_floor, call_by_event}
 use Rattle.laws_safety.proofs.lists.Splits.{Contains-cons_rest}
 use Rattle.laws_safety.proofs.frames.EachRound.{IsGone, rounds_or_gone}

@@ -19,8 +19,8 @@ use Rattle.simplex_record.specs.declared.record.error.RecoverError.{RecoverError
 use Rattle.simplex_record.specs.declared.record.error.RecoverError.TheVariants as error
 use Rattle.simplex_record.proofs.EntryRules.{none_first}
 use Rattle.simplex_record.proofs.Rounds.{tracked_put}
-use Rattle.simplex_record.proofs.Seen.{from_not_false, unbroken, rest_unbroken, none_left, first_error-append}
-use Rattle.laws_safety.specs.LifeLaws.{CurrentTimesOut}
+use Rattle.simplex_record.proofs.CheckState.{from_not_false, unbroken, rest_unbroken, none_left, first_error-append}
+use Rattle.laws_safety.specs.LifetimeLaws.{CurrentTimesOut}
 use Rattle.laws_safety.specs.StateLaws.{settles}
 use Rattle.laws_safety.proofs.frames.CallsMake.{retaken_keeps}
 use Rattle.laws_safety.proofs.frames.Rising.{event_goes}

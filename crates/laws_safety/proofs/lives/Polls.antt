@@ -14,13 +14,13 @@ use Rattle.simplex_voter.specs.Refusals.{first_fault, is_past_u64}
 use Rattle.simplex_voter.specs.Timeouts.{has_timeout, has_skip_budget, or_stalled, stall_deadline, next_timeout_answer}
 use Rattle.simplex_voter.proofs.Gaps.{and_parts, not_true}
 use Rattle.simplex_member.specs.Calls.{NextTimeout, Told, TimesOut}
-use Rattle.simplex_member.specs.Lives.{MemberFacts, IsCall, AnswersAlive, unless_refused}
+use Rattle.simplex_member.specs.MemberFacts.{MemberFacts, IsCall, AnswersAlive, unless_refused}
 use Rattle.simplex_member.specs.OutstandingWork.{OutstandingWork}
 use Rattle.simplex_member.specs.Runs.{StepFacts, Calls, Prunes, Restarts, IsStep, IsRun}
 use Rattle.simplex_record.specs.Start.{StartFacts, new_state}
 use Rattle.laws_safety.specs.Executions.{new_member}
 use Rattle.laws_safety.specs.Traces.{TraceEvent, of_floor, trace_at, trace_of_steps}
-use Rattle.laws_safety.specs.LifeLaws.{CurrentTimesOut, PollIsAnswered, PollsAreAnswered}
+use Rattle.laws_safety.specs.LifetimeLaws.{CurrentTimesOut, PollIsAnswered, PollsAreAnswered}
 use Rattle.laws_safety.specs.TermLengths.{HasTerms, KeepTerms}
 use Rattle.laws_safety.proofs.frames.Fresh.{fresh_state}
 use Rattle.laws_safety.proofs.frames.RunsKeep.{HoldsIn, told_keeps, restart_keeps, run_induction}

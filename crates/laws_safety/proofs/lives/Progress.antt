@@ -15,13 +15,13 @@ use Rattle.simplex_view_maps.proofs.Gaps.{next_above}
 use Rattle.simplex_round.specs.Round.{RoundFacts, is_judged, leader_at, new_round}
 use Rattle.simplex_voter.specs.Acceptance.{after_set_floor}
 use Rattle.simplex_voter.specs.Certification.{named_also, takes_verdict, verdict_taken, waits_for, with_verdict, with_waiting_candidate}
-use Rattle.simplex_voter.specs.Entering.{at_moment, with_view_entered}
+use Rattle.simplex_voter.specs.ViewEntry.{at_moment, with_view_entered}
 use Rattle.simplex_voter.specs.Leaders.{has_leader, with_elected_leader}
 use Rattle.simplex_voter.specs.Facts.{StateFacts, Elect, round_at, round_of, round_number, is_tracked, with_round}
 use Rattle.simplex_voter.specs.Refusals.{first_fault, is_too_large, names_too_large, has_late_deadline, takes_round}
 use Rattle.simplex_voter.specs.Windows.{min_active}
 use Rattle.simplex_member.specs.Calls.{Told, AddNullification, AddFinalization, Certified}
-use Rattle.simplex_member.specs.Lives.{MemberFacts}
+use Rattle.simplex_member.specs.MemberFacts.{MemberFacts}
 use Rattle.simplex_member.specs.OutstandingWork.{OutstandingWork}
 use Rattle.simplex_member.specs.Runs.{StepFacts, IsRun}
 use Rattle.simplex_record.specs.Start.{StartFacts}

@@ -14,7 +14,7 @@ use Rattle.simplex_round.specs.declared.round.Decision.TheVariants as decision
 use Rattle.simplex_round.specs.Round.{RoundFacts, new_round, with_first_timeout, has_no_retry, is_certified, is_finalize, awaits_retry, round_timeout, decision_timeout}
 use Rattle.simplex_voter.specs.Facts.{Settings, StateFacts, Elect, new_facts, round_at, round_of, round_number}
 use Rattle.simplex_voter.specs.Timeouts.{has_timeout, has_skip_budget}
-use Rattle.simplex_voter.specs.Serving.{after_prune}
+use Rattle.simplex_voter.specs.StateAnswers.{after_prune}
 use Rattle.simplex_voter.specs.Acceptance.{after_set_floor}
 use Rattle.simplex_record.specs.Events as event
 use Rattle.simplex_record.specs.Events.{Event, after_event, finalized_by_event, is_prune}

@@ -3,10 +3,10 @@
 use Rattle.std.proofs.Common.{◌≡◌, refl, ap, ◌∙◌, ◌⊎◌, subst, Bool, true, false, List, [], ◌∷◌, Option, Some, None, inl, inr, sym}
 use Rattle.simplex_types.specs.declared.types.fault.Fault.{Fault}
 use Rattle.simplex_voter.specs.Facts.{StateFacts, Elect}
-use Rattle.simplex_member.specs.Allowed.{is_allowed, fault_of}
+use Rattle.simplex_member.specs.CallConditions.{is_allowed, fault_of}
 use Rattle.simplex_member.specs.Calls.{CallFacts, Told, Refused, NotAllowed}
-use Rattle.laws_safety.specs.LifeLaws.{IsLife, WhileAlive, NeverFalls}
-use Rattle.simplex_member.specs.Lives.{MemberFacts, IsCall, AnswersAlive, reply_of, left_of}
+use Rattle.laws_safety.specs.LifetimeLaws.{IsLife, WhileAlive, NeverFalls}
+use Rattle.simplex_member.specs.MemberFacts.{MemberFacts, IsCall, AnswersAlive, reply_of, left_of}
 use Rattle.simplex_member.specs.CallSemantics.{answer, after_call}
 use Rattle.simplex_member.specs.OutstandingWork.{OutstandingWork}
 use Rattle.laws_safety.proofs.frames.Rising.{never_fell, falls_never, never_falls, call_goes}

@@ -6,13 +6,13 @@ use Rattle.simplex_voter.specs.Gaps.{first_unnullified_view}
 use Rattle.simplex_voter.specs.Parents.{has_valid_parent_span, ancestry_payload_for_child, parent_payload_for, verification_matches}
 use Rattle.simplex_voter.specs.Payloads.{explicit_ancestry_payload, optimistic_ancestry_payload, is_handoff_parent, is_voted_ancestor, can_chain_on}
 use Rattle.simplex_voter.specs.Rules.{may_notarize, may_nullify, may_finalize, has_conflicting_nullify, required_certification_parent}
-use Rattle.simplex_voter.specs.Verifying.{standing}
+use Rattle.simplex_voter.specs.Verification.{standing}
 use Rattle.simplex_voter.specs.Windows.{is_admitted, in_issuance_window}
 use Rattle.simplex_record.specs.Check.{first_recover_error}
 use Rattle.simplex_record.specs.Cuts.{may_drop, pruned_entries}
 use Rattle.simplex_record.specs.Entries.{entry_view}
 use Rattle.simplex_record.specs.Recovery.{recovered_state, after_kept_entry}
-use Rattle.laws_safety.specs.ChangingLives.{wider_start, refusing, keyless_start, other_start, changing, with_refusing, giving_up, with_changing}
+use Rattle.laws_safety.specs.ChangedSettings.{wider_start, refusing, keyless_start, other_start, changing, with_refusing, giving_up, with_changing}
 use Rattle.laws_safety.specs.Replicas.{FewFaulty, IsNetworkOf}
 use Rattle.laws_safety.specs.Scripts.{leader, patient}
 use Rattle.laws_safety.specs.Executions.{new_member, Execution, BeginsAs, IsExecution}

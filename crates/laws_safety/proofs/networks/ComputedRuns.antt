@@ -10,7 +10,7 @@ use Rattle.simplex_voter.specs.Facts.{StateFacts, Elect}
 use Rattle.simplex_voter.proofs.Gaps.{and_parts}
 use Rattle.simplex_member.specs.Calls.{CallFacts, Told, Refused, Restarted, NotRestarted, Done}
 use Rattle.simplex_record.specs.Entries.{entry_view}
-use Rattle.simplex_member.specs.Lives.{MemberFacts, AnswersAlive, IsCall, reply_of, left_of, without_life}
+use Rattle.simplex_member.specs.MemberFacts.{MemberFacts, AnswersAlive, IsCall, reply_of, left_of, without_life}
 use Rattle.simplex_record.specs.Recovery.{recover_error}
 use Rattle.simplex_record.specs.declared.record.error.RecoverError.{RecoverError}
 use Rattle.simplex_record.specs.declared.record.error.RecoverError.TheVariants as error

@@ -13,7 +13,7 @@ use Rattle.simplex_record.specs.Check.{first_error, beside_rules, vote_rules, ow
 use Rattle.simplex_record.specs.Recovery.{recover_error}
 use Rattle.laws_safety.specs.Traces.{TraceEvent, Accepts}
 use Rattle.laws_safety.specs.Lawful.{IsLawful, HasSigned}
-use Rattle.laws_safety.specs.Outside.{AcceptedParentAbove}
+use Rattle.laws_safety.specs.RecordRefusals.{AcceptedParentAbove}
 use Rattle.laws_safety.proofs.own_records.BrokenRules.{OfBroken, first_broken, broken_joined, from_either}
 use Rattle.laws_safety.proofs.lists.Splits.{Contains-cons_rest, only_one}
 use Rattle.laws_safety.proofs.agreement.VoteOrder.{voted, earlier}

@@ -13,7 +13,7 @@ use Rattle.simplex_voter.specs.Windows.{min_active}
 use Rattle.simplex_voter.specs.Acceptance.{after_set_floor}
 use Rattle.simplex_record.specs.declared.record.error.RecoverError.{RecoverError}
 use Rattle.simplex_record.specs.declared.record.error.RecoverError.TheVariants as error
-use Rattle.simplex_member.specs.Allowed.{is_allowed, fault_of}
+use Rattle.simplex_member.specs.CallConditions.{is_allowed, fault_of}
 use Rattle.simplex_member.specs.Calls as calls
 use Rattle.simplex_member.specs.Calls.{CallFacts}
 use Rattle.simplex_record.specs.Check.{first_error, beside_rules, own_rules, recovery_floor_rules, entry_rules, first_broken_after, first_recover_error}
@@ -25,7 +25,7 @@ use Rattle.simplex_member.specs.Runs.{StepFacts, Calls}
 use Rattle.simplex_record.specs.Start.{Setup, new_state}
 use Rattle.simplex_record.specs.Events.{Event, after_event, SetFloor, AddNotarization, AddNullification, AddFinalization, Certified, Proposed, Supersede, Replay}
 use Rattle.simplex_member.specs.Events.{in_context, events_of}
-use Rattle.laws_safety.specs.Outside.{HasBuiltIn, is_floor_too_large}
+use Rattle.laws_safety.specs.RecordRefusals.{HasBuiltIn, is_floor_too_large}
 use Rattle.laws_safety.proofs.frames.BuiltProposals.{BringsProposals, AllHeld, event_held}
 use Rattle.laws_safety.proofs.frames.CallsMake.{call_by_event}
 use Rattle.laws_safety.proofs.own_records.HighViews.{entry_too_large}

@@ -16,10 +16,10 @@ use Rattle.simplex_record.specs.Cuts.{without_last, pruned_entries, finalized_in
 use Rattle.simplex_record.specs.Entries.{entry_view}
 use Rattle.simplex_record.specs.Recovery.{is_finalization_entry, with_floor, recover_error, recovered_state}
 use Rattle.simplex_record.specs.Start.{StartFacts, new_state}
-use Rattle.simplex_member.specs.Allowed.{is_allowed, fault_of}
+use Rattle.simplex_member.specs.CallConditions.{is_allowed, fault_of}
 use Rattle.simplex_member.specs.Calls.{CallFacts, Told}
 use Rattle.simplex_member.specs.CallSemantics.{after_call, recorded_by}
-use Rattle.simplex_member.specs.Lives.{MemberFacts, IsCall, AnswersAlive, left_of, without_life}
+use Rattle.simplex_member.specs.MemberFacts.{MemberFacts, IsCall, AnswersAlive, left_of, without_life}
 use Rattle.simplex_member.specs.Pruning.{stays_within, pruned_member}
 use Rattle.simplex_member.specs.Restarts.{RestartFacts, IsByView, cut_member, new_life, retention_grows, IsRestart, IsRestartWhere}
 use Rattle.simplex_member.specs.Runs.{StepFacts, Calls, Prunes, Restarts, IsStep, IsRun}

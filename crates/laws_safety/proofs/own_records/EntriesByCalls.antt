@@ -22,7 +22,7 @@ use Rattle.simplex_voter.proofs.Rules.{notarize_parts, nullify_parts, finalize_p
 use Rattle.simplex_record.specs.Entries.{entry_view}
 use Rattle.simplex_record.specs.Events.{Event, IsEvent, after_event, is_prune}
 use Rattle.simplex_record.proofs.Paths.{tracked_by}
-use Rattle.simplex_member.specs.Allowed.{is_allowed}
+use Rattle.simplex_member.specs.CallConditions.{is_allowed}
 use Rattle.simplex_member.specs.Calls.{CallFacts, AddNotarization, AddNullification, AddFinalization, ConstructNotarize, Certified, ConstructNullify, ConstructFinalize}
 use Rattle.simplex_member.specs.CallSemantics.{nullify_vote, notarize_vote, finalize_vote, if_new, unrepeated_vote, vote_entry, after_call, recorded_by}
 use Rattle.simplex_member.specs.OutstandingWork.{OutstandingWork}

@@ -16,7 +16,7 @@ use Rattle.simplex_round.specs.declared.round.Decision.TheVariants as decision
 use Rattle.simplex_round.specs.Slot.{after_own}
 use Rattle.simplex_round.specs.Round.{RoundFacts, is_pending, is_finalize, after_nullify, certified_round, with_nullification, with_finalization}
 use Rattle.simplex_voter.specs.Facts.{StateFacts, Elect, round_at, round_of, with_round}
-use Rattle.simplex_voter.specs.Entering.{at_moment, with_view_entered}
+use Rattle.simplex_voter.specs.ViewEntry.{at_moment, with_view_entered}
 use Rattle.simplex_voter.specs.Leaders.{with_leader_at, with_leader_of, with_window_leaders, with_elected_leader}
 use Rattle.simplex_voter.specs.Certification.{waits_for, named_also, with_waiting_candidate, with_finalized_view}
 use Rattle.simplex_voter.specs.Acceptance.{with_notarization_at, with_finalization_at, after_add_notarization, after_add_nullification, after_add_finalization, with_finalization_broadcast}

@@ -17,7 +17,7 @@ use Rattle.simplex_record.specs.Check.{first_error, beside_rules, own_rules, rec
 use Rattle.simplex_record.specs.Recovery.{recover_error}
 use Rattle.laws_safety.specs.Traces.{TraceEvent, Accepts}
 use Rattle.laws_safety.specs.Lawful.{IsLawful, HasSigned}
-use Rattle.laws_safety.specs.Outside.{is_floor_too_large}
+use Rattle.laws_safety.specs.RecordRefusals.{is_floor_too_large}
 use Rattle.laws_safety.proofs.own_records.BrokenRules.{OfBroken, first_broken, broken_joined, from_either}
 use Rattle.laws_safety.proofs.own_records.Recorded.{OwnRecord}
 use Rattle.laws_safety.proofs.records.TracesShown.{Remembers}

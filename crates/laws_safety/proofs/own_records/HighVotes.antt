@@ -13,10 +13,10 @@ use Rattle.simplex_types.specs.declared.types.messages.Subject.TheVariants as su
 use Rattle.simplex_voter.specs.Facts.{StateFacts, Elect, round_of}
 use Rattle.simplex_record.specs.declared.record.error.RecoverError.{RecoverError}
 use Rattle.simplex_record.specs.declared.record.error.RecoverError.TheVariants as error
-use Rattle.simplex_member.specs.Allowed.{is_allowed, fault_of}
+use Rattle.simplex_member.specs.CallConditions.{is_allowed, fault_of}
 use Rattle.simplex_member.specs.Calls as calls
 use Rattle.simplex_member.specs.Calls.{CallFacts, Told, Added, AddedNullification}
-use Rattle.simplex_member.specs.Lives.{MemberFacts, IsCall, AnswersAlive, left_of, without_life}
+use Rattle.simplex_member.specs.MemberFacts.{MemberFacts, IsCall, AnswersAlive, left_of, without_life}
 use Rattle.simplex_record.specs.Recovery.{recover_error, recovered_state}
 use Rattle.simplex_member.specs.Restarts.{RestartFacts, IsByView, cut_member, new_life, retention_grows, RecoversByView, IsRestart, IsRestartWhere}
 use Rattle.simplex_member.specs.Runs.{StepFacts, Calls, Prunes, Restarts, restart_told, IsRun}
@@ -24,9 +24,9 @@ use Rattle.simplex_record.specs.Start.{StartFacts, new_state}
 use Rattle.simplex_member.specs.Pruning.{pruned_member}
 use Rattle.laws_safety.specs.Executions.{new_member}
 use Rattle.laws_safety.specs.Traces.{TraceEvent, Signs, handed_in, of_floor, signed_in, accepted_by, trace_of_call, trace_at, trace_of_steps}
-use Rattle.laws_safety.specs.Exactly.{ExactAt, proposal_at}
+use Rattle.laws_safety.specs.ExactVotes.{ExactAt, proposal_at}
 use Rattle.laws_safety.specs.Lawful.{HasSigned}
-use Rattle.laws_safety.specs.Outside.{VotedTooHigh, is_floor_too_large}
+use Rattle.laws_safety.specs.RecordRefusals.{VotedTooHigh, is_floor_too_large}
 use Rattle.laws_safety.specs.TermLengths.{HasTerms, KeepTerms}
 use Rattle.laws_safety.proofs.own_records.BuiltHigh.{WasBuilt, built_still, call_held, taken_small, recovered_held}
 use Rattle.laws_safety.proofs.frames.BuiltProposals.{AllHeld}

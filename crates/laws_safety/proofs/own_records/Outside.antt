@@ -9,7 +9,7 @@ use Rattle.simplex_record.specs.declared.record.error.RecoverError.{RecoverError
 use Rattle.simplex_record.specs.declared.record.error.RecoverError.TheVariants as error
 use Rattle.simplex_record.specs.Check.{first_error, last_view, lacks_notarization, contradicts_verdict, meets_opposite, contradicts_vote, lacks_true_verdict, beside_rules, own_rules, recovery_floor_rules, entry_rules, first_broken_after, first_recover_error}
 use Rattle.simplex_record.specs.Entries.{entry_view}
-use Rattle.laws_safety.specs.Outside.{IsFromOutside}
+use Rattle.laws_safety.specs.RecordRefusals.{IsFromOutside}
 use Rattle.laws_safety.proofs.own_records.BrokenRules.{OfBroken, first_broken, broken_joined, from_either}
 use Rattle.simplex_record.specs.Recovery.{recover_error}
 

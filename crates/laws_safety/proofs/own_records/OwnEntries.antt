@@ -2,11 +2,11 @@
 use Rattle.std.proofs.Common.{◌≡◌, ℕ, Bool, true, List}
 use Rattle.simplex_voter.specs.Facts.{Elect}
 use Rattle.simplex_member.specs.Calls.{Told}
-use Rattle.simplex_member.specs.Lives.{MemberFacts}
+use Rattle.simplex_member.specs.MemberFacts.{MemberFacts}
 use Rattle.simplex_member.specs.Runs.{StepFacts, IsRun}
 use Rattle.simplex_record.specs.Start.{StartFacts}
 use Rattle.laws_safety.specs.Executions.{new_member}
-use Rattle.laws_safety.specs.Living.{HasDone}
+use Rattle.laws_safety.specs.MemberHistory.{HasDone}
 use Rattle.laws_safety.specs.RecordsOnce.{HoldsEachEntryOnce}
 use Rattle.laws_safety.specs.TermLengths.{HasTerms, KeepTerms}
 use Rattle.laws_safety.specs.Traces.{TraceEvent}

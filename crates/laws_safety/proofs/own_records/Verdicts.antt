@@ -8,7 +8,7 @@ use Rattle.simplex_round.specs.declared.round.Certification.TheVariants as certi
 use Rattle.simplex_round.specs.Round.{RoundFacts, new_round, is_judged, after_abort}
 use Rattle.simplex_voter.specs.Facts.{StateFacts, Elect, round_at, round_of, round_number, is_tracked}
 use Rattle.simplex_voter.specs.Windows.{min_active}
-use Rattle.simplex_voter.specs.Entering.{at_moment}
+use Rattle.simplex_voter.specs.ViewEntry.{at_moment}
 use Rattle.simplex_voter.specs.Certification.{with_verdict, verdict_taken, after_certified}
 use Rattle.simplex_record.specs.Events as event
 use Rattle.simplex_record.specs.Events.{Event, IsEvent, after_event, is_prune}

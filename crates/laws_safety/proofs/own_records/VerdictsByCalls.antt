@@ -8,7 +8,7 @@ use Rattle.std.specs.Prelude.{option_map, option_and_then}
 use Rattle.simplex_types.specs.Certificates.{ArtifactFacts, NotarizeVote, Verdict}
 use Rattle.simplex_types.specs.declared.types.messages.Subject.TheVariants as subject
 use Rattle.simplex_voter.specs.Votes.{notarize_answer}
-use Rattle.simplex_member.specs.Allowed.{is_allowed}
+use Rattle.simplex_member.specs.CallConditions.{is_allowed}
 use Rattle.simplex_member.specs.Calls.{CallFacts, ConstructNotarize, Notarize}
 use Rattle.simplex_member.specs.OutstandingWork.{OutstandingWork}
 use Rattle.simplex_member.specs.CallSemantics.{notarize_vote, vote_entry, answer, after_call, recorded_by}

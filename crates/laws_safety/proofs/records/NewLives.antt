@@ -12,7 +12,7 @@ use Rattle.simplex_types.specs.declared.types.messages.Subject.TheVariants as su
 use Rattle.simplex_types.specs.declared.types.window.Terms.{Terms}
 use Rattle.simplex_voter.specs.Facts.{Settings, StateFacts, Elect, new_facts, round_number}
 use Rattle.simplex_record.specs.declared.record.error.RecoverError.{RecoverError}
-use Rattle.simplex_member.specs.Allowed.{is_allowed}
+use Rattle.simplex_member.specs.CallConditions.{is_allowed}
 use Rattle.simplex_member.specs.Calls.{CallFacts}
 use Rattle.simplex_member.specs.CallSemantics.{answer, after_call, outstanding_work_after, recorded_by}
 use Rattle.simplex_record.specs.Check.{first_error, entry_rules, first_broken_after, stands}

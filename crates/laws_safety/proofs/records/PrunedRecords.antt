@@ -7,7 +7,7 @@ use Rattle.simplex_round.specs.Round.{RoundFacts, new_round, is_nullify, is_cert
 use Rattle.simplex_voter.specs.Facts.{StateFacts, round_at, round_of, round_number, is_tracked}
 use Rattle.simplex_record.specs.Cuts.{finalized_in}
 use Rattle.simplex_record.specs.Entries.{entry_view}
-use Rattle.simplex_member.specs.Lives.{MemberFacts}
+use Rattle.simplex_member.specs.MemberFacts.{MemberFacts}
 use Rattle.simplex_member.specs.Pruning.{tracks, stays_within, pruned_member}
 use Rattle.laws_safety.specs.Traces.{TraceEvent}
 use Rattle.laws_safety.proofs.lists.Filters.{Contains-filter}

@@ -11,13 +11,13 @@ use Rattle.simplex_voter.specs.Facts.{StateFacts, Elect}
 use Rattle.simplex_record.specs.declared.record.error.RecoverError.{RecoverError}
 use Rattle.simplex_member.specs.declared.member.journal.Stored.{Stored}
 use Rattle.simplex_member.specs.declared.member.resume.ResumeError.TheVariants.{Recover}
-use Rattle.simplex_member.specs.Allowed.{is_allowed, fault_of}
+use Rattle.simplex_member.specs.CallConditions.{is_allowed, fault_of}
 use Rattle.simplex_member.specs.Calls.{CallFacts, Told, Restarted}
 use Rattle.simplex_member.specs.CallSemantics.{recorded_by}
 use Rattle.simplex_record.specs.Check.{stands}
 use Rattle.simplex_record.specs.Cuts.{may_drop, without_last}
 use Rattle.simplex_member.specs.Journal.{stored_of, stored_facts, whole_restart, IsResumed, IsNotResumed}
-use Rattle.simplex_member.specs.Lives.{MemberFacts, without_life, left_of, AnswersAlive, IsCall}
+use Rattle.simplex_member.specs.MemberFacts.{MemberFacts, without_life, left_of, AnswersAlive, IsCall}
 use Rattle.simplex_member.specs.OutstandingWork.{OutstandingWork, no_outstanding_work}
 use Rattle.simplex_record.specs.Recovery.{recover_error, is_finalization_entry, with_floor}
 use Rattle.simplex_member.specs.Restarts.{RestartFacts, cut_member, retention_grows, new_life, RecoversByView, IsRestartWhere, IsRestart}

@@ -9,12 +9,12 @@ use Rattle.simplex_types.specs.declared.types.fault.Fault.{Fault}
 use Rattle.simplex_types.specs.declared.types.messages.Subject.TheVariants as subject
 use Rattle.simplex_voter.specs.Facts.{StateFacts, Elect}
 use Rattle.simplex_record.specs.declared.record.error.RecoverError.{RecoverError}
-use Rattle.simplex_member.specs.Allowed.{is_allowed, fault_of}
+use Rattle.simplex_member.specs.CallConditions.{is_allowed, fault_of}
 use Rattle.simplex_member.specs.Calls.{CallFacts, Told}
 use Rattle.simplex_record.specs.Check.{first_recover_error, first_broken_after, first_error, recovery_floor_rules}
 use Rattle.simplex_record.specs.Cuts.{without_last, finalized_in}
 use Rattle.simplex_member.specs.OutstandingWork.{OutstandingWork, no_outstanding_work}
-use Rattle.simplex_member.specs.Lives.{MemberFacts, IsCall, AnswersAlive, reply_of, left_of, without_life}
+use Rattle.simplex_member.specs.MemberFacts.{MemberFacts, IsCall, AnswersAlive, reply_of, left_of, without_life}
 use Rattle.simplex_record.specs.Recovery.{recover_error, recovered_state, with_floor}
 use Rattle.simplex_member.specs.Restarts.{RestartFacts, IsByView, cut_member, new_life, retention_grows, RecoversByView, IsRestart, IsRestartWhere}
 use Rattle.laws_safety.specs.Traces.{TraceEvent, of_floor, trace_of_call, trace_at, trace_of_steps}

@@ -13,10 +13,10 @@ use Rattle.simplex_round.specs.Round.{RoundFacts, new_round}
 use Rattle.simplex_voter.specs.Facts.{StateFacts, Elect, round_of, round_number, is_tracked}
 use Rattle.simplex_voter.specs.Windows.{min_active}
 use Rattle.simplex_voter.specs.Refusals.{is_started, takes_round}
-use Rattle.simplex_voter.specs.Serving.{after_prune}
+use Rattle.simplex_voter.specs.StateAnswers.{after_prune}
 use Rattle.simplex_voter.proofs.Gaps.{and_parts}
 use Rattle.simplex_member.specs.Calls.{CallFacts, AddNotarization, AddNullification, AddFinalization, Certified, ConstructNullify, ConstructFinalize, BroadcastNotarization, BroadcastNullification, BroadcastFinalization, GetBestCertificate, Prune}
-use Rattle.simplex_member.specs.Allowed.{is_allowed}
+use Rattle.simplex_member.specs.CallConditions.{is_allowed}
 use Rattle.simplex_member.specs.CallSemantics.{answer, after_call, outstanding_work_after}
 use Rattle.simplex_member.specs.OutstandingWork.{OutstandingWork, is_verifying, context_at, without_offer}
 use Rattle.laws_safety.specs.Traces.{TraceEvent, Accepts, trace_of_call}

@@ -16,7 +16,7 @@ use Rattle.simplex_round.specs.Round.{RoundFacts, new_round, is_nullify, signs_a
 use Rattle.simplex_voter.specs.Facts.{StateFacts, Elect, round_at, round_of, round_number, is_tracked, with_round, with_tracked}
 use Rattle.simplex_voter.specs.Windows.{min_active, is_admitted}
 use Rattle.simplex_voter.specs.Refusals.{is_started, takes_round}
-use Rattle.simplex_voter.specs.Entering.{at_moment}
+use Rattle.simplex_voter.specs.ViewEntry.{at_moment}
 use Rattle.simplex_voter.specs.Leaders.{with_next_view_ready}
 use Rattle.simplex_voter.specs.Parents.{verification_matches}
 use Rattle.simplex_voter.specs.Rules.{may_notarize}
@@ -25,18 +25,18 @@ use Rattle.simplex_voter.specs.declared.voter.verify.Standing.{Standing}
 use Rattle.simplex_voter.specs.declared.voter.verify.Standing.TheVariants.{NothingToDo, Invalid, Lacks, Ready}
 use Rattle.simplex_voter.specs.declared.voter.verify.Verify.{Verify}
 use Rattle.simplex_voter.specs.declared.voter.verify.Verify.TheVariants as verify
-use Rattle.simplex_voter.specs.Proposing.{request_context, request_in, propose_answer, proposed_answer, supersede_answer, context_stands, with_build, proposed_round, proposal_of, views_ahead, after_proposed, after_supersede, after_release}
-use Rattle.simplex_voter.specs.Verifying.{standing, parent_standing, is_answered, through, answer_at, answer_in, verify_answer, verifying_round, round_left, was_scanned, scan_left, with_mark, without_binding, takes_proposal, after_set_proposal, after_try_verify, after_verified, after_verification_failed}
+use Rattle.simplex_voter.specs.ProposalRequests.{request_context, request_in, propose_answer, proposed_answer, supersede_answer, context_stands, with_build, proposed_round, proposal_of, views_ahead, after_proposed, after_supersede, after_release}
+use Rattle.simplex_voter.specs.Verification.{standing, parent_standing, is_answered, through, answer_at, answer_in, verify_answer, verifying_round, round_left, was_scanned, scan_left, with_mark, without_binding, takes_proposal, after_set_proposal, after_try_verify, after_verified, after_verification_failed}
 use Rattle.simplex_voter.specs.Timeouts.{with_timeout}
 use Rattle.simplex_voter.specs.Certification.{after_candidates}
 use Rattle.simplex_voter.proofs.Elsewhere.{round_of-with_round}
 use Rattle.simplex_voter.proofs.Gaps.{and_parts, not_true}
 use Rattle.simplex_member.specs.OutstandingWork.{OutstandingWork, context_at, without_context, with_context, with_open_request, is_verifying, without_verification, with_verification}
-use Rattle.simplex_member.specs.Allowed.{is_allowed}
+use Rattle.simplex_member.specs.CallConditions.{is_allowed}
 use Rattle.simplex_member.specs.Calls.{CallFacts, SetProposal, TryPropose, Proposed, SupersedeProposalRequest, PendingHandoffAbandonment, ReleaseProposalRequest, TryVerify, Verified, VerificationFailed, CertifyCandidates, SetCertifyHandle, TriggerTimeout, NextTimeout}
 use Rattle.simplex_member.specs.CallSemantics.{after_call, outstanding_work_after}
 use Rattle.laws_safety.specs.Traces.{TraceEvent}
-use Rattle.laws_safety.specs.Standings.{is_given_out}
+use Rattle.laws_safety.specs.ProposalStandings.{is_given_out}
 use Rattle.simplex_record.proofs.Rounds.{round_put}
 use Rattle.laws_safety.proofs.votes.UnchangedRounds.{leads_round, Grown, UnchangedProposal, calm, calm_alike}
 use Rattle.laws_safety.proofs.votes.UnchangedProposals.{UnchangedProposalsFrom, IsNoProposalWork, above_put, calm_along, leaves}

@@ -12,9 +12,9 @@ use Rattle.simplex_types.specs.declared.types.numbers.Round.{Round}
 use Rattle.simplex_round.specs.Round.{RoundFacts, new_round, after_nullify, is_nullify}
 use Rattle.simplex_round.specs.declared.round.Decision.TheVariants.{Nullify}
 use Rattle.simplex_voter.specs.Facts.{StateFacts, Elect, round_at, round_of, round_number, with_round}
-use Rattle.simplex_voter.specs.Proposing.{voted_nullify}
+use Rattle.simplex_voter.specs.ProposalRequests.{voted_nullify}
 use Rattle.simplex_voter.specs.Rules.{may_nullify}
-use Rattle.simplex_voter.specs.Serving.{after_prune}
+use Rattle.simplex_voter.specs.StateAnswers.{after_prune}
 use Rattle.simplex_voter.specs.Votes.{after_construct_nullify}
 use Rattle.simplex_voter.specs.Windows.{min_active}
 use Rattle.simplex_voter.proofs.Elsewhere.{round_of-with_round}

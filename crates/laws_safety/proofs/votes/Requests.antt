@@ -11,7 +11,7 @@ use Rattle.simplex_voter.specs.Windows.{is_term_start, is_admitted}
 use Rattle.simplex_voter.specs.Parents.{find_parent}
 use Rattle.simplex_voter.specs.declared.voter.propose.ProposalRequest.{ProposalRequest}
 use Rattle.simplex_voter.specs.declared.voter.propose.ProposalRequest.TheVariants.{Prepare, Propose}
-use Rattle.simplex_voter.specs.Proposing.{request_context, request_on, request_in, context_on, propose_answer, views_ahead, voted_nullify, parent_certified}
+use Rattle.simplex_voter.specs.ProposalRequests.{request_context, request_on, request_in, context_on, propose_answer, views_ahead, voted_nullify, parent_certified}
 use Rattle.simplex_voter.proofs.Gaps.{and_parts}
 use Rattle.laws_safety.proofs.lists.Filters.{filtered_passes}
 use Rattle.laws_safety.proofs.votes.Scanned.{among_through, first_through}

@@ -9,8 +9,8 @@ use Rattle.simplex_types.specs.Terms.{next_term_start}
 use Rattle.simplex_view_maps.proofs.Maps.{is_eq-nat_cmp}
 use Rattle.simplex_round.specs.Round.{RoundFacts, new_round}
 use Rattle.simplex_voter.specs.Facts.{StateFacts, Elect, round_at, round_of, round_number, is_tracked}
-use Rattle.simplex_voter.specs.Proposing.{views_ahead}
-use Rattle.simplex_voter.specs.Verifying.{through, is_answered, round_left, standing, was_scanned, scan_left, after_try_verify}
+use Rattle.simplex_voter.specs.ProposalRequests.{views_ahead}
+use Rattle.simplex_voter.specs.Verification.{through, is_answered, round_left, standing, was_scanned, scan_left, after_try_verify}
 use Rattle.simplex_voter.proofs.Walked.{find-changed}
 use Rattle.laws_safety.proofs.votes.OutstandingWork.{any_of_kept}
 use Rattle.simplex_record.proofs.Rounds.{tracked_changed}

@@ -10,7 +10,7 @@ use Rattle.simplex_round.specs.Slot.{after_certificate}
 use Rattle.simplex_round.specs.Round.{RoundFacts, new_round, is_nullify, is_finalize}
 use Rattle.simplex_voter.specs.Facts.{StateFacts, Elect, round_of, round_number}
 use Rattle.simplex_voter.specs.Windows.{min_active}
-use Rattle.simplex_voter.specs.Proposing.{proposal_of}
+use Rattle.simplex_voter.specs.ProposalRequests.{proposal_of}
 use Rattle.simplex_record.specs.Events as event
 use Rattle.simplex_record.specs.Events.{Event, IsEvent, after_event, is_prune, finalized_by_event}
 use Rattle.laws_safety.specs.Traces.{TraceEvent, Accepts}

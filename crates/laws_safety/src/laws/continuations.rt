@@ -6,7 +6,7 @@ ghost use Rattle.simplex_types.specs.declared.types.messages.Subject.TheVariants
 ghost use Rattle.laws_safety.specs.Continuations.{HasAccepted, HasSignedAs, GoesOnToFinalize};
 ghost use Rattle.laws_safety.specs.DividedNetwork.{divided, united, after_conflict};
 ghost use Rattle.laws_safety.specs.HandoffNetwork.{handed_over, takes_over, taken_over, gone_on, after_handoff};
-ghost use Rattle.laws_safety.specs.LackingNetwork.{lacks_nullification, member_without_notarization, lacking_certificates, supplied, over_two};
+ghost use Rattle.laws_safety.specs.MissingCertificatesNetwork.{lacks_nullification, member_without_notarization, lacking_certificates, supplied, over_two};
 ghost use Rattle.laws_safety.specs.Replicas.{faults, Backed, IsNetworkOf};
 ghost use Rattle.laws_safety.specs.ScenarioSteps.{round, one, in_turn};
 

@@ -8,7 +8,7 @@ ghost use Rattle.laws_safety.specs.Accountability.{Contradicts, distance, IsEvid
 ghost use Rattle.laws_safety.specs.Accountability.{AcceptCertified, MayBeCertified, IsGuilty, IsSuspect};
 ghost use Rattle.laws_safety.specs.Scripts.{leader, impatient, patient, four, restarting, skipping, five};
 ghost use Rattle.laws_safety.specs.Scripts.{overrun, two_faced, known_of_overrun};
-ghost use Rattle.laws_safety.specs.ChangingLives.{refusing, changing, with_refusing, with_changing};
+ghost use Rattle.laws_safety.specs.ChangedSettings.{refusing, changing, with_refusing, with_changing};
 ghost use Rattle.laws_safety.specs.AheadNetwork.{early, joining, voted_ahead, three};
 ghost use Rattle.laws_safety.specs.ScenarioSteps.{round, proposal, one, two, in_turn};
 ghost use Rattle.laws_safety.specs.Traces.{Accepts, Signs};

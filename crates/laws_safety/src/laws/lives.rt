@@ -1,8 +1,8 @@
 //! What each life of a member keeps, between a start or a restart and the next one.
 
-ghost use Rattle.laws_safety.specs.LifeLaws.{OfEachLife, OfEachStretch, StretchesAreLives, WhileAlive, NeverFalls};
-ghost use Rattle.laws_safety.specs.LifeLaws.{OfEachState, CurrentTimesOut, OfEachRun, PollsAreAnswered};
-ghost use Rattle.laws_safety.specs.LifeLaws.{ConflictsStay, DroppedForGood, HandedOnce, HandedAsAsked};
+ghost use Rattle.laws_safety.specs.LifetimeLaws.{OfEachLife, OfEachStretch, StretchesAreLives, WhileAlive, NeverFalls};
+ghost use Rattle.laws_safety.specs.LifetimeLaws.{OfEachState, CurrentTimesOut, OfEachRun, PollsAreAnswered};
+ghost use Rattle.laws_safety.specs.LifetimeLaws.{ConflictsStay, DroppedForGood, HandedOnce, HandedAsAsked};
 
 use simplex_types::types::{Digest, Elector, Scheme};
 

@@ -1,9 +1,9 @@
 //! What a network of members agrees on, and the laws of each member's votes over all its lives.
 
 ghost use Rattle.laws_safety.specs.Agreement.{OneProposal, FinalizedUncovered, ParentBefore, ParentNotBelow, FinalizedNotarized, ChainHoldsFinalized};
-ghost use Rattle.laws_safety.specs.Exactly.{SignsExactly};
+ghost use Rattle.laws_safety.specs.ExactVotes.{SignsExactly};
 ghost use Rattle.laws_safety.specs.Lawful.{IsLawful};
-ghost use Rattle.laws_safety.specs.LifeLaws.{OfEachState, NotarizesGapless};
+ghost use Rattle.laws_safety.specs.LifetimeLaws.{OfEachState, NotarizesGapless};
 ghost use Rattle.laws_safety.specs.Replicas.{OfEachNetwork};
 ghost use Rattle.laws_safety.specs.Executions.{OfEachMember, RunsAreLawful, trace_of};
 

@@ -1,6 +1,6 @@
 //! What a member's own record holds, and what a restart may refuse of it.
 
-ghost use Rattle.laws_safety.specs.Outside.{HighViewsAreVotedFor, OfEachEnd, ParentsAreAccepted, RecordIsTaken, RestartIsExcused, RunsAreExcused, VerdictsFollowNotarizations};
+ghost use Rattle.laws_safety.specs.RecordRefusals.{HighViewsAreVotedFor, OfEachEnd, ParentsAreAccepted, RecordIsTaken, RestartIsExcused, RunsAreExcused, VerdictsFollowNotarizations};
 ghost use Rattle.laws_safety.specs.RecordsOnce.{HoldsEachEntryOnce};
 
 use simplex_types::types::{Digest, Elector, Scheme};

@@ -1,6 +1,6 @@
 //! That a member is never stuck in a view.
 
-ghost use Rattle.laws_safety.specs.LifeLaws.{OfEachState};
+ghost use Rattle.laws_safety.specs.LifetimeLaws.{OfEachState};
 ghost use Rattle.laws_safety.specs.Progress.{CanBeLeft};
 
 use simplex_types::types::{Digest, Elector, Scheme};

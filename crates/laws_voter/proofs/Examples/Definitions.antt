@@ -7,15 +7,15 @@ use Rattle.simplex_voter.specs.Windows.{in_issuance_window}
 use Rattle.simplex_types.specs.Config.{Genesis, Finalized}
 use Rattle.simplex_voter.specs.Refusals.{takes_round}
 use Rattle.simplex_voter.specs.Acceptance.{takes_floor}
-use Rattle.simplex_voter.specs.Verifying.{takes_proposal}
+use Rattle.simplex_voter.specs.Verification.{takes_proposal}
 use Rattle.simplex_round.specs.Round.{leader_at}
 use Rattle.simplex_voter.specs.Parents.{verification_matches}
 use Rattle.simplex_voter.specs.Facts.{Elect, round_of, with_round}
 use Rattle.simplex_voter.specs.Payloads.{optimistic_ancestry_payload}
 use Rattle.simplex_types.specs.declared.reasons.TimeoutReason.TheVariants.{MissingProposal}
-use Rattle.simplex_voter.specs.Entering.{with_view_entered}
+use Rattle.simplex_voter.specs.ViewEntry.{with_view_entered}
 use Rattle.simplex_voter.specs.Leaders.{with_elected_leader, opened_views}
-use Rattle.simplex_voter.specs.Serving.{leader_of}
+use Rattle.simplex_voter.specs.StateAnswers.{leader_of}
 use Rattle.laws_voter.proofs.Examples.Scripts.{State, context, same, fresh, proposal, certificate, in_turn, voter, keyless, recovered, replies_of, after_call, voted_notarize}
 use Rattle.laws_voter.proofs.Examples.Scripts.Call.{Candidates, Certified, AddNotarization, AddNullification, Trigger, AddFinalization, SetProposal, TryPropose, Proposed, TryVerify, Verified, SetCertifyHandle, Notarize, Finalize}
 

@@ -26,9 +26,9 @@ use Rattle.simplex_voter.specs.Acceptance as accept
 use Rattle.simplex_voter.specs.Votes.{nullify_answer, after_construct_nullify, finalize_answer, after_construct_finalize, notarize_answer, after_construct_notarize}
 use Rattle.simplex_voter.specs.declared.voter.propose.ProposalRequest.{ProposalRequest}
 use Rattle.simplex_voter.specs.declared.voter.verify.Verify.{Verify}
-use Rattle.simplex_voter.specs.Proposing.{propose_answer, after_try_propose, proposed_answer, after_proposed, supersede_answer, after_supersede, abandonment_answer, after_release, parent_certified, voted_nullify as gives_up}
-use Rattle.simplex_voter.specs.Verifying.{takes_proposal, set_proposal_answer, after_set_proposal, standing, verify_answer, after_try_verify, verified_answer, after_verified, after_verification_failed}
-use Rattle.simplex_voter.specs.Serving.{best_certificate, broadcast_notarization_answer, after_broadcast_notarization, broadcast_nullification_answer, after_broadcast_nullification, broadcast_finalization_answer, after_broadcast_finalization, prune_answer, after_prune, elapsed_since_start, elapsed_since_entry, leader_of, forwardable_of}
+use Rattle.simplex_voter.specs.ProposalRequests.{propose_answer, after_try_propose, proposed_answer, after_proposed, supersede_answer, after_supersede, abandonment_answer, after_release, parent_certified, voted_nullify as gives_up}
+use Rattle.simplex_voter.specs.Verification.{takes_proposal, set_proposal_answer, after_set_proposal, standing, verify_answer, after_try_verify, verified_answer, after_verified, after_verification_failed}
+use Rattle.simplex_voter.specs.StateAnswers.{best_certificate, broadcast_notarization_answer, after_broadcast_notarization, broadcast_nullification_answer, after_broadcast_nullification, broadcast_finalization_answer, after_broadcast_finalization, prune_answer, after_prune, elapsed_since_start, elapsed_since_entry, leader_of, forwardable_of}
 use Rattle.simplex_voter.specs.Replay.{artifact_round, replay_refusal, after_replayed}
 
 -- keys are the members' indices, payloads numbers, and an elector is the length of its terms

@@ -9,22 +9,22 @@ use Rattle.engine_fetches.specs.declared.fetches.Fetch.{Fetch}
 use Rattle.engine_fetches.specs.declared.fetches.FetchKind.{FetchKind}
 use Rattle.engine_fetches.specs.declared.fetches.FetchKind.TheVariants as fetch
 use Rattle.engine_fetches.specs.Fetches.{same_kind}
-use Rattle.engine_fetches.specs.Wanted.{wants}
+use Rattle.engine_fetches.specs.OutstandingFetches.{wants}
 use Rattle.engine_outbox.specs.Outputs.{work_in}
 use Rattle.engine_outbox.specs.declared.output.Work.{Work}
 use Rattle.engine_outbox.specs.declared.output.Work.TheVariants as work
-use Rattle.engine_planner.specs.declared.plan.building.Building.{Building}
+use Rattle.engine_planner.specs.declared.plan.builds.Building.{Building}
 use Rattle.engine_planner.specs.declared.plan.early.Early.{Early}
 use Rattle.engine_planner.specs.declared.plan.Plan.{Plan}
 use Rattle.engine_planner.specs.declared.plan.Step.{Step}
 use Rattle.engine_planner.specs.declared.plan.Step.TheVariants as step
 use Rattle.engine_planner.specs.declared.task.Task.{Task}
 use Rattle.engine_planner.specs.declared.task.Task.TheVariants as task
-use Rattle.engine_planner.specs.Asking.{is_lack}
-use Rattle.engine_planner.specs.Matters.{Matter, Duty, Lack, Arrival, Quorum, Message, Expiry, of_blocks, of_early, of_fetch, of_fetches, of_repair, of_step, of_steps, of_task, of_work, of_works, planned_matters}
+use Rattle.engine_planner.specs.FetchRequests.{is_lack}
+use Rattle.engine_planner.specs.Causes.{Matter, Duty, Lack, Arrival, Quorum, Message, Expiry, of_blocks, of_early, of_fetch, of_fetches, of_repair, of_step, of_steps, of_task, of_work, of_works, planned_matters}
 use Rattle.simplex_engine.specs.declared.engine.Engine.{Engine}
-use Rattle.simplex_engine.specs.Causes.{at_hand, HasNoLack}
-use Rattle.simplex_engine.specs.Heights.{resolves_above}
+use Rattle.simplex_engine.specs.Provenance.{at_hand, HasNoLack}
+use Rattle.simplex_engine.specs.FetchHeights.{resolves_above}
 use Rattle.simplex_engine.proofs.Tests.{not_or, or_none}
 
 -- a certificate of a view above this one is said to be lacking

@@ -14,17 +14,17 @@ use Rattle.simplex_voter.specs.declared.voter.verify.Verify.{Verify}
 use Rattle.simplex_voter.specs.declared.voter.verify.Verify.TheVariants as verify
 use Rattle.simplex_voter.specs.Acceptance.{notarization_added, nullification_added, finalization_added}
 use Rattle.simplex_voter.specs.Certification.{candidates_answer, certified_answer}
-use Rattle.simplex_voter.specs.Verifying.{verify_answer}
-use Rattle.simplex_resolver.specs.Received.{greatest}
+use Rattle.simplex_voter.specs.Verification.{verify_answer}
+use Rattle.simplex_resolver.specs.ReceivedFacts.{greatest}
 use Rattle.simplex_record.specs.Cuts.{finalized_in}
 use Rattle.simplex_record.specs.Entries.{entry_view}
-use Rattle.simplex_member.specs.Allowed.{is_allowed, fault_of}
+use Rattle.simplex_member.specs.CallConditions.{is_allowed, fault_of}
 use Rattle.simplex_member.specs.Calls.{CallFacts, AddNotarization, AddNullification, AddFinalization, Certified, TryVerify, CertifyCandidates, Told, Judged, Standing as ToldStanding, Refused, NotAllowed, told}
 use Rattle.simplex_member.specs.CallSemantics.{answer, after_call, recorded_by, if_new}
-use Rattle.simplex_member.specs.Lives.{MemberFacts, IsCall, AnswersAlive, with_call, unless_refused, unless_kept}
+use Rattle.simplex_member.specs.MemberFacts.{MemberFacts, IsCall, AnswersAlive, with_call, unless_refused, unless_kept}
 use Rattle.simplex_member.specs.Pruning.{stays_within, pruned_member, tracks}
 use Rattle.laws_safety.proofs.frames.Rising.{call_goes}
-use Rattle.simplex_engine.specs.Heights.{highest_heard}
+use Rattle.simplex_engine.specs.FetchHeights.{highest_heard}
 use Rattle.simplex_engine.proofs.Bounds.{next_monotone}
 use Rattle.simplex_engine.proofs.Tests.{not_or}
 use Rattle.simplex_engine.proofs.heights.Records.{among_greatest, greatest_grows, greatest_stays}

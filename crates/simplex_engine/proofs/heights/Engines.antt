@@ -8,24 +8,24 @@ use Rattle.simplex_types.specs.Certificates.{CertificateFacts, Accepted, Notariz
 use Rattle.simplex_voter.specs.Facts.{StateFacts, Elect}
 use Rattle.simplex_resolver.specs.Repair.{has}
 use Rattle.simplex_resolver.specs.Steps.{Call}
-use Rattle.simplex_resolver.specs.Told.{LawfulResolverFacts}
-use Rattle.laws_safety.specs.Living.{HasDone}
+use Rattle.simplex_resolver.specs.CallHistory.{LawfulResolverFacts}
+use Rattle.laws_safety.specs.MemberHistory.{HasDone}
 use Rattle.laws_safety.specs.Traces.{TraceEvent}
 use Rattle.engine_fetches.specs.declared.fetches.Fetch.{Fetch}
 use Rattle.engine_fetches.specs.declared.fetches.FetchKind.{FetchKind}
 use Rattle.engine_fetches.specs.declared.fetches.FetchKind.TheVariants.{Nullification}
 use Rattle.engine_fetches.specs.Fetches.{fresh, is_fetch_open, opened}
-use Rattle.engine_fetches.specs.Wanted.{wanting}
+use Rattle.engine_fetches.specs.OutstandingFetches.{wanting}
 use Rattle.engine_outbox.specs.declared.output.Work.{Work}
 use Rattle.engine_planner.specs.declared.plan.Step.{Step}
 use Rattle.engine_planner.specs.declared.plan.Step.TheVariants as step
-use Rattle.engine_planner.specs.Asking.{asks as asks_of, ended_by, AreMade, with_lack}
-use Rattle.engine_planner.specs.Matters.{Matter, of_works}
+use Rattle.engine_planner.specs.FetchRequests.{asks as asks_of, ended_by, AreMade, with_lack}
+use Rattle.engine_planner.specs.Causes.{Matter, of_works}
 use Rattle.engine_planner.specs.declared.plan.Options.{Options}
 use Rattle.simplex_engine.specs.declared.engine.Engine.{Engine}
-use Rattle.simplex_engine.specs.Beginning.{HasBegunWith}
-use Rattle.simplex_engine.specs.Causes.{is_final, at_hand, heard_in, Comes, HasNoLack}
-use Rattle.simplex_engine.specs.Heights.{highest_heard, resolves_above, AsksUpTo, AsksForTheHeard}
+use Rattle.simplex_engine.specs.EngineStart.{HasBegunWith}
+use Rattle.simplex_engine.specs.Provenance.{is_final, at_hand, heard_in, Comes, HasNoLack}
+use Rattle.simplex_engine.specs.FetchHeights.{highest_heard, resolves_above, AsksUpTo, AsksForTheHeard}
 use Rattle.simplex_engine.proofs.heights.AtHand.{lacks_above, hand_asks, hand_low, none_both, none_lacks}
 use Rattle.simplex_engine.proofs.Tests.{not_or}
 use Rattle.simplex_engine.proofs.heights.Resolvers.{view_of_certificate, IsUpTo, begun_up_to, made_up_to}

@@ -15,7 +15,7 @@ use Rattle.simplex_voter.specs.Facts.{StateFacts, Elect, round_of}
 use Rattle.simplex_voter.specs.declared.voter.candidates.CertificateFetch.{CertificateFetch}
 use Rattle.simplex_voter.specs.declared.voter.verify.Verify.{Verify}
 use Rattle.simplex_voter.specs.declared.voter.verify.Verify.TheVariants as verify
-use Rattle.simplex_voter.specs.Proposing.{views_ahead}
+use Rattle.simplex_voter.specs.ProposalRequests.{views_ahead}
 use Rattle.simplex_voter.proofs.Gaps.{and_parts, first_unnullified_view-is}
 use Rattle.simplex_voter.specs.declared.voter.verify.Standing.{Standing}
 use Rattle.simplex_voter.specs.declared.voter.verify.Standing.TheVariants.{NothingToDo, Invalid, Lacks, Ready}
@@ -25,8 +25,8 @@ use Rattle.simplex_voter.specs.Payloads.{explicit_ancestry_payload}
 use Rattle.simplex_voter.specs.Rules.{required_certification_parent, was_handed_over}
 use Rattle.simplex_voter.specs.Windows.{in_issuance_window, is_admitted, is_term_start}
 use Rattle.simplex_voter.specs.Certification.{certification_fetch, fetched_of}
-use Rattle.simplex_voter.specs.Verifying.{answer_at, answer_in, fetch_once, parent_standing, payload_standing, standing, verify_answer}
-use Rattle.simplex_resolver.specs.Received.{greatest}
+use Rattle.simplex_voter.specs.Verification.{answer_at, answer_in, fetch_once, parent_standing, payload_standing, standing, verify_answer}
+use Rattle.simplex_resolver.specs.ReceivedFacts.{greatest}
 use Rattle.laws_safety.proofs.votes.Requests.{ahead_now}
 use Rattle.laws_safety.proofs.votes.Scanned.{among_through, first_through}
 

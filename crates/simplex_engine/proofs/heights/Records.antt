@@ -3,7 +3,7 @@ use Rattle.std.proofs.Common.{◌≡◌, refl, ap, ℕ, ◌<◌, ◌≤◌, inl,
 use Rattle.std.proofs.lemmas.Bool.Decides.{nat_tests}
 use Rattle.std.proofs.lemmas.Bool.{cases_Bool}
 use Rattle.simplex_types.specs.Certificates.{ArtifactFacts, NotarizeVote, NullifyVote, FinalizeVote, Verdict, Accepted, Notarized, Nullified, Finalized}
-use Rattle.simplex_resolver.specs.Received.{greatest}
+use Rattle.simplex_resolver.specs.ReceivedFacts.{greatest}
 use Rattle.simplex_record.specs.Cuts.{finalized_by, finalized_in}
 use Rattle.simplex_record.specs.Entries.{entry_view}
 use Rattle.laws_safety.proofs.lists.Filters.{Contains-filter}

@@ -7,7 +7,7 @@ use Rattle.std.specs.Prelude.{◌==◌, if◌then◌else◌}
 use Rattle.simplex_types.specs.Certificates.{Notarized, Nullified, Finalized, notarization_facts}
 use Rattle.simplex_voter.specs.declared.voter.candidates.CertificateFetch.{CertificateFetch}
 use Rattle.simplex_voter.specs.declared.voter.verify.Verify.TheVariants as verify
-use Rattle.simplex_resolver.specs.Received.{greatest, is_replayed}
+use Rattle.simplex_resolver.specs.ReceivedFacts.{greatest, is_replayed}
 use Rattle.simplex_resolver.specs.Steps.{Call, update, verdict}
 use Rattle.simplex_member.specs.Calls.{CallFacts, AddNotarization, AddNullification, AddFinalization, Told, Added, AddedNullification, Judged, Standing as ToldStanding, Candidates, told}
 use Rattle.simplex_member.specs.declared.member.calls.Reply.{Reply}
@@ -15,8 +15,8 @@ use Rattle.simplex_member.specs.declared.member.calls.Reply.TheVariants as reply
 use Rattle.engine_fetches.specs.declared.fetches.FetchKind.TheVariants.{Notarization as FetchOfNotarization}
 use Rattle.engine_outbox.specs.declared.output.Work.{Work}
 use Rattle.engine_outbox.specs.declared.output.Work.TheVariants as work
-use Rattle.engine_planner.specs.Asking.{above_genesis, heard_of, heard_by}
-use Rattle.engine_planner.specs.Matters.{Duty, Lack, given_by, shown_by, Expiry}
+use Rattle.engine_planner.specs.FetchRequests.{above_genesis, heard_of, heard_by}
+use Rattle.engine_planner.specs.Causes.{Duty, Lack, given_by, shown_by, Expiry}
 use Rattle.simplex_engine.proofs.heights.AtHand.{lacks_above}
 use Rattle.simplex_engine.proofs.heights.Resolvers.{view_told}
 

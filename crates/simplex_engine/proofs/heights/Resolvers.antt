@@ -15,12 +15,12 @@ use Rattle.simplex_resolver.specs.declared.resolver.effect.Effect.{Effect}
 use Rattle.simplex_resolver.specs.declared.resolver.effect.Effect.TheVariants as effect
 use Rattle.simplex_resolver.specs.Facts.{ResolverFacts, term_length, last_finalized, anchors, is_anchor, starts_term}
 use Rattle.simplex_resolver.specs.Steps.{Call, Nullification, Notarization, Finalization, Verdict, Replayed, after, effects, before_scan, settle_effects, after_raise, scan_fetches, missing_fetches, missing, scan_start, failing, failure_fetches, needs_nullification, with_certified, with_kept_nullification, with_kept_finalization, without_finalized, insert_new, update}
-use Rattle.simplex_resolver.specs.Received.{current_view, current_of, floor_of, is_covering, is_false_verdict, is_replayed, is_wanted}
+use Rattle.simplex_resolver.specs.ReceivedFacts.{current_view, current_of, floor_of, is_covering, is_false_verdict, is_replayed, is_wanted}
 use Rattle.simplex_resolver.specs.Repair.{has, fetches, settles, is_outstanding}
 use Rattle.simplex_resolver.specs.RecordCalls.{newest_notarization, verdict_on, entry_calls, calls_of}
-use Rattle.simplex_resolver.specs.Told.{LawfulResolverFacts, HasBeenTold, IsMade}
+use Rattle.simplex_resolver.specs.CallHistory.{LawfulResolverFacts, HasBeenTold, IsMade}
 use Rattle.simplex_resolver.proofs.RepairLaw.{held, fails, stands}
-use Rattle.simplex_resolver.proofs.Told.{opens_the_wanted}
+use Rattle.simplex_resolver.proofs.CallHistory.{opens_the_wanted}
 use Rattle.simplex_resolver.proofs.Views.{has-filter, has-range, fetches-map, is_outstanding-append}
 
 -- the view that a resolver is told of; 0 where the replay ends

@@ -5,14 +5,14 @@ use Rattle.std.proofs.lemmas.Bool.{cases_Bool, false≢true}
 use Rattle.simplex_types.specs.Certificates.{ProposalFacts}
 use Rattle.simplex_voter.specs.Facts.{StateFacts, Elect}
 use Rattle.simplex_member.specs.Calls.{CallFacts, told}
-use Rattle.simplex_member.specs.Lives.{MemberFacts, IsCall, AnswersAlive}
+use Rattle.simplex_member.specs.MemberFacts.{MemberFacts, IsCall, AnswersAlive}
 use Rattle.simplex_member.specs.Pruning.{pruned_member}
 use Rattle.simplex_member.specs.Runs.{StepFacts, Calls, Prunes, Restarts}
 use Rattle.simplex_member.specs.declared.member.calls.Reply.{Reply}
 use Rattle.laws_safety.specs.Executions.{new_member, Execution}
 use Rattle.laws_safety.specs.TermLengths.{HasTerms, KeepTerms}
-use Rattle.laws_safety.specs.LifeLaws.{Notarization}
-use Rattle.laws_safety.specs.Living.{HasDone}
+use Rattle.laws_safety.specs.LifetimeLaws.{Notarization}
+use Rattle.laws_safety.specs.MemberHistory.{HasDone}
 use Rattle.laws_safety.specs.Traces.{TraceEvent, of_floor, trace_at, trace_of_steps}
 use Rattle.laws_safety.proofs.executions.Living.{call_done, prune_done}
 use Rattle.laws_safety.proofs.frames.RunsKeep.{HoldsIn, run_induction}
@@ -22,11 +22,11 @@ use Rattle.laws_safety.proofs.own_records.Runs.{TellsOn, run_own, start_own}
 use Rattle.laws_safety.proofs.own_records.Verdicts.{ShowsVerdicts}
 use Rattle.laws_safety.proofs.records.RunsLawful.{keep_terms}
 use Rattle.engine_fetches.specs.declared.fetches.FetchKind.{FetchKind}
-use Rattle.engine_planner.specs.Asking.{heard_by, with_lack}
-use Rattle.engine_planner.specs.Matters.{Matter}
+use Rattle.engine_planner.specs.FetchRequests.{heard_by, with_lack}
+use Rattle.engine_planner.specs.Causes.{Matter}
 use Rattle.engine_planner.specs.PlannedWork.{AreAmong}
-use Rattle.simplex_engine.specs.Causes.{given_in, heard_in, ComesBy}
-use Rattle.simplex_engine.specs.Heights.{highest_heard}
+use Rattle.simplex_engine.specs.Provenance.{given_in, heard_in, ComesBy}
+use Rattle.simplex_engine.specs.FetchHeights.{highest_heard}
 use Rattle.simplex_engine.proofs.heights.AtHand.{lacks_above, none_both}
 use Rattle.simplex_engine.proofs.heights.Calls.{IsKnown, call_heard, pruned_heard}
 use Rattle.simplex_engine.proofs.heights.Replies.{IsLow, given_low, heard_low}

@@ -4,11 +4,11 @@
 ghost use Rattle.std.specs.Prelude.{◌≡◌, ◌==◌, ℕ, List, Option, [], ◌∷◌, Err, IfOk, IfErr, IfSome, length, reverse};
 ghost use Rattle.simplex_resolver.specs.RecordCalls.{calls_of};
 ghost use Rattle.simplex_resolver.specs.Steps.{Replayed};
-ghost use Rattle.simplex_resolver.specs.Told.{HasBeenTold};
+ghost use Rattle.simplex_resolver.specs.CallHistory.{HasBeenTold};
 ghost use Rattle.simplex_record.specs.Entries.{entries_of};
-ghost use Rattle.simplex_engine.specs.Beginning.{with_a_retry, IsPlanOf, IsCompanyOf, HasBegunWith, IsNotReplayed};
+ghost use Rattle.simplex_engine.specs.EngineStart.{with_a_retry, IsPlanOf, IsCompanyOf, HasBegunWith, IsNotReplayed};
 ghost use Rattle.simplex_record.specs.Votes.{votes_of};
-ghost use Rattle.engine_outbox.specs.Going.{IsKept, IsWhole, TellsNothing, BeginsTraced};
+ghost use Rattle.engine_outbox.specs.Continuity.{IsKept, IsWhole, TellsNothing, BeginsTraced};
 ghost use Rattle.engine_outbox.specs.Journals.{BeginsWith};
 ghost use Rattle.engine_outbox.specs.Signatures.{BeginsSigned};
 
@@ -80,13 +80,13 @@ impl<S: Assembly<D>, L: Elector<S>, D: Digest> Engine<S, L, D> {
     ghost use Rattle.simplex_record.specs.Start.{set_up, start_facts};
     ghost use Rattle.simplex_member.specs.Journal.{IsNotResumed, IsResumed};
     ghost use Rattle.simplex_member.specs.Start.{started_member};
-    ghost use Rattle.laws_safety.specs.Living.{HasBegun, HasGoneOn};
-    ghost use Rattle.simplex_engine.specs.Beginning.{IsMemberError, IsNotBegun};
+    ghost use Rattle.laws_safety.specs.MemberHistory.{HasBegun, HasGoneOn};
+    ghost use Rattle.simplex_engine.specs.EngineStart.{IsMemberError, IsNotBegun};
     ghost use Rattle.simplex_engine.specs.declared.engine.begin.StartError.TheVariants.{RetryZero};
     ghost use Rattle.simplex_engine.specs.Bounds.{HoldsNoneAhead};
-    ghost use Rattle.simplex_engine.specs.Causes.{at_hand};
-    ghost use Rattle.simplex_engine.specs.Heights.{AsksForTheHeard};
-    ghost use Rattle.simplex_engine.specs.Duties.{HasToldAll};
+    ghost use Rattle.simplex_engine.specs.Provenance.{at_hand};
+    ghost use Rattle.simplex_engine.specs.FetchHeights.{AsksForTheHeard};
+    ghost use Rattle.simplex_engine.specs.ApplicationWork.{HasToldAll};
 
     /// Begins the engine of a member that never voted, at a floor. A member that voted must `resume`, or it could vote twice in a view.
     ///

@@ -4,13 +4,13 @@
 ghost use Rattle.std.specs.Prelude.{◌≡◌, ◌≢◌, [], ◌∷◌, None, Ok, IfOk, OnOk, IsTrue, false, ◌==◌, IsFalse};
 ghost use Rattle.std.specs.List.{list_any};
 ghost use Rattle.std.specs.Option.{option_map_or};
-ghost use Rattle.simplex_engine.specs.Acting.{verification_of};
-ghost use Rattle.simplex_engine.specs.Admitting.{admits_proposal, is_of_epoch};
+ghost use Rattle.simplex_engine.specs.InputEffects.{verification_of};
+ghost use Rattle.simplex_engine.specs.Admission.{admits_proposal, is_of_epoch};
 ghost use Rattle.simplex_member.specs.OutstandingWork.{is_offered};
 ghost use Rattle.engine_planner.specs.declared.task.Task.TheVariants.{Certified, Proposed, SetProposal};
 
 use super::Engine;
-use super::counting::takes_votes;
+use super::votes::takes_votes;
 use crate::input::Input;
 use simplex_types::types::assembly::Assembly;
 use engine_planner::task::Task;
@@ -20,14 +20,14 @@ use simplex_types::types::{
 use simplex_voter::voter::State;
 
 impl<S: Assembly<D>, L: Elector<S>, D: Digest> Engine<S, L, D> {
-    ghost use Rattle.engine_outbox.specs.Going.{GoesOn};
-    ghost use Rattle.simplex_engine.specs.Taking.{IsInputTaken};
+    ghost use Rattle.engine_outbox.specs.Continuity.{GoesOn};
+    ghost use Rattle.simplex_engine.specs.InputResults.{IsInputTaken};
     ghost use Rattle.engine_planner.specs.Blocks.{is_asked_in};
-    ghost use Rattle.simplex_engine.specs.Acting.{HasDoneTask, IsBlockTaken};
-    ghost use Rattle.simplex_engine.specs.Causes.{ComesWith};
-    ghost use Rattle.simplex_engine.specs.Duties.{KeepsDuties};
-    ghost use Rattle.engine_planner.specs.Matters.{Arrival, Message};
-    ghost use Rattle.simplex_engine.specs.Admitting.{is_so, ignoring, IsKeptEarly};
+    ghost use Rattle.simplex_engine.specs.InputEffects.{HasDoneTask, IsBlockTaken};
+    ghost use Rattle.simplex_engine.specs.Provenance.{ComesWith};
+    ghost use Rattle.simplex_engine.specs.ApplicationWork.{KeepsDuties};
+    ghost use Rattle.engine_planner.specs.Causes.{Arrival, Message};
+    ghost use Rattle.simplex_engine.specs.Admission.{is_so, ignoring, IsKeptEarly};
 
     /// Takes what came in, while the engine has not failed, and counts what is of no use.
     pub(super) fn take(&mut self, input: Input<S, D>, now: u64) -> Result<bool, Fault>

@@ -2,7 +2,7 @@
 #![tactic(auto)]
 
 ghost use Rattle.std.specs.Prelude.{◌≡◌, ℕ, [], ◌∷◌, None, Some, OnOk, IfOk, IfSome, IsOk, IsTrue, false, ◌==◌, ◌||◌, option_map};
-ghost use Rattle.simplex_engine.specs.Causes.{is_verdict};
+ghost use Rattle.simplex_engine.specs.Provenance.{is_verdict};
 
 use super::Engine;
 use simplex_types::types::assembly::Assembly;
@@ -12,18 +12,18 @@ use engine_planner::task::Task;
 use simplex_types::types::{Digest, Elector, Fault, View};
 
 impl<S: Assembly<D>, L: Elector<S>, D: Digest> Engine<S, L, D> {
-    ghost use Rattle.engine_outbox.specs.Going.{GoesOn, IsKept, IsWhole};
-    ghost use Rattle.engine_outbox.specs.Reaching.{IsShort};
-    ghost use Rattle.simplex_engine.specs.Alone.{GoesOnAlone, GoesOnForgetting};
-    ghost use Rattle.simplex_engine.specs.Quiet.{HasNothingNew};
-    ghost use Rattle.engine_planner.specs.Planning.{IsIdle};
+    ghost use Rattle.engine_outbox.specs.Continuity.{GoesOn, IsKept, IsWhole};
+    ghost use Rattle.engine_outbox.specs.RecordReach.{IsShort};
+    ghost use Rattle.simplex_engine.specs.OwnSteps.{GoesOnAlone, GoesOnForgetting};
+    ghost use Rattle.simplex_engine.specs.NothingDue.{HasNothingNew};
+    ghost use Rattle.engine_planner.specs.PlanStates.{IsIdle};
     ghost use Rattle.simplex_engine.specs.Bounds.{HoldsFromKept};
-    ghost use Rattle.simplex_engine.specs.Building.{BuildsAhead};
-    ghost use Rattle.simplex_engine.specs.Lacking.{AsksForItsLacking};
-    ghost use Rattle.simplex_engine.specs.Causes.{held_by, is_final, ComesAlone, ComesForgetting, ComesWith};
-    ghost use Rattle.simplex_engine.specs.Duties.{KeepsDuties, KeepsTaken};
-    ghost use Rattle.engine_planner.specs.Asking.{KeepsAsking};
-    ghost use Rattle.engine_planner.specs.Matters.{of_step, of_task, of_work, planned_matters};
+    ghost use Rattle.simplex_engine.specs.BuildBounds.{BuildsAhead};
+    ghost use Rattle.simplex_engine.specs.MissingCertificates.{AsksForItsLacking};
+    ghost use Rattle.simplex_engine.specs.Provenance.{held_by, is_final, ComesAlone, ComesForgetting, ComesWith};
+    ghost use Rattle.simplex_engine.specs.ApplicationWork.{KeepsDuties, KeepsTaken};
+    ghost use Rattle.engine_planner.specs.FetchRequests.{KeepsAsking};
+    ghost use Rattle.engine_planner.specs.Causes.{of_step, of_task, of_work, planned_matters};
     ghost use Rattle.engine_planner.specs.PlannedWork.{work_planned, AreAmong, KeepsPlanned};
     ghost use Rattle.simplex_voter.specs.Windows.{min_active};
     ghost use Rattle.engine_outbox.specs.declared.output.Work.TheVariants as work;

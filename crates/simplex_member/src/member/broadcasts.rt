@@ -3,8 +3,8 @@
 ghost use Rattle.std.specs.Prelude.{◌≡◌, true, false, IfOk, IfErr, OnOk, is_some, option_map};
 ghost use Rattle.simplex_types.specs.Certificates.{certificate_facts, Notarized, Nullified, Finalized};
 ghost use Rattle.simplex_voter.specs.Refusals.{plain_refusal, is_started};
-ghost use Rattle.simplex_voter.specs.Serving.{broadcast_notarization_answer, after_broadcast_notarization, broadcast_nullification_answer, after_broadcast_nullification, broadcast_finalization_answer, after_broadcast_finalization};
-ghost use Rattle.simplex_member.specs.Parts.{Ends};
+ghost use Rattle.simplex_voter.specs.StateAnswers.{broadcast_notarization_answer, after_broadcast_notarization, broadcast_nullification_answer, after_broadcast_nullification, broadcast_finalization_answer, after_broadcast_finalization};
+ghost use Rattle.simplex_member.specs.PartialFailures.{Ends};
 
 use simplex_types::types::{Certificate, CertificateScheme, Digest, Elector, Fault, View};
 use simplex_voter::voter::State;

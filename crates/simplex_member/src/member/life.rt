@@ -48,7 +48,7 @@ impl<S: CertificateScheme, L: Elector<S>, D> Model for Member<S, L, D> {
     ghost use Rattle.simplex_voter.specs.Refusals.{is_started};
     ghost use Rattle.simplex_record.specs.Entries.{entries_of};
     ghost use Rattle.simplex_record.specs.Votes.{votes_of};
-    ghost use Rattle.simplex_member.specs.Lives.{SignedMember, living, open_while};
+    ghost use Rattle.simplex_member.specs.MemberFacts.{SignedMember, living, open_while};
 
     ghost Value = { SignedMember S.PublicKey L D S.Signature };
 
@@ -74,9 +74,9 @@ impl<S: CertificateScheme, L: Elector<S>, D: Digest> Member<S, L, D> {
     ghost use Rattle.simplex_record.specs.Entries.{entries_of};
     ghost use Rattle.simplex_record.specs.Votes.{votes_of};
     ghost use Rattle.simplex_member.specs.Calls.{told, asked};
-    ghost use Rattle.simplex_member.specs.Lives.{IsCall, HasGrown};
+    ghost use Rattle.simplex_member.specs.MemberFacts.{IsCall, HasGrown};
     ghost use Rattle.simplex_member.specs.OutstandingWork.{is_offered};
-    ghost use Rattle.simplex_member.specs.Signed.{IsSignedReply, signed_reply};
+    ghost use Rattle.simplex_member.specs.ReplySignatures.{IsSignedReply, signed_reply};
     ghost use Rattle.simplex_member.specs.MethodContracts.{is_reply_to, IfAnswered, IfRefused, IsAnswered, UnchangedButLife};
     ghost use Rattle.simplex_record.specs.Recovery.{recover_error};
     ghost use Rattle.simplex_record.specs.Start.{set_up, IsErrorDue};

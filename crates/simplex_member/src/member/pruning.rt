@@ -4,7 +4,7 @@ ghost use Rattle.std.specs.Prelude.{◌≡◌, ◌||◌, nat_le, filter};
 ghost use Rattle.simplex_voter.specs.Facts.{is_tracked};
 ghost use Rattle.simplex_record.specs.Entries.{entries_of, entry_view};
 ghost use Rattle.simplex_record.specs.Votes.{votes_of};
-ghost use Rattle.simplex_member.specs.Lives.{living};
+ghost use Rattle.simplex_member.specs.MemberFacts.{living};
 ghost use Rattle.simplex_member.specs.Pruning.{tracks};
 
 use super::life::Member;

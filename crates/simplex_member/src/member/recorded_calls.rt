@@ -9,7 +9,7 @@ ghost use Rattle.simplex_voter.specs.Certification.{takes_verdict, is_first_verd
 ghost use Rattle.simplex_voter.specs.Facts.{round_number};
 ghost use Rattle.simplex_voter.specs.Refusals.{is_started, plain_refusal};
 ghost use Rattle.simplex_member.specs.CallSemantics.{if_new};
-ghost use Rattle.simplex_member.specs.Parts.{Ends, UnchangedUnlessLost, is_new};
+ghost use Rattle.simplex_member.specs.PartialFailures.{Ends, UnchangedUnlessLost, is_new};
 ghost use Rattle.simplex_member.specs.OutstandingWork.{without_offer, with_offers};
 
 use super::outstanding_work::OutstandingWork;

@@ -1,7 +1,7 @@
 //! Why a call of a member has no answer.
 
 ghost use Rattle.std.specs.Prelude.{◌≡◌};
-ghost use Rattle.simplex_member.specs.Parts.{is_lost};
+ghost use Rattle.simplex_member.specs.PartialFailures.{is_lost};
 
 use simplex_types::types::Fault;
 use std::alloc::{AllocError, AllocFailed};

@@ -8,7 +8,7 @@ ghost use Rattle.simplex_voter.specs.Refusals.{is_started};
 ghost use Rattle.simplex_record.specs.Check.{stands};
 ghost use Rattle.simplex_record.specs.Entries.{entries_of, entry_view};
 ghost use Rattle.simplex_record.specs.Votes.{votes_of};
-ghost use Rattle.simplex_member.specs.Remade.{IsRemadeBy, IsRefusedBy};
+ghost use Rattle.simplex_member.specs.RestartedStates.{IsRemadeBy, IsRefusedBy};
 ghost use Rattle.simplex_record.specs.Recovery.{is_finalization_entry, with_finalization_entry, with_floor};
 ghost use Rattle.simplex_member.specs.Restarts.{IsByView};
 ghost use Rattle.simplex_record.specs.Start.{start_facts};

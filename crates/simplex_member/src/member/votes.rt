@@ -6,7 +6,7 @@ ghost use Rattle.simplex_record.specs.Entries.{entries_of};
 ghost use Rattle.simplex_record.specs.Votes.{votes_of};
 ghost use Rattle.simplex_member.specs.Calls.{told_notarize, told_nullify, told_finalize};
 ghost use Rattle.simplex_member.specs.CallSemantics.{unrepeated_vote, vote_entry};
-ghost use Rattle.simplex_member.specs.Signed.{signed_notarize, signed_nullify, signed_finalize};
+ghost use Rattle.simplex_member.specs.ReplySignatures.{signed_notarize, signed_nullify, signed_finalize};
 
 use super::recorded_calls::keep;
 use simplex_types::types::{

@@ -22,7 +22,7 @@ pub struct Waiting<V> {
 impl<V> Model for Waiting<V> {
     ghost use Rattle.std.specs.Prelude.{is_some, not};
     ghost use Rattle.std.specs.FinMap as map;
-    ghost use Rattle.simplex_member.specs.Waiting.{WaitingFacts, with_newest};
+    ghost use Rattle.simplex_member.specs.WaitingValues.{WaitingFacts, with_newest};
 
     ghost Value = { WaitingFacts V };
 

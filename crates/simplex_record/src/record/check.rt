@@ -7,7 +7,7 @@ ghost use Rattle.simplex_round.specs.Round.{signs_as};
 ghost use Rattle.simplex_voter.specs.Refusals.{is_too_large};
 ghost use Rattle.simplex_record.specs.Entries.{entries_of, entry_view};
 ghost use Rattle.simplex_record.specs.Check.{first_error, round_rules, vote_rules, own_rules, recovery_floor_rules, first_broken_after, first_recover_error};
-ghost use Rattle.simplex_record.specs.Seen.{turned_to, seen_with, next_rules};
+ghost use Rattle.simplex_record.specs.CheckState.{turned_to, seen_with, next_rules};
 
 use super::error::{RecoverError, refuse_if};
 use super::seen::Seen;

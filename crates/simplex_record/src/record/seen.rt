@@ -3,7 +3,7 @@
 ghost use Rattle.std.specs.Prelude.{◌≡◌, Some, None, IfErr, OnOk};
 ghost use Rattle.simplex_types.specs.Certificates.{artifact_facts};
 ghost use Rattle.simplex_record.specs.Check.{first_error};
-ghost use Rattle.simplex_record.specs.Seen.{nothing_seen, turned_to, seen_with, seen_rules, finalize_rules, verdict_rules, is_given, is_other};
+ghost use Rattle.simplex_record.specs.CheckState.{nothing_seen, turned_to, seen_with, seen_rules, finalize_rules, verdict_rules, is_given, is_other};
 
 use super::error::{RecoverError, refuse_if};
 use simplex_types::types::{Artifact, CertificateScheme, Digest, Proposal, View};

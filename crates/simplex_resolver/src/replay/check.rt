@@ -3,7 +3,7 @@
 ghost use Rattle.std.specs.Prelude.{◌≡◌, Some, None, ◌∷◌, IfErr, OnOk};
 ghost use Rattle.simplex_types.specs.Certificates.{artifact_facts};
 ghost use Rattle.simplex_resolver.specs.RecordCalls.{newest_first};
-ghost use Rattle.simplex_resolver.specs.Places.{AreNoted};
+ghost use Rattle.simplex_resolver.specs.RecordPositions.{AreNoted};
 ghost use Rattle.simplex_resolver.specs.RecordRules.{view_error, proposal_error, entry_error, record_error};
 
 use super::error::ReplayError;

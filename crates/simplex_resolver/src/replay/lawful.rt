@@ -2,7 +2,7 @@
 
 ghost use Rattle.std.specs.Prelude.{◌≡◌, ◌≤◌, ◌<◌, ◌^◌, [], true, false, None, IfOk, IfErr, OnOk, OnErr};
 ghost use Rattle.simplex_types.specs.Certificates.{certificate_facts, notarization_facts};
-ghost use Rattle.simplex_types.specs.Viewed.{certificate_view};
+ghost use Rattle.simplex_types.specs.MessageViews.{certificate_view};
 ghost use Rattle.simplex_types.specs.declared.types.fault.Fault.TheVariants.{OutOfMemory};
 ghost use Rattle.simplex_resolver.specs.Facts.{empty};
 ghost use Rattle.simplex_resolver.specs.Repair.{IsApplied};
@@ -32,7 +32,7 @@ pub struct LawfulResolver {
 }
 
 impl Model for LawfulResolver {
-    ghost use Rattle.simplex_resolver.specs.Told.{LawfulResolverFacts, resolver_facts_code};
+    ghost use Rattle.simplex_resolver.specs.CallHistory.{LawfulResolverFacts, resolver_facts_code};
 
     ghost Value = { LawfulResolverFacts };
 
@@ -42,7 +42,7 @@ impl Model for LawfulResolver {
 }
 
 impl LawfulResolver {
-    ghost use Rattle.simplex_resolver.specs.Told.{HasBeenTold, IsMade, IsToldMore, IsBegun, IsLeftBy, OfAllTold, OpensTheWanted, OpensNone, OpensNoneAgain, AnswersTheTold};
+    ghost use Rattle.simplex_resolver.specs.CallHistory.{HasBeenTold, IsMade, IsToldMore, IsBegun, IsLeftBy, OfAllTold, OpensTheWanted, OpensNone, OpensNoneAgain, AnswersTheTold};
 
     /// A resolver that was told nothing. It opens no fetch before `replayed` is called.
     pub fn new(alloc: Global, term_length: TermLength) -> LawfulResolver

@@ -5,7 +5,7 @@ ghost use Rattle.std.specs.Option.{option_copied};
 ghost use Rattle.std.specs.FinMap as map;
 ghost use Rattle.simplex_types.specs.Certificates.{artifact_facts, notarization_facts};
 ghost use Rattle.simplex_resolver.specs.RecordCalls.{newest_first, notarization_at, newest_notarization};
-ghost use Rattle.simplex_resolver.specs.Places.{with_place, AreNoted};
+ghost use Rattle.simplex_resolver.specs.RecordPositions.{with_place, AreNoted};
 
 use simplex_view_maps::tracked::Tracked;
 use simplex_types::types::{

@@ -4,7 +4,7 @@ ghost use Rattle.std.specs.Prelude.{◌≡◌, ℕ, false, None, IfOk, IfErr, On
 ghost use Rattle.std.specs.List.{AllByRecursion};
 ghost use Rattle.simplex_types.specs.declared.types.fault.Fault.TheVariants.{OutOfMemory};
 ghost use Rattle.simplex_resolver.specs.Steps.{Replayed, effects};
-ghost use Rattle.simplex_resolver.specs.Received.{NamesAView, is_wanted};
+ghost use Rattle.simplex_resolver.specs.ReceivedFacts.{NamesAView, is_wanted};
 ghost use Rattle.simplex_resolver.specs.Repair.{facts_of, is_outstanding};
 ghost use Rattle.simplex_resolver.specs.ReplayErrors.{IsDue};
 ghost use Rattle.simplex_resolver.specs.RecordCalls.{newest_first, record_calls, replay_calls, all_after};
@@ -12,7 +12,7 @@ ghost use Rattle.simplex_resolver.specs.RecordRules.{record_error};
 
 use super::check::check_entries;
 use super::error::ReplayError;
-use super::handing::hand_all;
+use super::calls::hand_all;
 use crate::resolver::{Effect, State};
 use simplex_types::types::{Artifact, CertificateScheme, Digest, Fault, TermLength};
 use std::alloc::Global;

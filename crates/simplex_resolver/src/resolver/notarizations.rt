@@ -7,7 +7,7 @@ ghost use Rattle.simplex_view_maps.specs.Tracked.{at_or_above};
 ghost use Rattle.simplex_resolver.specs.Facts.{certified_encoding};
 ghost use Rattle.simplex_resolver.specs.Steps.{insert_new};
 
-use crate::resolver::held;
+use crate::resolver::served;
 use crate::resolver::views::Views;
 use bytes::Bytes;
 use simplex_view_maps::tracked::Tracked;
@@ -69,7 +69,7 @@ impl Notarizations {
     pub(super) fn certify(&mut self, view: View, encoding: Bytes) -> Result<(), Fault>
         ensures { OnOk result (self.new ≡ record self.old { by_view = map.insert self.old.by_view view (Some encoding) }) }
     {
-        held::put(&mut self.certified, view, encoding)?;
+        served::put(&mut self.certified, view, encoding)?;
         self.noted.remove(view);
         Ok(())
     }

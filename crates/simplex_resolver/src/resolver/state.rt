@@ -7,7 +7,7 @@ mod verdicts;
 ghost use Rattle.std.specs.Prelude.{◌≡◌, ◌^◌, ◌<◌, ◌≤◌, IfOk, OnOk, IfErr, true, false};
 ghost use Rattle.simplex_types.specs.Certificates.{certificate_facts, notarization_facts, Notarized};
 ghost use Rattle.simplex_types.specs.Encoding.{encoding};
-ghost use Rattle.simplex_types.specs.Viewed.{certificate_view};
+ghost use Rattle.simplex_types.specs.MessageViews.{certificate_view};
 ghost use Rattle.simplex_resolver.specs.Facts.{empty, term_length, last_finalized};
 ghost use Rattle.simplex_resolver.specs.Steps.{update, verdict, Replayed, Refused, after, effects, highest_named, highest_view};
 

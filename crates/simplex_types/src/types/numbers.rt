@@ -3,7 +3,7 @@
 ghost use Rattle.std.specs.Range.{range_inclusive_start, range_inclusive_end, range_inclusive_exhausted};
 ghost use Rattle.std.specs.Prelude.{◌≡◌, false, ◌+◌, ◌-◌, ◌^◌, ◌<◌, ◌≤◌, ◌↔◌, IsTrue, IsSome, SomeIff};
 ghost use Rattle.simplex_types.specs.Terms.{term_index, term_start, term_end, next_term_start, HasTerm};
-ghost use Rattle.simplex_types.specs.Covering.{CoveringLaws};
+ghost use Rattle.simplex_types.specs.CoveringLaws.{CoveringLaws};
 
 use std::marker::Model;
 use std::num::NonZeroU32;

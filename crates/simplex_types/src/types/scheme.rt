@@ -5,7 +5,7 @@ ghost use Rattle.std.specs.Option.{option_copied, ForSome};
 ghost use Rattle.simplex_types.specs.declared.types.numbers.Round.{Round};
 ghost use Rattle.simplex_types.specs.declared.types.messages.Subject.{Subject};
 ghost use Rattle.simplex_types.specs.declared.types.window.Terms.{Terms};
-ghost use Rattle.simplex_types.specs.Signing.{IsSignedAs};
+ghost use Rattle.simplex_types.specs.Signatures.{IsSignedAs};
 
 use crate::types::messages::Subject;
 use crate::types::numbers::{Participant, Round};

@@ -44,7 +44,7 @@ impl<D: Digest, P: Copy> Viewable for Context<D, P> {
 }
 
 impl<D: Digest> Viewable for Subject<D> {
-    ghost use Rattle.simplex_types.specs.Viewed.{subject_view};
+    ghost use Rattle.simplex_types.specs.MessageViews.{subject_view};
 
     ghost view_of = { subject_view };
 
@@ -106,7 +106,7 @@ impl<S: CertificateScheme, D: Digest> Viewable for Finalization<S, D> {
 }
 
 impl<S: CertificateScheme, D: Digest> Viewable for Certificate<S, D> {
-    ghost use Rattle.simplex_types.specs.Viewed.{certificate_view};
+    ghost use Rattle.simplex_types.specs.MessageViews.{certificate_view};
 
     ghost view_of = { certificate_view };
 
@@ -120,7 +120,7 @@ impl<S: CertificateScheme, D: Digest> Viewable for Certificate<S, D> {
 }
 
 impl<S: CertificateScheme, D: Digest> Viewable for Artifact<S, D> {
-    ghost use Rattle.simplex_types.specs.Viewed.{artifact_view};
+    ghost use Rattle.simplex_types.specs.MessageViews.{artifact_view};
 
     ghost view_of = { artifact_view };
 

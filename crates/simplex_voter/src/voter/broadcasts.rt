@@ -14,7 +14,7 @@ use simplex_types::types::{
 
 impl<S: CertificateScheme, L: Elector<S>, D: Digest> State<S, L, D> {
     ghost use Rattle.simplex_voter.specs.Refusals.{plain_refusal, is_started, HasFailed};
-    ghost use Rattle.simplex_voter.specs.Serving.{best_certificate, entry_certificate, entry_nullification, highest_nullification_in_term, broadcast_notarization_answer, after_broadcast_notarization, broadcast_nullification_answer, after_broadcast_nullification, broadcast_finalization_answer, after_broadcast_finalization};
+    ghost use Rattle.simplex_voter.specs.StateAnswers.{best_certificate, entry_certificate, entry_nullification, highest_nullification_in_term, broadcast_notarization_answer, after_broadcast_notarization, broadcast_nullification_answer, after_broadcast_nullification, broadcast_finalization_answer, after_broadcast_finalization};
 
     /// A copy of the certificate that helps others into the current view: of the view before the finalization, else at a
     /// term's start the last term's highest nullification where it is held there, else the notarization. None in view 1.

@@ -77,7 +77,7 @@ impl<S: CertificateScheme, L: Elector<S>, D: Digest> State<S, L, D> {
     ghost use Rattle.simplex_voter.specs.Parents.{has_valid_parent_span};
     ghost use Rattle.simplex_voter.specs.Certification.{named_also, certification_parent_ready, offered_of, certification_fetch, fetched_of, candidates_answer, after_candidates, takes_certify_handle, after_set_certify_handle};
     ghost use Rattle.simplex_voter.specs.Refusals.{HasFailed, plain_refusal, is_started};
-    ghost use Rattle.simplex_voter.specs.Serving.{certify_token_of, is_certify_aborted};
+    ghost use Rattle.simplex_voter.specs.StateAnswers.{certify_token_of, is_certify_aborted};
 
     /// The view waits for certification, unless it is at or below the last finalized one.
     pub(super) fn name_for_certification(&mut self, view: View) -> Result<(), Fault>

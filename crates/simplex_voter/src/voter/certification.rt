@@ -14,7 +14,7 @@ impl<S: CertificateScheme, L: Elector<S>, D: Digest> State<S, L, D> {
     ghost use Rattle.simplex_voter.specs.Setup.{HasSameSetup, deadlines_at};
     ghost use Rattle.simplex_voter.specs.Facts.{round_at, is_tracked};
     ghost use Rattle.simplex_voter.specs.Refusals.{HasFailed, enters_late};
-    ghost use Rattle.simplex_voter.specs.Entering.{at_moment};
+    ghost use Rattle.simplex_voter.specs.ViewEntry.{at_moment};
     ghost use Rattle.simplex_voter.specs.Certification.{waits_for, with_waiting_candidate, takes_verdict, certified_refusal, certified_answer, with_verdict, verdict_taken, after_certified};
 
     /// Takes the verdict of a view's certification. A true one enters the next view, where that is ahead, and names the

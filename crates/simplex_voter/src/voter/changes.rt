@@ -19,10 +19,10 @@ use simplex_types::types::{
 impl<S: CertificateScheme, D: Digest> Rounds<S, D> {
     ghost use Rattle.simplex_voter.specs.Rounds.{round_in, with_change, largest_tracked, HasSameOrigin, find_round, with_change_in_place, has_round};
     ghost use Rattle.simplex_voter.specs.Acceptance.{added_answer};
-    ghost use Rattle.simplex_voter.specs.Verifying.{is_new_proposal, with_proposal};
+    ghost use Rattle.simplex_voter.specs.Verification.{is_new_proposal, with_proposal};
     ghost use Rattle.simplex_round.specs.Round.{once};
     ghost use Rattle.simplex_voter.specs.Refusals.{is_past_u64};
-    ghost use Rattle.simplex_voter.specs.Proposing.{build_requested};
+    ghost use Rattle.simplex_voter.specs.ProposalRequests.{build_requested};
 
     /// Keeps the first notarization of a view. Answers whether it is that, with the key of a leader found to equivocate.
     pub(super) fn keep_notarization(

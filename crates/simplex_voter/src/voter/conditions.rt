@@ -3,7 +3,7 @@
 
 ghost use Rattle.std.specs.Prelude.{◌≡◌, ◌↔◌, IsTrue};
 ghost use Rattle.simplex_voter.specs.Refusals.{names_too_large};
-ghost use Rattle.simplex_types.specs.Viewed.{artifact_view};
+ghost use Rattle.simplex_types.specs.MessageViews.{artifact_view};
 ghost use Rattle.simplex_round.specs.Round.{is_judged, TakesArtifact};
 ghost use Rattle.simplex_voter.specs.Replay.{artifact_round};
 

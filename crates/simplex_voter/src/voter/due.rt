@@ -12,7 +12,7 @@ impl<S: CertificateScheme, L: Elector<S>, D: Digest> State<S, L, D> {
     ghost use Rattle.simplex_voter.specs.Facts.{round_of};
     ghost use Rattle.simplex_voter.specs.Refusals.{is_started};
     ghost use Rattle.simplex_voter.specs.Rules.{may_notarize, may_finalize};
-    ghost use Rattle.simplex_voter.specs.Due.{is_due, first_due, AreRoundsOf};
+    ghost use Rattle.simplex_voter.specs.DueVotes.{is_due, first_due, AreRoundsOf};
 
     /// The lowest tracked view, from one on, where something is due: a vote of this member that its rule allows, or a certificate
     /// that was not handed out.

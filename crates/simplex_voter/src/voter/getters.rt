@@ -14,7 +14,7 @@ impl<S: CertificateScheme, L: Elector<S>, D: Digest> State<S, L, D> {
     ghost use Rattle.simplex_voter.specs.Facts.{round_at, is_tracked};
     ghost use Rattle.simplex_voter.specs.Windows.{is_me, viewport, min_active, admits_certificate, admits_vote};
     ghost use Rattle.simplex_voter.specs.Refusals.{is_started};
-    ghost use Rattle.simplex_voter.specs.Serving.{notarization_of, nullification_of, finalization_of, leader_of, forwardable_of, elapsed_since_start, elapsed_since_entry};
+    ghost use Rattle.simplex_voter.specs.StateAnswers.{notarization_of, nullification_of, finalization_of, leader_of, forwardable_of, elapsed_since_start, elapsed_since_entry};
 
     /// The epoch. It keeps its promise also after the state has failed.
     pub fn epoch(&self) -> Epoch

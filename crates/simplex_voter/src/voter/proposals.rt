@@ -8,7 +8,7 @@ ghost use Rattle.std.specs.Result.{IsOk};
 ghost use Rattle.simplex_types.specs.Proposal.{same_proposal};
 ghost use Rattle.simplex_round.specs.Slot.{holds_or_empty};
 ghost use Rattle.simplex_round.specs.Round.{is_nullify};
-ghost use Rattle.simplex_voter.specs.Proposing.{proposal_of, proposed_round};
+ghost use Rattle.simplex_voter.specs.ProposalRequests.{proposal_of, proposed_round};
 
 use super::conditions::names_too_large;
 use super::state::State;
@@ -20,8 +20,8 @@ impl<S: CertificateScheme, L: Elector<S>, D: Digest> State<S, L, D> {
     ghost use Rattle.simplex_voter.specs.Rounds.{largest_tracked};
     ghost use Rattle.simplex_voter.specs.Facts.{round_of, with_round, round_at};
     ghost use Rattle.simplex_voter.specs.Refusals.{HasFailed, proposal_refusal, plain_refusal, is_started};
-    ghost use Rattle.simplex_voter.specs.Verifying.{takes_proposal, set_proposal_answer, after_set_proposal, with_proposal};
-    ghost use Rattle.simplex_voter.specs.Proposing.{context_stands, proposed_answer, after_proposed, supersede_answer, after_supersede, abandonment_answer};
+    ghost use Rattle.simplex_voter.specs.Verification.{takes_proposal, set_proposal_answer, after_set_proposal, with_proposal};
+    ghost use Rattle.simplex_voter.specs.ProposalRequests.{context_stands, proposed_answer, after_proposed, supersede_answer, after_supersede, abandonment_answer};
 
     /// Whether a proposal of the view is taken: a floor was set, and it is of this epoch and of this view, which is kept.
     pub fn takes_proposal(&self, view: View, proposal: &Proposal<D>) -> bool

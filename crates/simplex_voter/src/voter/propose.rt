@@ -1,7 +1,7 @@
 //! When this member builds a proposal, and on what; what it is asked to build.
 
 ghost use Rattle.std.specs.Prelude.{◌≡◌, ◌||◌, IfSome, OnOk, Err, None, true, IsOk, ◌≤◌, ◌<◌, ◌+◌, ◌^◌, IfOk, slice_get, if◌then◌else◌};
-ghost use Rattle.simplex_voter.specs.Proposing.{is_handoff, request_context};
+ghost use Rattle.simplex_voter.specs.ProposalRequests.{is_handoff, request_context};
 ghost use Rattle.std.specs.List.{filter_map};
 ghost use Rattle.std.specs.Result.{IsOk};
 ghost use Rattle.simplex_round.specs.Round.{should_propose};
@@ -74,7 +74,7 @@ impl<D: Digest, P: Copy> Viewable for ProposalRequest<D, P> {
 
 impl<S: CertificateScheme, L: Elector<S>, D: Digest> State<S, L, D> {
     ghost use Rattle.simplex_voter.specs.Refusals.{plain_refusal, is_started};
-    ghost use Rattle.simplex_voter.specs.Proposing.{after_release, parent_certified, voted_nullify, context_on, request_on, request_in, propose_answer, after_try_propose, request_context, views_within};
+    ghost use Rattle.simplex_voter.specs.ProposalRequests.{after_release, parent_certified, voted_nullify, context_on, request_on, request_in, propose_answer, after_try_propose, request_context, views_within};
     ghost use Rattle.std.specs.Ordering.{nat_cmp};
     ghost use Rattle.std.specs.FinMap.Entries.{is_sorted};
     ghost use Rattle.simplex_types.specs.Terms.{next_term_start};

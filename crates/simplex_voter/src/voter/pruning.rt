@@ -9,7 +9,7 @@ use simplex_types::types::{CertificateScheme, Digest, Elector, Fault, View};
 impl<S: CertificateScheme, L: Elector<S>, D: Digest> State<S, L, D> {
     ghost use Rattle.simplex_voter.specs.Refusals.{HasFailed, plain_refusal, is_started};
     ghost use Rattle.simplex_voter.specs.Windows.{min_active};
-    ghost use Rattle.simplex_voter.specs.Serving.{prune_answer, after_prune};
+    ghost use Rattle.simplex_voter.specs.StateAnswers.{prune_answer, after_prune};
 
     /// Drops the rounds, nullified views and nullify votes below the lowest view that is kept, and answers the views of
     /// the rounds that were dropped, rising.

@@ -7,7 +7,7 @@ ghost use Rattle.simplex_round.specs.Round.{TakesArtifact, after_replay};
 ghost use Rattle.simplex_voter.specs.Replay.{bound_again, artifact_too_large, voted_proposal};
 ghost use Rattle.simplex_voter.specs.Rounds.{IsWider, MayBeRecalled};
 ghost use Rattle.simplex_types.specs.Terms.{IsVotable};
-ghost use Rattle.simplex_types.specs.Viewed.{artifact_view};
+ghost use Rattle.simplex_types.specs.MessageViews.{artifact_view};
 
 use super::conditions::names_too_large;
 use super::rounds::{Bounds, Rounds};

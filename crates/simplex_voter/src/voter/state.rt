@@ -89,7 +89,7 @@ impl<S: CertificateScheme, L: Elector<S>, D: Digest> State<S, L, D> {
     ghost use Rattle.simplex_voter.specs.Rounds.{largest_tracked};
     ghost use Rattle.simplex_voter.specs.Setup.{HasSameSetup, deadlines_at};
     ghost use Rattle.simplex_voter.specs.Refusals.{has_late_deadline, enters_late};
-    ghost use Rattle.simplex_voter.specs.Entering.{at_moment, with_view_entered};
+    ghost use Rattle.simplex_voter.specs.ViewEntry.{at_moment, with_view_entered};
     ghost use Rattle.simplex_voter.specs.Leaders.{with_leader_at, with_elected_leader};
 
     /// A state that has no floor yet: nothing is known, and no view is entered.

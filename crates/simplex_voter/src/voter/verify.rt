@@ -2,7 +2,7 @@
 //! were given out.
 
 ghost use Rattle.std.specs.Prelude.{◌≡◌, ◌||◌, ◌≤◌, ◌+◌, ◌<◌, ◌^◌, IfSome, IfOk, OnOk, Err, None, true, is_some, option_map, slice_get, if◌then◌else◌, ◌-◌, ◌&&◌, min, nat_lt};
-ghost use Rattle.simplex_voter.specs.Verifying.{fetch_once, with_request, verifying_round};
+ghost use Rattle.simplex_voter.specs.Verification.{fetch_once, with_request, verifying_round};
 ghost use Rattle.std.specs.Result.{IsOk};
 ghost use Rattle.simplex_round.specs.Round.{pending_proposal};
 
@@ -98,13 +98,13 @@ fn onward(next: View, near: View, last: View) -> View
 }
 
 impl<S: CertificateScheme, L: Elector<S>, D: Digest> State<S, L, D> {
-    ghost use Rattle.simplex_voter.specs.Verifying.{payload_standing, parent_standing, standing, answer_in, left_at, verify_answer, after_try_verify, without_binding, verified_answer, after_verified, after_verification_failed};
+    ghost use Rattle.simplex_voter.specs.Verification.{payload_standing, parent_standing, standing, answer_in, left_at, verify_answer, after_try_verify, without_binding, verified_answer, after_verified, after_verification_failed};
     ghost use Rattle.std.specs.Ordering.{nat_cmp};
     ghost use Rattle.std.specs.FinMap.Entries.{is_sorted};
     ghost use Rattle.simplex_types.specs.Terms.{next_term_start};
     ghost use Rattle.simplex_voter.specs.Facts.{round_of, with_tracked, is_tracked};
     ghost use Rattle.simplex_voter.specs.Refusals.{plain_refusal, is_started};
-    ghost use Rattle.simplex_voter.specs.Proposing.{views_within};
+    ghost use Rattle.simplex_voter.specs.ProposalRequests.{views_within};
 
     /// How the proposal of a view stands: another leads the view, this member may work there, and it was not given out to
     /// be verified yet.

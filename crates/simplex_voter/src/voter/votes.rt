@@ -20,7 +20,7 @@ impl<S: CertificateScheme, L: Elector<S>, D: Digest> State<S, L, D> {
     ghost use Rattle.simplex_voter.specs.Votes.{nullify_answer, nullify_cast, after_construct_nullify, IsSignedNullify};
     ghost use Rattle.simplex_voter.specs.Votes.{finalize_answer, signed_proposal, finalize_cast, after_construct_finalize, IsSignedFinalize};
     ghost use Rattle.simplex_voter.specs.Refusals.{HasFailed, plain_refusal, is_started};
-    ghost use Rattle.simplex_types.specs.Signing.{IsSignedAs};
+    ghost use Rattle.simplex_types.specs.Signatures.{IsSignedAs};
     ghost use Rattle.std.specs.Ordering.{nat_cmp};
     ghost use Rattle.std.specs.BTreeSet.{insert_key};
     ghost use Rattle.simplex_round.specs.Round.{is_nullify, after_nullify, can_finalize};

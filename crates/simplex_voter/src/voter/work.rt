@@ -3,7 +3,7 @@
 ghost use Rattle.std.specs.Prelude.{◌≡◌, ◌&&◌, not, true, false, is_some, if◌then◌else◌};
 ghost use Rattle.std.specs.Option.{option_map_or};
 ghost use Rattle.simplex_types.specs.Proposal.{same_proposal};
-ghost use Rattle.simplex_voter.specs.Proposing.{proposal_of};
+ghost use Rattle.simplex_voter.specs.ProposalRequests.{proposal_of};
 ghost use Rattle.simplex_round.specs.Slot.{holds_or_empty, is_unverified};
 ghost use Rattle.simplex_round.specs.Round.{is_nullify, should_propose, pending_proposal, can_notarize};
 
@@ -23,8 +23,8 @@ fn proposal_of<D: Digest, P: Copy>(context: &Context<D, P>, payload: D) -> Propo
 
 impl<S: CertificateScheme, D: Digest> Rounds<S, D> {
     ghost use Rattle.simplex_voter.specs.Rounds.{find_round, round_in, with_change, with_change_in_place, HasSameOrigin};
-    ghost use Rattle.simplex_voter.specs.Proposing.{build_requested, proposed_round};
-    ghost use Rattle.simplex_voter.specs.Verifying.{with_request, verifying_round, with_mark, with_nothing_bound};
+    ghost use Rattle.simplex_voter.specs.ProposalRequests.{build_requested, proposed_round};
+    ghost use Rattle.simplex_voter.specs.Verification.{with_request, verifying_round, with_mark, with_nothing_bound};
 
     /// Sets the request to build a proposal in a view that is ready for it.
     pub(super) fn ask_to_build(&mut self, view: View)

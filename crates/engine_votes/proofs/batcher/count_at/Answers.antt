@@ -1,9 +1,9 @@
 use Rattle.std.proofs.Common.{ap, sym, ◌∙◌}
 use Rattle.std.specs.FinMap.{insert}
-use Rattle.simplex_types.specs.Viewed.{subject_view}
+use Rattle.simplex_types.specs.MessageViews.{subject_view}
 use Rattle.engine_votes.specs.Polls.{slots_at}
-use Rattle.engine_votes.proofs.Batching.{slots_there, slots_elsewhere, slots_lent, stands}
-use Rattle.engine_votes.proofs.Counting.{counted_as, kept_as}
+use Rattle.engine_votes.proofs.StoredVotes.{slots_there, slots_elsewhere, slots_lent, stands}
+use Rattle.engine_votes.proofs.VoteCounts.{counted_as, kept_as}
 use Rattle.engine_votes.proofs.batcher.count_at.Goals as goal
 
 pub unreachable-requires : goal.unreachable-requires

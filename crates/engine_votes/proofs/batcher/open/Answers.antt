@@ -1,4 +1,4 @@
-use Rattle.engine_votes.proofs.Batching.{opened}
+use Rattle.engine_votes.proofs.StoredVotes.{opened}
 use Rattle.engine_votes.proofs.batcher.open.Goals as goal
 
 pub returns-in-Ok-clause-open : goal.returns-in-Ok-clause-open

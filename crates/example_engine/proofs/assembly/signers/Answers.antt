@@ -1,6 +1,6 @@
 -- How the loop of `signers` is safe: each signer is a member, so its index fits in a byte.
 use Rattle.std.proofs.Common.{ap, arith}
-use Rattle.example_engine.proofs.Rising.{rising_below}
+use Rattle.example_engine.proofs.MemberIndexes.{rising_below}
 use Rattle.example_engine.proofs.assembly.signers.Goals as goal
 
 pub overflow_cast-get : goal.overflow_cast-get

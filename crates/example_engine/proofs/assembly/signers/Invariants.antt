@@ -1,6 +1,6 @@
 -- The loop of `signers`: the indexes of the members so far.
 use Rattle.std.proofs.Common.{◌≡◌, take}
-use Rattle.example_engine.specs.Assembling.{signers_of}
+use Rattle.example_engine.specs.SealedCertificates.{signers_of}
 use Rattle.example_engine.proofs.assembly.signers.Given as goal
 
 abbrev pub invariant-loop-member : goal.invariant-loop-member

@@ -18,7 +18,7 @@ use Rattle.ffi_exports.proofs.engines.simplex_engine_free.Statement.{statement}
 use Rattle.ffi_exports.proofs.engines.simplex_engine_free.Code as code
 use Rattle.ffi_exports.specs.contracts.engines.end as g
 use Rattle.ffi_exports.proofs.engines.end.Met.{met}
-use Rattle.ffi_exports.specs.Behind.{engine_owned_at}
+use Rattle.ffi_exports.specs.HandleContents.{engine_owned_at}
 use Rattle.ffi_engine.specs.contracts.held.HeldEngine.{the_row as R}
 
 abbrev stayed : Stays f.ended.signature.params f.ended.kept

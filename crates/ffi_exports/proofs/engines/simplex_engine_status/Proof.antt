@@ -7,15 +7,15 @@ use Rattle.ffi_exports.proofs.engines.simplex_engine_status.Code as code
 use Rattle.ffi_exports.specs.contracts.engines.hand_status as g
 use Rattle.ffi_exports.proofs.engines.hand_status.Met.{met}
 use Rattle.ffi_engine.specs.contracts.absent.engine_status as n
-use Rattle.ffi_engine.proofs.absent.engine_status.Met.{met as met_null}
+use Rattle.ffi_engine.proofs.null_handle.engine_status.Met.{met as met_null}
 use Rattle.ffi_engine.specs.contracts.held.HeldEngine.{the_row as R}
 use Rattle.ffi_engine.specs.declared.held.HeldEngine.{HeldEngine}
 use Rattle.ffi_engine.specs.contracts.told.FlatStatus.{the_row as A}
-use Rattle.ffi_engine.specs.declared.told.FlatStatus.{FlatStatus}
-use Rattle.ffi_engine.proofs.told.FlatStatus.TheLaws as answer
-use Rattle.ffi_exports.specs.Behind.{fact_formula, engine_at}
-use Rattle.ffi_exports.specs.Behind.{IsRead}
-use Rattle.ffi_engine.specs.Showing.{ShowsStatus}
+use Rattle.ffi_engine.specs.declared.flat.FlatStatus.{FlatStatus}
+use Rattle.ffi_engine.proofs.flat.FlatStatus.TheLaws as answer
+use Rattle.ffi_exports.specs.HandleContents.{fact_formula, engine_at}
+use Rattle.ffi_exports.specs.HandleContents.{IsRead}
+use Rattle.ffi_engine.specs.EngineViews.{ShowsStatus}
 
 abbrev stayed : Stays f.ended.signature.params f.ended.kept
 stayed = (stay_dropped _ yes, tt)
@@ -38,7 +38,7 @@ simplex_engine_status_spec 𝓤 𝓛 𝓜 𝓡 wired =
           let G = triple_of 𝓛 n.signature (n.spec 𝓛 𝓜.mem 𝓡.returns) in
           let z : G.Ghost = ((tt, tt, tt, tt, tt), tt) in
           nothing ! $ nothing ! $ join ! $ nothing ! $ move ! (1 ∷ 0 ∷ []) $ join ! $ use1 𝓛 (raw (G.pre z)) (id⊢ 𝓤 _) $
-          calls_at ! (framed 𝓤 𝓛.H 𝓜 (tables 𝓤 𝓛.H 𝓜 𝓡 𝓡.env)) G (met_null 𝓤 𝓛 𝓜 𝓡 (code.calls-ffi_engine::absent::engine_status 𝓡.env wired)) z (no_more !) (λ v.
+          calls_at ! (framed 𝓤 𝓛.H 𝓜 (tables 𝓤 𝓛.H 𝓜 𝓡 𝓡.env)) G (met_null 𝓤 𝓛 𝓜 𝓡 (code.calls-ffi_engine::null_handle::engine_status 𝓡.env wired)) z (no_more !) (λ v.
           use1 𝓛 (later (some (λ (u : FlatStatus). (‵ ftrue ⊛ ‵ (A.own_val u (v ∷ []))) ⊛
           some (λ (ws : Lasts n.ended z.0.0 z.0.3). ‵ (lasts n.ended z.0.0 z.0.3 ws) ⊛ raw (fact 𝓤 (u.status ≡ 15)))))) (id⊢ 𝓤 _) $
           await ! tt $ pick ! (λ u. split ! $ split ! $ drop ! $

@@ -7,14 +7,14 @@ use Rattle.ffi_exports.proofs.exports.simplex_member_entries.Code as code
 use Rattle.ffi_exports.specs.contracts.exports.hand_entries as g
 use Rattle.ffi_exports.proofs.exports.hand_entries.Met.{met}
 use Rattle.ffi_member.specs.contracts.absent.entries as n
-use Rattle.ffi_member.proofs.absent.entries.Met.{met as met_null}
+use Rattle.ffi_member.proofs.null_handle.entries.Met.{met as met_null}
 use Rattle.ffi_member.specs.contracts.held.Held.{the_row as R}
 use Rattle.ffi_member.specs.declared.held.Held.{Held}
 use Rattle.ffi_member.specs.contracts.shown.FlatEntries.{the_row as A}
-use Rattle.ffi_member.specs.declared.shown.FlatEntries.{FlatEntries}
-use Rattle.ffi_member.proofs.shown.FlatEntries.TheLaws as answer
-use Rattle.ffi_exports.specs.Behind.{fact_formula, held_at}
-use Rattle.ffi_member.specs.Showing.{IsEntries}
+use Rattle.ffi_member.specs.declared.view_types.FlatEntries.{FlatEntries}
+use Rattle.ffi_member.proofs.view_types.FlatEntries.TheLaws as answer
+use Rattle.ffi_exports.specs.HandleContents.{fact_formula, held_at}
+use Rattle.ffi_member.specs.ShownFacts.{IsEntries}
 
 abbrev stayed : Stays f.ended.signature.params f.ended.kept
 stayed = (stay_dropped _ yes, (stay_dropped _ yes, tt))
@@ -38,7 +38,7 @@ simplex_member_entries_spec 𝓤 𝓛 𝓜 𝓡 wired =
           let G = triple_of 𝓛 n.signature (n.spec 𝓛 𝓜.mem 𝓡.returns) in
           let z : G.Ghost = ((tt, tt, tt, tt, tt), tt) in
           nothing ! $ nothing ! $ join ! $ nothing ! $ move ! (1 ∷ 0 ∷ []) $ join ! $ use1 𝓛 (raw (G.pre z)) (id⊢ 𝓤 _) $
-          calls_at ! (framed 𝓤 𝓛.H 𝓜 (tables 𝓤 𝓛.H 𝓜 𝓡 𝓡.env)) G (met_null 𝓤 𝓛 𝓜 𝓡 (code.calls-ffi_member::absent::entries 𝓡.env wired)) z (no_more !) (λ v.
+          calls_at ! (framed 𝓤 𝓛.H 𝓜 (tables 𝓤 𝓛.H 𝓜 𝓡 𝓡.env)) G (met_null 𝓤 𝓛 𝓜 𝓡 (code.calls-ffi_member::null_handle::entries 𝓡.env wired)) z (no_more !) (λ v.
           use1 𝓛 (later (some (λ (u : FlatEntries). (‵ ftrue ⊛ ‵ (A.own_val u (v ∷ []))) ⊛
           some (λ (ws : Lasts n.ended z.0.0 z.0.3). ‵ (lasts n.ended z.0.0 z.0.3 ws) ⊛ raw (fact 𝓤 (u.status ≡ 15)))))) (id⊢ 𝓤 _) $
           await ! tt $ pick ! (λ u. split ! $ split ! $ drop ! $

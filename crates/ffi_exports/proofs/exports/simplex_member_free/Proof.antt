@@ -23,7 +23,7 @@ use Rattle.ffi_exports.proofs.exports.simplex_member_free.Statement.{statement}
 use Rattle.ffi_exports.proofs.exports.simplex_member_free.Code as code
 use Rattle.ffi_exports.specs.contracts.exports.end as g
 use Rattle.ffi_exports.proofs.exports.end.Met.{met}
-use Rattle.ffi_exports.specs.Behind.{owned_at}
+use Rattle.ffi_exports.specs.HandleContents.{owned_at}
 use Rattle.ffi_member.specs.contracts.held.Held.{the_row as R}
 
 abbrev stayed : Stays f.ended.signature.params f.ended.kept

@@ -8,12 +8,12 @@ use Rattle.ffi_exports.proofs.exports.simplex_member_restart.Code as code
 use Rattle.ffi_exports.specs.contracts.exports.begin_anew as g
 use Rattle.ffi_exports.proofs.exports.begin_anew.Met.{met}
 use Rattle.ffi_member.specs.contracts.absent.status as n
-use Rattle.ffi_member.proofs.absent.status.Met.{met as met_null}
+use Rattle.ffi_member.proofs.null_handle.status.Met.{met as met_null}
 use Rattle.ffi_member.specs.contracts.held.Held.{the_row as R}
 use Rattle.ffi_member.specs.declared.held.Held.{Held}
 use Rattle.ffi_member.specs.contracts.shown.FlatRestart.{the_row as P}
-use Rattle.ffi_exports.specs.Behind.{fact_formula, held_at}
-use Rattle.ffi_exports.specs.Opened.{IsRestartStatus}
+use Rattle.ffi_exports.specs.HandleContents.{fact_formula, held_at}
+use Rattle.ffi_exports.specs.OpenStatuses.{IsRestartStatus}
 
 abbrev stayed : Stays f.ended.signature.params f.ended.kept
 stayed = (stay_dropped _ yes, (stay_dropped _ yes, (stay_dropped _ yes, (stay_dropped _ yes, tt))))
@@ -38,7 +38,7 @@ simplex_member_restart_spec 𝓤 𝓛 𝓜 𝓡 wired =
           let G = triple_of 𝓛 n.signature (n.spec 𝓛 𝓜.mem 𝓡.returns) in
           let z : G.Ghost = ((tt, tt, tt, tt, tt), tt) in
           nothing ! $ nothing ! $ join ! $ nothing ! $ move ! (1 ∷ 0 ∷ []) $ join ! $ use1 𝓛 (raw (G.pre z)) (id⊢ 𝓤 _) $
-          calls_at ! (framed 𝓤 𝓛.H 𝓜 (tables 𝓤 𝓛.H 𝓜 𝓡 𝓡.env)) G (met_null 𝓤 𝓛 𝓜 𝓡 (code.calls-ffi_member::absent::status 𝓡.env wired)) z (no_more !) (λ v.
+          calls_at ! (framed 𝓤 𝓛.H 𝓜 (tables 𝓤 𝓛.H 𝓜 𝓡 𝓡.env)) G (met_null 𝓤 𝓛 𝓜 𝓡 (code.calls-ffi_member::null_handle::status 𝓡.env wired)) z (no_more !) (λ v.
           use1 𝓛 (later (some (λ (u : ℕ). (‵ ftrue ⊛ ‵ (u32.own_val u (v ∷ []))) ⊛
           some (λ (ws : Lasts n.ended z.0.0 z.0.3). ‵ (lasts n.ended z.0.0 z.0.3 ws) ⊛ raw (fact 𝓤 (u ≡ 15)))))) (id⊢ 𝓤 _) $
           await ! tt $ pick ! (λ u. split ! $ split ! $ drop ! $

@@ -7,14 +7,14 @@ use Rattle.ffi_exports.proofs.exports.simplex_member_withheld.Code as code
 use Rattle.ffi_exports.specs.contracts.exports.hand_withheld as g
 use Rattle.ffi_exports.proofs.exports.hand_withheld.Met.{met}
 use Rattle.ffi_member.specs.contracts.absent.withheld as n
-use Rattle.ffi_member.proofs.absent.withheld.Met.{met as met_null}
+use Rattle.ffi_member.proofs.null_handle.withheld.Met.{met as met_null}
 use Rattle.ffi_member.specs.contracts.held.Held.{the_row as R}
 use Rattle.ffi_member.specs.declared.held.Held.{Held}
 use Rattle.ffi_member.specs.contracts.shown.FlatWithheld.{the_row as A}
-use Rattle.ffi_member.specs.declared.shown.FlatWithheld.{FlatWithheld}
-use Rattle.ffi_member.proofs.shown.FlatWithheld.TheLaws as answer
-use Rattle.ffi_exports.specs.Behind.{fact_formula, held_at}
-use Rattle.ffi_exports.specs.Behind.{IsRead}
+use Rattle.ffi_member.specs.declared.view_types.FlatWithheld.{FlatWithheld}
+use Rattle.ffi_member.proofs.view_types.FlatWithheld.TheLaws as answer
+use Rattle.ffi_exports.specs.HandleContents.{fact_formula, held_at}
+use Rattle.ffi_exports.specs.HandleContents.{IsRead}
 use Rattle.ffi_member.specs.Withheld.{IsWithheld}
 
 abbrev stayed : Stays f.ended.signature.params f.ended.kept
@@ -39,7 +39,7 @@ simplex_member_withheld_spec 𝓤 𝓛 𝓜 𝓡 wired =
           let G = triple_of 𝓛 n.signature (n.spec 𝓛 𝓜.mem 𝓡.returns) in
           let z : G.Ghost = ((tt, tt, tt, tt, tt), tt) in
           nothing ! $ nothing ! $ join ! $ nothing ! $ move ! (1 ∷ 0 ∷ []) $ join ! $ use1 𝓛 (raw (G.pre z)) (id⊢ 𝓤 _) $
-          calls_at ! (framed 𝓤 𝓛.H 𝓜 (tables 𝓤 𝓛.H 𝓜 𝓡 𝓡.env)) G (met_null 𝓤 𝓛 𝓜 𝓡 (code.calls-ffi_member::absent::withheld 𝓡.env wired)) z (no_more !) (λ v.
+          calls_at ! (framed 𝓤 𝓛.H 𝓜 (tables 𝓤 𝓛.H 𝓜 𝓡 𝓡.env)) G (met_null 𝓤 𝓛 𝓜 𝓡 (code.calls-ffi_member::null_handle::withheld 𝓡.env wired)) z (no_more !) (λ v.
           use1 𝓛 (later (some (λ (u : FlatWithheld). (‵ ftrue ⊛ ‵ (A.own_val u (v ∷ []))) ⊛
           some (λ (ws : Lasts n.ended z.0.0 z.0.3). ‵ (lasts n.ended z.0.0 z.0.3 ws) ⊛ raw (fact 𝓤 (u.status ≡ 15)))))) (id⊢ 𝓤 _) $
           await ! tt $ pick ! (λ u. split ! $ split ! $ drop ! $

@@ -7,15 +7,15 @@ use Rattle.ffi_exports.proofs.resolvers.simplex_resolver_bytes.Code as code
 use Rattle.ffi_exports.specs.contracts.resolvers.hand_bytes as g
 use Rattle.ffi_exports.proofs.resolvers.hand_bytes.Met.{met}
 use Rattle.ffi_member.specs.contracts.absent.chunk as n
-use Rattle.ffi_member.proofs.absent.chunk.Met.{met as met_null}
+use Rattle.ffi_member.proofs.null_handle.chunk.Met.{met as met_null}
 use Rattle.ffi_member.specs.contracts.resolving.HeldResolver.{the_row as R}
-use Rattle.ffi_member.specs.declared.resolving.HeldResolver.{HeldResolver}
+use Rattle.ffi_member.specs.declared.resolver_calls.HeldResolver.{HeldResolver}
 use Rattle.ffi_member.specs.contracts.shown.FlatChunk.{the_row as A}
-use Rattle.ffi_member.specs.declared.shown.FlatChunk.{FlatChunk}
-use Rattle.ffi_member.proofs.shown.FlatChunk.TheLaws as answer
-use Rattle.ffi_exports.specs.Behind.{fact_formula, resolver_at}
-use Rattle.ffi_exports.specs.Behind.{IsRead}
-use Rattle.ffi_member.specs.Showing.{IsChunk}
+use Rattle.ffi_member.specs.declared.view_types.FlatChunk.{FlatChunk}
+use Rattle.ffi_member.proofs.view_types.FlatChunk.TheLaws as answer
+use Rattle.ffi_exports.specs.HandleContents.{fact_formula, resolver_at}
+use Rattle.ffi_exports.specs.HandleContents.{IsRead}
+use Rattle.ffi_member.specs.ShownFacts.{IsChunk}
 
 abbrev stayed : Stays f.ended.signature.params f.ended.kept
 stayed = (stay_dropped _ yes, (stay_dropped _ yes, tt))
@@ -39,7 +39,7 @@ simplex_resolver_bytes_spec 𝓤 𝓛 𝓜 𝓡 wired =
           let G = triple_of 𝓛 n.signature (n.spec 𝓛 𝓜.mem 𝓡.returns) in
           let z : G.Ghost = ((tt, tt, tt, tt, tt), tt) in
           nothing ! $ nothing ! $ join ! $ nothing ! $ move ! (1 ∷ 0 ∷ []) $ join ! $ use1 𝓛 (raw (G.pre z)) (id⊢ 𝓤 _) $
-          calls_at ! (framed 𝓤 𝓛.H 𝓜 (tables 𝓤 𝓛.H 𝓜 𝓡 𝓡.env)) G (met_null 𝓤 𝓛 𝓜 𝓡 (code.calls-ffi_member::absent::chunk 𝓡.env wired)) z (no_more !) (λ v.
+          calls_at ! (framed 𝓤 𝓛.H 𝓜 (tables 𝓤 𝓛.H 𝓜 𝓡 𝓡.env)) G (met_null 𝓤 𝓛 𝓜 𝓡 (code.calls-ffi_member::null_handle::chunk 𝓡.env wired)) z (no_more !) (λ v.
           use1 𝓛 (later (some (λ (u : FlatChunk). (‵ ftrue ⊛ ‵ (A.own_val u (v ∷ []))) ⊛
           some (λ (ws : Lasts n.ended z.0.0 z.0.3). ‵ (lasts n.ended z.0.0 z.0.3 ws) ⊛ raw (fact 𝓤 (u.status ≡ 15)))))) (id⊢ 𝓤 _) $
           await ! tt $ pick ! (λ u. split ! $ split ! $ drop ! $

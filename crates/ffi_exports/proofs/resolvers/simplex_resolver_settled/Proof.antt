@@ -7,15 +7,15 @@ use Rattle.ffi_exports.proofs.resolvers.simplex_resolver_settled.Code as code
 use Rattle.ffi_exports.specs.contracts.resolvers.hand_settled as g
 use Rattle.ffi_exports.proofs.resolvers.hand_settled.Met.{met}
 use Rattle.ffi_member.specs.contracts.absent.settled as n
-use Rattle.ffi_member.proofs.absent.settled.Met.{met as met_null}
+use Rattle.ffi_member.proofs.null_handle.settled.Met.{met as met_null}
 use Rattle.ffi_member.specs.contracts.resolving.HeldResolver.{the_row as R}
-use Rattle.ffi_member.specs.declared.resolving.HeldResolver.{HeldResolver}
+use Rattle.ffi_member.specs.declared.resolver_calls.HeldResolver.{HeldResolver}
 use Rattle.ffi_member.specs.contracts.resolved.FlatSettled.{the_row as A}
-use Rattle.ffi_member.specs.declared.resolved.FlatSettled.{FlatSettled}
-use Rattle.ffi_member.proofs.resolved.FlatSettled.TheLaws as answer
-use Rattle.ffi_exports.specs.Behind.{fact_formula, resolver_at}
-use Rattle.ffi_exports.specs.Behind.{IsRead}
-use Rattle.ffi_member.specs.Resolving.{IsSettledAt}
+use Rattle.ffi_member.specs.declared.resolver_types.FlatSettled.{FlatSettled}
+use Rattle.ffi_member.proofs.resolver_types.FlatSettled.TheLaws as answer
+use Rattle.ffi_exports.specs.HandleContents.{fact_formula, resolver_at}
+use Rattle.ffi_exports.specs.HandleContents.{IsRead}
+use Rattle.ffi_member.specs.ResolverHandles.{IsSettledAt}
 
 abbrev stayed : Stays f.ended.signature.params f.ended.kept
 stayed = (stay_dropped _ yes, (stay_dropped _ yes, tt))
@@ -39,7 +39,7 @@ simplex_resolver_settled_spec 𝓤 𝓛 𝓜 𝓡 wired =
           let G = triple_of 𝓛 n.signature (n.spec 𝓛 𝓜.mem 𝓡.returns) in
           let z : G.Ghost = ((tt, tt, tt, tt, tt), tt) in
           nothing ! $ nothing ! $ join ! $ nothing ! $ move ! (1 ∷ 0 ∷ []) $ join ! $ use1 𝓛 (raw (G.pre z)) (id⊢ 𝓤 _) $
-          calls_at ! (framed 𝓤 𝓛.H 𝓜 (tables 𝓤 𝓛.H 𝓜 𝓡 𝓡.env)) G (met_null 𝓤 𝓛 𝓜 𝓡 (code.calls-ffi_member::absent::settled 𝓡.env wired)) z (no_more !) (λ v.
+          calls_at ! (framed 𝓤 𝓛.H 𝓜 (tables 𝓤 𝓛.H 𝓜 𝓡 𝓡.env)) G (met_null 𝓤 𝓛 𝓜 𝓡 (code.calls-ffi_member::null_handle::settled 𝓡.env wired)) z (no_more !) (λ v.
           use1 𝓛 (later (some (λ (u : FlatSettled). (‵ ftrue ⊛ ‵ (A.own_val u (v ∷ []))) ⊛
           some (λ (ws : Lasts n.ended z.0.0 z.0.3). ‵ (lasts n.ended z.0.0 z.0.3 ws) ⊛ raw (fact 𝓤 (u.status ≡ 15)))))) (id⊢ 𝓤 _) $
           await ! tt $ pick ! (λ u. split ! $ split ! $ drop ! $

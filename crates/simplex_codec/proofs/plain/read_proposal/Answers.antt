@@ -5,7 +5,7 @@ use Rattle.simplex_types.specs.declared.types.messages.Proposal.{Proposal}
 use Rattle.simplex_types.specs.declared.types.plain.PlainDigest.{PlainDigest}
 use Rattle.simplex_types.specs.Encoding.{round_bytes, proposal_bytes}
 use Rattle.simplex_types.specs.Plain.{digest_bytes}
-use Rattle.simplex_codec.specs.Reading.{NoneHas}
+use Rattle.simplex_codec.specs.Decoded.{NoneHas}
 use Rattle.simplex_codec.specs.Plain.{plain_proposal_of}
 use Rattle.simplex_codec.proofs.PlainLaw.{proposal_back, proposal_none}
 use Rattle.simplex_codec.proofs.plain.read_proposal.Goals as goal

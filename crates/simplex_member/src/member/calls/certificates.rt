@@ -3,7 +3,7 @@
 ghost use Rattle.std.specs.Prelude.{◌++◌, ◌≡◌, IfOk, IfErr};
 ghost use Rattle.simplex_types.specs.Certificates.{notarization_facts, nullification_facts, finalization_facts, Accepted, Notarized, Nullified, Finalized};
 ghost use Rattle.simplex_member.specs.Calls.{AddNotarization, AddNullification, AddFinalization, Added, AddedNullification};
-ghost use Rattle.simplex_member.specs.Lives.{IsCall};
+ghost use Rattle.simplex_member.specs.MemberFacts.{IsCall};
 ghost use Rattle.simplex_member.specs.CallSemantics.{if_new};
 ghost use Rattle.simplex_member.specs.MethodContracts.{told_of, UnchangedButLife, IsAnswered};
 

@@ -3,7 +3,7 @@
 ghost use Rattle.std.specs.Prelude.{◌≡◌, option_map, IfOk, IfErr};
 ghost use Rattle.simplex_types.specs.Certificates.{notarization_facts};
 ghost use Rattle.simplex_member.specs.Calls.{CertifyCandidates, SetCertifyHandle, Certified, Judged, Candidates, Done};
-ghost use Rattle.simplex_member.specs.Lives.{IsCall};
+ghost use Rattle.simplex_member.specs.MemberFacts.{IsCall};
 ghost use Rattle.simplex_member.specs.MethodContracts.{told_of, UnchangedButLife, IsAnswered};
 
 use crate::member::life::Member;

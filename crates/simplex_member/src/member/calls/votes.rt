@@ -3,9 +3,9 @@
 ghost use Rattle.std.specs.Prelude.{◌++◌, ◌≡◌, IsNone, IfOk, IfErr, IfSome, OnErr};
 ghost use Rattle.simplex_member.specs.Calls.{ConstructNotarize, ConstructNullify, ConstructFinalize, told_notarize, told_nullify, told_finalize};
 ghost use Rattle.simplex_member.specs.Calls as told;
-ghost use Rattle.simplex_member.specs.Lives.{IsCall};
+ghost use Rattle.simplex_member.specs.MemberFacts.{IsCall};
 ghost use Rattle.simplex_member.specs.CallSemantics.{unrepeated_vote, vote_entry};
-ghost use Rattle.simplex_member.specs.Signed.{IsSignedReply, signed_notarize, signed_nullify, signed_finalize};
+ghost use Rattle.simplex_member.specs.ReplySignatures.{IsSignedReply, signed_notarize, signed_nullify, signed_finalize};
 ghost use Rattle.simplex_member.specs.MethodContracts.{told_of, UnchangedButLife, IsAnswered, HasNotarizeVote, HasNullifyVote, HasFinalizeVote};
 ghost use Rattle.simplex_member.specs.declared.member.calls.Reply.TheVariants as reply;
 

@@ -4,13 +4,13 @@ ghost use Rattle.std.specs.Prelude.{◌≡◌, ◌^◌, ◌<◌, ◌≤◌, ◌+
 ghost use Rattle.simplex_types.specs.Terms.{IsVotable};
 ghost use Rattle.simplex_types.specs.Certificates.{certificate_facts};
 ghost use Rattle.simplex_types.specs.Encoding.{encoding};
-ghost use Rattle.simplex_types.specs.Viewed.{certificate_view};
+ghost use Rattle.simplex_types.specs.MessageViews.{certificate_view};
 ghost use Rattle.simplex_resolver.specs.Facts.{term_length};
 ghost use Rattle.simplex_resolver.specs.Steps.{update, after, effects, after_scan, scan_fetches, after_raise, raise_effects, after_nullification, nullification_effects, after_notarization, notarization_effects, with_kept_finalization, without_finalized, after_finalization, finalization_effects};
 
 use crate::resolver::effect::Effect;
 use crate::resolver::state::State;
-use crate::resolver::{held, scan};
+use crate::resolver::{served, scan};
 use simplex_types::reasons::Kind;
 use simplex_types::types::{Certificate, CertificateScheme, Digest, Fault, View, Viewable};
 
@@ -76,7 +76,7 @@ impl State {
         if end <= finalized {
             return Ok(());
         }
-        held::keep_nullification(self.alloc, &mut self.nullifications, view, certificate)?;
+        served::keep_nullification(self.alloc, &mut self.nullifications, view, certificate)?;
         effects.push(Effect::Settled {
             kind: Kind::Nullification,
             start: view,
@@ -118,7 +118,7 @@ impl State {
             ≡ with_kept_finalization self.old view (encoding D.bytes (certificate_facts S.certificate_bytes certificate.now))) }
         ensures same_terms { term_length self.new ≡ term_length self.old }
     {
-        held::keep_finalization(self.alloc, &mut self.finalization, view, certificate)?;
+        served::keep_finalization(self.alloc, &mut self.finalization, view, certificate)?;
         self.current_view = self.current_view.max(view);
         Ok(())
     }

@@ -6,7 +6,7 @@ ghost use Rattle.std.specs.FinMap as map;
 ghost use Rattle.simplex_types.specs.declared.types.fault.Fault.TheVariants.{OutOfMemory, Failed};
 ghost use Rattle.simplex_types.specs.declared.reasons.Kind.TheVariants.{Nullification as OfNullification, Notarization as OfNotarization};
 ghost use Rattle.simplex_view_maps.specs.ByTerm.{has_covering};
-ghost use Rattle.simplex_resolver.specs.Held.{is_settled, served_encoding, finalized_for, floor_for};
+ghost use Rattle.simplex_resolver.specs.Served.{is_settled, served_encoding, finalized_for, floor_for};
 
 use crate::resolver::scan;
 use crate::resolver::state::State;

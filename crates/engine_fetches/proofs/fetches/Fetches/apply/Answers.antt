@@ -1,6 +1,6 @@
 -- That each effect is carried out behind those before it.
 use Rattle.std.proofs.Common.{arith, ◌∙◌}
-use Rattle.engine_fetches.proofs.Wanted.{effects_more}
+use Rattle.engine_fetches.proofs.OutstandingFetches.{effects_more}
 use Rattle.engine_fetches.proofs.fetches.Fetches.apply.Goals as goal
 
 pub loop-effect-preserved : goal.loop-effect-preserved

@@ -1,6 +1,6 @@
 -- The effects so far and those that are left make of the fetches what all do.
 use Rattle.std.proofs.Common.{◌≡◌, drop}
-use Rattle.engine_fetches.specs.Wanted.{after_effects}
+use Rattle.engine_fetches.specs.OutstandingFetches.{after_effects}
 use Rattle.engine_fetches.proofs.fetches.Fetches.apply.Given as goal
 
 abbrev pub invariant-loop-effect : goal.invariant-loop-effect

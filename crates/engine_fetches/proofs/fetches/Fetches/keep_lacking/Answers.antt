@@ -2,7 +2,7 @@
 use Rattle.std.proofs.Common.{rules}
 use Rattle.std.proofs.lemmas.Fn.{filter_same}
 use Rattle.engine_fetches.proofs.Once.{once_left}
-use Rattle.engine_fetches.specs.Wanted.{is_lacking}
+use Rattle.engine_fetches.specs.OutstandingFetches.{is_lacking}
 use Rattle.engine_fetches.proofs.fetches.Fetches.keep_lacking.Goals as goal
 
 pub returns-clause-kept : goal.returns-clause-kept

@@ -1,6 +1,6 @@
 -- What is left makes of the fetches what all do.
 use Rattle.std.proofs.Common.{◌≡◌, length}
-use Rattle.engine_fetches.specs.Wanted.{wanting}
+use Rattle.engine_fetches.specs.OutstandingFetches.{wanting}
 use Rattle.engine_fetches.proofs.fetches.Fetches.open_all.Given as goal
 
 abbrev pub invariant-loop-view : goal.invariant-loop-view

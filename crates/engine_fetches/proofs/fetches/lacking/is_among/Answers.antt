@@ -1,6 +1,6 @@
 -- That a view is found by its order.
 use Rattle.std.proofs.Common.{◌∙◌}
-use Rattle.engine_fetches.proofs.Wanted.{has_by_order}
+use Rattle.engine_fetches.proofs.OutstandingFetches.{has_by_order}
 use Rattle.engine_fetches.proofs.fetches.lacking.is_among.Goals as goal
 
 pub returns : goal.returns

@@ -1,7 +1,7 @@
 -- That no wanted view is left out.
 use Rattle.std.proofs.Common.{sym, subst}
-use Rattle.engine_fetches.specs.Wanted.{AsksForWanted}
-use Rattle.engine_fetches.proofs.Wanted.{asks_notarized}
+use Rattle.engine_fetches.specs.OutstandingFetches.{AsksForWanted}
+use Rattle.engine_fetches.proofs.OutstandingFetches.{asks_notarized}
 use Rattle.engine_fetches.proofs.repair.Repair.close_notarization.Goals as goal
 
 pub invariant_of-self : goal.invariant_of-self

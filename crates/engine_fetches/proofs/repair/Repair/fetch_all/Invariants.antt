@@ -1,6 +1,6 @@
 -- The fetches so far and those that are left make what all do.
 use Rattle.std.proofs.Common.{◌≡◌, drop}
-use Rattle.engine_fetches.specs.Wanted.{fetching}
+use Rattle.engine_fetches.specs.OutstandingFetches.{fetching}
 use Rattle.engine_fetches.proofs.repair.Repair.fetch_all.Given as goal
 
 abbrev pub invariant-loop-fetch : goal.invariant-loop-fetch

@@ -2,9 +2,9 @@
 use Rattle.std.proofs.Common.{◌≡◌, ◌≤◌, ◌∙◌, None, filter, refl, ap, sym, subst}
 use Rattle.std.specs.Prelude.{nat_le}
 use Rattle.engine_fetches.specs.Fetches.{due_at}
-use Rattle.engine_fetches.specs.Wanted.{is_lacking, AsksForWanted, AsksForTheLacking}
+use Rattle.engine_fetches.specs.OutstandingFetches.{is_lacking, AsksForWanted, AsksForTheLacking}
 use Rattle.engine_fetches.proofs.Passing.{none_due}
-use Rattle.engine_fetches.proofs.Wanted.{asks_lacking}
+use Rattle.engine_fetches.proofs.OutstandingFetches.{asks_lacking}
 use Rattle.engine_fetches.proofs.repair.Repair.let_go.Goals as goal
 
 pub returns-clause-lacking : goal.returns-clause-lacking

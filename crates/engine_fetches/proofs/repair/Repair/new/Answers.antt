@@ -3,9 +3,9 @@ use Rattle.std.proofs.Common.{◌≡◌, ◌∙◌, ◌||◌, true, ap, subst, s
 use Rattle.std.specs.List.{list_any}
 use Rattle.simplex_resolver.specs.Repair.{has}
 use Rattle.engine_fetches.specs.Fetches.{is_fetch_open}
-use Rattle.engine_fetches.specs.Wanted.{wanting}
+use Rattle.engine_fetches.specs.OutstandingFetches.{wanting}
 use Rattle.engine_fetches.specs.declared.fetches.FetchKind.TheVariants.{Nullification}
-use Rattle.engine_fetches.proofs.Wanted.{asks_wanting}
+use Rattle.engine_fetches.proofs.OutstandingFetches.{asks_wanting}
 use Rattle.engine_fetches.proofs.repair.Repair.new.Goals as goal
 
 pub invariant_of-result : goal.invariant_of-result

@@ -1,7 +1,7 @@
 -- That no wanted view above the last finalized one is left out.
 use Rattle.std.proofs.Common.{sym, subst, arith}
-use Rattle.engine_fetches.specs.Wanted.{AsksForWanted}
-use Rattle.engine_fetches.proofs.Wanted.{asks_passed}
+use Rattle.engine_fetches.specs.OutstandingFetches.{AsksForWanted}
+use Rattle.engine_fetches.proofs.OutstandingFetches.{asks_passed}
 use Rattle.engine_fetches.proofs.repair.Repair.pass.Goals as goal
 
 pub invariant_of-self : goal.invariant_of-self

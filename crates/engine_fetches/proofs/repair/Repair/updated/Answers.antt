@@ -1,9 +1,9 @@
 -- That the effects are carried out, and no wanted view is left out by them.
 use Rattle.std.proofs.Common.{◌∙◌, ap, refl, sym, subst}
-use Rattle.engine_fetches.specs.Wanted.{after_effects, AsksForWanted, OpensNoOther}
+use Rattle.engine_fetches.specs.OutstandingFetches.{after_effects, AsksForWanted, OpensNoOther}
 use Rattle.engine_fetches.proofs.Opening.{opens_after}
-use Rattle.engine_fetches.proofs.Repairing.{is_repaired}
-use Rattle.engine_fetches.proofs.Wanted.{asks_after}
+use Rattle.engine_fetches.proofs.Repairs.{is_repaired}
+use Rattle.engine_fetches.proofs.OutstandingFetches.{asks_after}
 use Rattle.engine_fetches.proofs.repair.Repair.updated.Goals as goal
 
 pub returns-clause-repaired : goal.returns-clause-repaired

@@ -1,23 +1,23 @@
 use Rattle.std.proofs.Common.{◌≡◌, ◌-◌, ◌^◌, ap, sym, subst, ◌∙◌, [], ◌∷◌, ◌++◌, length, arith}
 use Rattle.std.specs.Prelude.{Contains, IfSome}
 use Rattle.engine_outbox.specs.declared.output.Output.TheVariants as output
-use Rattle.engine_outbox.specs.Finals.{finals_in}
+use Rattle.engine_outbox.specs.Finalizations.{finals_in}
 use Rattle.engine_outbox.specs.Outboxes.{IsReplaced}
 use Rattle.engine_outbox.proofs.Begun.{begun}
 use Rattle.simplex_record.specs.Entries.{entries_of}
-use Rattle.engine_outbox.specs.Reaching.{lowest_of}
+use Rattle.engine_outbox.specs.RecordReach.{lowest_of}
 use Rattle.engine_outbox.proofs.Journals.{copied_votes}
 use Rattle.engine_outbox.proofs.Kept.{counted}
-use Rattle.engine_outbox.proofs.Reaching.{reaches_whole}
-use Rattle.engine_outbox.specs.Stops.{MayStopAfterEach}
-use Rattle.engine_outbox.proofs.Stops.{stop_last, stops_begun}
+use Rattle.engine_outbox.proofs.RecordReach.{reaches_whole}
+use Rattle.engine_outbox.specs.HostStops.{MayStopAfterEach}
+use Rattle.engine_outbox.proofs.HostStops.{stop_last, stops_begun}
 use Rattle.engine_outbox.proofs.Torn.{amid_none}
 use Rattle.std.proofs.lemmas.List.{append-nil}
 use Rattle.engine_outbox.specs.Entries.{votes_of_entries}
 use Rattle.engine_outbox.specs.Outputs.{stored_in}
-use Rattle.engine_outbox.specs.Stops.{votes_recorded}
+use Rattle.engine_outbox.specs.HostStops.{votes_recorded}
 use Rattle.engine_outbox.specs.Signatures.{AreSigned}
-use Rattle.engine_outbox.proofs.Leaving.{all_signed}
+use Rattle.engine_outbox.proofs.EmittedVotes.{all_signed}
 use Rattle.engine_outbox.proofs.journaled.Journaled.begin.Goals as goal
 
 pub returns-clause-kept : goal.returns-clause-kept

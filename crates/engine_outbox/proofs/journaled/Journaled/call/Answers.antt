@@ -2,17 +2,17 @@ use Rattle.std.proofs.Common.{◌++◌, None, refl, ap, sym, subst}
 use Rattle.std.specs.Prelude.{All}
 use Rattle.std.proofs.lemmas.List.Elements.{All-nil}
 use Rattle.simplex_member.specs.Calls.{asked, told}
-use Rattle.simplex_member.specs.Signed.{signed_reply}
-use Rattle.laws_safety.specs.Shown.{votes_in, taken_by}
-use Rattle.engine_outbox.specs.Doing.{IsDoneOn}
-use Rattle.engine_outbox.specs.Finals.{finals_by, raised_to, TellsRising}
-use Rattle.engine_outbox.proofs.Doing.{call_on}
+use Rattle.simplex_member.specs.ReplySignatures.{signed_reply}
+use Rattle.laws_safety.specs.ObservedTraces.{votes_in, taken_by}
+use Rattle.engine_outbox.specs.SubjectActions.{IsDoneOn}
+use Rattle.engine_outbox.specs.Finalizations.{finals_by, raised_to, TellsRising}
+use Rattle.engine_outbox.proofs.SubjectActions.{call_on}
 use Rattle.engine_outbox.proofs.Dropping.{refused_left, dropped_left}
 use Rattle.engine_outbox.proofs.Finalizing.{told_by_call, final_none}
-use Rattle.engine_outbox.proofs.Finals.{tells_none}
+use Rattle.engine_outbox.proofs.Finalizations.{tells_none}
 use Rattle.engine_outbox.proofs.Torn.{call_grows}
 use Rattle.engine_outbox.proofs.TracedOutputs.{traced_call, reply_signed}
-use Rattle.engine_outbox.proofs.Going.{call_risen}
+use Rattle.engine_outbox.proofs.Continuity.{call_risen}
 use Rattle.engine_outbox.proofs.Kept.{called}
 use Rattle.engine_outbox.proofs.Queued.{queues_none}
 use Rattle.engine_outbox.proofs.Signatures.{called_signed, call_signs, call_signed}

@@ -1,7 +1,7 @@
 use Rattle.std.proofs.Common.{true, refl}
-use Rattle.engine_outbox.proofs.Finals.{tells_none}
+use Rattle.engine_outbox.proofs.Finalizations.{tells_none}
 use Rattle.engine_outbox.proofs.TracedOutputs.{traced_end}
-use Rattle.engine_outbox.proofs.Going.{does_nothing}
+use Rattle.engine_outbox.proofs.Continuity.{does_nothing}
 use Rattle.engine_outbox.proofs.Kept.{does_no_more, ended}
 use Rattle.engine_outbox.proofs.Queued.{queues_none}
 use Rattle.engine_outbox.proofs.Signatures.{same_stayed}

@@ -1,8 +1,8 @@
 -- How the contract of `is_overgrown` follows: a record that is not overgrown is short.
 use Rattle.std.proofs.Common.{◌∙◌, ◌&&◌, nat_lt, length, ap, sym}
-use Rattle.engine_outbox.specs.Reaching.{is_far_below, lowest_left}
+use Rattle.engine_outbox.specs.RecordReach.{is_far_below, lowest_left}
 use Rattle.engine_outbox.proofs.Kept.{counted}
-use Rattle.engine_outbox.proofs.Overgrown.{passes, fails, overgrown_by, short_where}
+use Rattle.engine_outbox.proofs.RecordLimit.{passes, fails, overgrown_by, short_where}
 use Rattle.engine_outbox.proofs.journaled.Journaled.is_overgrown.Goals as goal
 
 pub returns-then-long-record-clause-overgrown : goal.returns-then-long-record-clause-overgrown

@@ -2,15 +2,15 @@ use Rattle.std.proofs.Common.{◌≡◌, ℕ, List, Option, Some, None, [], ◌+
 use Rattle.std.specs.Prelude.{Contains, IfSome}
 use Rattle.simplex_types.specs.declared.types.messages.Proposal.{Proposal}
 use Rattle.simplex_voter.specs.Facts.{StateFacts}
-use Rattle.engine_outbox.specs.Finals.{finals_in, EndsAt}
-use Rattle.engine_outbox.proofs.Finals.{finalized_in-append}
+use Rattle.engine_outbox.specs.Finalizations.{finals_in, EndsAt}
+use Rattle.engine_outbox.proofs.Finalizations.{finalized_in-append}
 use Rattle.engine_outbox.specs.Journals.{journal_of}
 use Rattle.engine_outbox.proofs.Journals.{is_record}
 use Rattle.engine_outbox.proofs.Behind.{stored_in-append, votes_in-append}
 use Rattle.std.proofs.lemmas.List.Elements.{Contains-append_left}
 use Rattle.engine_outbox.specs.Entries.{votes_of_entries}
 use Rattle.engine_outbox.specs.Outputs.{stored_in}
-use Rattle.engine_outbox.proofs.Stops.{lawful_stops, left_stored}
+use Rattle.engine_outbox.proofs.HostStops.{lawful_stops, left_stored}
 use Rattle.engine_outbox.proofs.journaled.Journaled.keeps_the_laws.Goals as goal
 
 -- the last that was told is of the last finalized view

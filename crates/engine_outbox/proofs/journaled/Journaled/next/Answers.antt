@@ -1,10 +1,10 @@
 -- That what is given out was queued in front.
 use Rattle.std.proofs.Common.{◌≡◌, ◌++◌, ap, sym, subst, ◌∙◌, append_assoc}
 use Rattle.std.specs.Prelude.{IfSome, option_to_list}
-use Rattle.engine_outbox.specs.Finals.{finals_in, WereAccepted}
-use Rattle.engine_outbox.specs.Leaving.{AllLeave}
+use Rattle.engine_outbox.specs.Finalizations.{finals_in, WereAccepted}
+use Rattle.engine_outbox.specs.EmittedVotes.{AllLeave}
 use Rattle.engine_outbox.specs.Journals.{journal_of, IsBeginningOf}
-use Rattle.engine_outbox.specs.Stops.{MayStopAfterEach, MayStopAmid}
+use Rattle.engine_outbox.specs.HostStops.{MayStopAfterEach, MayStopAmid}
 use Rattle.engine_outbox.specs.Entries.{votes_of_entries}
 use Rattle.engine_outbox.specs.Outputs.{stored_in}
 use Rattle.engine_outbox.specs.Signatures.{AreSigned}

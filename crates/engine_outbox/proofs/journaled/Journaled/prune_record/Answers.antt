@@ -1,9 +1,9 @@
 -- What the record has grown by is queued, and then what a pruning leaves of it.
 use Rattle.std.proofs.Common.{◌≡◌, ◌∙◌, Result, Ok, Err, ap}
 use Rattle.std.specs.Prelude.{OnOk}
-use Rattle.simplex_member.specs.Lives.{MemberFacts}
+use Rattle.simplex_member.specs.MemberFacts.{MemberFacts}
 use Rattle.simplex_member.specs.Pruning.{pruned_member}
-use Rattle.engine_outbox.proofs.Going.{goes_further}
+use Rattle.engine_outbox.proofs.Continuity.{goes_further}
 use Rattle.engine_outbox.proofs.journaled.Journaled.prune_record.Goals as goal
 
 anyway : {X E P : Type 0} (r : Result X E) → P → OnOk r P

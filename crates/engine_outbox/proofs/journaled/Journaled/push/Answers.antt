@@ -1,6 +1,6 @@
 use Rattle.std.proofs.Common.{refl, [], ◌∷◌}
 use Rattle.engine_outbox.specs.declared.output.Output.TheVariants as output
-use Rattle.engine_outbox.proofs.Finals.{become_tells, stayed_tells}
+use Rattle.engine_outbox.proofs.Finalizations.{become_tells, stayed_tells}
 use Rattle.engine_outbox.proofs.TracedOutputs.{traced_pushed, traced_stayed}
 use Rattle.engine_outbox.proofs.Kept.{does_no_more, pushed, kept_as_it_was}
 use Rattle.engine_outbox.proofs.Lawfully.{by_result}

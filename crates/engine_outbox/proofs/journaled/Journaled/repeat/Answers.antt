@@ -1,5 +1,5 @@
 use Rattle.std.proofs.Common.{refl}
-use Rattle.engine_outbox.proofs.Finals.{stayed_tells}
+use Rattle.engine_outbox.proofs.Finalizations.{stayed_tells}
 use Rattle.engine_outbox.proofs.TracedOutputs.{traced_repeated, traced_stayed}
 use Rattle.engine_outbox.proofs.Kept.{does_no_more, repeated, repeated_tells, kept_as_it_was}
 use Rattle.engine_outbox.proofs.Lawfully.{by_answer}

@@ -1,22 +1,22 @@
 use Rattle.std.proofs.Common.{◌≡◌, ◌-◌, ◌^◌, ℕ, [], true, None, refl, ap, sym, subst, ◌∙◌, length, arith}
 use Rattle.std.proofs.lemmas.List.Elements.{All-nil}
-use Rattle.laws_safety.specs.LifeLaws.{WhileAlive}
+use Rattle.laws_safety.specs.LifetimeLaws.{WhileAlive}
 use Rattle.std.specs.Prelude.{IfSome}
 use Rattle.simplex_member.specs.Journal.{stored_of}
-use Rattle.simplex_member.specs.Lives.{MemberFacts}
+use Rattle.simplex_member.specs.MemberFacts.{MemberFacts}
 use Rattle.simplex_member.specs.Pruning.{pruned_member, stays_within}
 use Rattle.simplex_record.specs.Entries.{entries_of, entry_view}
-use Rattle.engine_outbox.proofs.Stops.{signed_left}
-use Rattle.engine_outbox.specs.Stops.{WereSigned, votes_recorded}
-use Rattle.engine_outbox.specs.Doing.{IsDoneOn}
-use Rattle.engine_outbox.specs.Going.{HasRisen}
+use Rattle.engine_outbox.proofs.HostStops.{signed_left}
+use Rattle.engine_outbox.specs.HostStops.{WereSigned, votes_recorded}
+use Rattle.engine_outbox.specs.SubjectActions.{IsDoneOn}
+use Rattle.engine_outbox.specs.Continuity.{HasRisen}
 use Rattle.engine_outbox.specs.Outboxes.{IsReplaced}
-use Rattle.engine_outbox.proofs.Finals.{stayed_tells}
+use Rattle.engine_outbox.proofs.Finalizations.{stayed_tells}
 use Rattle.engine_outbox.proofs.TracedOutputs.{traced_replaced, traced_end}
-use Rattle.engine_outbox.proofs.Going.{risen_not}
-use Rattle.engine_outbox.specs.Reaching.{lowest_of}
+use Rattle.engine_outbox.proofs.Continuity.{risen_not}
+use Rattle.engine_outbox.specs.RecordReach.{lowest_of}
 use Rattle.engine_outbox.proofs.Kept.{Keeps, replaced, replaced_tells, still_leaving, ended, counted}
-use Rattle.engine_outbox.proofs.Reaching.{reaches_whole}
+use Rattle.engine_outbox.proofs.RecordReach.{reaches_whole}
 use Rattle.engine_outbox.proofs.Working.{replaced_no_work, stayed_no_work}
 use Rattle.engine_outbox.proofs.Signatures.{pruned_replaced, pruned_signed, signed_stayed}
 use Rattle.engine_outbox.specs.Signatures.{SignsBy}

@@ -1,12 +1,12 @@
 use Rattle.std.proofs.Common.{◌++◌, ◌∙◌, refl, ap, length, arith}
-use Rattle.engine_outbox.proofs.Finals.{stayed_tells}
+use Rattle.engine_outbox.proofs.Finalizations.{stayed_tells}
 use Rattle.engine_outbox.proofs.TracedOutputs.{traced_stored, traced_stayed}
-use Rattle.engine_outbox.proofs.Going.{stays}
+use Rattle.engine_outbox.proofs.Continuity.{stays}
 use Rattle.engine_outbox.proofs.Kept.{does_no_more, stored, stored_tells, kept_as_it_was, counted}
 use Rattle.engine_outbox.specs.Journals.{journal_of}
-use Rattle.engine_outbox.specs.Reaching.{lowest_of}
+use Rattle.engine_outbox.specs.RecordReach.{lowest_of}
 use Rattle.engine_outbox.proofs.Journals.{is_record}
-use Rattle.engine_outbox.proofs.Reaching.{reaches_all}
+use Rattle.engine_outbox.proofs.RecordReach.{reaches_all}
 use Rattle.engine_outbox.proofs.Working.{stayed_no_work, stored_no_work}
 use Rattle.engine_outbox.proofs.Signatures.{same_stored, same_stayed}
 use Rattle.engine_outbox.proofs.journaled.Journaled.store.Goals as goal

@@ -5,20 +5,20 @@ use Rattle.std.proofs.lemmas.List.Elements.{All-cons, All-nil}
 use Rattle.simplex_types.specs.Certificates.{certificate_facts}
 use Rattle.simplex_types.specs.Encoding.{certificate_subject}
 use Rattle.simplex_member.specs.Calls.{asked, told}
-use Rattle.simplex_member.specs.Lives.{IsCall}
-use Rattle.simplex_member.specs.Signed.{signed_reply}
-use Rattle.laws_safety.specs.Shown.{votes_in, taken_by}
+use Rattle.simplex_member.specs.MemberFacts.{IsCall}
+use Rattle.simplex_member.specs.ReplySignatures.{signed_reply}
+use Rattle.laws_safety.specs.ObservedTraces.{votes_in, taken_by}
 use Rattle.laws_safety.specs.Traces.{Accepts}
-use Rattle.engine_outbox.specs.Doing.{IsDoneOn, final_by}
-use Rattle.engine_outbox.specs.Finals.{finals_by, TellsRising}
+use Rattle.engine_outbox.specs.SubjectActions.{IsDoneOn, final_by}
+use Rattle.engine_outbox.specs.Finalizations.{finals_by, TellsRising}
 use Rattle.engine_outbox.specs.Outboxes.{IsTold}
-use Rattle.engine_outbox.proofs.Doing.{call_on}
+use Rattle.engine_outbox.proofs.SubjectActions.{call_on}
 use Rattle.engine_outbox.proofs.Dropping.{refused_left}
 use Rattle.engine_outbox.proofs.Finalizing.{told_by_call, final_events}
-use Rattle.engine_outbox.proofs.Finals.{told_tells}
+use Rattle.engine_outbox.proofs.Finalizations.{told_tells}
 use Rattle.engine_outbox.proofs.Torn.{call_grows}
 use Rattle.engine_outbox.proofs.TracedOutputs.{traced_call, reply_signed}
-use Rattle.engine_outbox.proofs.Going.{call_risen}
+use Rattle.engine_outbox.proofs.Continuity.{call_risen}
 use Rattle.engine_outbox.proofs.Kept.{called}
 use Rattle.engine_outbox.proofs.Working.{told_no_work}
 use Rattle.engine_outbox.proofs.Signatures.{called_signed, call_signs, call_signed}

@@ -1,8 +1,8 @@
 -- How the contract of `lowest_of` follows: the lowest view so far and the rest's lowest are that of all.
 use Rattle.std.proofs.Common.{◌∙◌, ◌+◌, drop, ap}
 use Rattle.simplex_record.specs.Entries.{entries_of}
-use Rattle.engine_outbox.specs.Reaching.{lowest_of}
-use Rattle.engine_outbox.proofs.Reaching.{lowest_next}
+use Rattle.engine_outbox.specs.RecordReach.{lowest_of}
+use Rattle.engine_outbox.proofs.RecordReach.{lowest_next}
 use Rattle.engine_outbox.proofs.journaled.reach.lowest_of.Goals as goal
 
 pub loop-entry-preserved : goal.loop-entry-preserved

@@ -1,7 +1,7 @@
 -- The loop of `lowest_of`: what was met and what is left to be met.
 use Rattle.std.proofs.Common.{◌≡◌, drop}
 use Rattle.simplex_record.specs.Entries.{entries_of}
-use Rattle.engine_outbox.specs.Reaching.{lowest_of}
+use Rattle.engine_outbox.specs.RecordReach.{lowest_of}
 use Rattle.engine_outbox.proofs.journaled.reach.lowest_of.Given as goal
 
 abbrev pub invariant-loop-entry : goal.invariant-loop-entry

@@ -1,7 +1,7 @@
 use Rattle.std.proofs.Common.{[], subst}
-use Rattle.engine_outbox.specs.Finals.{finals_in, RiseByView}
+use Rattle.engine_outbox.specs.Finalizations.{finals_in, RiseByView}
 use Rattle.engine_outbox.proofs.Behind.{beginning}
-use Rattle.engine_outbox.proofs.Finals.{finalized_in-append, rising_first}
+use Rattle.engine_outbox.proofs.Finalizations.{finalized_in-append, rising_first}
 use Rattle.engine_outbox.proofs.outbox.Outbox.keeps_the_law.Goals as goal
 
 pub returns-clause-behind : goal.returns-clause-behind

@@ -1,8 +1,8 @@
 -- That the resolver is told, and the view is touched.
 use Rattle.std.proofs.Common.{◌∙◌, ap, sym, subst}
 use Rattle.std.specs.Prelude.{◌==◌}
-use Rattle.engine_planner.specs.Following.{IsTakenInAbove}
-use Rattle.engine_planner.specs.Planning.{HasPlanned, touching, watching}
+use Rattle.engine_planner.specs.Consequences.{IsTakenInAbove}
+use Rattle.engine_planner.specs.PlanStates.{HasPlanned, touching, watching}
 use Rattle.engine_planner.proofs.Accepting.{taken_in}
 use Rattle.engine_planner.proofs.plan.Plan.accept.Goals as goal
 

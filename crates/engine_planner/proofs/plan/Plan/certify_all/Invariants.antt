@@ -1,6 +1,6 @@
 -- The steps so far and those that are left are what all come to.
 use Rattle.std.proofs.Common.{◌≡◌, ◌++◌, drop}
-use Rattle.engine_planner.specs.Following.{certifying}
+use Rattle.engine_planner.specs.Consequences.{certifying}
 use Rattle.engine_planner.proofs.plan.Plan.certify_all.Given as goal
 
 abbrev pub invariant-loop-proposal : goal.invariant-loop-proposal

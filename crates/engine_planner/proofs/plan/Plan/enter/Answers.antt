@@ -1,6 +1,6 @@
 -- That the view is touched, and what waited for it comes behind that.
-use Rattle.engine_planner.proofs.Entering.{entered}
-use Rattle.engine_planner.proofs.Planning.{on_ok_both}
+use Rattle.engine_planner.proofs.ViewChanges.{entered}
+use Rattle.engine_planner.proofs.PlanStates.{on_ok_both}
 use Rattle.engine_planner.proofs.plan.Plan.enter.Goals as goal
 
 pub returns : goal.returns

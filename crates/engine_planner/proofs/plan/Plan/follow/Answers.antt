@@ -1,8 +1,8 @@
 -- That each answer is followed by what is for it.
 use Rattle.std.proofs.Common.{subst}
-use Rattle.engine_planner.specs.Following.{after_watch, IsConsequence, AreCertified}
-use Rattle.engine_planner.proofs.Following.{followed, unjudged}
-use Rattle.engine_planner.proofs.Planning.{on_ok}
+use Rattle.engine_planner.specs.Consequences.{after_watch, IsConsequence, AreCertified}
+use Rattle.engine_planner.proofs.Consequences.{followed, unjudged}
+use Rattle.engine_planner.proofs.PlanStates.{on_ok}
 use Rattle.engine_planner.proofs.plan.Plan.follow.Goals as goal
 
 pub returns-in-Flag : goal.returns-in-Flag

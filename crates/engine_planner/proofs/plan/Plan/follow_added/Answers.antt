@@ -2,10 +2,10 @@
 use Rattle.std.proofs.Common.{subst, ap}
 use Rattle.std.specs.Prelude.{IfErr}
 use Rattle.simplex_resolver.specs.Steps.{highest_view}
-use Rattle.engine_fetches.specs.Repairing.{IsUnrepaired}
-use Rattle.engine_planner.specs.Following.{showing}
-use Rattle.engine_planner.specs.Planning.{HasPlanned}
-use Rattle.engine_planner.proofs.Planning.{on_ok}
+use Rattle.engine_fetches.specs.Repairs.{IsUnrepaired}
+use Rattle.engine_planner.specs.Consequences.{showing}
+use Rattle.engine_planner.specs.PlanStates.{HasPlanned}
+use Rattle.engine_planner.proofs.PlanStates.{on_ok}
 use Rattle.engine_planner.proofs.plan.Plan.follow_added.Goals as goal
 
 pub returns : goal.returns

@@ -1,5 +1,5 @@
 -- That the block's end is told where the application was asked for it.
-use Rattle.engine_planner.proofs.Planning.{on_ok, stopped}
+use Rattle.engine_planner.proofs.PlanStates.{on_ok, stopped}
 use Rattle.engine_planner.proofs.plan.Plan.stop_building.Goals as goal
 
 pub returns : goal.returns

@@ -1,8 +1,8 @@
 -- That each step is queued behind those before.
 use Rattle.std.proofs.Common.{◌∙◌, ◌∷◌, ◌++◌, [], refl, ap, arith}
 use Rattle.engine_planner.specs.declared.plan.Step.TheVariants.{Ask}
-use Rattle.engine_planner.specs.Filling.{watching_one, watching_all}
-use Rattle.engine_planner.proofs.Entering.{more_queued}
+use Rattle.engine_planner.specs.StepSelection.{watching_one, watching_all}
+use Rattle.engine_planner.proofs.ViewChanges.{more_queued}
 use Rattle.engine_planner.proofs.plan.due.watch_all.Goals as goal
 
 pub loop-building-preserved : goal.loop-building-preserved

@@ -1,7 +1,7 @@
 use Rattle.std.proofs.Common.{ap}
-use Rattle.simplex_types.specs.Viewed.{subject_view}
-use Rattle.engine_votes.specs.Batching.{held, kind_of}
-use Rattle.engine_votes.proofs.Counting.{counted_as}
+use Rattle.simplex_types.specs.MessageViews.{subject_view}
+use Rattle.engine_votes.specs.StoredVotes.{held, kind_of}
+use Rattle.engine_votes.proofs.VoteCounts.{counted_as}
 use Rattle.engine_votes.proofs.batcher.Batcher.count_among.Goals as goal
 
 pub returns-in-Notarize-clause-counted : goal.returns-in-Notarize-clause-counted

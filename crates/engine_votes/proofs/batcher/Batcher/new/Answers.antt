@@ -1,5 +1,5 @@
 use Rattle.engine_votes.specs.declared.batcher.Batcher.{Batcher}
-use Rattle.engine_votes.proofs.Batching.{nothing_held}
+use Rattle.engine_votes.proofs.StoredVotes.{nothing_held}
 use Rattle.engine_votes.proofs.Given.{none_given}
 use Rattle.engine_votes.proofs.batcher.Batcher.new.Goals as goal
 

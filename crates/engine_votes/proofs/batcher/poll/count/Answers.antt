@@ -1,9 +1,9 @@
 -- How the contract of `count` follows: a first vote is taken, and a further one leaves a mark where a pair is returned.
 use Rattle.std.proofs.Common.{ap, refl, sym, ◌∙◌, ◌≡◌, Some, true, false}
 use Rattle.std.proofs.lemmas.Bool.{false≢true}
-use Rattle.engine_votes.specs.Counting.{is_pair, IsCountedIn, IsMarked}
+use Rattle.engine_votes.specs.VoteCounts.{is_pair, IsCountedIn, IsMarked}
 use Rattle.engine_votes.specs.Polls.{ballot_of}
-use Rattle.engine_votes.proofs.Counting.{if_ok_on, counted_since, counted_again}
+use Rattle.engine_votes.proofs.VoteCounts.{if_ok_on, counted_since, counted_again}
 use Rattle.engine_votes.proofs.batcher.poll.count.Goals as goal
 use Rattle.engine_votes.proofs.batcher.poll.count.Goals.{then-is_pair, else-is_pair}
 

@@ -1,6 +1,6 @@
 use Rattle.std.proofs.Common.{◌<◌, length, arith, ap, ◌∙◌}
 use Rattle.engine_votes.specs.Polls.{ballot_of}
-use Rattle.engine_votes.proofs.Counting.{put_adds, put_back}
+use Rattle.engine_votes.proofs.VoteCounts.{put_adds, put_back}
 use Rattle.engine_votes.proofs.batcher.poll.take.Goals as goal
 
 pub returns-in-Ok-None-clause-counted : goal.returns-in-Ok-None-clause-counted

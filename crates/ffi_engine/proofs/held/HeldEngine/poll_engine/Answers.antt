@@ -6,12 +6,12 @@ use Rattle.simplex_codec.specs.Digests.{bytes_in_digest}
 use Rattle.ffi_scheme.specs.Host.{certificate_bytes, IsOrder}
 use Rattle.engine_planner.specs.PlannedWork.{AreAmong}
 use Rattle.engine_outbox.specs.Outputs.{work_in}
-use Rattle.simplex_engine.specs.Causes.{forgettable, held_by, Comes}
-use Rattle.simplex_engine.specs.Duties.{work_ahead, HasToldAll}
-use Rattle.engine_outbox.specs.Finals.{TellsNoMore}
-use Rattle.engine_outbox.specs.Going.{EmitsOn, IsKept}
+use Rattle.simplex_engine.specs.Provenance.{forgettable, held_by, Comes}
+use Rattle.simplex_engine.specs.ApplicationWork.{work_ahead, HasToldAll}
+use Rattle.engine_outbox.specs.Finalizations.{TellsNoMore}
+use Rattle.engine_outbox.specs.Continuity.{EmitsOn, IsKept}
 use Rattle.ffi_member.specs.Numbers.{fault_status}
-use Rattle.ffi_member.specs.Serving.{host_leader, same_host_payload}
+use Rattle.ffi_member.specs.MemberHandles.{host_leader, same_host_payload}
 use Rattle.ffi_engine.specs.Outputs.{HostOutput}
 use Rattle.ffi_engine.proofs.Given.{all_given, comes_given, has_told, same_error, tells_no_more, traced_given, works_given}
 use Rattle.ffi_engine.proofs.held.HeldEngine.poll_engine.Goals as goal

@@ -1,10 +1,10 @@
 -- How the contract of `resume` follows: the engine that goes on has given nothing out, and one that is refused is so for what was read.
 use Rattle.std.proofs.Common.{refl, sym, subst}
 use Rattle.simplex_codec.specs.Digests.{bytes_in_digest}
-use Rattle.ffi_scheme.specs.Electing.{host_terms}
+use Rattle.ffi_scheme.specs.HostLeaders.{host_terms}
 use Rattle.ffi_scheme.specs.Host.{host_keys, host_signer}
-use Rattle.simplex_engine.specs.Beginning.{with_a_retry, HasBegunWith}
-use Rattle.ffi_engine.specs.Beginning.{IsEngineNotResumed}
+use Rattle.simplex_engine.specs.EngineStart.{with_a_retry, HasBegunWith}
+use Rattle.ffi_engine.specs.EngineStarts.{IsEngineNotResumed}
 use Rattle.ffi_engine.proofs.Refused.{engine_refused, member_refused}
 use Rattle.ffi_engine.proofs.held.HeldEngine.resume.Goals as goal
 

@@ -1,10 +1,10 @@
 -- How the contract of `start` follows: the engine that begins has given nothing out, and one that is refused had settings of a member.
 use Rattle.std.proofs.Common.{refl, sym, subst}
 use Rattle.simplex_codec.specs.Digests.{bytes_in_digest}
-use Rattle.ffi_scheme.specs.Electing.{host_terms}
+use Rattle.ffi_scheme.specs.HostLeaders.{host_terms}
 use Rattle.ffi_scheme.specs.Host.{host_keys, host_signer}
-use Rattle.simplex_engine.specs.Beginning.{with_a_retry, HasBegunWith}
-use Rattle.ffi_engine.specs.Beginning.{IsEngineNotBegun}
+use Rattle.simplex_engine.specs.EngineStart.{with_a_retry, HasBegunWith}
+use Rattle.ffi_engine.specs.EngineStarts.{IsEngineNotBegun}
 use Rattle.ffi_engine.proofs.Refused.{start_refused}
 use Rattle.ffi_engine.proofs.held.HeldEngine.start.Goals as goal
 

@@ -4,17 +4,17 @@ use Rattle.std.proofs.lemmas.Bool.{not-false}
 use Rattle.std.proofs.lemmas.Result.{IfOk-weaker}
 use Rattle.simplex_types.specs.Certificates.{certificate_facts}
 use Rattle.simplex_types.specs.Encoding.{certificate_subject}
-use Rattle.engine_outbox.specs.Going.{GoesOn}
+use Rattle.engine_outbox.specs.Continuity.{GoesOn}
 use Rattle.simplex_engine.proofs.Tells.{handed_as, tells_handed, tells_still}
-use Rattle.engine_planner.proofs.Planning.{on_ok_both}
+use Rattle.engine_planner.proofs.PlanStates.{on_ok_both}
 use Rattle.simplex_member.specs.Calls.{told}
-use Rattle.engine_outbox.specs.Handing.{hands_in}
+use Rattle.engine_outbox.specs.CertificateCalls.{hands_in}
 use Rattle.engine_outbox.specs.Outputs.{work_in}
-use Rattle.engine_planner.specs.Matters.{Quorum, given_by}
-use Rattle.engine_planner.proofs.Matters.{among_last}
+use Rattle.engine_planner.specs.Causes.{Quorum, given_by}
+use Rattle.engine_planner.proofs.Causes.{among_last}
 use Rattle.engine_planner.proofs.PlannedWork.{among_more}
-use Rattle.simplex_engine.specs.Causes.{at_hand}
-use Rattle.simplex_engine.proofs.Causes.{comes_called, comes_still, hand_asked, handed_plain}
+use Rattle.simplex_engine.specs.Provenance.{at_hand}
+use Rattle.simplex_engine.proofs.Provenance.{comes_called, comes_still, hand_asked, handed_plain}
 use Rattle.simplex_engine.proofs.engine.Engine.accept.Goals as goal
 
 pub returns-in_err-reply-clause-goes_on : goal.returns-in_err-reply-clause-goes_on

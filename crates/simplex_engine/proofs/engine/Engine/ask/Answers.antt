@@ -2,14 +2,14 @@
 use Rattle.std.proofs.Common.{None, sym, subst, ap, ◌∙◌}
 use Rattle.std.proofs.lemmas.Result.{IfOk-weaker}
 use Rattle.simplex_member.specs.Calls.{told}
-use Rattle.simplex_member.specs.Lives.{IsCall}
-use Rattle.engine_outbox.specs.Going.{GoesOn}
+use Rattle.simplex_member.specs.MemberFacts.{IsCall}
+use Rattle.engine_outbox.specs.Continuity.{GoesOn}
 use Rattle.engine_planner.specs.Tasks.{call_of}
 use Rattle.simplex_engine.proofs.Tells.{tells_called}
-use Rattle.engine_planner.proofs.Planning.{on_ok_both}
+use Rattle.engine_planner.proofs.PlanStates.{on_ok_both}
 use Rattle.engine_outbox.specs.Outputs.{work_in}
-use Rattle.engine_planner.specs.Matters.{given_by}
-use Rattle.simplex_engine.proofs.Causes.{comes_called, hand_asked}
+use Rattle.engine_planner.specs.Causes.{given_by}
+use Rattle.simplex_engine.proofs.Provenance.{comes_called, hand_asked}
 use Rattle.simplex_engine.proofs.engine.Engine.ask.Goals as goal
 
 pub returns : goal.returns

@@ -1,15 +1,15 @@
 -- That the call accepts no certificate, and what its answer says.
 use Rattle.std.proofs.Common.{None, sym, subst, ◌∙◌, ap}
 use Rattle.simplex_member.specs.Calls.{told}
-use Rattle.simplex_member.specs.Lives.{IsCall}
-use Rattle.engine_outbox.specs.Going.{GoesOn}
+use Rattle.simplex_member.specs.MemberFacts.{IsCall}
+use Rattle.engine_outbox.specs.Continuity.{GoesOn}
 use Rattle.engine_planner.specs.Tasks.{call_of}
-use Rattle.simplex_engine.specs.Quiet.{AnswersNothing}
-use Rattle.simplex_engine.proofs.Alone.{alone_with}
+use Rattle.simplex_engine.specs.NothingDue.{AnswersNothing}
+use Rattle.simplex_engine.proofs.OwnSteps.{alone_with}
 use Rattle.simplex_engine.proofs.Tells.{tells_called}
 use Rattle.engine_outbox.specs.Outputs.{work_in}
-use Rattle.engine_planner.specs.Matters.{given_by}
-use Rattle.simplex_engine.proofs.Causes.{comes_called, hand_asked}
+use Rattle.engine_planner.specs.Causes.{given_by}
+use Rattle.simplex_engine.proofs.Provenance.{comes_called, hand_asked}
 use Rattle.simplex_engine.proofs.engine.Engine.ask_for.Goals as goal
 
 pub returns-in_err-follow-clause-alone : goal.returns-in_err-follow-clause-alone

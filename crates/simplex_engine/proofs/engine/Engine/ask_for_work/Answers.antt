@@ -1,11 +1,11 @@
 -- That a member with no work goes on by the calls that show it.
 use Rattle.std.proofs.Common.{refl, [], inl}
 use Rattle.std.proofs.lemmas.Bool.{and_parts}
-use Rattle.simplex_engine.proofs.Alone.{alone_further}
+use Rattle.simplex_engine.proofs.OwnSteps.{alone_further}
 use Rattle.simplex_engine.proofs.Tells.{tells_further}
 use Rattle.engine_planner.specs.declared.task.Task.TheVariants as task
-use Rattle.engine_planner.proofs.Matters.{among_none}
-use Rattle.simplex_engine.proofs.Causes.{comes_on}
+use Rattle.engine_planner.proofs.Causes.{among_none}
+use Rattle.simplex_engine.proofs.Provenance.{comes_on}
 use Rattle.simplex_engine.proofs.engine.Engine.ask_for_work.Goals as goal
 
 pub returns-in_err-has_none-2-clause-alone : goal.returns-in_err-has_none-2-clause-alone

@@ -1,13 +1,13 @@
 -- That a call which is planned passes no verdict.
 use Rattle.std.proofs.Common.{refl, sym, inl, ◌∙◌}
-use Rattle.engine_outbox.proofs.Going.{stays}
+use Rattle.engine_outbox.proofs.Continuity.{stays}
 use Rattle.simplex_engine.proofs.Tells.{tells_still}
-use Rattle.engine_planner.specs.Matters.{of_task}
-use Rattle.engine_planner.proofs.Matters.{among_last}
+use Rattle.engine_planner.specs.Causes.{of_task}
+use Rattle.engine_planner.proofs.Causes.{among_last}
 use Rattle.engine_planner.proofs.PlannedWork.{among_more}
-use Rattle.engine_planner.proofs.Planning.{on_ok}
-use Rattle.simplex_engine.specs.Causes.{at_hand}
-use Rattle.simplex_engine.proofs.Causes.{comes_still, needs_no_offer, task_lacks_none}
+use Rattle.engine_planner.proofs.PlanStates.{on_ok}
+use Rattle.simplex_engine.specs.Provenance.{at_hand}
+use Rattle.simplex_engine.proofs.Provenance.{comes_still, needs_no_offer, task_lacks_none}
 use Rattle.simplex_engine.proofs.engine.Engine.ask_planned.Goals as goal
 
 pub returns-then-is_verdict : goal.returns-then-is_verdict

@@ -1,17 +1,17 @@
 -- That a vote whose round takes none changes nothing.
 use Rattle.std.proofs.Common.{length, refl, sym, ◌∙◌, ap}
 use Rattle.std.proofs.lemmas.Bool.{false≢true}
-use Rattle.simplex_engine.specs.Admitting.{admits_votes, is_so}
-use Rattle.simplex_engine.proofs.Backing.{takes_nothing, takes_anyway, backed_by_none}
+use Rattle.simplex_engine.specs.Admission.{admits_votes, is_so}
+use Rattle.simplex_engine.proofs.CertificateVotes.{takes_nothing, takes_anyway, backed_by_none}
 use Rattle.simplex_engine.proofs.Bounds.{bounded_same}
-use Rattle.engine_outbox.proofs.Going.{stays}
+use Rattle.engine_outbox.proofs.Continuity.{stays}
 use Rattle.engine_planner.proofs.PlannedWork.{among_still}
-use Rattle.simplex_engine.specs.Duties.{work_ahead}
-use Rattle.simplex_engine.proofs.Building.{early_anyway}
-use Rattle.engine_planner.proofs.Matters.{among_last}
+use Rattle.simplex_engine.specs.ApplicationWork.{work_ahead}
+use Rattle.simplex_engine.proofs.BuildBounds.{early_anyway}
+use Rattle.engine_planner.proofs.Causes.{among_last}
 use Rattle.simplex_engine.specs.declared.input.Input.TheVariants as input
-use Rattle.simplex_engine.specs.Causes.{at_hand, came_in}
-use Rattle.simplex_engine.proofs.Causes.{comes_still, vote_lacks_none}
+use Rattle.simplex_engine.specs.Provenance.{at_hand, came_in}
+use Rattle.simplex_engine.proofs.Provenance.{comes_still, vote_lacks_none}
 use Rattle.simplex_engine.proofs.engine.Engine.count.Goals as goal
 
 pub returns-then-not-admits_votes : goal.returns-then-not-admits_votes

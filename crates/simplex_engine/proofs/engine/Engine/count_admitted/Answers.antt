@@ -1,11 +1,11 @@
 -- That what comes of a vote follows from what it comes to.
 use Rattle.std.proofs.Common.{length}
-use Rattle.simplex_engine.proofs.Backing.{backed_by_none}
+use Rattle.simplex_engine.proofs.CertificateVotes.{backed_by_none}
 use Rattle.simplex_engine.proofs.Bounds.{bounded_counted}
-use Rattle.engine_outbox.proofs.Going.{stays}
-use Rattle.engine_planner.proofs.Planning.{on_ok}
-use Rattle.simplex_engine.proofs.Taking.{taken_counted}
-use Rattle.simplex_engine.proofs.Causes.{comes_wider, counted_of, vote_lacks_none}
+use Rattle.engine_outbox.proofs.Continuity.{stays}
+use Rattle.engine_planner.proofs.PlanStates.{on_ok}
+use Rattle.simplex_engine.proofs.InputResults.{taken_counted}
+use Rattle.simplex_engine.proofs.Provenance.{comes_wider, counted_of, vote_lacks_none}
 use Rattle.simplex_engine.proofs.engine.Engine.count_admitted.Goals as goal
 
 pub returns-in-Err : goal.returns-in-Err

@@ -1,12 +1,12 @@
 -- That a fetch that is closed loses nothing that is planned.
 use Rattle.std.proofs.Common.{ap, [], ◌||◌, true, subst}
 use Rattle.engine_planner.proofs.PlannedWork.{among_still, plans_let_go, keeps_still}
-use Rattle.engine_planner.specs.Matters.{planned_matters}
-use Rattle.simplex_engine.proofs.Causes.{lets_go}
+use Rattle.engine_planner.specs.Causes.{planned_matters}
+use Rattle.simplex_engine.proofs.Provenance.{lets_go}
 use Rattle.std.specs.Option.{option_map_or}
 use Rattle.std.specs.Prelude.{nat_le, OnOk}
-use Rattle.engine_fetches.specs.Wanted.{holds}
-use Rattle.engine_planner.specs.Asking.{KeepsAsking}
+use Rattle.engine_fetches.specs.OutstandingFetches.{holds}
+use Rattle.engine_planner.specs.FetchRequests.{KeepsAsking}
 use Rattle.engine_planner.proofs.StillAsking.{lets_go_asks}
 use Rattle.simplex_engine.proofs.engine.Engine.drop_final_fetches.Goals as goal
 

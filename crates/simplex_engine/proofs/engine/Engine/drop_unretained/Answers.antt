@@ -2,19 +2,19 @@
 use Rattle.std.proofs.Common.{◌≡◌, ◌∙◌, [], None, ap, sym, subst}
 use Rattle.std.specs.Prelude.{IfSome}
 use Rattle.simplex_voter.specs.Windows.{min_active}
-use Rattle.simplex_engine.specs.Alone.{ForgetsNoOther}
-use Rattle.simplex_engine.specs.Backing.{TakesNone}
-use Rattle.engine_votes.specs.Batching.{HoldsFrom}
-use Rattle.engine_outbox.specs.Going.{GoesOn}
-use Rattle.engine_planner.specs.Planning.{IsIdle}
-use Rattle.simplex_engine.proofs.Alone.{alone_still, forgets_by, forgets_none}
-use Rattle.simplex_engine.proofs.Backing.{takes_no_more, takes_same}
+use Rattle.simplex_engine.specs.OwnSteps.{ForgetsNoOther}
+use Rattle.simplex_engine.specs.CertificateVotes.{TakesNone}
+use Rattle.engine_votes.specs.StoredVotes.{HoldsFrom}
+use Rattle.engine_outbox.specs.Continuity.{GoesOn}
+use Rattle.engine_planner.specs.PlanStates.{IsIdle}
+use Rattle.simplex_engine.proofs.OwnSteps.{alone_still, forgets_by, forgets_none}
+use Rattle.simplex_engine.proofs.CertificateVotes.{takes_no_more, takes_same}
 use Rattle.simplex_engine.proofs.Bounds.{kept_from}
-use Rattle.engine_planner.proofs.Planning.{on_ok}
+use Rattle.engine_planner.proofs.PlanStates.{on_ok}
 use Rattle.simplex_engine.proofs.Tells.{tells_further, tells_planned}
 use Rattle.engine_outbox.specs.Outputs.{work_in}
-use Rattle.simplex_engine.proofs.Causes.{comes_on, comes_same, forgets_lowest, hand_alone, risen_facts}
-use Rattle.simplex_engine.specs.Causes.{forgettable, held_by, Comes}
+use Rattle.simplex_engine.proofs.Provenance.{comes_on, comes_same, forgets_lowest, hand_alone, risen_facts}
+use Rattle.simplex_engine.specs.Provenance.{forgettable, held_by, Comes}
 use Rattle.simplex_engine.proofs.engine.Engine.drop_unretained.Goals as goal
 
 pub returns-in_err-lowest-clause-alone : goal.returns-in_err-lowest-clause-alone

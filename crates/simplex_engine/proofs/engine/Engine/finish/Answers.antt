@@ -1,11 +1,11 @@
 -- That what is let go behind all steps goes on from them, and nothing is due that was not.
 use Rattle.std.proofs.Common.{ap, sym, subst}
-use Rattle.simplex_engine.specs.Quiet.{HasNothingNew}
-use Rattle.simplex_engine.proofs.Alone.{forgets_further, forgets_none}
-use Rattle.simplex_engine.proofs.Duties.{ahead_still, short_still}
+use Rattle.simplex_engine.specs.NothingDue.{HasNothingNew}
+use Rattle.simplex_engine.proofs.OwnSteps.{forgets_further, forgets_none}
+use Rattle.simplex_engine.proofs.ApplicationWork.{ahead_still, short_still}
 use Rattle.engine_planner.specs.PlannedWork.{Constants}
 use Rattle.simplex_engine.proofs.Tells.{tells_further}
-use Rattle.simplex_engine.proofs.Causes.{comes_later, forgets_no_lack}
+use Rattle.simplex_engine.proofs.Provenance.{comes_later, forgets_no_lack}
 use Rattle.simplex_engine.proofs.engine.Engine.finish.Goals as goal
 
 pub returns-in_err-run_to_short-clause-alone : goal.returns-in_err-run_to_short-clause-alone

@@ -3,12 +3,12 @@ use Rattle.std.proofs.Common.{ap, refl}
 use Rattle.std.specs.Prelude.{not}
 use Rattle.simplex_member.specs.Calls.{told}
 use Rattle.engine_planner.proofs.PlannedWork.{among_both, among_further, among_still, plans_seen}
-use Rattle.engine_planner.proofs.Following.{followed_plans}
-use Rattle.simplex_engine.proofs.Building.{come_same}
+use Rattle.engine_planner.proofs.Consequences.{followed_plans}
+use Rattle.simplex_engine.proofs.BuildBounds.{come_same}
 use Rattle.engine_planner.specs.Tasks.{call_of}
 use Rattle.engine_planner.proofs.Giving.{followed_by}
 use Rattle.engine_planner.proofs.StillAsking.{asks_over, asks_then, followed_asks}
-use Rattle.simplex_engine.specs.Causes.{is_final}
+use Rattle.simplex_engine.specs.Provenance.{is_final}
 use Rattle.simplex_engine.proofs.engine.Engine.follow.Goals as goal
 
 pub returns-in_err-see-clause-core : goal.returns-in_err-see-clause-core

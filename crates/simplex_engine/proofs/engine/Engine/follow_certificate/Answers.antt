@@ -1,13 +1,13 @@
 -- That nothing which is planned is lost.
 use Rattle.engine_planner.proofs.PlannedWork.{among_both, among_further, among_still, keeps_seen}
-use Rattle.engine_planner.proofs.Following.{certificate_followed}
+use Rattle.engine_planner.proofs.Consequences.{certificate_followed}
 use Rattle.std.proofs.Common.{refl}
-use Rattle.simplex_engine.proofs.Backing.{takes_same}
-use Rattle.simplex_engine.proofs.Building.{come_same}
+use Rattle.simplex_engine.proofs.CertificateVotes.{takes_same}
+use Rattle.simplex_engine.proofs.BuildBounds.{come_same}
 use Rattle.engine_planner.proofs.Giving.{certificate_on}
-use Rattle.simplex_engine.proofs.Causes.{fails}
+use Rattle.simplex_engine.proofs.Provenance.{fails}
 use Rattle.engine_planner.proofs.StillAsking.{asks_over, asks_then, certificate_asks}
-use Rattle.simplex_engine.specs.Causes.{is_final}
+use Rattle.simplex_engine.specs.Provenance.{is_final}
 use Rattle.simplex_engine.proofs.engine.Engine.follow_certificate.Goals as goal
 
 pub returns-clause-seen : goal.returns-clause-seen

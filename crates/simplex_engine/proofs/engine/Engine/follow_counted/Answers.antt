@@ -3,10 +3,10 @@ use Rattle.std.proofs.Common.{[], ◌∷◌, refl, sym, subst}
 use Rattle.engine_planner.proofs.PlannedWork.{has_planned}
 use Rattle.simplex_engine.proofs.Tells.{tells_planned, tells_still}
 use Rattle.engine_outbox.specs.declared.output.Work.TheVariants as work
-use Rattle.engine_planner.specs.Matters.{Duty}
-use Rattle.engine_planner.proofs.Matters.{among_last, planned_more}
-use Rattle.simplex_engine.specs.Causes.{at_hand, is_final, of_counted, ComesWith}
-use Rattle.simplex_engine.proofs.Causes.{comes_same, comes_still, counted_lacks_none, hand_with}
+use Rattle.engine_planner.specs.Causes.{Duty}
+use Rattle.engine_planner.proofs.Causes.{among_last, planned_more}
+use Rattle.simplex_engine.specs.Provenance.{at_hand, is_final, of_counted, ComesWith}
+use Rattle.simplex_engine.proofs.Provenance.{comes_same, comes_still, counted_lacks_none, hand_with}
 use Rattle.engine_planner.proofs.StillAsking.{asks_behind, asks_beside}
 use Rattle.simplex_engine.proofs.engine.Engine.follow_counted.Goals as goal
 

@@ -2,14 +2,14 @@
 use Rattle.std.proofs.Common.{length, refl, sym, subst, ap, ◌∙◌, if◌then◌else◌}
 use Rattle.std.proofs.lemmas.Bool.{false≢true}
 use Rattle.simplex_types.specs.declared.types.fault.Fault.TheVariants.{OutOfMemory, Failed}
-use Rattle.simplex_engine.specs.Admitting.{ignoring}
-use Rattle.engine_outbox.specs.Going.{has_failed}
-use Rattle.simplex_engine.specs.Taking.{IsInputTaken}
-use Rattle.engine_outbox.proofs.Going.{stays, goes_further, goes_on_anyway}
-use Rattle.simplex_engine.proofs.Backing.{input_backed_by_none, input_backed_then, takes_nothing, takes_anyway}
+use Rattle.simplex_engine.specs.Admission.{ignoring}
+use Rattle.engine_outbox.specs.Continuity.{has_failed}
+use Rattle.simplex_engine.specs.InputResults.{IsInputTaken}
+use Rattle.engine_outbox.proofs.Continuity.{stays, goes_further, goes_on_anyway}
+use Rattle.simplex_engine.proofs.CertificateVotes.{input_backed_by_none, input_backed_then, takes_nothing, takes_anyway}
 use Rattle.simplex_engine.proofs.Bounds.{bounded_still, bounded_further, bounded_same}
-use Rattle.simplex_engine.proofs.Causes.{input_lacks_none}
-use Rattle.simplex_engine.proofs.Taking.{keeps_votes}
+use Rattle.simplex_engine.proofs.Provenance.{input_lacks_none}
+use Rattle.simplex_engine.proofs.InputResults.{keeps_votes}
 use Rattle.simplex_engine.proofs.heights.Engines.{no_higher}
 use Rattle.simplex_engine.proofs.engine.Engine.handle.Goals as goal
 

@@ -1,15 +1,15 @@
 -- That a verdict is passed on just where the member offered the proposal.
 use Rattle.std.proofs.Common.{true, false, refl, sym, subst, ◌∙◌, inl, [], ◌∷◌}
 use Rattle.std.proofs.lemmas.Bool.{false≢true}
-use Rattle.engine_outbox.proofs.Going.{stays}
+use Rattle.engine_outbox.proofs.Continuity.{stays}
 use Rattle.simplex_engine.proofs.Tells.{tells_still}
 use Rattle.engine_planner.specs.declared.task.Task.TheVariants as task
-use Rattle.engine_planner.specs.Matters.{Message}
-use Rattle.engine_planner.proofs.Matters.{among_last}
+use Rattle.engine_planner.specs.Causes.{Message}
+use Rattle.engine_planner.proofs.Causes.{among_last}
 use Rattle.engine_planner.proofs.PlannedWork.{among_more}
-use Rattle.engine_planner.proofs.Planning.{on_ok}
-use Rattle.simplex_engine.specs.Causes.{at_hand}
-use Rattle.simplex_engine.proofs.Causes.{comes_still}
+use Rattle.engine_planner.proofs.PlanStates.{on_ok}
+use Rattle.simplex_engine.specs.Provenance.{at_hand}
+use Rattle.simplex_engine.proofs.Provenance.{comes_still}
 use Rattle.simplex_engine.proofs.engine.Engine.judge.Goals as goal
 
 pub returns-then-not-awaits_verdict : goal.returns-then-not-awaits_verdict

@@ -3,20 +3,20 @@ use Rattle.std.proofs.Common.{refl, ap, sym, ◌∙◌, None, subst, inl, inr, [
 use Rattle.std.proofs.lemmas.Bool.{cond_both, false≢true}
 use Rattle.std.specs.Prelude.{IfOk}
 use Rattle.engine_planner.specs.declared.task.Task.TheVariants.{SetProposal}
-use Rattle.simplex_engine.specs.Acting.{HasDoneTask}
-use Rattle.engine_outbox.specs.Going.{GoesOn}
-use Rattle.engine_outbox.proofs.Going.{stays}
+use Rattle.simplex_engine.specs.InputEffects.{HasDoneTask}
+use Rattle.engine_outbox.specs.Continuity.{GoesOn}
+use Rattle.engine_outbox.proofs.Continuity.{stays}
 use Rattle.engine_planner.specs.PlannedWork.{AreAmong}
 use Rattle.engine_planner.proofs.PlannedWork.{among_more, among_still, plans_kept}
-use Rattle.simplex_engine.specs.Admitting.{keeps_early}
+use Rattle.simplex_engine.specs.Admission.{keeps_early}
 use Rattle.simplex_engine.proofs.Tells.{tells_planned}
 use Rattle.simplex_member.specs.Calls as call
 use Rattle.engine_outbox.specs.Outputs.{work_in}
-use Rattle.engine_planner.specs.Matters.{Arrival}
-use Rattle.engine_planner.proofs.Planning.{on_ok}
-use Rattle.simplex_engine.specs.Causes.{at_hand, is_final}
-use Rattle.simplex_engine.proofs.Causes.{comes_same, hand_with, kept_early}
-use Rattle.engine_planner.specs.Asking.{asks}
+use Rattle.engine_planner.specs.Causes.{Arrival}
+use Rattle.engine_planner.proofs.PlanStates.{on_ok}
+use Rattle.simplex_engine.specs.Provenance.{at_hand, is_final}
+use Rattle.simplex_engine.proofs.Provenance.{comes_same, hand_with, kept_early}
+use Rattle.engine_planner.specs.FetchRequests.{asks}
 use Rattle.engine_planner.proofs.StillAsking.{asks_beside, keeps_asking}
 use Rattle.simplex_engine.proofs.engine.Engine.offer.Goals as goal
 

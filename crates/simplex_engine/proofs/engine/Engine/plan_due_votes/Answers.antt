@@ -1,11 +1,11 @@
 -- That a view which is touched loses nothing that is planned, and that nothing changes where nothing is due.
 use Rattle.std.proofs.Common.{is_some, refl, ap}
 use Rattle.engine_planner.proofs.PlannedWork.{among_still, has_planned, keeps_still}
-use Rattle.engine_planner.specs.Matters.{planned_matters}
-use Rattle.engine_planner.specs.Planning.{watching}
-use Rattle.engine_planner.proofs.Matters.{planned_alone}
-use Rattle.simplex_engine.proofs.Causes.{fails}
-use Rattle.engine_planner.specs.Asking.{never}
+use Rattle.engine_planner.specs.Causes.{planned_matters}
+use Rattle.engine_planner.specs.PlanStates.{watching}
+use Rattle.engine_planner.proofs.Causes.{planned_alone}
+use Rattle.simplex_engine.proofs.Provenance.{fails}
+use Rattle.engine_planner.specs.FetchRequests.{never}
 use Rattle.engine_planner.proofs.StillAsking.{as_watched, asks_behind, asks_where_same}
 use Rattle.simplex_engine.proofs.engine.Engine.plan_due_votes.Goals as goal
 

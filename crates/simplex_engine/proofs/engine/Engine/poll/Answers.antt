@@ -4,23 +4,23 @@ use Rattle.std.specs.Prelude.{option_to_list, IfErr, IsNone}
 use Rattle.std.proofs.lemmas.Bool.{true≢false}
 use Rattle.simplex_types.specs.declared.types.fault.Fault.{Fault}
 use Rattle.simplex_types.specs.declared.types.fault.Fault.TheVariants.{OutOfMemory, Failed}
-use Rattle.engine_outbox.specs.Finals.{TellsNoMore}
-use Rattle.simplex_engine.specs.Failing.{IsFailure}
+use Rattle.engine_outbox.specs.Finalizations.{TellsNoMore}
+use Rattle.simplex_engine.specs.Failures.{IsFailure}
 use Rattle.simplex_engine.specs.Inputs.{given_out}
-use Rattle.simplex_engine.specs.Settled.{ReturnsFirst}
-use Rattle.engine_outbox.proofs.Finals.{tells_still}
-use Rattle.simplex_engine.proofs.Alone.{forgets_nothing}
-use Rattle.simplex_engine.proofs.Building.{come_beside, early_anyway, near_same}
+use Rattle.simplex_engine.specs.AtRest.{ReturnsFirst}
+use Rattle.engine_outbox.proofs.Finalizations.{tells_still}
+use Rattle.simplex_engine.proofs.OwnSteps.{forgets_nothing}
+use Rattle.simplex_engine.proofs.BuildBounds.{come_beside, early_anyway, near_same}
 use Rattle.simplex_engine.proofs.Bounds.{bounded_same, bounded_admitted}
-use Rattle.engine_outbox.proofs.Going.{stays, gives_then, gives_none, gives_later, does_nothing_more, where_ok}
-use Rattle.engine_outbox.specs.Going.{EmitsTraced}
+use Rattle.engine_outbox.proofs.Continuity.{stays, gives_then, gives_none, gives_later, does_nothing_more, where_ok}
+use Rattle.engine_outbox.specs.Continuity.{EmitsTraced}
 use Rattle.engine_outbox.specs.Signatures.{EmitsSigned}
 use Rattle.simplex_engine.proofs.Tells.{tells_given, still_told, works_given}
-use Rattle.engine_planner.proofs.Matters.{among_last}
+use Rattle.engine_planner.proofs.Causes.{among_last}
 use Rattle.engine_planner.proofs.PlannedWork.{among_further, among_still}
-use Rattle.engine_planner.proofs.Planning.{on_ok}
-use Rattle.simplex_engine.specs.Causes.{at_hand, forgettable}
-use Rattle.simplex_engine.proofs.Causes.{comes_before, comes_still, forgets_no_lack, hand_given}
+use Rattle.engine_planner.proofs.PlanStates.{on_ok}
+use Rattle.simplex_engine.specs.Provenance.{at_hand, forgettable}
+use Rattle.simplex_engine.proofs.Provenance.{comes_before, comes_still, forgets_no_lack, hand_given}
 use Rattle.simplex_engine.proofs.heights.Engines.{no_higher}
 use Rattle.simplex_engine.proofs.engine.Engine.poll.Goals as goal
 

@@ -2,23 +2,23 @@
 use Rattle.std.proofs.Common.{◌≡◌, [], true, refl, ap, sym, subst, length, ◌≤◌, false}
 use Rattle.std.specs.Prelude.{IfSome, option_to_list}
 use Rattle.simplex_voter.specs.Windows.{min_active}
-use Rattle.engine_votes.specs.Batching.{HoldsFrom}
-use Rattle.engine_fetches.specs.Wanted.{holds, AsksForTheLacking}
-use Rattle.engine_outbox.specs.Going.{has_failed}
-use Rattle.engine_outbox.specs.Reaching.{IsShort}
-use Rattle.simplex_engine.specs.Quiet.{HasNothingNew}
-use Rattle.simplex_engine.proofs.Backing.{takes_nothing}
-use Rattle.simplex_engine.proofs.Alone.{forgets_as}
+use Rattle.engine_votes.specs.StoredVotes.{HoldsFrom}
+use Rattle.engine_fetches.specs.OutstandingFetches.{holds, AsksForTheLacking}
+use Rattle.engine_outbox.specs.Continuity.{has_failed}
+use Rattle.engine_outbox.specs.RecordReach.{IsShort}
+use Rattle.simplex_engine.specs.NothingDue.{HasNothingNew}
+use Rattle.simplex_engine.proofs.CertificateVotes.{takes_nothing}
+use Rattle.simplex_engine.proofs.OwnSteps.{forgets_as}
 use Rattle.simplex_engine.proofs.Bounds.{bounded_still, bounded_further, bounded_same}
-use Rattle.engine_outbox.proofs.Going.{gives_then, gives_none, goes_further, gives_nothing, does_more, tells_no_other, tells_no_other_then}
+use Rattle.engine_outbox.proofs.Continuity.{gives_then, gives_none, goes_further, gives_nothing, does_more, tells_no_other, tells_no_other_then}
 use Rattle.simplex_engine.proofs.Tells.{tells_given, all_left, works_given}
 use Rattle.engine_outbox.specs.Outputs.{work_in}
 use Rattle.engine_planner.specs.Blocks.{builds_from}
 use Rattle.engine_planner.proofs.PlannedWork.{among_further}
-use Rattle.simplex_engine.proofs.Building.{come_beside, near_same}
-use Rattle.simplex_engine.specs.Views.{StaysEarly}
-use Rattle.simplex_engine.specs.Causes.{forgettable, held_by, Comes}
-use Rattle.simplex_engine.proofs.Causes.{comes_still, comes_then, hand_given, risen_facts}
+use Rattle.simplex_engine.proofs.BuildBounds.{come_beside, near_same}
+use Rattle.simplex_engine.specs.MemberViews.{StaysEarly}
+use Rattle.simplex_engine.specs.Provenance.{forgettable, held_by, Comes}
+use Rattle.simplex_engine.proofs.Provenance.{comes_still, comes_then, hand_given, risen_facts}
 use Rattle.std.specs.Option.{option_map_or}
 use Rattle.simplex_engine.proofs.engine.Engine.poll_after_work.Goals as goal
 

@@ -1,12 +1,12 @@
 -- That the views which are over are dropped first, and then the record is made short.
 use Rattle.std.proofs.Common.{ap, refl, [], inl}
-use Rattle.engine_outbox.proofs.Going.{goes_further}
+use Rattle.engine_outbox.proofs.Continuity.{goes_further}
 use Rattle.simplex_engine.proofs.Tells.{tells_further, tells_beside}
 use Rattle.engine_planner.specs.declared.task.Task.TheVariants as task
-use Rattle.engine_planner.specs.Matters.{planned_matters}
-use Rattle.engine_planner.proofs.Matters.{among_none}
+use Rattle.engine_planner.specs.Causes.{planned_matters}
+use Rattle.engine_planner.proofs.Causes.{among_none}
 use Rattle.engine_planner.proofs.PlannedWork.{among_still}
-use Rattle.simplex_engine.proofs.Causes.{comes_on, comes_pruned, hand_alone}
+use Rattle.simplex_engine.proofs.Provenance.{comes_on, comes_pruned, hand_alone}
 use Rattle.simplex_engine.proofs.engine.Engine.prune_record.Goals as goal
 
 pub returns-in_err-ask-clause-alone : goal.returns-in_err-ask-clause-alone

@@ -1,7 +1,7 @@
 -- That nothing is done but to queue the work.
 use Rattle.std.proofs.Common.{refl, ap}
 use Rattle.simplex_engine.proofs.Tells.{tells_pushed}
-use Rattle.simplex_engine.proofs.Causes.{comes_still, hand_pushed, work_lacks_none}
+use Rattle.simplex_engine.proofs.Provenance.{comes_still, hand_pushed, work_lacks_none}
 use Rattle.simplex_engine.proofs.engine.Engine.push.Goals as goal
 
 pub returns-in_err-push-clause-alone : goal.returns-in_err-push-clause-alone

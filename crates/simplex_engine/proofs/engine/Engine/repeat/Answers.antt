@@ -2,9 +2,9 @@
 use Rattle.std.proofs.Common.{refl, ap}
 use Rattle.simplex_engine.proofs.Tells.{tells_beside}
 use Rattle.engine_outbox.proofs.Working.{repeated_no_work}
-use Rattle.engine_planner.specs.Matters.{planned_matters}
+use Rattle.engine_planner.specs.Causes.{planned_matters}
 use Rattle.engine_planner.proofs.PlannedWork.{among_still}
-use Rattle.simplex_engine.proofs.Causes.{comes_still, hand_alone}
+use Rattle.simplex_engine.proofs.Provenance.{comes_still, hand_alone}
 use Rattle.simplex_engine.proofs.engine.Engine.repeat.Goals as goal
 
 pub returns-in_err-repeat-clause-alone : goal.returns-in_err-repeat-clause-alone

@@ -1,12 +1,12 @@
 -- That nothing is done but to queue the work.
 use Rattle.std.proofs.Common.{refl, ap}
-use Rattle.simplex_engine.proofs.Alone.{alone_still}
+use Rattle.simplex_engine.proofs.OwnSteps.{alone_still}
 use Rattle.simplex_engine.proofs.Tells.{tells_beside, tells_still}
 use Rattle.engine_outbox.specs.declared.output.Work.TheVariants as work
-use Rattle.engine_planner.specs.Matters.{of_work}
-use Rattle.engine_planner.proofs.Matters.{among_last}
-use Rattle.simplex_engine.specs.Causes.{at_hand}
-use Rattle.simplex_engine.proofs.Causes.{comes_still, hand_pushed}
+use Rattle.engine_planner.specs.Causes.{of_work}
+use Rattle.engine_planner.proofs.Causes.{among_last}
+use Rattle.simplex_engine.specs.Provenance.{at_hand}
+use Rattle.simplex_engine.proofs.Provenance.{comes_still, hand_pushed}
 use Rattle.simplex_engine.proofs.engine.Engine.report_forgotten.Goals as goal
 
 pub returns-then-le : goal.returns-then-le

@@ -1,7 +1,7 @@
 -- That a fetch loses nothing that is planned.
 use Rattle.std.proofs.Common.{Ok}
 use Rattle.engine_planner.proofs.PlannedWork.{plans_opened}
-use Rattle.simplex_engine.proofs.Causes.{fails, resolved}
+use Rattle.simplex_engine.proofs.Provenance.{fails, resolved}
 use Rattle.engine_planner.proofs.StillAsking.{resolves_asks}
 use Rattle.simplex_engine.proofs.engine.Engine.resolve.Goals as goal
 

@@ -3,13 +3,13 @@ use Rattle.std.proofs.Common.{◌≡◌, sym, subst, ap, ◌∙◌, refl, inr, O
 use Rattle.simplex_record.specs.Entries.{entries_of}
 use Rattle.simplex_record.specs.Start.{start_facts}
 use Rattle.simplex_member.specs.Journal.{IsResumed}
-use Rattle.laws_safety.specs.Living.{HasGoneOn}
+use Rattle.laws_safety.specs.MemberHistory.{HasGoneOn}
 use Rattle.simplex_engine.proofs.Bounds.{bounded_empty}
-use Rattle.engine_outbox.proofs.Going.{where_ok}
+use Rattle.engine_outbox.proofs.Continuity.{where_ok}
 use Rattle.simplex_engine.proofs.Tells.{restart_waits, tells_none}
 use Rattle.std.proofs.lemmas.Bool.{eqb-true}
-use Rattle.simplex_engine.proofs.Beginning.{has_retry, not_begun}
-use Rattle.simplex_engine.proofs.Causes.{both_ok, nothing_held}
+use Rattle.simplex_engine.proofs.EngineStart.{has_retry, not_begun}
+use Rattle.simplex_engine.proofs.Provenance.{both_ok, nothing_held}
 use Rattle.simplex_engine.proofs.heights.Engines.{heights_begun}
 use Rattle.simplex_record.specs.Votes.{votes_of}
 use Rattle.simplex_engine.proofs.engine.Engine.resume.Goals as goal

@@ -1,10 +1,10 @@
 -- That each step goes on from the ones before.
 use Rattle.std.proofs.Common.{refl}
-use Rattle.simplex_engine.proofs.Alone.{alone_still, alone_further}
+use Rattle.simplex_engine.proofs.OwnSteps.{alone_still, alone_further}
 use Rattle.simplex_engine.proofs.Tells.{tells_still, tells_further}
 use Rattle.engine_planner.proofs.PlannedWork.{among_still}
-use Rattle.simplex_engine.specs.Causes.{at_hand}
-use Rattle.simplex_engine.proofs.Causes.{comes_on, comes_still}
+use Rattle.simplex_engine.specs.Provenance.{at_hand}
+use Rattle.simplex_engine.proofs.Provenance.{comes_on, comes_still}
 use Rattle.simplex_engine.proofs.engine.Engine.run.Goals as goal
 
 pub returns-in_err-step-clause-alone : goal.returns-in_err-step-clause-alone

@@ -1,7 +1,7 @@
 -- The engine went on by itself by the steps so far, and told all that the member waits for; all comes of what was at hand.
-use Rattle.simplex_engine.specs.Alone.{GoesOnAlone}
-use Rattle.simplex_engine.specs.Causes.{ComesAlone}
-use Rattle.simplex_engine.specs.Duties.{KeepsDuties}
+use Rattle.simplex_engine.specs.OwnSteps.{GoesOnAlone}
+use Rattle.simplex_engine.specs.Provenance.{ComesAlone}
+use Rattle.simplex_engine.specs.ApplicationWork.{KeepsDuties}
 use Rattle.simplex_engine.proofs.engine.Engine.run_all.Given as goal
 
 abbrev pub invariant-loop : goal.invariant-loop

@@ -2,16 +2,16 @@
 use Rattle.std.proofs.Common.{None, sym, subst, ap}
 use Rattle.std.proofs.lemmas.Bool.{false≢true}
 use Rattle.std.proofs.lemmas.Result.{IfOk-weaker}
-use Rattle.engine_outbox.specs.Going.{GoesOn}
-use Rattle.engine_outbox.proofs.Going.{stays}
-use Rattle.engine_planner.specs.Planning.{IsIdle}
-use Rattle.engine_planner.proofs.Planning.{on_ok, on_ok_both}
-use Rattle.simplex_engine.specs.Building.{BuildsAhead}
-use Rattle.simplex_engine.specs.Quiet.{for_work, AnswerNothing}
-use Rattle.simplex_engine.proofs.Alone.{alone_further, alone_with}
+use Rattle.engine_outbox.specs.Continuity.{GoesOn}
+use Rattle.engine_outbox.proofs.Continuity.{stays}
+use Rattle.engine_planner.specs.PlanStates.{IsIdle}
+use Rattle.engine_planner.proofs.PlanStates.{on_ok, on_ok_both}
+use Rattle.simplex_engine.specs.BuildBounds.{BuildsAhead}
+use Rattle.simplex_engine.specs.NothingDue.{for_work, AnswerNothing}
+use Rattle.simplex_engine.proofs.OwnSteps.{alone_further, alone_with}
 use Rattle.simplex_engine.proofs.Tells.{tells_further, tells_planned}
 use Rattle.engine_outbox.specs.Outputs.{work_in}
-use Rattle.simplex_engine.proofs.Causes.{comes_on, comes_same, hand_alone, risen_facts}
+use Rattle.simplex_engine.proofs.Provenance.{comes_on, comes_same, hand_alone, risen_facts}
 use Rattle.engine_planner.proofs.StillAsking.{asks_over}
 use Rattle.simplex_engine.proofs.engine.Engine.run_and_ask.Goals as goal
 

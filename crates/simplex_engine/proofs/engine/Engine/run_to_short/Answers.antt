@@ -1,14 +1,14 @@
 -- That steps and prunings go on one behind the other, and that all is done where the record is short.
 use Rattle.std.proofs.Common.{refl, sym, subst}
-use Rattle.engine_planner.specs.Planning.{IsIdle}
-use Rattle.simplex_engine.specs.Building.{BuildsAhead}
-use Rattle.simplex_engine.specs.Quiet.{HasNothingNew}
-use Rattle.simplex_engine.proofs.Alone.{alone_still, alone_further}
-use Rattle.simplex_engine.proofs.Duties.{ahead_still}
+use Rattle.engine_planner.specs.PlanStates.{IsIdle}
+use Rattle.simplex_engine.specs.BuildBounds.{BuildsAhead}
+use Rattle.simplex_engine.specs.NothingDue.{HasNothingNew}
+use Rattle.simplex_engine.proofs.OwnSteps.{alone_still, alone_further}
+use Rattle.simplex_engine.proofs.ApplicationWork.{ahead_still}
 use Rattle.simplex_engine.proofs.Tells.{tells_still, tells_further}
 use Rattle.engine_planner.proofs.PlannedWork.{among_still}
-use Rattle.simplex_engine.specs.Causes.{at_hand}
-use Rattle.simplex_engine.proofs.Causes.{comes_on, comes_still}
+use Rattle.simplex_engine.specs.Provenance.{at_hand}
+use Rattle.simplex_engine.proofs.Provenance.{comes_on, comes_still}
 use Rattle.simplex_engine.proofs.engine.Engine.run_to_short.Goals as goal
 
 pub returns-in_err-run_all-clause-alone : goal.returns-in_err-run_all-clause-alone

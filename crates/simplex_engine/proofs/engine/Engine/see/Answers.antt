@@ -1,10 +1,10 @@
 -- That nothing but what is planned changes.
 use Rattle.std.proofs.Common.{◌≡◌, ◌∙◌, ap, refl, subst, [], true}
 use Rattle.std.specs.Prelude.{IfSome, nat_le}
-use Rattle.engine_planner.proofs.Entering.{seen_keeps, seen_views}
+use Rattle.engine_planner.proofs.ViewChanges.{seen_keeps, seen_views}
 use Rattle.engine_planner.proofs.Giving.{seen_alone}
 use Rattle.std.specs.Option.{option_map_or}
-use Rattle.engine_planner.specs.Asking.{KeepsAsking}
+use Rattle.engine_planner.specs.FetchRequests.{KeepsAsking}
 use Rattle.engine_planner.proofs.StillAsking.{seen_asks}
 use Rattle.simplex_engine.proofs.engine.Engine.see.Goals as goal
 

@@ -2,15 +2,15 @@
 use Rattle.std.proofs.Common.{refl, sym, subst, ◌∙◌, ap, ◌≡◌, [], true, false}
 use Rattle.std.specs.Prelude.{IfSome}
 use Rattle.simplex_voter.specs.Windows.{min_active}
-use Rattle.engine_votes.specs.Batching.{HoldsFrom}
-use Rattle.engine_fetches.specs.Wanted.{holds, AsksForTheLacking}
-use Rattle.simplex_engine.proofs.Alone.{forgets_then}
+use Rattle.engine_votes.specs.StoredVotes.{HoldsFrom}
+use Rattle.engine_fetches.specs.OutstandingFetches.{holds, AsksForTheLacking}
+use Rattle.simplex_engine.proofs.OwnSteps.{forgets_then}
 use Rattle.simplex_engine.proofs.Tells.{tells_further, tells_beside}
-use Rattle.engine_planner.specs.Matters.{planned_matters}
+use Rattle.engine_planner.specs.Causes.{planned_matters}
 use Rattle.engine_planner.proofs.PlannedWork.{among_still}
-use Rattle.simplex_engine.proofs.Causes.{comes_still, comes_then, hand_alone, risen_facts}
+use Rattle.simplex_engine.proofs.Provenance.{comes_still, comes_then, hand_alone, risen_facts}
 use Rattle.std.specs.Option.{option_map_or}
-use Rattle.simplex_engine.specs.Causes.{forgettable, held_by, Comes}
+use Rattle.simplex_engine.specs.Provenance.{forgettable, held_by, Comes}
 use Rattle.simplex_engine.proofs.engine.Engine.settle.Goals as goal
 
 pub returns-in_err-drop_unretained-clause-alone : goal.returns-in_err-drop_unretained-clause-alone

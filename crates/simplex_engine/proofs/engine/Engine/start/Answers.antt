@@ -3,13 +3,13 @@ use Rattle.std.proofs.Common.{◌≡◌, sym, subst, ap, inr, refl, ◌∙◌, [
 use Rattle.simplex_types.specs.Config.{floor_facts}
 use Rattle.simplex_record.specs.Start.{set_up}
 use Rattle.simplex_member.specs.Start.{started_member}
-use Rattle.laws_safety.specs.Living.{HasBegun}
+use Rattle.laws_safety.specs.MemberHistory.{HasBegun}
 use Rattle.simplex_engine.proofs.Bounds.{bounded_empty}
-use Rattle.engine_outbox.proofs.Going.{where_ok}
+use Rattle.engine_outbox.proofs.Continuity.{where_ok}
 use Rattle.simplex_engine.proofs.Tells.{tells_none}
 use Rattle.std.proofs.lemmas.Bool.{eqb-true}
-use Rattle.simplex_engine.proofs.Beginning.{has_retry, not_begun}
-use Rattle.simplex_engine.proofs.Causes.{both_ok, nothing_held}
+use Rattle.simplex_engine.proofs.EngineStart.{has_retry, not_begun}
+use Rattle.simplex_engine.proofs.Provenance.{both_ok, nothing_held}
 use Rattle.simplex_engine.proofs.heights.Engines.{heights_begun}
 use Rattle.simplex_engine.proofs.engine.Engine.start.Goals as goal
 

@@ -2,13 +2,13 @@
 use Rattle.std.proofs.Common.{◌++◌, [], false, refl, subst}
 use Rattle.std.specs.Prelude.{option_to_list}
 use Rattle.engine_planner.specs.PlannedWork.{AreAmong, IsPlanned, beside_of, work_planned}
-use Rattle.engine_planner.proofs.Filling.{taken_keeps}
-use Rattle.engine_outbox.proofs.Going.{stays}
+use Rattle.engine_planner.proofs.StepSelection.{taken_keeps}
+use Rattle.engine_outbox.proofs.Continuity.{stays}
 use Rattle.simplex_engine.proofs.Tells.{tells_planned, tells_taken}
-use Rattle.engine_planner.specs.Matters.{of_steps, planned_matters}
+use Rattle.engine_planner.specs.Causes.{of_steps, planned_matters}
 use Rattle.engine_planner.proofs.Giving.{taken_alone}
-use Rattle.engine_planner.proofs.Planning.{on_ok}
-use Rattle.simplex_engine.proofs.Causes.{asks_none, comes_same, comes_taken, hand_alone, taken_hand}
+use Rattle.engine_planner.proofs.PlanStates.{on_ok}
+use Rattle.simplex_engine.proofs.Provenance.{asks_none, comes_same, comes_taken, hand_alone, taken_hand}
 use Rattle.engine_planner.proofs.StillAsking.{taken_asks, AsksOn}
 use Rattle.simplex_engine.proofs.engine.Engine.step.Goals as goal
 

@@ -1,11 +1,11 @@
 -- That all of the record is queued, and then short.
 use Rattle.std.proofs.Common.{◌≡◌, Bool, true, false, not, refl, ap, subst}
 use Rattle.std.proofs.lemmas.Bool.{false≢true}
-use Rattle.engine_outbox.specs.Reaching.{IsShort}
+use Rattle.engine_outbox.specs.RecordReach.{IsShort}
 use Rattle.simplex_engine.proofs.Tells.{tells_beside}
-use Rattle.engine_planner.specs.Matters.{planned_matters}
+use Rattle.engine_planner.specs.Causes.{planned_matters}
 use Rattle.engine_planner.proofs.PlannedWork.{among_still}
-use Rattle.simplex_engine.proofs.Causes.{comes_still, hand_alone}
+use Rattle.simplex_engine.proofs.Provenance.{comes_still, hand_alone}
 use Rattle.simplex_engine.proofs.engine.Engine.store_and_measure.Goals as goal
 
 is_not : (b : Bool) → not b ≡ true → b ≡ false

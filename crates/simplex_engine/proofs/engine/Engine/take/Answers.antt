@@ -1,7 +1,7 @@
 -- That an input which was of no use is counted.
 use Rattle.std.proofs.Common.{ap}
-use Rattle.simplex_engine.specs.Admitting.{ignoring}
-use Rattle.simplex_engine.proofs.Taking.{taken_otherwise, taken_of_no_use}
+use Rattle.simplex_engine.specs.Admission.{ignoring}
+use Rattle.simplex_engine.proofs.InputResults.{taken_otherwise, taken_of_no_use}
 use Rattle.simplex_engine.proofs.engine.Engine.take.Goals as goal
 
 pub returns-then-is_in_vain : goal.returns-then-is_in_vain

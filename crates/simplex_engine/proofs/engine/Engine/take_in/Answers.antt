@@ -3,16 +3,16 @@ use Rattle.std.proofs.Common.{refl, sym, subst, inl, [], ◌∷◌}
 use Rattle.std.specs.Prelude.{IfOk, IsFalse}
 use Rattle.std.proofs.lemmas.Bool.{false≢true}
 use Rattle.simplex_engine.specs.declared.input.Input.TheVariants as input
-use Rattle.simplex_engine.specs.Acting.{HasDoneTask}
-use Rattle.simplex_engine.specs.Admitting.{IsTurnedAway}
-use Rattle.simplex_engine.specs.Taking.{IsInputTaken}
-use Rattle.simplex_engine.proofs.Taking.{taken_alone}
+use Rattle.simplex_engine.specs.InputEffects.{HasDoneTask}
+use Rattle.simplex_engine.specs.Admission.{IsTurnedAway}
+use Rattle.simplex_engine.specs.InputResults.{IsInputTaken}
+use Rattle.simplex_engine.proofs.InputResults.{taken_alone}
 use Rattle.engine_planner.specs.declared.task.Task.TheVariants as task
-use Rattle.engine_planner.specs.Matters.{Message}
+use Rattle.engine_planner.specs.Causes.{Message}
 use Rattle.engine_planner.proofs.PlannedWork.{among_more}
-use Rattle.engine_planner.proofs.Planning.{on_ok}
-use Rattle.simplex_engine.specs.Causes.{at_hand}
-use Rattle.simplex_engine.proofs.Causes.{told_verified}
+use Rattle.engine_planner.proofs.PlanStates.{on_ok}
+use Rattle.simplex_engine.specs.Provenance.{at_hand}
+use Rattle.simplex_engine.proofs.Provenance.{told_verified}
 use Rattle.simplex_engine.proofs.engine.Engine.take_in.Goals as goal
 
 pub returns-in-Proposal : goal.returns-in-Proposal

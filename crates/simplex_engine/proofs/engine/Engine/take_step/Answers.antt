@@ -1,17 +1,17 @@
 -- That each step is taken by what is for it.
 use Rattle.std.proofs.Common.{None, refl, ◌∷◌, [], sym, subst, ap}
-use Rattle.simplex_engine.specs.Duties.{KeepsTaken}
+use Rattle.simplex_engine.specs.ApplicationWork.{KeepsTaken}
 use Rattle.engine_planner.specs.PlannedWork.{work_planned}
-use Rattle.engine_outbox.specs.Going.{GoesOn}
+use Rattle.engine_outbox.specs.Continuity.{GoesOn}
 use Rattle.engine_planner.specs.declared.plan.Step.TheVariants as step
-use Rattle.simplex_engine.proofs.Alone.{alone_with}
-use Rattle.engine_outbox.proofs.Going.{stays}
-use Rattle.engine_planner.proofs.Planning.{on_ok}
+use Rattle.simplex_engine.proofs.OwnSteps.{alone_with}
+use Rattle.engine_outbox.proofs.Continuity.{stays}
+use Rattle.engine_planner.proofs.PlanStates.{on_ok}
 use Rattle.simplex_engine.proofs.Tells.{on_any, passed_on, tells_other, tells_planned}
 use Rattle.engine_outbox.specs.Outputs.{work_in}
-use Rattle.engine_planner.specs.Matters.{Lack, of_step}
-use Rattle.simplex_engine.specs.Causes.{ComesWith}
-use Rattle.simplex_engine.proofs.Causes.{comes_same, hand_with}
+use Rattle.engine_planner.specs.Causes.{Lack, of_step}
+use Rattle.simplex_engine.specs.Provenance.{ComesWith}
+use Rattle.simplex_engine.proofs.Provenance.{comes_same, hand_with}
 use Rattle.engine_planner.proofs.StillAsking.{asks_over}
 use Rattle.simplex_engine.proofs.engine.Engine.take_step.Goals as goal
 

@@ -1,15 +1,15 @@
 -- That the engine goes on from a moment that has come.
 use Rattle.std.proofs.Common.{refl, ap, ◌∙◌}
-use Rattle.engine_outbox.proofs.Going.{stays}
-use Rattle.simplex_engine.proofs.Alone.{forgets_further}
+use Rattle.engine_outbox.proofs.Continuity.{stays}
+use Rattle.simplex_engine.proofs.OwnSteps.{forgets_further}
 use Rattle.simplex_engine.proofs.Tells.{tells_further, tells_planned}
 use Rattle.engine_planner.proofs.PlannedWork.{among_all, plans_begun}
-use Rattle.engine_planner.proofs.Planning.{on_ok, on_ok_both}
-use Rattle.engine_planner.specs.Matters.{planned_matters}
-use Rattle.simplex_engine.proofs.Causes.{comes_later, comes_same, forgets_no_lack, hand_alone}
-use Rattle.engine_planner.specs.Asking.{asks}
+use Rattle.engine_planner.proofs.PlanStates.{on_ok, on_ok_both}
+use Rattle.engine_planner.specs.Causes.{planned_matters}
+use Rattle.simplex_engine.proofs.Provenance.{comes_later, comes_same, forgets_no_lack, hand_alone}
+use Rattle.engine_planner.specs.FetchRequests.{asks}
 use Rattle.engine_planner.proofs.StillAsking.{keeps_asking}
-use Rattle.simplex_engine.specs.Causes.{is_final}
+use Rattle.simplex_engine.specs.Provenance.{is_final}
 use Rattle.simplex_engine.proofs.engine.Engine.work.Goals as goal
 
 pub returns : goal.returns

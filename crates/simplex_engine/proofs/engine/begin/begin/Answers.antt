@@ -1,10 +1,10 @@
 -- That the engine begins with its company.
 use Rattle.std.proofs.Common.{ap, refl, sym, subst}
 use Rattle.std.proofs.lemmas.Result.{err_from_is_err_and}
-use Rattle.engine_outbox.specs.Going.{BeginsTraced}
+use Rattle.engine_outbox.specs.Continuity.{BeginsTraced}
 use Rattle.engine_outbox.specs.Signatures.{BeginsSigned}
-use Rattle.simplex_engine.specs.Beginning.{with_a_retry, IsPlanOf}
-use Rattle.simplex_engine.proofs.Beginning.{begun_with}
+use Rattle.simplex_engine.specs.EngineStart.{with_a_retry, IsPlanOf}
+use Rattle.simplex_engine.proofs.EngineStart.{begun_with}
 use Rattle.simplex_engine.proofs.engine.begin.begin.Goals as goal
 
 pub returns-clause-begun : goal.returns-clause-begun

@@ -3,10 +3,10 @@ use Rattle.std.proofs.Common.{◌≡◌, ◌∙◌, ◌∷◌, ap, sym, subst, r
 use Rattle.std.specs.Prelude.{IfSome}
 use Rattle.simplex_resolver.specs.RecordCalls.{calls_of}
 use Rattle.simplex_resolver.specs.Steps.{Replayed}
-use Rattle.simplex_resolver.specs.Told.{HasBeenTold}
-use Rattle.engine_fetches.specs.Wanted.{wanting}
+use Rattle.simplex_resolver.specs.CallHistory.{HasBeenTold}
+use Rattle.engine_fetches.specs.OutstandingFetches.{wanting}
 use Rattle.engine_planner.specs.declared.plan.Views.{Views}
-use Rattle.simplex_engine.proofs.Beginning.{is_repair_of}
+use Rattle.simplex_engine.proofs.EngineStart.{is_repair_of}
 use Rattle.simplex_engine.proofs.engine.begin.plan_of.Goals as goal
 
 pub returns-clause-plan : goal.returns-clause-plan

@@ -1,7 +1,7 @@
 -- How the contract of `by_view` follows: a stable sort of a copy by view is the entries by rising view, in their order within one.
 use Rattle.std.proofs.Common.{rules}
 use Rattle.std.proofs.lemmas.List.Sorted.{IsNonDecreasingBy-from_sort_by_key, answers_always}
-use Rattle.simplex_types.specs.Viewed.{artifact_view}
+use Rattle.simplex_types.specs.MessageViews.{artifact_view}
 use Rattle.simplex_member.proofs.Restarts.{sorted_copy}
 use Rattle.simplex_member.proofs.member.restart.by_view.Goals as goal
 

@@ -3,7 +3,7 @@ use Rattle.std.proofs.Common.{drop, ◌+◌}
 use Rattle.std.proofs.lemmas.Result.{err_from_is_err_and}
 use Rattle.simplex_types.specs.Certificates.{artifact_facts}
 use Rattle.simplex_record.specs.Entries.{entries_of}
-use Rattle.simplex_record.proofs.Seen.{tested_none, tested_next, stopped, entries_from}
+use Rattle.simplex_record.proofs.CheckState.{tested_none, tested_next, stopped, entries_from}
 use Rattle.simplex_record.proofs.record.check.check_entries.Goals as goal
 
 pub loop-artifact-init : goal.loop-artifact-init

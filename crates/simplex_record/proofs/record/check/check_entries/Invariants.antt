@@ -1,7 +1,7 @@
 -- The loop of `check_entries`: what was seen decides of the entries that are left.
 use Rattle.std.proofs.Common.{drop}
 use Rattle.simplex_record.specs.Entries.{entries_of}
-use Rattle.simplex_record.proofs.Seen.{Tested}
+use Rattle.simplex_record.proofs.CheckState.{Tested}
 use Rattle.simplex_record.proofs.record.check.check_entries.Given as goal
 
 abbrev pub invariant-loop-artifact : goal.invariant-loop-artifact

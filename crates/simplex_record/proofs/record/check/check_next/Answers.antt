@@ -4,8 +4,8 @@ use Rattle.std.proofs.lemmas.Result.{err_from_is_err_and}
 use Rattle.simplex_view_maps.proofs.Maps.{is_lt-nat_cmp}
 use Rattle.simplex_types.specs.Certificates.{artifact_facts}
 use Rattle.simplex_record.specs.Entries.{entry_view}
-use Rattle.simplex_record.specs.Seen.{turned_to}
-use Rattle.simplex_record.proofs.Seen.{view_of_entry, breaks_alone, breaks_beside}
+use Rattle.simplex_record.specs.CheckState.{turned_to}
+use Rattle.simplex_record.proofs.CheckState.{view_of_entry, breaks_alone, breaks_beside}
 use Rattle.simplex_record.proofs.record.check.check_next.Goals as goal
 
 pub returns-in_err-check_alone-clause-broken : goal.returns-in_err-check_alone-clause-broken

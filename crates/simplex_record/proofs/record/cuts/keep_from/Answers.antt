@@ -1,7 +1,7 @@
 -- How the contract of `keep_from` follows: a filter of the artifacts by view is one of their entries and of their votes.
 use Rattle.std.proofs.Common.{rules, leb, nat_le, ap, ◌∙◌}
 use Rattle.std.proofs.lemmas.Fn.{filter_same}
-use Rattle.simplex_types.specs.Viewed.{artifact_view}
+use Rattle.simplex_types.specs.MessageViews.{artifact_view}
 use Rattle.simplex_record.specs.Entries.{entries_of}
 use Rattle.simplex_record.specs.Votes.{votes_of}
 use Rattle.simplex_record.proofs.Cuts.{entries_kept}

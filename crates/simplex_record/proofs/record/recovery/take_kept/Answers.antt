@@ -6,7 +6,7 @@ use Rattle.simplex_voter.specs.Facts.{StateFacts}
 use Rattle.simplex_voter.specs.Windows.{min_active}
 use Rattle.simplex_record.specs.Entries.{entry_view}
 use Rattle.simplex_record.proofs.Recovery.{kept_taken, low_taken}
-use Rattle.simplex_record.proofs.Seen.{view_of_entry}
+use Rattle.simplex_record.proofs.CheckState.{view_of_entry}
 use Rattle.simplex_record.proofs.record.recovery.take_kept.Goals as goal
 
 pub returns-then-lt-clause-after : goal.returns-then-lt-clause-after

@@ -5,7 +5,7 @@ use Rattle.std.proofs.lemmas.Result.{err_from_is_err_and}
 use Rattle.simplex_types.specs.Certificates.{artifact_facts}
 use Rattle.simplex_resolver.specs.RecordCalls.{newest_first}
 use Rattle.simplex_resolver.specs.RecordRules.{entry_error, record_error}
-use Rattle.simplex_resolver.specs.Places.{AreNoted}
+use Rattle.simplex_resolver.specs.RecordPositions.{AreNoted}
 use Rattle.simplex_resolver.proofs.Noted.{none_noted}
 use Rattle.simplex_resolver.proofs.Sound.{broken_at, taken_at, newest_at}
 use Rattle.simplex_resolver.proofs.replay.check.check_entries.Goals as goal

@@ -2,7 +2,7 @@
 use Rattle.std.proofs.Common.{◌≡◌, None, take}
 use Rattle.simplex_resolver.specs.RecordCalls.{newest_first}
 use Rattle.simplex_resolver.specs.RecordRules.{record_error}
-use Rattle.simplex_resolver.specs.Places.{AreNoted}
+use Rattle.simplex_resolver.specs.RecordPositions.{AreNoted}
 use Rattle.simplex_resolver.proofs.replay.check.check_entries.Given as goal
 
 abbrev pub invariant-loop-place : goal.invariant-loop-place

@@ -6,9 +6,9 @@ use Rattle.simplex_voter.specs.Refusals.{is_too_large, enters_late}
 use Rattle.simplex_types.specs.Terms.{next_term_start}
 use Rattle.simplex_record.specs.Entries.{entries_of}
 use Rattle.simplex_member.specs.Calls.{AddedNullification, AddNullification}
-use Rattle.simplex_member.specs.Lives.{MemberFacts, living, open_while}
+use Rattle.simplex_member.specs.MemberFacts.{MemberFacts, living, open_while}
 use Rattle.simplex_member.proofs.Answering.{wanting_call}
-use Rattle.simplex_member.proofs.Parts.{part_goes_on, part_of_state, part_made, ended_so, new_recorded, state_ends, told_answered, told_kept}
+use Rattle.simplex_member.proofs.PartialFailures.{part_goes_on, part_of_state, part_made, ended_so, new_recorded, state_ends, told_answered, told_kept}
 use Rattle.simplex_member.proofs.member.life.Member.add_nullification.Goals as goal
 
 pub invariant_of-self-2 : goal.invariant_of-self-2

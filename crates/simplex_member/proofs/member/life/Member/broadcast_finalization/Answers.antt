@@ -6,8 +6,8 @@ use Rattle.simplex_types.specs.Certificates.{certificate_facts}
 use Rattle.simplex_member.proofs.HandedOut.{finalization_none_left, finalization_handed_once}
 use Rattle.simplex_record.specs.Entries.{entries_of}
 use Rattle.simplex_member.specs.Calls.{BroadcastFinalization, Handed}
-use Rattle.simplex_member.specs.Lives.{MemberFacts, living, open_while}
-use Rattle.simplex_member.proofs.Parts.{part_goes_on, part_made, ended_so, told_answered, told_kept, so_ok, same_on_err, kept_shut, on_answer}
+use Rattle.simplex_member.specs.MemberFacts.{MemberFacts, living, open_while}
+use Rattle.simplex_member.proofs.PartialFailures.{part_goes_on, part_made, ended_so, told_answered, told_kept, so_ok, same_on_err, kept_shut, on_answer}
 use Rattle.simplex_member.proofs.member.life.Member.broadcast_finalization.Goals as goal
 
 pub invariant_of-self : goal.invariant_of-self

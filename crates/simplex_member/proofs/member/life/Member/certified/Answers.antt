@@ -4,9 +4,9 @@ use Rattle.std.proofs.lemmas.Result.{IfOk-weaker, err_from_is_err_and}
 use Rattle.simplex_types.specs.Certificates.{notarization_facts}
 use Rattle.simplex_record.specs.Entries.{entries_of}
 use Rattle.simplex_member.specs.Calls.{Certified, Judged}
-use Rattle.simplex_member.specs.Lives.{MemberFacts, living, open_while}
+use Rattle.simplex_member.specs.MemberFacts.{MemberFacts, living, open_while}
 use Rattle.simplex_member.proofs.Answering.{wanting_call}
-use Rattle.simplex_member.proofs.Parts.{part_goes_on, part_made, ended_so, told_answered, told_kept}
+use Rattle.simplex_member.proofs.PartialFailures.{part_goes_on, part_made, ended_so, told_answered, told_kept}
 use Rattle.simplex_member.proofs.member.life.Member.certified.Goals as goal
 
 pub invariant_of-self-2 : goal.invariant_of-self-2

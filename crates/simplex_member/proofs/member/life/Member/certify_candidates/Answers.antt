@@ -4,8 +4,8 @@ use Rattle.std.proofs.lemmas.List.{append-nil}
 use Rattle.std.proofs.lemmas.Result.{IfOk-weaker}
 use Rattle.simplex_record.specs.Entries.{entries_of}
 use Rattle.simplex_member.specs.Calls.{CertifyCandidates, Candidates}
-use Rattle.simplex_member.specs.Lives.{MemberFacts, living, open_while}
-use Rattle.simplex_member.proofs.Parts.{part_goes_on, part_made, ended_so, told_answered, told_kept, so_ok, same_on_err}
+use Rattle.simplex_member.specs.MemberFacts.{MemberFacts, living, open_while}
+use Rattle.simplex_member.proofs.PartialFailures.{part_goes_on, part_made, ended_so, told_answered, told_kept, so_ok, same_on_err}
 use Rattle.simplex_member.proofs.member.life.Member.certify_candidates.Goals as goal
 
 pub invariant_of-self : goal.invariant_of-self

@@ -5,10 +5,10 @@ use Rattle.simplex_types.specs.Certificates.{NotarizeVote}
 use Rattle.simplex_record.specs.Entries.{entries_of}
 use Rattle.simplex_member.specs.Calls.{ConstructNotarize, Notarize, told_notarize}
 use Rattle.simplex_member.specs.CallSemantics.{vote_entry, notarize_vote}
-use Rattle.simplex_member.specs.Lives.{MemberFacts, living, open_while}
-use Rattle.simplex_member.specs.Signed.{IsSignedReply}
+use Rattle.simplex_member.specs.MemberFacts.{MemberFacts, living, open_while}
+use Rattle.simplex_member.specs.ReplySignatures.{IsSignedReply}
 use Rattle.simplex_member.specs.declared.member.calls.Reply.TheVariants as reply
-use Rattle.simplex_member.proofs.Parts.{part_goes_on, part_made, part_of_vote, vote_kept, lost_ends, so_ok, ended_so, ended_ok, ended_err, told_answered, told_kept, notarize_made, notarize_is_signed}
+use Rattle.simplex_member.proofs.PartialFailures.{part_goes_on, part_made, part_of_vote, vote_kept, lost_ends, so_ok, ended_so, ended_ok, ended_err, told_answered, told_kept, notarize_made, notarize_is_signed}
 use Rattle.simplex_member.proofs.Voted.{notarize_decided, notarize_once}
 use Rattle.simplex_member.proofs.member.life.Member.construct_notarize.Goals as goal
 

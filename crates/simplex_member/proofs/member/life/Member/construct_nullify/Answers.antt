@@ -5,10 +5,10 @@ use Rattle.simplex_types.specs.Certificates.{NullifyVote}
 use Rattle.simplex_record.specs.Entries.{entries_of}
 use Rattle.simplex_member.specs.Calls.{ConstructNullify, Nullify, told_nullify}
 use Rattle.simplex_member.specs.CallSemantics.{unrepeated_vote, nullify_vote}
-use Rattle.simplex_member.specs.Lives.{MemberFacts, living, open_while}
-use Rattle.simplex_member.specs.Signed.{IsSignedReply}
+use Rattle.simplex_member.specs.MemberFacts.{MemberFacts, living, open_while}
+use Rattle.simplex_member.specs.ReplySignatures.{IsSignedReply}
 use Rattle.simplex_member.specs.declared.member.calls.Reply.TheVariants as reply
-use Rattle.simplex_member.proofs.Parts.{part_goes_on, part_made, part_of_vote, vote_kept, lost_ends, so_ok, ended_so, ended_ok, ended_err, told_answered, told_kept, nullify_made, nullify_is_signed}
+use Rattle.simplex_member.proofs.PartialFailures.{part_goes_on, part_made, part_of_vote, vote_kept, lost_ends, so_ok, ended_so, ended_ok, ended_err, told_answered, told_kept, nullify_made, nullify_is_signed}
 use Rattle.simplex_member.proofs.Voted.{nullify_decided, nullify_barred}
 use Rattle.simplex_member.proofs.member.life.Member.construct_nullify.Goals as goal
 

@@ -1,7 +1,7 @@
 -- How the contract of `go_on` follows: the state is remade from the record by view, or the error that is due leaves the member without a life.
 use Rattle.std.proofs.lemmas.Result.{err_from_is_err_and}
 use Rattle.simplex_record.specs.Entries.{entries_of}
-use Rattle.simplex_member.specs.Lives.{MemberFacts, living, open_while}
+use Rattle.simplex_member.specs.MemberFacts.{MemberFacts, living, open_while}
 use Rattle.simplex_record.specs.Start.{start_facts}
 use Rattle.simplex_member.proofs.Restarts.{not_gone_on, gone_on}
 use Rattle.simplex_member.proofs.member.life.Member.go_on.Goals as goal

@@ -4,8 +4,8 @@ use Rattle.std.proofs.lemmas.List.{append-nil}
 use Rattle.std.proofs.lemmas.Result.{IfOk-weaker}
 use Rattle.simplex_record.specs.Entries.{entries_of}
 use Rattle.simplex_member.specs.Calls.{Prune, Dropped}
-use Rattle.simplex_member.specs.Lives.{MemberFacts, living, open_while}
-use Rattle.simplex_member.proofs.Parts.{part_goes_on, part_of_state, part_made, ended_so, state_ends, so_ok, same_on_err, told_answered, told_kept}
+use Rattle.simplex_member.specs.MemberFacts.{MemberFacts, living, open_while}
+use Rattle.simplex_member.proofs.PartialFailures.{part_goes_on, part_of_state, part_made, ended_so, state_ends, so_ok, same_on_err, told_answered, told_kept}
 use Rattle.simplex_member.proofs.member.life.Member.prune.Goals as goal
 
 pub invariant_of-self : goal.invariant_of-self

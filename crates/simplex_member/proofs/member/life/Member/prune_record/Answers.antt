@@ -2,7 +2,7 @@
 use Rattle.std.proofs.Common.{sym, ◌∙◌}
 use Rattle.simplex_record.specs.Entries.{entries_of}
 use Rattle.simplex_record.proofs.Cuts.{length_entries}
-use Rattle.simplex_member.specs.Lives.{MemberFacts, living, open_while}
+use Rattle.simplex_member.specs.MemberFacts.{MemberFacts, living, open_while}
 use Rattle.simplex_member.proofs.Pruning.{closed_so}
 use Rattle.simplex_member.proofs.member.life.Member.prune_record.Goals as goal
 

@@ -5,8 +5,8 @@ use Rattle.std.proofs.lemmas.Result.{IfOk-weaker}
 use Rattle.simplex_voter.specs.Refusals.{names_too_large}
 use Rattle.simplex_record.specs.Entries.{entries_of}
 use Rattle.simplex_member.specs.Calls.{SetProposal, Answered}
-use Rattle.simplex_member.specs.Lives.{MemberFacts, living, open_while}
-use Rattle.simplex_member.proofs.Parts.{part_goes_on, part_of_state, part_made, ended_so, state_ends, so_ok, same_on_err, told_answered, told_kept}
+use Rattle.simplex_member.specs.MemberFacts.{MemberFacts, living, open_while}
+use Rattle.simplex_member.proofs.PartialFailures.{part_goes_on, part_of_state, part_made, ended_so, state_ends, so_ok, same_on_err, told_answered, told_kept}
 use Rattle.simplex_member.proofs.member.life.Member.set_proposal.Goals as goal
 
 pub invariant_of-self : goal.invariant_of-self

@@ -1,7 +1,7 @@
 -- How the contract of `get` follows: the view is the newest one's, or it is looked for among the others.
 use Rattle.std.proofs.Common.{sym, ◌∙◌}
 use Rattle.std.specs.FinMap as map
-use Rattle.simplex_member.proofs.Waiting.{found_newest, found_other}
+use Rattle.simplex_member.proofs.WaitingValues.{found_newest, found_other}
 use Rattle.simplex_member.proofs.member.waiting.Waiting.get.Goals as goal
 
 pub returns-then-eq : goal.returns-then-eq

@@ -1,6 +1,6 @@
 -- How the contract of `make_room` follows: the newest value among the others leaves all as it was.
 use Rattle.std.proofs.Common.{sym, ◌∙◌}
-use Rattle.simplex_member.proofs.Waiting.{entries-insert}
+use Rattle.simplex_member.proofs.WaitingValues.{entries-insert}
 use Rattle.simplex_member.proofs.member.waiting.Waiting.make_room.Goals as goal
 
 pub returns-in-Some-clause-same : goal.returns-in-Some-clause-same

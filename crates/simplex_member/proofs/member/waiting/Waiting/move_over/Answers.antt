@@ -1,7 +1,7 @@
 -- How the contract of `move_over` follows: a value put among the others, or left the newest, stands in the entries either way.
 use Rattle.std.proofs.Common.{◌≡◌, true, false, is_some, sym, subst, ap, ◌∙◌}
 use Rattle.std.specs.FinMap.{entries, get}
-use Rattle.simplex_member.proofs.Waiting.{none_newest, none_removed, entries-put}
+use Rattle.simplex_member.proofs.WaitingValues.{none_newest, none_removed, entries-put}
 use Rattle.simplex_voter.proofs.RoundsKept.{inserted_new}
 use Rattle.simplex_member.proofs.member.waiting.Waiting.move_over.Goals as goal
 

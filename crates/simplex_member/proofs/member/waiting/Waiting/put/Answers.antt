@@ -1,6 +1,6 @@
 -- How the contract of `put` follows: there is room for the newest value, and the entries have it at its view.
 use Rattle.std.proofs.Common.{◌≡◌, true, sym, subst}
-use Rattle.simplex_member.proofs.Waiting.{none_newest, entries-insert}
+use Rattle.simplex_member.proofs.WaitingValues.{none_newest, entries-insert}
 use Rattle.simplex_member.proofs.member.waiting.Waiting.put.Goals as goal
 
 pub returns : goal.returns

@@ -1,6 +1,6 @@
 -- How the contract of `remove` follows: the view's value is the newest or one of the others, and the entries without it are left.
 use Rattle.std.proofs.Common.{Some, None, sym, ◌∙◌}
-use Rattle.simplex_member.proofs.Waiting.{entries-without}
+use Rattle.simplex_member.proofs.WaitingValues.{entries-without}
 use Rattle.simplex_member.proofs.member.waiting.Waiting.remove.Goals as goal
 use Rattle.simplex_member.proofs.member.waiting.Waiting.remove.Goals.{in-Some, in-None}
 

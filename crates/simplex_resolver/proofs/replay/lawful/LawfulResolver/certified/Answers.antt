@@ -1,7 +1,7 @@
 -- from what the state's call and `apply` ensure
 use Rattle.simplex_types.specs.Certificates.{notarization_facts}
 use Rattle.simplex_resolver.specs.Steps.{verdict, highest_named}
-use Rattle.simplex_resolver.specs.Told.{LawfulResolverFacts}
+use Rattle.simplex_resolver.specs.CallHistory.{LawfulResolverFacts}
 use Rattle.simplex_resolver.proofs.Made.{made_of, told_of, left_of}
 use Rattle.simplex_resolver.proofs.replay.lawful.LawfulResolver.certified.Goals as goal
 

@@ -1,5 +1,5 @@
 -- How the contract of `keeps_the_laws` follows: what holds of the open fetches and the answers after any calls holds after the told ones.
-use Rattle.simplex_resolver.proofs.Told.{opens_the_wanted, opens_none, opens_none_again, answers_the_told}
+use Rattle.simplex_resolver.proofs.CallHistory.{opens_the_wanted, opens_none, opens_none_again, answers_the_told}
 use Rattle.simplex_resolver.proofs.replay.lawful.LawfulResolver.keeps_the_laws.Goals as goal
 
 pub returns-clause-wanted : goal.returns-clause-wanted

@@ -1,7 +1,7 @@
 -- How the contract of `start` follows: the calls of the record, and then the end of the replay, are the first that it was told.
 use Rattle.std.proofs.Common.{refl, subst}
 use Rattle.simplex_resolver.specs.Repair.{IsApplied}
-use Rattle.simplex_resolver.proofs.Told.{told_by_record}
+use Rattle.simplex_resolver.proofs.CallHistory.{told_by_record}
 use Rattle.simplex_resolver.proofs.replay.lawful.LawfulResolver.start.Goals as goal
 
 pub returns-in-Ok-clause-begins : goal.returns-in-Ok-clause-begins

@@ -1,8 +1,8 @@
 -- from what the state's call and `apply` ensure
 use Rattle.simplex_types.specs.Certificates.{certificate_facts}
 use Rattle.simplex_resolver.specs.Steps.{update, highest_view}
-use Rattle.simplex_resolver.specs.Told.{LawfulResolverFacts}
-use Rattle.simplex_resolver.proofs.Told.{update_names}
+use Rattle.simplex_resolver.specs.CallHistory.{LawfulResolverFacts}
+use Rattle.simplex_resolver.proofs.CallHistory.{update_names}
 use Rattle.simplex_resolver.proofs.Made.{made_of, told_of, left_of}
 use Rattle.simplex_resolver.proofs.replay.lawful.LawfulResolver.updated.Goals as goal
 

@@ -1,7 +1,7 @@
 -- How the contract of `ask_to_build` follows: the round at the view has its request set, and none is set at an untracked one.
 use Rattle.std.proofs.Common.{true, ap, sym, refl, ◌∙◌, inl}
 use Rattle.simplex_round.specs.Round.{should_propose}
-use Rattle.simplex_voter.specs.Proposing.{build_requested}
+use Rattle.simplex_voter.specs.ProposalRequests.{build_requested}
 use Rattle.simplex_voter.proofs.Changed.{lent, kept_changed, changed_there, untouched}
 use Rattle.simplex_voter.proofs.voter.rounds.Rounds.ask_to_build.Goals as goal
 

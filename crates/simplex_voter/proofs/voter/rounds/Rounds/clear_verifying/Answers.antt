@@ -1,6 +1,6 @@
 -- How the contract of `clear_verifying` follows: the round at the view loses its binding, and an untracked one has none.
 use Rattle.std.proofs.Common.{refl, inl}
-use Rattle.simplex_voter.specs.Verifying.{with_nothing_bound}
+use Rattle.simplex_voter.specs.Verification.{with_nothing_bound}
 use Rattle.simplex_voter.proofs.Changed.{kept_changed, changed_there, untouched}
 use Rattle.simplex_voter.proofs.voter.rounds.Rounds.clear_verifying.Goals as goal
 

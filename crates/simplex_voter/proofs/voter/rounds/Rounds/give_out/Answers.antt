@@ -2,7 +2,7 @@
 use Rattle.std.proofs.Common.{is_some, ap, sym, refl, ◌∙◌}
 use Rattle.std.proofs.lemmas.Bool.{false≢true}
 use Rattle.simplex_round.specs.Round.{pending_proposal}
-use Rattle.simplex_voter.specs.Verifying.{verifying_round}
+use Rattle.simplex_voter.specs.Verification.{verifying_round}
 use Rattle.simplex_voter.proofs.RoundChanges.{unchanged}
 use Rattle.simplex_voter.proofs.Changed.{lent, kept_changed, changed_there, untouched}
 use Rattle.simplex_voter.proofs.Worked.{given_is, verifying_alike}

@@ -3,7 +3,7 @@ use Rattle.std.proofs.Common.{false, not, ◌&&◌, ap, sym, refl, ◌∙◌}
 use Rattle.std.specs.Option.{option_map_or}
 use Rattle.simplex_round.specs.Slot.{is_unverified}
 use Rattle.simplex_round.specs.Round.{is_nullify}
-use Rattle.simplex_voter.specs.Verifying.{with_mark}
+use Rattle.simplex_voter.specs.Verification.{with_mark}
 use Rattle.simplex_voter.proofs.Changed.{found_at, kept_changed, changed_there, untouched}
 use Rattle.simplex_voter.proofs.Worked.{marked_alike}
 use Rattle.simplex_voter.proofs.voter.rounds.Rounds.mark.Goals as goal

@@ -1,6 +1,6 @@
 -- How the contract of `note_request` follows: the round at the view has the request, and an untracked one changes nothing.
 use Rattle.std.proofs.Common.{refl, inl}
-use Rattle.simplex_voter.specs.Verifying.{with_request}
+use Rattle.simplex_voter.specs.Verification.{with_request}
 use Rattle.simplex_voter.proofs.Changed.{kept_changed, changed_there, untouched}
 use Rattle.simplex_voter.proofs.voter.rounds.Rounds.note_request.Goals as goal
 

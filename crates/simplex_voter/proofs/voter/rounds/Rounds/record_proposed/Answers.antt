@@ -4,7 +4,7 @@ use Rattle.std.specs.Option.{option_map_or}
 use Rattle.simplex_types.specs.Proposal.{same_proposal}
 use Rattle.simplex_round.specs.Slot.{holds_or_empty}
 use Rattle.simplex_round.specs.Round.{is_nullify}
-use Rattle.simplex_voter.specs.Proposing.{proposal_of, proposed_round}
+use Rattle.simplex_voter.specs.ProposalRequests.{proposal_of, proposed_round}
 use Rattle.simplex_voter.proofs.RoundChanges.{alike_same}
 use Rattle.simplex_voter.proofs.Changed.{found_at, kept_changed, changed_there_always}
 use Rattle.simplex_voter.proofs.Worked.{put_back, own_is, own_alike}

@@ -1,7 +1,7 @@
 -- How the contract of `release` follows: the round at the view loses its request, and an untracked one has none.
 use Rattle.std.proofs.Common.{refl, inl}
 use Rattle.std.proofs.Common.{false}
-use Rattle.simplex_voter.specs.Proposing.{build_requested}
+use Rattle.simplex_voter.specs.ProposalRequests.{build_requested}
 use Rattle.simplex_voter.proofs.Changed.{kept_changed, changed_there, untouched}
 use Rattle.simplex_voter.proofs.voter.rounds.Rounds.release.Goals as goal
 

@@ -1,6 +1,6 @@
 -- How the contract of `take_proposal` follows: the view is tracked first, and the proposal in the slot is the only change of its round.
 use Rattle.std.proofs.Common.{◌∙◌, refl}
-use Rattle.simplex_voter.specs.Verifying.{with_proposal}
+use Rattle.simplex_voter.specs.Verification.{with_proposal}
 use Rattle.simplex_voter.proofs.RoundChanges.{proposed_alike}
 use Rattle.simplex_voter.proofs.Changed.{never_none, lent_tracked, kept_changed, changed_tracked}
 use Rattle.simplex_voter.proofs.voter.rounds.Rounds.take_proposal.Goals as goal

@@ -1,6 +1,6 @@
 -- How the contract of `accept_nullification` follows: the moment's deadlines stay those of the set-up, with which the next term's start is entered.
 use Rattle.simplex_types.specs.Certificates.{nullification_facts}
-use Rattle.simplex_voter.proofs.Entering.{deadlines_noted, nullification_accepted}
+use Rattle.simplex_voter.proofs.ViewEntry.{deadlines_noted, nullification_accepted}
 use Rattle.simplex_voter.proofs.voter.state.State.accept_nullification.Goals as goal
 
 pub enter_led-requires-clause-deadlines : goal.enter_led-requires-clause-deadlines

@@ -1,7 +1,7 @@
 -- How the contract of `accept_proposal` follows: the successor that is prepared first leaves the round of the proposal as it was.
 use Rattle.std.proofs.Common.{ap, ◌∙◌}
 use Rattle.simplex_voter.specs.Facts.{round_of}
-use Rattle.simplex_voter.specs.Verifying.{is_new_proposal}
+use Rattle.simplex_voter.specs.Verification.{is_new_proposal}
 use Rattle.simplex_voter.proofs.Kept.{if_ok}
 use Rattle.simplex_voter.proofs.Proposals.{round_of-prepared}
 use Rattle.simplex_voter.proofs.Sliding.{same_setup_joins}

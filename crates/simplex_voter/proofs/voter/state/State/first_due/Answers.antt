@@ -1,7 +1,7 @@
 -- How the contract of `first_due` follows: what is tracked is of the state's rounds, and nothing is due of other views.
 use Rattle.std.proofs.Common.{is_some, sym, ap, ◌∙◌}
-use Rattle.simplex_voter.specs.Due.{is_due}
-use Rattle.simplex_voter.proofs.Due.{rounds_from, first_shown, nothing_due}
+use Rattle.simplex_voter.specs.DueVotes.{is_due}
+use Rattle.simplex_voter.proofs.DueVotes.{rounds_from, first_shown, nothing_due}
 use Rattle.simplex_voter.proofs.voter.state.State.first_due.Goals as goal
 
 pub first_due_of-requires-clause-rounds : goal.first_due_of-requires-clause-rounds

@@ -1,6 +1,6 @@
 -- How the contract of `first_due_of` follows: the first view where something is due answers, and the others are passed by.
-use Rattle.simplex_voter.specs.Due.{is_due}
-use Rattle.simplex_voter.proofs.Due.{passes_later, rounds_split}
+use Rattle.simplex_voter.specs.DueVotes.{is_due}
+use Rattle.simplex_voter.proofs.DueVotes.{passes_later, rounds_split}
 use Rattle.simplex_voter.proofs.voter.state.State.first_due_of.Goals as goal
 
 pub is_due-requires-clause-round : goal.is_due-requires-clause-round

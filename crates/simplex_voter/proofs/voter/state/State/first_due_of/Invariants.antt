@@ -1,7 +1,7 @@
 -- The loop of `first_due_of`: the first of the rest is the first.
 use Rattle.std.proofs.Common.{◌≡◌, length}
 use Rattle.std.specs.List.{find}
-use Rattle.simplex_voter.specs.Due.{is_due, AreRoundsOf}
+use Rattle.simplex_voter.specs.DueVotes.{is_due, AreRoundsOf}
 use Rattle.simplex_voter.proofs.voter.state.State.first_due_of.Given as goal
 
 abbrev pub invariant-loop-entry : goal.invariant-loop-entry

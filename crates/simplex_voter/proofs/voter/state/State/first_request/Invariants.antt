@@ -1,7 +1,7 @@
 -- The loop of `first_request`: the first of the rest is the first.
 use Rattle.std.proofs.Common.{◌≡◌, slice_get, length}
 use Rattle.std.specs.List.{filter_map}
-use Rattle.simplex_voter.specs.Proposing.{request_in}
+use Rattle.simplex_voter.specs.ProposalRequests.{request_in}
 use Rattle.simplex_voter.proofs.voter.state.State.first_request.Given as goal
 
 abbrev pub invariant-loop-entry : goal.invariant-loop-entry

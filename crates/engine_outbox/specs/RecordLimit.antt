@@ -1,0 +1,13 @@
+-- When a record has grown so long that it is pruned.
+use Rattle.std.specs.Prelude.{ℕ, Bool, false, ◌&&◌, nat_lt, length}
+use Rattle.std.specs.Option.{option_map_or}
+use Rattle.engine_outbox.specs.declared.journaled.Journaled.{Journaled}
+use Rattle.engine_outbox.specs.RecordReach.{is_far_below, lowest_left}
+
+module _ {S L D K G C : Type 0} where
+  -- the member lives, its record has more than so many entries, and by a pruning more views go than stay
+  abbrev pub is_overgrown : ℕ → Journaled S L D K G C → Bool
+  is_overgrown long member =
+      option_map_or
+      (λ x. nat_lt long (length member.member.facts.entries) && is_far_below member.reach (lowest_left member.member.facts x) x.current)
+      member.member.facts.life false

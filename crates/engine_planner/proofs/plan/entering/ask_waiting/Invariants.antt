@@ -1,7 +1,0 @@
--- The steps so far and those that are left are what all come to.
-use Rattle.std.proofs.Common.{◌≡◌, ◌++◌, drop}
-use Rattle.engine_planner.specs.Entering.{asking_by}
-use Rattle.engine_planner.proofs.plan.entering.ask_waiting.Given as goal
-
-abbrev pub invariant-loop-building : goal.invariant-loop-building
-invariant-loop-building g l = l.steps.items ++ asking_by l.view (drop l.building-index l.builds) ≡ l.initial.steps.items ++ asking_by l.view l.builds

@@ -1,0 +1,122 @@
+-- What work, calls and fetches come of: what a plan has at hand, and what an answer of the member gives.
+use Rattle.std.specs.Prelude.{ℕ, nat_le, List, [], ◌∷◌, ◌++◌, map, Some, if◌then◌else◌}
+use Rattle.simplex_types.specs.declared.types.messages.Context.{Context}
+use Rattle.simplex_types.specs.declared.types.messages.Proposal.{Proposal}
+use Rattle.simplex_types.specs.declared.types.messages.Subject.{Subject}
+use Rattle.simplex_voter.specs.ProposalRequests.{request_context}
+use Rattle.simplex_voter.specs.declared.voter.candidates.CertificateFetch.{CertificateFetch}
+use Rattle.simplex_voter.specs.declared.voter.verify.Verify.TheVariants as verify
+use Rattle.simplex_member.specs.Calls.{CallFacts, AddNotarization, AddNullification, AddFinalization}
+use Rattle.simplex_member.specs.declared.member.calls.Reply.{Reply}
+use Rattle.simplex_member.specs.declared.member.calls.Reply.TheVariants as reply
+use Rattle.engine_fetches.specs.declared.fetches.Fetch.{Fetch}
+use Rattle.engine_fetches.specs.declared.fetches.FetchKind.{FetchKind}
+use Rattle.engine_fetches.specs.declared.fetches.FetchKind.TheVariants.{Notarization}
+use Rattle.engine_fetches.specs.declared.repair.Repair.{Repair}
+use Rattle.engine_fetches.specs.Fetches.{fetch_kind}
+use Rattle.engine_fetches.specs.OutstandingFetches.{wants}
+use Rattle.engine_outbox.specs.declared.output.Work.{Work}
+use Rattle.engine_outbox.specs.declared.output.Work.TheVariants.{Broadcast, Verify, Build, StopBuilding, Certify, Fetch as AskPeer, ProposedTwice}
+use Rattle.engine_planner.specs.declared.plan.builds.Building.{Building}
+use Rattle.engine_planner.specs.declared.plan.early.Early.{Early}
+use Rattle.engine_planner.specs.declared.plan.Plan.{Plan}
+use Rattle.engine_planner.specs.declared.plan.Step.{Step}
+use Rattle.engine_planner.specs.declared.plan.Step.TheVariants as step
+use Rattle.engine_planner.specs.declared.task.Task.{Task}
+use Rattle.engine_planner.specs.declared.task.Task.TheVariants as task
+
+-- what something comes of
+pub data Matter (S D K G C : Type 0) : Type 0 where
+  -- work that the host is to do
+  Duty : Work S D K G C → Matter S D K G C
+  -- a certificate of this view is lacking
+  Lack : FetchKind → ℕ → Matter S D K G C
+  -- a proposal that this member made
+  Arrival : ℕ → Proposal D → Matter S D K G C
+  -- a certificate on this
+  Quorum : Subject D → Matter S D K G C
+  -- what the host has to tell the member
+  Message : Task D → Matter S D K G C
+  -- the moment of the current view's timeout has come
+  Expiry : Matter S D K G C
+
+module _ {S D K G C : Type 0} where
+  -- work comes of itself; but what is asked of a peer of an open fetch
+  abbrev pub of_work : Work S D K G C → List (Matter S D K G C)
+  of_work (AskPeer _) = []
+  of_work work = Duty work ∷ []
+
+  -- each of these
+  abbrev pub of_works : List (Work S D K G C) → List (Matter S D K G C)
+  of_works [] = []
+  of_works (work ∷ rest) = of_work work ++ of_works rest
+
+  -- a block is asked for in the context, or is of no use any more
+  abbrev pub of_block : Context D K → List (Matter S D K G C)
+  of_block context = Duty (Build context) ∷ Duty (StopBuilding context.round.view) ∷ []
+
+  abbrev pub of_blocks : List (Building D K) → List (Matter S D K G C)
+  of_blocks [] = []
+  of_blocks (building ∷ rest) = of_block building.context ++ of_blocks rest
+
+  -- a call comes of what is told, where it is not of the engine's own accord
+  abbrev pub of_task : Task D → List (Matter S D K G C)
+  of_task (task.SetProposal view proposal) = Message (task.SetProposal view proposal) ∷ []
+  of_task (task.Proposed view payload) = Message (task.Proposed view payload) ∷ []
+  of_task (task.Verified view) = Message (task.Verified view) ∷ []
+  of_task (task.VerificationFailed view) = Message (task.VerificationFailed view) ∷ []
+  of_task (task.Certified view is_success) = Message (task.Certified view is_success) ∷ []
+  of_task (task.GiveUp view reason) = Message (task.GiveUp view reason) ∷ []
+  of_task (task.Nullify view reason) = Expiry ∷ []
+  of_task _ = []
+
+  -- what a step comes of
+  abbrev pub of_step : Step S D K G C → List (Matter S D K G C)
+  of_step (step.Ask asked) = of_task asked
+  of_step (step.Offer from proposal) = Arrival from proposal ∷ []
+  of_step (step.Resolve kind view proposal) = Lack kind view ∷ []
+  of_step (step.Repeat view) = []
+  of_step (step.Push work) = of_work work
+
+  abbrev pub of_steps : List (Step S D K G C) → List (Matter S D K G C)
+  of_steps [] = []
+  of_steps (step ∷ rest) = of_step step ++ of_steps rest
+
+  -- a fetch comes of what the resolver has open, or of a certificate that is lacking
+  abbrev pub of_fetch : List ℕ → Fetch → List (Matter S D K G C)
+  of_fetch wanted fetch = if wants wanted fetch.kind fetch.view then [] else Lack fetch.kind fetch.view ∷ []
+
+  abbrev pub of_fetches : List ℕ → List Fetch → List (Matter S D K G C)
+  of_fetches wanted [] = []
+  of_fetches wanted (fetch ∷ rest) = of_fetch wanted fetch ++ of_fetches wanted rest
+
+  abbrev pub of_repair : Repair → List (Matter S D K G C)
+  of_repair repair = of_fetches repair.resolver.open_fetches repair.fetches.wanted.items
+
+  -- proposals that came early
+  abbrev pub of_early : List (Early D) → List (Matter S D K G C)
+  of_early early = map (λ (it : Early D). Arrival it.from it.proposal) early
+
+  -- what a plan has at hand
+  abbrev pub planned_matters : Plan S D K G C → List (Matter S D K G C)
+  planned_matters plan =
+      of_steps plan.steps.items ++ (of_blocks plan.builds.buildings.items ++ (of_early plan.early.proposals.items ++ of_repair plan.repair))
+
+  -- a leader signed two proposals of the view of the certificate that is handed in
+  abbrev pub shown_by : CallFacts D → K → List (Matter S D K G C)
+  shown_by (AddNotarization c) leader = Duty (ProposedTwice c.proposal.round.view leader) ∷ []
+  shown_by (AddNullification c _) leader = Duty (ProposedTwice c.round.view leader) ∷ []
+  shown_by (AddFinalization c _) leader = Duty (ProposedTwice c.proposal.round.view leader) ∷ []
+  shown_by _ leader = []
+
+  -- what the answer to a call gives, at a moment
+  abbrev pub given_by : ℕ → Reply S D K G C → CallFacts D → List (Matter S D K G C)
+  given_by now (reply.Work (verify.Ready context proposal)) asked = Duty (Verify context proposal) ∷ []
+  given_by now (reply.Work (verify.Resolve _ view kind _)) asked = Lack (fetch_kind kind) view ∷ []
+  given_by now (reply.Request (Some request)) asked = of_block (request_context request)
+  given_by now (reply.Candidates proposals wanted) asked =
+      map (λ proposal. Duty (Certify proposal)) proposals.items ++ map (λ (it : CertificateFetch). Lack Notarization it.view) wanted.items
+  given_by now (reply.Certificate (Some certificate)) asked = Duty (Broadcast certificate) ∷ []
+  given_by now (reply.Added _ (Some leader)) asked = shown_by asked leader
+  given_by now (reply.Timeout moment reason) asked = if nat_le moment now then Expiry ∷ [] else []
+  given_by now _ asked = []

@@ -1,0 +1,126 @@
+//! What follows from a certificate that the member accepted.
+
+ghost use Rattle.std.specs.Prelude.{◌≡◌, ◌≤◌, ◌==◌, ◌+◌, ◌-◌, ◌^◌, min, OnOk, IfErr, IsFalse};
+ghost use Rattle.simplex_resolver.specs.Steps.{highest_view};
+ghost use Rattle.engine_fetches.specs.Repairs.{IsUnrepaired};
+ghost use Rattle.engine_planner.specs.PlanStates.{HasPlanned};
+ghost use Rattle.simplex_types.specs.MessageViews.{certificate_view};
+ghost use Rattle.engine_planner.specs.Consequences.{showing, IsResolverTold, IsTakenInAbove, IsNewFollowed, IsAddedFollowed, IsCertificateFollowed};
+
+use super::Plan;
+use simplex_member::member::Reply;
+use engine_outbox::output::Work;
+use simplex_types::types::{Certificate, CertificateScheme, Digest, Fault, View, Viewable};
+use std::alloc::AllocError;
+
+impl<S: CertificateScheme, D: Digest> Plan<S, D> {
+    /// Follows the answer to a certificate that was handed in.
+    ///
+    /// # Errors
+    ///
+    /// Those of `Repair::updated`, and `OutOfMemory` where the answer is that.
+    pub fn follow_certificate(
+        &mut self,
+        certificate: &Certificate<S, D>,
+        reply: &Reply<S, D>,
+        now: u64,
+    ) -> Result<(), Fault>
+        ensures followed { OnOk result (IsCertificateFollowed D.bytes S.certificate_bytes now certificate.now reply.now self.old self.new) }
+        ensures refused { IfErr result (λ fault. IsUnrepaired (highest_view certificate.now) fault self.old.repair self.new.repair) }
+    {
+        match reply {
+            Reply::Added(is_new, equivocator) => {
+                self.follow_added(certificate, *is_new, *equivocator, now)
+            }
+            Reply::AddedNullification(is_new) => self.follow_new(certificate, *is_new, now),
+            Reply::Fault(Fault::OutOfMemory) => Err(Fault::OutOfMemory),
+            _ => Ok(()),
+        }
+    }
+
+    /// A notarization or a finalization was handed in.
+    fn follow_added(
+        &mut self,
+        certificate: &Certificate<S, D>,
+        is_new: bool,
+        equivocator: Option<S::PublicKey>,
+        now: u64,
+    ) -> Result<(), Fault>
+        ensures followed { OnOk result (IsAddedFollowed D.bytes S.certificate_bytes now certificate.now is_new equivocator self.old self.new) }
+        ensures refused { IfErr result (λ fault. IsUnrepaired (highest_view certificate.now) fault self.old.repair self.new.repair) }
+    {
+        self.show(certificate.view(), equivocator)?;
+        self.follow_new(certificate, is_new, now)
+    }
+
+    /// A certificate was handed in, which may be new.
+    fn follow_new(
+        &mut self,
+        certificate: &Certificate<S, D>,
+        is_new: bool,
+        now: u64,
+    ) -> Result<(), Fault>
+        ensures followed { OnOk result (IsNewFollowed D.bytes S.certificate_bytes now is_new certificate.now self.old self.new) }
+        ensures refused { IfErr result (λ fault. IsUnrepaired (highest_view certificate.now) fault self.old.repair self.new.repair) }
+    {
+        if is_new {
+            return self.accept(certificate, now);
+        }
+        Ok(())
+    }
+
+    /// Shows that a leader signed two proposals, where one did.
+    fn show(&mut self, view: View, equivocator: Option<S::PublicKey>) -> Result<(), AllocError>
+        ensures { OnOk result (HasPlanned (showing view equivocator) self.old self.new) }
+    {
+        match equivocator {
+            Some(leader) => self.push(Work::ProposedTwice(view, leader)),
+            None => Ok(()),
+        }
+    }
+
+    /// A certificate is new: the resolver is told of it.
+    fn accept(&mut self, certificate: &Certificate<S, D>, now: u64) -> Result<(), Fault>
+        ensures followed { OnOk result (IsTakenInAbove D.bytes S.certificate_bytes now (certificate_view certificate.now == 0) certificate.now
+            self.old self.new) }
+        ensures refused { IfErr result (λ fault. IsUnrepaired (highest_view certificate.now) fault self.old.repair self.new.repair) }
+    {
+        let view = certificate.view();
+        if is_genesis(view) {
+            return Ok(());
+        }
+        self.hear(certificate, now)?;
+        self.touch(view)?;
+        Ok(())
+    }
+
+    /// The resolver is told of a certificate, and a notarization that came is asked for no longer.
+    fn hear(&mut self, certificate: &Certificate<S, D>, now: u64) -> Result<(), Fault>
+        requires { 1 ≤ certificate_view certificate.now }
+        ensures same { self.new ≡ record self.old { repair = self.new.repair } }
+        ensures heard { OnOk result (IsResolverTold D.bytes S.certificate_bytes now certificate.now self.old self.new.repair) }
+        ensures refused { IfErr result (λ fault. IsUnrepaired (highest_view certificate.now) fault self.old.repair self.new.repair) }
+    {
+        let moment = self.later(now);
+        self.repair.updated(certificate, moment)?;
+        if let Certificate::Notarization(notarization) = certificate {
+            self.repair.close_notarization(notarization.view());
+        }
+        Ok(())
+    }
+
+    /// The moment from which on what is lacking is asked for: until then it may be on its way.
+    pub(super) fn later(&self, now: u64) -> u64
+        ensures { result ≡ min (now + self.now.options.on_its_way) (2 ^ 64 - 1) }
+    {
+        now.saturating_add(self.options.on_its_way)
+    }
+}
+
+/// Whether the view is genesis.
+pub(super) fn is_genesis(view: View) -> bool
+    ensures is { result ≡ (view == 0) }
+    ensures above { IsFalse result → 1 ≤ view }
+{
+    view.is_zero()
+}

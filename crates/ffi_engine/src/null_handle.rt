@@ -1,0 +1,45 @@
+//! What is answered of an engine's handle that is null.
+
+ghost use Rattle.std.specs.Prelude.{◌≡◌};
+
+use crate::held::{no_output, untaken};
+use crate::views::not_open;
+use crate::flat::{FlatOpen, FlatOutput, FlatStatus, FlatTaken};
+use ffi_member::null_handle::STATUS_NO_HANDLE;
+
+/// Whether what came in was of use.
+pub fn taken() -> FlatTaken
+    ensures { result.status ≡ 15 }
+{
+    untaken(STATUS_NO_HANDLE)
+}
+
+/// What is to be carried out.
+pub fn output() -> FlatOutput
+    ensures { result.status ≡ 15 }
+{
+    no_output(STATUS_NO_HANDLE)
+}
+
+/// What the engine knows of itself.
+pub fn engine_status() -> FlatStatus
+    ensures { result.status ≡ 15 }
+{
+    FlatStatus {
+        status: STATUS_NO_HANDLE,
+        reserved: 0,
+        wake: 0,
+        ignored: 0,
+        fetches: 0,
+    }
+}
+
+/// An open fetch.
+pub fn open() -> FlatOpen
+    ensures { result.status ≡ 15 }
+{
+    FlatOpen {
+        status: STATUS_NO_HANDLE,
+        ..not_open()
+    }
+}

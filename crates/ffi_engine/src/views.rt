@@ -1,0 +1,106 @@
+//! What an engine shows beside its outputs.
+
+ghost use Rattle.std.specs.Prelude.{◌≡◌};
+
+use crate::held::HeldEngine;
+use crate::output::number_of_fetch;
+use crate::flat::{FlatOpen, FlatStatus};
+use ffi_member::resolver_types::FlatServed;
+use ffi_member::resolver_calls::serve_in;
+use ffi_member::views::{certificate_in, chunk_of, view_in};
+use ffi_member::view_types::{FlatChunk, FlatFound, FlatView, FlatWithheld};
+use ffi_member::withheld::withheld_in;
+
+impl HeldEngine {
+    ghost use Rattle.ffi_engine.specs.EngineViews.{ShowsChunk, ShowsFound, ShowsOpenFetch, ShowsServed, ShowsStatus, ShowsView, ShowsWithheld, is_failed};
+
+    /// A part of the bytes of what was given out last, where `which` is 0; of the second signature of two, where it is 1; and else
+    /// of what was shown last.
+    pub fn chunk(&self, which: u32, from: u64) -> FlatChunk
+        ensures { ShowsChunk self.now which from result }
+    {
+        match which {
+            0 => chunk_of(self.first_bytes(), from),
+            1 => chunk_of(self.second_bytes(), from),
+            _ => chunk_of(self.shown.as_slice(), from),
+        }
+    }
+
+    /// What the engine knows of itself.
+    pub fn status(&self) -> FlatStatus
+        ensures { ShowsStatus self.now result }
+    {
+        FlatStatus {
+            status: if self.has_failed() { 2 } else { 0 },
+            reserved: 0,
+            wake: self.engine.wake(),
+            ignored: self.engine.ignored(),
+            fetches: self.engine.fetches().len() as u64,
+        }
+    }
+
+    /// Whether it has failed: nothing more is given out.
+    pub fn has_failed(&self) -> bool
+        ensures { result ≡ is_failed self.now }
+    {
+        self.is_lost || self.engine.has_failed()
+    }
+
+    /// An open fetch.
+    pub fn open(&self, index: u64) -> FlatOpen
+        ensures { ShowsOpenFetch self.now index result }
+    {
+        match self.engine.fetches().all().get(index as usize) {
+            Some(fetch) => FlatOpen {
+                status: 0,
+                fetch: number_of_fetch(fetch.kind),
+                view: fetch.view.get(),
+                count: fetch.count,
+                moment: fetch.moment,
+            },
+            None => not_open(),
+        }
+    }
+
+    /// What the member knows, and what it knows of a view.
+    pub fn view(&self, view: u64) -> FlatView
+        ensures { ShowsView self.now view result }
+    {
+        view_in(self.engine.state(), view)
+    }
+
+    /// Why the member withholds its vote of a kind on a view: 1 asks for a vote to notarize, 2 to nullify, 3 to finalize.
+    pub fn withheld(&self, kind: u32, view: u64) -> FlatWithheld
+        ensures { ShowsWithheld self.now kind view result }
+    {
+        withheld_in(self.engine.state(), kind, view)
+    }
+
+    /// Shows the bytes of a view's certificate, and answers what it is of: 1 asks for a notarization, 2 for a nullification, 3 for a
+    /// finalization.
+    pub fn certificate(&mut self, kind: u32, view: u64) -> FlatFound
+        ensures { ShowsFound self.old kind view result self.new }
+    {
+        certificate_in(self.engine.state(), kind, view, &mut self.shown)
+    }
+
+    /// Shows what a peer is served for a view.
+    pub fn serve(&mut self, view: u64) -> FlatServed
+        ensures { ShowsServed self.old view result self.new }
+    {
+        serve_in(self.engine.resolver(), view, &mut self.shown)
+    }
+}
+
+/// That there is no such fetch.
+pub(crate) fn not_open() -> FlatOpen
+    ensures { (result.status ≡ 0) × (result.fetch ≡ 0) }
+{
+    FlatOpen {
+        status: 0,
+        fetch: 0,
+        view: 0,
+        count: 0,
+        moment: 0,
+    }
+}

@@ -1,6 +1,0 @@
--- How the contract of `certified` follows: a refused certificate loses the effects that were kept, and tells nothing.
-use Rattle.std.proofs.Common.{inr}
-use Rattle.ffi_member.proofs.resolving.HeldResolver.certified.Goals as goal
-
-pub returns-in-Err : goal.returns-in-Err
-returns-in-Err c = (inr (c.in-Err.fault, c.lose.ensures.told, rw c.lose.ensures.kept.0 c.in-Err.ensures.refused, c.lose.ensures.none), c.lose.ensures.kept.1)

@@ -1,0 +1,213 @@
+-- How a resolver behind a handle starts, what it is told, and what it answers.
+use Rattle.std.specs.Prelude.{◌≡◌, ◌⊎◌, ◌<◌, ◌≤◌, ◌^◌, ◌==◌, max, if◌then◌else◌, ℕ, zero, suc, Bool, true, false, List, [], Option, Some, None, length, slice_get}
+use Rattle.std.specs.FinMap as map
+use Rattle.std.specs.Int.{w64, to_be_bytes}
+use Rattle.std.specs.List.{flat_map}
+use Rattle.simplex_types.specs.Certificates.{CertificateFacts, ProposalFacts, Notarized, Nullified, Finalized}
+use Rattle.simplex_types.specs.declared.reasons.FetchReason.{FetchReason}
+use Rattle.simplex_types.specs.declared.reasons.FetchReason.TheVariants as why
+use Rattle.simplex_types.specs.declared.reasons.Kind.TheVariants as lacking
+use Rattle.simplex_types.specs.declared.types.fault.Fault.{Fault}
+use Rattle.simplex_codec.specs.declared.digest.BytesDigest.{BytesDigest}
+use Rattle.simplex_codec.specs.Digests.{bytes_in_digest}
+use Rattle.ffi_scheme.specs.Host.{certificate_bytes}
+use Rattle.simplex_resolver.specs.declared.replay.error.ReplayError.{ReplayError}
+use Rattle.simplex_resolver.specs.declared.replay.error.ReplayError.TheVariants as replay
+use Rattle.simplex_resolver.specs.declared.resolver.effect.Effect.{Effect}
+use Rattle.simplex_resolver.specs.declared.resolver.effect.Effect.TheVariants as effect
+use Rattle.simplex_resolver.specs.Facts.{ResolverFacts}
+use Rattle.simplex_resolver.specs.Served.{is_settled, served_encoding}
+use Rattle.simplex_resolver.specs.RecordCalls.{newest_first, replay_calls}
+use Rattle.simplex_resolver.specs.RecordRules.{record_error}
+use Rattle.simplex_resolver.specs.Repair.{has}
+use Rattle.simplex_resolver.specs.ReplayErrors.{IsDue}
+use Rattle.simplex_resolver.specs.Steps.{Call, update, verdict}
+use Rattle.simplex_resolver.specs.CallHistory.{LawfulResolverFacts, HasBeenTold, IsLeftBy, IsMade, IsToldMore}
+use Rattle.ffi_member.specs.declared.journal.NotRead.TheVariants as not_read
+use Rattle.ffi_member.specs.declared.resolver_types.FlatEffect.{FlatEffect}
+use Rattle.ffi_member.specs.declared.resolver_types.FlatEffects.{FlatEffects}
+use Rattle.ffi_member.specs.declared.resolver_types.FlatOutstanding.{FlatOutstanding}
+use Rattle.ffi_member.specs.declared.resolver_types.FlatServed.{FlatServed}
+use Rattle.ffi_member.specs.declared.resolver_types.FlatSettled.{FlatSettled}
+use Rattle.ffi_member.specs.declared.resolver_types.FlatTold.{FlatTold}
+use Rattle.ffi_member.specs.declared.resolver_calls.HeldResolver.{HeldResolver}
+use Rattle.ffi_member.specs.declared.resolver_calls.NotReplayed.{NotReplayed}
+use Rattle.ffi_member.specs.declared.resolver_calls.NotReplayed.TheVariants as not_replayed
+use Rattle.ffi_member.specs.Calls.{IsFlatProposal, flat_round}
+use Rattle.ffi_member.specs.Journals.{HostArtifact, IsNotRead, framed}
+use Rattle.ffi_member.specs.Numbers.{fault_status, flag_number, lacking_number}
+
+-- a resolver that was told the entries whose frames these bytes are, and then that its replay has ended; nothing is to be read yet
+pub record IsBegunFrom (term_length : ℕ) (journal : List ℕ) (held : HeldResolver) : Type 0 where
+  pub entries : List HostArtifact
+  pub read : journal ≡ framed entries
+  pub accepted : record_error (newest_first certificate_bytes entries) ≡ None
+  pub told : HasBeenTold term_length (replay_calls (bytes_in_digest {n = 32}) certificate_bytes entries) held.resolver
+  pub last : held.last.items ≡ []
+  pub served : held.served.items ≡ []
+
+-- the record is refused, or memory is wanting
+pub record IsNotReplayed (journal : List ℕ) (error : ReplayError) : Type 0 where
+  pub entries : List HostArtifact
+  pub read : journal ≡ framed entries
+  pub due : IsDue (record_error (newest_first certificate_bytes entries)) error
+
+-- why no resolver starts
+abbrev pub IsNotBegunFrom : ℕ → List ℕ → NotReplayed → Type 0
+IsNotBegunFrom term_length journal not_replayed.NoTerm = term_length ≡ 0
+IsNotBegunFrom term_length journal (not_replayed.Journal e) = IsNotRead journal e
+IsNotBegunFrom term_length journal (not_replayed.Replay e) = IsNotReplayed journal e
+
+-- the number of why no resolver starts
+abbrev pub not_replayed_number : NotReplayed → ℕ
+not_replayed_number not_replayed.NoTerm = 9
+not_replayed_number (not_replayed.Journal not_read.OutOfMemory) = 1
+not_replayed_number (not_replayed.Journal (not_read.Damaged _)) = 12
+not_replayed_number (not_replayed.Journal (not_read.NoEntry _ _)) = 13
+not_replayed_number (not_replayed.Replay replay.OutOfMemory) = 1
+not_replayed_number (not_replayed.Replay replay.ZeroView) = 42
+not_replayed_number (not_replayed.Replay replay.ViewTooLarge) = 43
+not_replayed_number (not_replayed.Replay replay.VerdictWithoutNotarization) = 46
+
+-- a certificate of a kind is of these numbers and bytes
+abbrev pub IsFlatCertificate : ℕ → FlatTold → List ℕ → CertificateFacts (BytesDigest 32) → Type 0
+IsFlatCertificate (suc zero) f bytes (Notarized c) = IsFlatProposal f.proposal c.proposal × (c.bytes ≡ bytes)
+IsFlatCertificate (suc (suc zero)) f bytes (Nullified c) = (c.round ≡ flat_round f.proposal.round) × (c.bytes ≡ bytes)
+IsFlatCertificate (suc (suc (suc zero))) f bytes (Finalized c) = IsFlatProposal f.proposal c.proposal × (c.bytes ≡ bytes)
+IsFlatCertificate _ f bytes c = ⊥
+
+-- a verdict on a notarization of these numbers and bytes
+pub record IsJudged (f : FlatTold) (bytes : List ℕ) (call : Call) : Type 0 where
+  pub notarization : ProposalFacts (BytesDigest 32)
+  pub success : Bool
+  pub proposal : IsFlatProposal f.proposal notarization.proposal
+  pub own : notarization.bytes ≡ bytes
+  pub flag : flag_number success ≡ f.success
+  pub told : call ≡ verdict (bytes_in_digest {n = 32}) notarization success
+
+-- what is told: a certificate, or a verdict
+abbrev pub IsToldCall : FlatTold → List ℕ → Call → Type 0
+IsToldCall f bytes call =
+    ((c : CertificateFacts (BytesDigest 32)) × IsFlatCertificate f.kind f bytes c × (call ≡ update (bytes_in_digest {n = 32}) c))
+    ⊎ ((f.kind ≡ 4) × IsJudged f bytes call)
+
+-- the highest view that is named: of a nullification its own, else the greater of its own and its parent's
+abbrev pub highest_told : FlatTold → ℕ
+highest_told f = if f.kind == 2 then f.proposal.round.view else max f.proposal.round.view f.proposal.parent
+
+-- it is told, and these are its effects
+pub record HasEffects (old : HeldResolver) (highest : ℕ) (call : Call) (r : FlatEffects) (new : HeldResolver) : Type 0 where
+  pub status : r.status ≡ 0
+  pub living : old.resolver.state.is_failed ≡ false
+  pub views : highest < 2 ^ 63
+  pub made : IsMade call old.resolver new.last.items new.resolver
+  pub told : IsToldMore old.resolver call new.resolver
+  pub count : r.count ≡ length new.last.items
+  pub fetches : r.fetches ≡ length new.resolver.open_fetches
+
+-- no effects are told
+abbrev pub HasNoEffects : ℕ → FlatEffects → Type 0
+HasNoEffects status r = (r.status ≡ status) × (r.count ≡ 0) × (r.fetches ≡ 0)
+
+-- a fault leaves what it leaves, and no effects to be read
+abbrev pub HasFault : HeldResolver → ℕ → Call → FlatEffects → HeldResolver → Type 0
+HasFault old highest call r new =
+    (fault : Fault) × HasNoEffects (fault_status fault) r × IsLeftBy old.resolver highest call fault new.resolver × (new.last.items ≡ [])
+
+-- a call that names no view above the highest is told, or ends in a fault; what was served last stays
+abbrev pub IsHeardAs : HeldResolver → ℕ → Call → FlatEffects → HeldResolver → Type 0
+IsHeardAs old highest call r new =
+    (HasEffects old highest call r new ⊎ HasFault old highest call r new) × (new.served ≡ old.served)
+
+-- one of the numbers is none of a verdict, or of a kind
+abbrev pub IsNoTold : FlatTold → Type 0
+IsNoTold f = (2 ≤ f.success) ⊎ ((1 ≤ f.proposal.round.view) × ((f.kind ≡ 0) ⊎ (5 ≤ f.kind)))
+
+-- each of them is one, and the view is not that of genesis
+abbrev pub HasTold : FlatTold → Type 0
+HasTold f = (0 < f.kind) × (f.kind < 5) × (f.success < 2) × (1 ≤ f.proposal.round.view)
+
+-- why nothing was told: the view is that of genesis, a number is none, or there was no memory for the certificate
+abbrev pub IsUntold : FlatTold → FlatEffects → Type 0
+IsUntold f r =
+    (HasNoEffects 5 r × (f.success < 2) × (f.proposal.round.view ≡ 0))
+    ⊎ (HasNoEffects 6 r × IsNoTold f)
+    ⊎ (HasNoEffects 7 r × HasTold f)
+
+-- nothing was told, and all is as it was
+abbrev pub IsResolverNotTold : HeldResolver → FlatTold → FlatEffects → HeldResolver → Type 0
+IsResolverNotTold old f r new = (new ≡ old) × IsUntold f r
+
+-- what flat numbers tell a resolver
+abbrev pub IsHeard : HeldResolver → FlatTold → List ℕ → FlatEffects → HeldResolver → Type 0
+IsHeard old f bytes r new =
+    IsResolverNotTold old f r new ⊎ (HasTold f × ((call : Call) × IsToldCall f bytes call × IsHeardAs old (highest_told f) call r new))
+
+-- why a fetch is opened, and what is settled
+abbrev pub why_number : FetchReason → ℕ
+why_number why.MissingNullification = 0
+why_number why.CertificationFailed = 1
+
+-- an effect is of these numbers
+abbrev pub IsEffect : Effect → FlatEffect → Type 0
+IsEffect (effect.Fetch view cause reason) f = (f.kind ≡ 1) × (f.view ≡ view) × (f.cause ≡ cause) × (f.reason ≡ why_number reason)
+IsEffect (effect.Settled kind start end) f = (f.kind ≡ 2) × (f.view ≡ start) × (f.end ≡ end) × (f.reason ≡ lacking_number kind)
+IsEffect (effect.Finalized view) f = (f.kind ≡ 3) × (f.view ≡ view)
+IsEffect (effect.Raised view) f = (f.kind ≡ 4) × (f.view ≡ view)
+
+-- the effect at an index, or none
+abbrev pub IsEffectAt : List Effect → ℕ → FlatEffect → Type 0
+IsEffectAt es index f =
+    (f.status ≡ 0) × (((f.kind ≡ 0) × (length es ≤ index)) ⊎ ((e : Effect) × (slice_get es index ≡ Some e) × IsEffect e f))
+
+-- what is known of a view
+pub record IsSettledAt (r : LawfulResolverFacts) (view : ℕ) (f : FlatSettled) : Type 0 where
+  pub status : f.status ≡ 0
+  pub failed : f.is_failed ≡ flag_number r.state.is_failed
+  pub nullification : f.nullification ≡ flag_number (is_settled r.state view lacking.Nullification)
+  pub notarization : f.notarization ≡ flag_number (is_settled r.state view lacking.Notarization)
+  pub uncertifiable : f.uncertifiable ≡ flag_number (map.contains_key r.state.uncertifiable view)
+  pub opened : f.is_open ≡ flag_number (has r.open_fetches view)
+  pub count : f.fetches ≡ length r.open_fetches
+
+-- views, in eight bytes each
+abbrev pub view_bytes : List ℕ → List ℕ
+view_bytes views = flat_map (λ v. to_be_bytes w64 v) views
+
+-- views are shown; or there was no memory for them, and nothing is
+abbrev pub HasViews : List ℕ → FlatOutstanding → List ℕ → Type 0
+HasViews views r served =
+    ((r.status ≡ 0) × (r.count ≡ length views) × (served ≡ view_bytes views)) ⊎ ((r.status ≡ 1) × (r.count ≡ 0) × (served ≡ []))
+
+-- the views whose fetch is open are shown, rising
+pub record AreOutstanding (old : HeldResolver) (r : FlatOutstanding) (new : HeldResolver) : Type 0 where
+  pub resolver : new.resolver ≡ old.resolver
+  pub last : new.last ≡ old.last
+  pub bytes : r.bytes ≡ length new.served.items
+  pub shown : HasViews old.resolver.open_fetches r new.served.items
+
+-- nothing is shown, for this status
+abbrev pub IsUnserved : ℕ → FlatServed → List ℕ → Type 0
+IsUnserved status r served = (r.status ≡ status) × (r.has ≡ 0) × (r.bytes ≡ 0) × (served ≡ [])
+
+-- an encoding is shown
+abbrev pub IsShown : List ℕ → FlatServed → List ℕ → Type 0
+IsShown bytes r served = (r.status ≡ 0) × (r.has ≡ 1) × (r.bytes ≡ length bytes) × (served ≡ bytes)
+
+-- there is nothing to serve; or the encoding is shown, or there was no memory for it
+abbrev pub HasServed : Option (List ℕ) → FlatServed → List ℕ → Type 0
+HasServed None r served = IsUnserved 0 r served
+HasServed (Some bytes) r served = IsShown bytes r served ⊎ IsUnserved 1 r served
+
+-- what a peer is served; nothing, where the resolver has failed
+abbrev pub HasServedOf : ResolverFacts → ℕ → FlatServed → List ℕ → Type 0
+HasServedOf state view r served =
+    ((state.is_failed ≡ true) × IsUnserved 2 r served)
+    ⊎ ((state.is_failed ≡ false) × HasServed (served_encoding state view) r served)
+
+-- how it is shown
+pub record IsServedFor (old : HeldResolver) (view : ℕ) (r : FlatServed) (new : HeldResolver) : Type 0 where
+  pub resolver : new.resolver ≡ old.resolver
+  pub last : new.last ≡ old.last
+  pub of_view : r.view ≡ view
+  pub served : HasServedOf old.resolver.state view r new.served.items

@@ -1,0 +1,159 @@
+//! How a member goes on: from a journal in another process, or restarted in this one.
+
+ghost use Rattle.std.specs.Prelude.{◌≡◌, ◌≤◌, nat_lt, length, IfOk, IfErr, MatchOption};
+ghost use Rattle.ffi_scheme.specs.HostLeaders.{host_members};
+ghost use Rattle.ffi_scheme.specs.Host.{host_keys};
+ghost use Rattle.ffi_member.specs.Resumption.{IsGoingOn, IsNotResumedBy, IsFlatStored};
+
+use crate::flat::FlatSettings;
+use crate::held::{Held, NotStarted};
+use crate::journal::{HostArtifact, NotRead, read_entries};
+use crate::numbers::flag_of;
+use crate::settings::{HostStart, SettingsError, start_of};
+use crate::view_types::{FlatRestart, FlatStored};
+use simplex_member::member::{Member, RecoverError, Restart, ResumeError, Stored};
+use simplex_types::types::ViewDelta;
+use std::alloc::Global;
+
+/// Why no member goes on from a journal.
+#[derive(Clone, Copy, PartialEq, Eq, Debug)]
+pub enum NotResumed {
+    /// The settings are none of a member.
+    Settings(SettingsError),
+    /// What was stored beside the journal has a number that has to be 0 or 1, and is another.
+    NoFlag,
+    /// The journal is no record.
+    Journal(NotRead),
+    /// There are fewer entries than were stored, or than were closed: votes may be among those that are lost.
+    EntriesLost,
+    /// The record is refused, or memory is wanting.
+    Recover(RecoverError),
+}
+
+impl Held {
+    ghost use Rattle.ffi_member.specs.Resumption.{IsRestartedBy, IsResumedBy};
+
+    /// A member that goes on from its journal: the bytes that its entries were as frames, and what was stored beside them last.
+    /// Nothing is dropped or pruned.
+    pub fn resume(
+        alloc: Global,
+        flat: &FlatSettings,
+        leaders: &[u32],
+        certificate: &[u8],
+        now: u64,
+        stored: &FlatStored,
+        journal: &[u8],
+    ) -> Result<Held, NotResumed>
+        ensures resumed { IfOk result (IsResumedBy flat.now leaders.now certificate.now now stored.now journal.now) }
+        ensures refused { IfErr result (IsNotResumedBy flat.now leaders.now certificate.now now stored.now journal.now) }
+    {
+        let from = going_on(alloc, flat, leaders, certificate, now, stored, journal)?;
+        match Member::resume(alloc, from.start, from.stored, from.entries) {
+            Ok(member) => Ok(Held::new(alloc, member)),
+            Err(refusal) => match refusal.error {
+                ResumeError::EntriesLost => Err(NotResumed::EntriesLost),
+                ResumeError::Recover(error) => Err(NotResumed::Recover(error)),
+            },
+        }
+    }
+
+    /// Ends the member's life, also one that has failed, and begins another from its record, with these settings. The last entries
+    /// are dropped and the record is pruned first, as asked.
+    ///
+    /// Where the settings are refused nothing changes.
+    pub fn restart(
+        &mut self,
+        flat: &FlatRestart,
+        leaders: &[u32],
+        certificate: &[u8],
+    ) -> Result<(), NotStarted>
+        ensures { IsRestartedBy self.old flat.now leaders.now certificate.now result self.new }
+    {
+        let start = match start_of(
+            self.alloc,
+            &flat.settings,
+            leaders,
+            certificate,
+            flat.moment,
+        ) {
+            Ok(start) => start,
+            Err(error) => return Err(NotStarted::Settings(error)),
+        };
+        let Some(prune) = flag_of(flat.prune) else {
+            return Err(NotStarted::Settings(SettingsError::NoFlag));
+        };
+        let restart = Restart {
+            drop: flat.drop,
+            prune,
+            start,
+        };
+        match self.member.restart(restart) {
+            Ok(()) => Ok(()),
+            Err(error) => Err(NotStarted::Recover(error)),
+        }
+    }
+}
+
+/// With what a member goes on: its settings, what is stored beside its record, and the record.
+#[derive(Drop)]
+pub struct GoingOn {
+    pub start: HostStart,
+    pub stored: Stored,
+    pub entries: Vec<HostArtifact>,
+}
+
+/// With what a member goes on, by flat settings and the bytes of a journal, which has all entries that were counted.
+pub fn going_on(
+    alloc: Global,
+    flat: &FlatSettings,
+    leaders: &[u32],
+    certificate: &[u8],
+    now: u64,
+    stored: &FlatStored,
+    journal: &[u8],
+) -> Result<GoingOn, NotResumed>
+    ensures from { IfOk result (λ it. IsGoingOn flat.now leaders.now certificate.now now stored.now journal.now it.start it.stored it.entries.items) }
+    ensures whole { IfOk result (λ it. stored.now.entries ≤ length it.entries.items) }
+    ensures fits { IfOk result (λ it. host_members it.start.settings.elector ≡ length (host_keys it.start.settings.scheme)) }
+    ensures refused { IfErr result (IsNotResumedBy flat.now leaders.now certificate.now now stored.now journal.now) }
+{
+    let start = match start_of(alloc, flat, leaders, certificate, now) {
+        Ok(start) => start,
+        Err(error) => return Err(NotResumed::Settings(error)),
+    };
+    let Some(beside) = stored_of(stored) else {
+        return Err(NotResumed::NoFlag);
+    };
+    let entries = match read_entries(alloc, journal) {
+        Ok(entries) => entries,
+        Err(error) => return Err(NotResumed::Journal(error)),
+    };
+    if has_fewer(&entries, stored.entries) {
+        return Err(NotResumed::EntriesLost);
+    }
+    Ok(GoingOn {
+        start,
+        stored: beside,
+        entries,
+    })
+}
+
+/// What was stored beside a journal; none where its flag is none.
+fn stored_of(flat: &FlatStored) -> Option<Stored>
+    ensures { MatchOption result (2 ≤ flat.now.is_pruned) (IsFlatStored flat.now) }
+{
+    let is_pruned = flag_of(flat.is_pruned)?;
+    Some(Stored {
+        closed: flat.closed as usize,
+        is_pruned,
+        retention: ViewDelta::new(flat.retention),
+        least_retention: ViewDelta::new(flat.least_retention),
+    })
+}
+
+/// Whether there are fewer entries than this.
+fn has_fewer(entries: &[HostArtifact], count: u64) -> bool
+    ensures { result ≡ nat_lt (length entries.now) count }
+{
+    (entries.len() as u64) < count
+}

@@ -1,0 +1,13 @@
+-- what a member has done stays where its record is pruned
+use Rattle.laws_safety.proofs.executions.Living.{prune_done}
+use Rattle.lawful_member.proofs.lawful.member.LawfulMember.prune_record.Goals as goal
+
+pub returns-clause-pruned : goal.returns-clause-pruned
+returns-clause-pruned g c = rw (← c.self.view_is) c.prune_record.ensures.pruned
+
+pub returns-clause-votes : goal.returns-clause-votes
+returns-clause-votes g c = rw (← c.self.view_is) c.prune_record.ensures.votes
+
+pub returns-clause-goes_on : goal.returns-clause-goes_on
+returns-clause-goes_on g c term_length i all done =
+    rw c.prune_record.ensures.pruned (prune_done g.D.PartialEq.eq g.L.Elector.elect term_length i c.self.inside.member.facts all (rw c.self.view_is done))

@@ -1,0 +1,174 @@
+//! Members whose trace so far keeps the laws, by the code's own steps and replies: a whole run, and a member that goes on.
+
+ghost use Rattle.std.specs.Prelude.{◌≡◌, ℕ, IfOk, IfErr, IfSome, length};
+ghost use Rattle.simplex_member.specs.Runs.{AreSetUp, EndsRunFrom, steps_of};
+ghost use Rattle.simplex_record.specs.Start.{start_facts};
+ghost use Rattle.laws_safety.specs.ExactVotes.{SignsExactly};
+ghost use Rattle.laws_safety.specs.MemberHistory.{execution_of};
+ghost use Rattle.laws_safety.specs.Lawful.{IsLawful};
+ghost use Rattle.laws_safety.specs.ObservedTraces.{shown_trace, AllStartAs};
+ghost use Rattle.laws_safety.specs.Executions.{trace_of, IsExecution};
+
+use simplex_member::member::{Call, Member, RecoverError, Reply, Restart, Start, Step, run};
+use simplex_types::types::{CertificateScheme, Digest, Elector, Scheme};
+use std::alloc::Global;
+use std::marker::Model;
+
+/// Starts a member and takes the steps in order, as `run` does: what it accepted and signed keeps the laws.
+///
+/// - `exact`: each request for a vote is answered exactly by its rule, and nothing else by a vote.
+/// - `ran`: where each life has terms of one length, not 0, and signs as member `i` or not at all, `AllStartAs`, this is what
+///   member `i` of a network does, so `agreement` tells of it.
+/// - `shows`: its trace is the certificates and the votes that the steps and the replies show: each certificate that a call
+///   hands in and is told whether it is new, the floor's finalization of the start and of each restart that succeeds, and each
+///   vote in a reply.
+/// - `lawful`: they keep the voting rules, over all its lives.
+/// - `ended`: it ends early as `run` does, with the error of a start or a restart that is refused, or with `OutOfMemory`.
+pub fn run_lawfully<S: Scheme<D>, L: Elector<S>, D: Digest>(
+    alloc: Global,
+    start: Start<S, L, D>,
+    steps: Vec<Step<S, L, D>>,
+) -> Result<Vec<Reply<S, D>>, RecoverError>
+    requires started { L.members start.settings.elector ≡ length (S.participants start.settings.scheme) }
+    requires restarted { AreSetUp S.participants L.members steps.items }
+    ensures exact { IfOk result (λ replies.
+        SignsExactly D.eq L.elect
+        (execution_of S.me S.participants L.terms L.elects_early S.certificate_bytes start steps.items replies.items)) }
+    ensures ran { IfOk result (λ replies. (term_length i : ℕ) → AllStartAs S.me L.terms term_length i start steps.items
+        → IsExecution D.eq L.elect term_length i
+        (execution_of S.me S.participants L.terms L.elects_early S.certificate_bytes start steps.items replies.items)) }
+    ensures shows { IfOk result (λ replies.
+        trace_of (execution_of S.me S.participants L.terms L.elects_early S.certificate_bytes start steps.items replies.items)
+        ≡ shown_trace start steps.items replies.items) }
+    ensures lawful { IfOk result (λ replies. (term_length i : ℕ) → AllStartAs S.me L.terms term_length i start steps.items
+        → IsLawful term_length (shown_trace start steps.items replies.items)) }
+    ensures ended { IfErr result (EndsRunFrom D.eq L.elect
+        (start_facts S.me S.participants L.terms L.elects_early S.certificate_bytes start)
+        (steps_of S.me S.participants L.terms L.elects_early S.certificate_bytes steps.items)) }
+{
+    run(alloc, start, steps)
+}
+
+/// A member that a driver keeps, with the law of its votes at each moment.
+///
+/// `HasDone` says what its trace is so far, and as which member of a network: `start` begins the list, `resume` goes on
+/// with that of an ended member, each method says what it adds, read off its arguments and its reply, and `keeps_the_laws` says
+/// what holds of the whole.
+#[derive(Drop)]
+pub struct LawfulMember<S: CertificateScheme, L: Elector<S>, D: Digest> {
+    pub(super) member: Member<S, L, D>,
+}
+
+impl<S: CertificateScheme, L: Elector<S>, D: Digest> Model for LawfulMember<S, L, D> {
+    ghost use Rattle.simplex_member.specs.MemberFacts.{SignedMember};
+
+    ghost Value = { SignedMember S.PublicKey L D S.Signature };
+
+    ghost view = { λ m. m.member };
+}
+
+impl<S: Scheme<D>, L: Elector<S>, D: Digest> LawfulMember<S, L, D> {
+    ghost use Rattle.std.specs.Prelude.{[], ◌++◌, true};
+    ghost use Rattle.simplex_types.specs.Config.{floor_facts};
+    ghost use Rattle.simplex_member.specs.Calls.{told, asked};
+    ghost use Rattle.simplex_member.specs.Journal.{stored_of};
+    ghost use Rattle.simplex_member.specs.MemberFacts.{IsCall, HasGrown};
+    ghost use Rattle.simplex_member.specs.MethodContracts.{is_reply_to};
+    ghost use Rattle.simplex_member.specs.Runs.{Calls};
+    ghost use Rattle.simplex_member.specs.ReplySignatures.{IsSignedReply, signed_reply};
+    ghost use Rattle.simplex_record.specs.Recovery.{recover_error};
+    ghost use Rattle.simplex_member.specs.Pruning.{pruned_member, votes_within};
+    ghost use Rattle.simplex_member.specs.Restarts.{restart_facts, votes_left, IsRestart};
+    ghost use Rattle.simplex_record.specs.Start.{set_up, IsErrorDue};
+    ghost use Rattle.simplex_member.specs.Start.{started_member};
+    ghost use Rattle.laws_safety.specs.ExactVotes.{ExactAt};
+    ghost use Rattle.laws_safety.specs.MemberHistory.{DoesMore, MayBeDoneBy, OfAllDone, HasBegun, HasBegunAgain};
+    ghost use Rattle.laws_safety.specs.RecordsOnce.{HoldsEachEntryOnce};
+    ghost use Rattle.laws_safety.specs.ObservedTraces.{votes_in, taken_by};
+
+    /// A member at a floor, as `Member::start` makes it or refuses.
+    ///
+    /// The elector's members are the scheme's participants. `OtherEpoch`, `ZeroView` or `ViewTooLarge` where the floor's
+    /// finalization is of another epoch or of view 0, or names a view above 2^63 - 1; `TimeOverflow` where a deadline passes
+    /// 2^64 - 1 milliseconds; `OutOfMemory`.
+    /// - `begins`: it has accepted the floor's finalization, if there is one, and done nothing else.
+    pub fn start(
+        alloc: Global,
+        start: Start<S, L, D>,
+    ) -> Result<LawfulMember<S, L, D>, RecoverError>
+        requires { L.members start.settings.elector ≡ length (S.participants start.settings.scheme) }
+        ensures started { IfOk result (λ member. member.facts ≡ started_member D.eq L.elect
+            (set_up S.me S.participants L.terms L.elects_early start.settings)
+            (floor_facts S.certificate_bytes start.floor) start.now) }
+        ensures votes { IfOk result (λ member. member.votes ≡ []) }
+        ensures refused { IfErr result (IsErrorDue (recover_error D.eq
+            (set_up S.me S.participants L.terms L.elects_early start.settings)
+            (floor_facts S.certificate_bytes start.floor) start.now [])) }
+        ensures begins { IfOk result (λ member. HasBegun D.eq L.elect S.me L.terms start member.facts) }
+    {
+        Ok(LawfulMember {
+            member: Member::start(alloc, start)?,
+        })
+    }
+
+    /// Makes a call of the state, as `Member::call` does.
+    ///
+    /// - `answered`: with its answer, or refused, or not allowed, and then nothing is changed but for a member that fails for
+    ///   want of memory.
+    /// - `signed`: a vote that is answered is signed on just what it is on, under the member's key.
+    /// - `votes`: the record holds each vote that is answered, with the very signature that is handed out.
+    /// - `grown`: the record is as it was, with more behind it.
+    /// - `stored`: what a journal stores beside the record stays.
+    /// - `exact`: a request for a vote is answered exactly by its rule, and nothing else by a vote.
+    /// - `goes_on`: what the member has done grows by the certificate that is accepted and the vote that is told.
+    pub fn call(&mut self, call: Call<S, D>) -> Reply<S, D>
+        ensures of_its_kind { is_reply_to (told S.certificate_bytes result) (asked S.certificate_bytes call) ≡ true }
+        ensures answered { IsCall D.eq L.elect self.old.facts (asked S.certificate_bytes call) (told S.certificate_bytes result) self.new.facts }
+        ensures signed { IfSome self.old.facts.life (IsSignedReply S.IsSignature result) }
+        ensures votes { self.new.votes ≡ self.old.votes ++ signed_reply result }
+        ensures grown { HasGrown self.old.facts self.new.facts }
+        ensures stored { stored_of self.new.facts ≡ stored_of self.old.facts }
+        ensures exact { ExactAt D.eq L.elect self.old.facts.life (Calls (asked S.certificate_bytes call)) (told S.certificate_bytes result) }
+        ensures goes_on { DoesMore D.eq L.elect self.old.facts (taken_by call result ++ votes_in result) self.new.facts }
+    {
+        self.member.call(call)
+    }
+
+    /// Prunes the record within the life, as `Member::prune_record` does.
+    ///
+    /// - `goes_on`: what the member has done stays, also what goes from its record.
+    pub fn prune_record(&mut self)
+        ensures pruned { self.new.facts ≡ pruned_member self.old.facts }
+        ensures votes { self.new.votes ≡ votes_within self.old.facts self.old.votes }
+        ensures goes_on { DoesMore D.eq L.elect self.old.facts [] self.new.facts }
+    {
+        self.member.prune_record()
+    }
+
+    /// Begins another life from what is left of the record, as `Member::restart` does, or is refused with its errors.
+    ///
+    /// The elector's members are the scheme's participants.
+    /// - `goes_on`: in terms of the same length and with the key of the same member or none, what the member has done stays,
+    ///   also what is dropped from its record or pruned; where the restart succeeds the floor's finalization is accepted too.
+    pub fn restart(&mut self, restart: Restart<S, L, D>) -> Result<(), RecoverError>
+        requires { L.members restart.start.settings.elector ≡ length (S.participants restart.start.settings.scheme) }
+        ensures restarted { IsRestart D.eq L.elect self.old.facts
+            (restart_facts S.me S.participants L.terms L.elects_early S.certificate_bytes restart) result self.new.facts }
+        ensures votes { self.new.votes
+            ≡ votes_left self.old.facts (restart_facts S.me S.participants L.terms L.elects_early S.certificate_bytes restart) self.old.votes }
+        ensures goes_on { HasBegunAgain D.eq L.elect S.me L.terms self.old.facts restart.start result self.new.facts }
+    {
+        self.member.restart(restart)
+    }
+
+    /// The laws of all that the member has done so far. It does nothing: its contract is the law.
+    ///
+    /// - `lawful`: its trace keeps the voting rules, over all its lives.
+    /// - `ran`: a network of `agreement` may have it as member `i`.
+    /// - `once`: its record holds each entry once, and of each view at most seven.
+    pub fn keeps_the_laws(&self)
+        ensures lawful { OfAllDone D.eq L.elect self.now.facts (λ term_length i all. IsLawful term_length all) }
+        ensures ran { OfAllDone D.eq L.elect self.now.facts (MayBeDoneBy S.PublicKey D.eq L.elect) }
+        ensures once { OfAllDone D.eq L.elect self.now.facts (λ term_length i all. HoldsEachEntryOnce self.now.facts) }
+    {}
+}

@@ -1,0 +1,11 @@
+-- That an engine asks its peers for just what its member's state lacks.
+use Rattle.std.specs.Prelude.{IfSome}
+use Rattle.engine_outbox.specs.declared.journaled.Journaled.{Journaled}
+use Rattle.engine_fetches.specs.declared.repair.Repair.{Repair}
+use Rattle.engine_fetches.specs.OutstandingFetches.{AsksForTheLacking}
+
+module _ {S L D K G C : Type 0} where
+  -- just what the member's state lacks is asked of peers
+  abbrev pub AsksForItsLacking : Journaled S L D K G C → Repair → Type 0
+  AsksForItsLacking core repair =
+      IfSome core.member.facts.life (λ x. AsksForTheLacking repair.resolver.open_fetches x repair.fetches.wanted.items)

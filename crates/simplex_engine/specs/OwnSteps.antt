@@ -1,0 +1,27 @@
+-- What an engine does by itself.
+use Rattle.std.specs.Prelude.{◌≡◌, ◌⊎◌, ℕ, Bool, List, None, IfSome}
+use Rattle.simplex_types.specs.declared.types.messages.Subject.{Subject}
+use Rattle.simplex_voter.specs.Facts.{Elect}
+use Rattle.simplex_voter.specs.Windows.{min_active}
+use Rattle.engine_votes.specs.declared.batcher.Batcher.{Batcher}
+use Rattle.engine_votes.specs.StoredVotes.{IsForgotten}
+use Rattle.simplex_engine.specs.declared.engine.Engine.{Engine}
+use Rattle.simplex_engine.specs.CertificateVotes.{TakesNone}
+use Rattle.engine_outbox.specs.declared.journaled.Journaled.{Journaled}
+use Rattle.engine_outbox.specs.Continuity.{GoesOn}
+
+-- the same votes are held, or those of the views below the lowest one that the member's state keeps are forgotten, and no others
+abbrev pub ForgetsNoOther : {S L D K G C : Type 0} → Journaled S L D K G C → Batcher S D K G C → Batcher S D K G C → Type 0
+ForgetsNoOther core old new = IfSome core.member.facts.life (λ x. (new ≡ old) ⊎ IsForgotten (min_active x) old new)
+
+module _ {S L D K G C : Type 0} (same : D → D → Bool) (elect : Elect L) (bytes_of : C → List ℕ) (is_signature : K → Subject D → G → Type 0) where
+  -- it goes on, accepts no certificate, and holds the same votes
+  pub record GoesOnAlone (old new : Engine S L D K G C) : Type 0 where
+    pub goes_on : GoesOn same elect bytes_of is_signature None old.core new.core
+    pub batcher : new.batcher ≡ old.batcher
+
+  -- or forgets those that are of no use any more
+  pub record GoesOnForgetting (old new : Engine S L D K G C) : Type 0 where
+    pub goes_on : GoesOn same elect bytes_of is_signature None old.core new.core
+    pub votes : TakesNone old.batcher new.batcher
+    pub forgets : ForgetsNoOther new.core old.batcher new.batcher

@@ -1,0 +1,206 @@
+//! Calls of the member, each with what follows from its answer.
+#![tactic(auto)]
+
+ghost use Rattle.std.specs.Prelude.{◌≡◌, ℕ, [], ◌∷◌, ◌++◌, None, IfOk, OnOk, IsNone, IsTrue, not};
+ghost use Rattle.simplex_member.specs.Calls.{told};
+ghost use Rattle.engine_planner.specs.Tasks.{call_of};
+ghost use Rattle.simplex_engine.specs.NothingDue.{is_nothing, for_work};
+ghost use Rattle.engine_outbox.specs.Refusals.{is_lasting, says_nothing};
+
+use super::Engine;
+use simplex_types::types::assembly::Assembly;
+use engine_fetches::fetches::FetchKind;
+use simplex_member::member::Reply;
+use engine_planner::plan::Views;
+use engine_planner::task::Task;
+use simplex_types::types::{CertificateScheme, Digest, Elector, Fault, Participant, View};
+use simplex_voter::voter::Verify;
+
+impl<S: Assembly<D>, L: Elector<S>, D: Digest> Engine<S, L, D> {
+    ghost use Rattle.engine_outbox.specs.Continuity.{GoesOn};
+    ghost use Rattle.simplex_engine.specs.OwnSteps.{GoesOnAlone};
+    ghost use Rattle.simplex_engine.specs.NothingDue.{AnswersNothing, AnswerNothing, HasNothingDue};
+    ghost use Rattle.simplex_engine.specs.InputEffects.{HasDoneTask};
+    ghost use Rattle.simplex_engine.specs.Provenance.{at_hand, is_final, ComesAlone, ComesWith, HasNoLack, IsMeant};
+    ghost use Rattle.simplex_engine.specs.ApplicationWork.{KeepsDuties};
+    ghost use Rattle.engine_planner.specs.FetchRequests.{heard_by, never, KeepsAsking};
+    ghost use Rattle.engine_planner.specs.Causes.{given_by, planned_matters, Lack};
+    ghost use Rattle.engine_planner.specs.PlannedWork.{AreAmong, KeepsPlanned, KeepsPlannedThen, PlansAnswerThen};
+    ghost use Rattle.simplex_engine.specs.MemberViews.{HasComeTo};
+
+    /// Asks the member for work of the application. Returns whether there is none.
+    pub(super) fn ask_for_work(&mut self, now: u64) -> Result<bool, Fault>
+        ensures alone { GoesOnAlone D.eq L.elect S.certificate_bytes S.IsSignature self.old self.new }
+        ensures nothing { IfOk result (λ nothing. IsTrue nothing
+            → AnswerNothing D.eq L.elect self.old.core.member.facts for_work self.new.core.member.facts) }
+        ensures duties { OnOk result (KeepsDuties self.old self.new) }
+        ensures comes { OnOk result (ComesAlone D.eq L.elect D.bytes S.certificate_bytes now self.old self.new) }
+    {
+        let mut has_none = self.ask_for(Task::Verify, now)?;
+        has_none &= self.ask_for(Task::Propose, now)?;
+        has_none &= self.ask_for(Task::Candidates, now)?;
+        Ok(has_none)
+    }
+
+    /// Plans to ask for the votes and the certificates of the lowest view where one is due. Returns whether none is.
+    ///
+    /// It goes through the views from the last finalized one on, so it comes last, once all else is done.
+    pub(super) fn plan_due_votes(&mut self) -> Result<bool, Fault>
+        ensures core { self.new.core ≡ self.old.core }
+        ensures batcher { self.new.batcher ≡ self.old.batcher }
+        ensures nothing { IfOk result (λ nothing. IsTrue nothing
+            → HasNothingDue D.eq L.elect self.new.core.member.facts × (self.new.plan ≡ self.old.plan)) }
+        ensures planned { OnOk result (KeepsPlanned self.old.plan self.new.plan) }
+        ensures matters { OnOk result (AreAmong (planned_matters self.new.plan) (planned_matters self.old.plan)) }
+        ensures asks { OnOk result (KeepsAsking [] never [] self.old.plan self.new.plan) }
+    {
+        match self.first_due()? {
+            Some(view) => {
+                self.plan.touch(view)?;
+                Ok(false)
+            }
+            None => Ok(true),
+        }
+    }
+
+    /// The lowest view, from the last finalized one on, where a vote is allowed or a certificate was not handed out. A member that
+    /// has failed since found no memory.
+    fn first_due(&self) -> Result<Option<View>, Fault>
+        ensures { IfOk result (λ view. IsNone view → HasNothingDue D.eq L.elect self.now.core.member.facts) }
+    {
+        match self.core.state() {
+            Some(state) => Ok(state.first_due(state.last_finalized())),
+            None => Err(Fault::OutOfMemory),
+        }
+    }
+
+    /// Asks for work, and follows the reply. Returns whether that has nothing new.
+    fn ask_for(&mut self, task: Task<D>, now: u64) -> Result<bool, Fault>
+        ensures alone { GoesOnAlone D.eq L.elect S.certificate_bytes S.IsSignature self.old self.new }
+        ensures nothing { IfOk result (λ nothing. IsTrue nothing
+            → AnswersNothing D.eq L.elect self.old.core.member.facts (call_of task now) self.new.core.member.facts) }
+        ensures duties { OnOk result (KeepsDuties self.old self.new) }
+        ensures comes { OnOk result ((came : _) → HasNoLack came
+            → IsMeant now (came ++ at_hand self.old) self.old.core.member.facts (call_of task now)
+            → ComesWith D.eq L.elect D.bytes S.certificate_bytes now came self.old self.new) }
+    {
+        let reply = self.core.call(task.call(now));
+        let is_nothing = is_nothing(&reply);
+        self.follow(task, reply, now)?;
+        Ok(is_nothing)
+    }
+
+    /// Makes a call of the member, and follows its answer. Whether it was of use.
+    pub(super) fn ask(&mut self, task: Task<D>, now: u64) -> Result<bool, Fault>
+        ensures goes_on { GoesOn D.eq L.elect S.certificate_bytes S.IsSignature None self.old.core self.new.core }
+        ensures batcher { self.new.batcher ≡ self.old.batcher }
+        ensures acted { IfOk result (HasDoneTask D.eq L.elect task now self.old.core.member.facts self.new.core.member.facts) }
+        ensures duties { OnOk result (KeepsDuties self.old self.new) }
+        ensures comes { OnOk result ((came : _) → HasNoLack came
+            → IsMeant now (came ++ at_hand self.old) self.old.core.member.facts (call_of task now)
+            → ComesWith D.eq L.elect D.bytes S.certificate_bytes now came self.old self.new) }
+    {
+        let reply = self.core.call(task.call(now));
+        self.follow(task, reply, now)
+    }
+
+    /// Follows the answer to a call. Whether that says that anything was done.
+    fn follow(&mut self, task: Task<D>, reply: Reply<S, D>, now: u64) -> Result<bool, Fault>
+        ensures core { self.new.core ≡ self.old.core }
+        ensures batcher { self.new.batcher ≡ self.old.batcher }
+        ensures of_use { IfOk result (λ is_of_use. is_of_use ≡ not (says_nothing (told S.certificate_bytes reply))) }
+        ensures planned { OnOk result (PlansAnswerThen task (told S.certificate_bytes reply) self.old.plan self.new.plan) }
+        ensures seen { OnOk result (HasComeTo self.new.core.member.facts self.new.plan) }
+        ensures matters { OnOk result (AreAmong (planned_matters self.new.plan)
+            (planned_matters self.old.plan ++ given_by now reply (call_of task now))) }
+        ensures asks { OnOk result (KeepsAsking (given_by now reply (call_of task now)) (λ kind view. is_final self.new.core.member.facts view)
+            (heard_by D.bytes S.certificate_bytes reply (call_of task now)) self.old.plan self.new.plan) }
+    {
+        let is_of_use = !says_nothing(&reply);
+        self.see()?;
+        self.plan.follow(task, reply, now)?;
+        Ok(is_of_use)
+    }
+
+    /// The member may have come to other views. One that has failed since found no memory.
+    pub(super) fn see(&mut self) -> Result<(), Fault>
+        ensures core { self.new.core ≡ self.old.core }
+        ensures batcher { self.new.batcher ≡ self.old.batcher }
+        ensures planned { OnOk result (KeepsPlannedThen self.old.plan self.new.plan) }
+        ensures seen { OnOk result (HasComeTo self.new.core.member.facts self.new.plan) }
+        ensures matters { OnOk result (AreAmong (planned_matters self.new.plan) (planned_matters self.old.plan)) }
+        ensures asks { OnOk result (KeepsAsking [] (λ kind view. is_final self.new.core.member.facts view) [] self.old.plan self.new.plan) }
+    {
+        let Some(state) = self.core.state() else {
+            return Err(Fault::OutOfMemory);
+        };
+        let views = Views {
+            current: state.current_view(),
+            last_finalized: state.last_finalized(),
+        };
+        self.plan.see(views)?;
+        Ok(())
+    }
+
+    /// A certificate is lacking for a proposal, whose leader is asked first.
+    pub(super) fn resolve(
+        &mut self,
+        kind: FetchKind,
+        view: View,
+        proposal: View,
+        now: u64,
+    ) -> Result<(), Fault>
+        ensures core { self.new.core ≡ self.old.core }
+        ensures batcher { self.new.batcher ≡ self.old.batcher }
+        ensures planned { KeepsPlanned self.old.plan self.new.plan }
+        ensures matters { AreAmong (planned_matters self.new.plan) (planned_matters self.old.plan ++ Lack kind view ∷ []) }
+        ensures asks { OnOk result (KeepsAsking (Lack kind view ∷ []) never [] self.old.plan self.new.plan) }
+    {
+        let leader = self.leader_of(proposal);
+        self.plan.resolve(kind, view, leader, now)?;
+        Ok(())
+    }
+
+    /// Who leads the view, where that is known.
+    fn leader_of(&self, view: View) -> Option<Participant> {
+        match self.core.state() {
+            Some(state) => state.leader_index(view),
+            None => None,
+        }
+    }
+}
+
+/// Whether an answer has nothing, or nothing that is new: a certificate that is lacking is asked for already, or is from now on.
+fn is_nothing<S: CertificateScheme, D: Digest>(reply: &Reply<S, D>) -> bool
+    ensures { result ≡ is_nothing (told S.certificate_bytes reply.now) }
+{
+    match reply {
+        Reply::Work(verify) => match verify {
+            Verify::Wait | Verify::Resolve { .. } => true,
+            Verify::Ready(_, _) => false,
+        },
+        Reply::Request(request) => request.is_none(),
+        Reply::Candidates(proposals, _) => proposals.is_empty(),
+        _ => false,
+    }
+}
+
+/// Whether an answer says that nothing was done.
+fn says_nothing<S: CertificateScheme, D: Digest>(reply: &Reply<S, D>) -> bool
+    ensures { result ≡ says_nothing (told S.certificate_bytes reply.now) }
+{
+    match reply {
+        Reply::Triggered(is_latched) => !*is_latched,
+        Reply::Certified(_, notarization) => notarization.is_none(),
+        Reply::Fault(fault) => is_lasting(fault),
+        Reply::NotAllowed => true,
+        _ => false,
+    }
+}
+
+/// Whether a fault is another one than want of memory.
+pub(super) fn is_lasting(fault: &Fault) -> bool
+    ensures { result ≡ is_lasting fault.now }
+{
+    !matches!(fault, Fault::OutOfMemory)
+}

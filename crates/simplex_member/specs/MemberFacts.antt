@@ -1,0 +1,100 @@
+-- What is known of a member, and what a call makes of it.
+use Rattle.std.specs.Prelude.{ℕ, Bool, true, ◌≡◌, ◌⊎◌, if◌then◌else◌, List, ◌++◌, Option, Some, None}
+use Rattle.simplex_types.specs.Certificates.{ArtifactFacts}
+use Rattle.simplex_types.specs.declared.types.fault.Fault.{Fault}
+use Rattle.simplex_types.specs.declared.types.fault.Fault.TheVariants as fault
+use Rattle.simplex_voter.specs.Facts.{StateFacts, Elect}
+use Rattle.simplex_record.specs.Votes.{SignedVote}
+use Rattle.simplex_member.specs.CallConditions.{is_allowed, fault_of, needs_room, may_fall}
+use Rattle.simplex_member.specs.Calls.{CallFacts, Told, Refused, NotAllowed}
+use Rattle.simplex_member.specs.CallSemantics.{answer, after_call, outstanding_work_after, recorded_by}
+use Rattle.simplex_member.specs.OutstandingWork.{OutstandingWork, no_outstanding_work}
+
+-- what is known of a member
+pub record MemberFacts (K L D : Type 0) : Type 0 where
+  -- what its state knows; none while the member has failed
+  pub life : Option (StateFacts K L D)
+  -- what it has open of its state's answers
+  pub outstanding_work : OutstandingWork K D
+  -- its record, oldest entry first
+  pub entries : List (ArtifactFacts D)
+  -- how many of its first entries no later drop takes
+  pub closed : ℕ
+  -- its record was pruned
+  pub is_pruned : Bool
+  -- how many views below the last finalized one its last life kept, and the least of its lives
+  pub retention : ℕ
+  pub least_retention : ℕ
+
+-- a member, as contracts see it: what is known of it, and the votes of its record with their signatures
+pub record SignedMember (K L D G : Type 0) : Type 0 where
+  pub facts : MemberFacts K L D
+  -- oldest first
+  pub votes : List (SignedVote D G)
+
+-- of a failed member's state nothing is known, and nothing of it is open
+abbrev pub living : {K L D : Type 0} → Bool → StateFacts K L D → Option (StateFacts K L D)
+living failed x = if failed then None else Some x
+
+-- nothing is open once the member has failed
+abbrev pub open_while : {K D : Type 0} → Bool → OutstandingWork K D → OutstandingWork K D
+open_while failed o = if failed then no_outstanding_work else o
+
+module _ {K D : Type 0} where
+  -- told, unless a fault is due
+  abbrev pub unless_refused : Option Fault → Told K D → Told K D
+  unless_refused None told = told
+  unless_refused (Some fault) told = Refused fault
+
+module _ {K L D : Type 0} where
+  -- the record stays, and what is known of it
+  abbrev pub without_life : MemberFacts K L D → MemberFacts K L D
+  without_life m = record m { life = None; outstanding_work = no_outstanding_work }
+
+  -- its record is as it was, with more behind it
+  abbrev pub HasGrown : MemberFacts K L D → MemberFacts K L D → Type 0
+  HasGrown m left = (more : List (ArtifactFacts D)) × (left.entries ≡ m.entries ++ more)
+
+  -- left, unless a fault is due
+  abbrev pub unless_kept : Option Fault → MemberFacts K L D → MemberFacts K L D → MemberFacts K L D
+  unless_kept None m next = next
+  unless_kept (Some fault) m next = m
+
+module _ {K L D : Type 0} (same : D → D → Bool) (elect : Elect L) where
+  -- what a living member tells
+  abbrev pub reply_of : StateFacts K L D → OutstandingWork K D → CallFacts D → Told K D
+  reply_of x o call = if is_allowed x o call then unless_refused (fault_of x call) (answer same elect x o call) else NotAllowed
+
+  -- with what a call makes of the state and of what is open, and with what the record grows by
+  abbrev pub with_call : StateFacts K L D → MemberFacts K L D → CallFacts D → MemberFacts K L D
+  with_call x m call = record m {
+    life = Some (after_call same elect x m.outstanding_work call);
+    outstanding_work = outstanding_work_after same elect x m.outstanding_work call;
+    entries = m.entries ++ recorded_by same elect x call;
+  }
+
+  -- what is left of a living member
+  abbrev pub left_of : StateFacts K L D → MemberFacts K L D → CallFacts D → MemberFacts K L D
+  left_of x m call = if is_allowed x m.outstanding_work call then unless_kept (fault_of x call) m (with_call x m call) else m
+
+  -- what want of memory leaves: there was no room before the state was called, and nothing has changed; or no fault was due,
+  -- and the member has failed
+  abbrev pub IsLeftWanting : StateFacts K L D → MemberFacts K L D → CallFacts D → MemberFacts K L D → Type 0
+  IsLeftWanting x m call left =
+      ((needs_room x call ≡ true) × (left ≡ m))
+      ⊎ ((fault_of x call ≡ None) × (may_fall x call ≡ true) × (left ≡ without_life m))
+
+  -- a living member answers by the definitions, or memory was wanting of a call that is allowed
+  abbrev pub Answers : StateFacts K L D → MemberFacts K L D → CallFacts D → Told K D → MemberFacts K L D → Type 0
+  Answers x m call told left =
+      ((told ≡ reply_of x m.outstanding_work call) × (left ≡ left_of x m call))
+      ⊎ ((is_allowed x m.outstanding_work call ≡ true) × (told ≡ Refused fault.OutOfMemory) × IsLeftWanting x m call left)
+
+  -- a member that has failed refuses each call, and stays as it was
+  abbrev pub AnswersAlive : Option (StateFacts K L D) → MemberFacts K L D → CallFacts D → Told K D → MemberFacts K L D → Type 0
+  AnswersAlive None m call told left = (told ≡ Refused fault.Failed) × (left ≡ m)
+  AnswersAlive (Some x) m call told left = Answers x m call told left
+
+  -- a call of a member, what it tells and what is left of the member
+  unfoldable pub IsCall : MemberFacts K L D → CallFacts D → Told K D → MemberFacts K L D → Type 0
+  IsCall m call told left = AnswersAlive m.life m call told left

@@ -1,0 +1,73 @@
+-- What a resolver that a driver keeps has open, after one more call and over all that it was told.
+use Rattle.std.proofs.Common.{◌≡◌, ℕ, ◌<◌, ◌≤◌, true, false, ◌==◌, ◌||◌, not, List, [], ◌∷◌, ◌++◌, refl, ap, sym, subst, ◌∙◌, arith}
+use Rattle.std.specs.List.{list_any, AllByRecursion}
+use Rattle.std.proofs.lemmas.Bool.Decides.{nat_tests}
+use Rattle.simplex_types.specs.Certificates.{certificate_facts}
+use Rattle.simplex_types.specs.MessageViews.{certificate_view}
+use Rattle.simplex_types.specs.declared.types.messages.Certificate.{Certificate}
+use Rattle.simplex_types.specs.declared.types.messages.Certificate.TheVariants.{Notarization, Nullification, Finalization}
+use Rattle.simplex_resolver.specs.declared.resolver.effect.Effect.{Effect}
+use Rattle.simplex_resolver.specs.Answers.{AnswersFit}
+use Rattle.simplex_resolver.specs.Steps.{Call, update, after, effects}
+use Rattle.simplex_resolver.specs.ReceivedFacts.{NamesAView, is_replayed, is_wanted}
+use Rattle.simplex_resolver.specs.Repair.{has, fetches, is_outstanding, facts_of, effects_of, IsApplied}
+use Rattle.simplex_resolver.proofs.Again.{recorded_again}
+use Rattle.simplex_resolver.proofs.AnswersLaw.{answers_are_of_the_received}
+use Rattle.simplex_resolver.proofs.RepairLaw.{all_fetched, stands, outstanding_is_wanted}
+use Rattle.simplex_resolver.proofs.Views.{keeps_outstanding}
+use Rattle.simplex_resolver.specs.CallHistory.{LawfulResolverFacts, HasBeenTold, IsMade, OpensTheWanted, OpensNone, OpensNoneAgain, AnswersTheTold}
+
+-- a certificate of a view above genesis is handed in by a call that names a view
+pub update_names : {S D K G C : Type 0} (payload_bytes : D → List ℕ) (bytes_of : C → List ℕ) (certificate : Certificate S D K G C)
+    → 1 ≤ certificate_view certificate → NamesAView (update payload_bytes (certificate_facts bytes_of certificate))
+update_names payload_bytes bytes_of (Notarization n) h = h
+update_names payload_bytes bytes_of (Nullification n) h = h
+update_names payload_bytes bytes_of (Finalization f) h = h
+
+-- ---- what it was told
+
+-- a record, whose last effects open the wanted fetches
+pub told_by_record : (t : ℕ) (calls : List Call) (r : LawfulResolverFacts) (es : List Effect)
+    → 0 < t → AllByRecursion NamesAView calls → list_any is_replayed calls ≡ true → r.state ≡ facts_of t calls
+    → ((v : ℕ) → is_outstanding es v ≡ is_wanted t calls v) → IsApplied [] es r.open_fetches
+    → HasBeenTold t calls r
+told_by_record t calls r es long named replayed state wanted applied = record {
+  long = long;
+  named = named;
+  state = state;
+  open_fetches = λ v. applied v ∙ wanted v ∙ sym (outstanding_is_wanted t calls long named replayed v);
+}
+
+-- one more call
+pub still_told : (t : ℕ) (calls : List Call) (call : Call) (old new : LawfulResolverFacts) (es : List Effect)
+    → HasBeenTold t calls old → NamesAView call → IsMade call old es new → HasBeenTold t (call ∷ calls) new
+still_told t calls call old new es told names made = record {
+  long = told.long;
+  named = (names, told.named);
+  state = made.state ∙ ap (λ x. after x call) told.state;
+  open_fetches = λ v.
+      keeps_outstanding old.open_fetches new.open_fetches es made.applied (effects_of t calls) told.open_fetches v
+      ∙ ap (λ e. is_outstanding (effects_of t calls ++ e) v) (made.answered ∙ ap (λ x. effects x call) told.state);
+}
+
+-- ---- the laws
+
+pub opens_the_wanted : (r : LawfulResolverFacts) (t : ℕ) (calls : List Call) → HasBeenTold t calls r → OpensTheWanted r t calls
+opens_the_wanted r t calls told replayed v = told.open_fetches v ∙ outstanding_is_wanted t calls told.long told.named replayed v
+
+none_there : (vs : List ℕ) → ((v : ℕ) → has vs v ≡ false) → vs ≡ []
+none_there [] none = refl
+none_there (u ∷ us) none = absurd (let here : (u == u || has us u) ≡ false = none u in grind (arith, nat_tests, here))
+
+pub opens_none : (r : LawfulResolverFacts) (t : ℕ) (calls : List Call) → HasBeenTold t calls r → OpensNone r t calls
+opens_none r t calls told none =
+    let replaying : (facts_of t calls).replaying ≡ true = (stands t calls told.long told.named).replaying ∙ ap not none in
+    none_there r.open_fetches (λ v. told.open_fetches v ∙ ((all_fetched t calls told.long told.named).at_rest replaying).1 v)
+
+pub opens_none_again : (r : LawfulResolverFacts) (t : ℕ) (calls : List Call) → HasBeenTold t calls r → OpensNoneAgain r t calls
+opens_none_again r t calls told call before v =
+    ap (λ x. list_any (fetches v) (effects x call)) told.state ∙ recorded_again t calls call told.long told.named before v
+
+pub answers_the_told : (r : LawfulResolverFacts) (t : ℕ) (calls : List Call) → HasBeenTold t calls r → AnswersTheTold r t calls
+answers_the_told r t calls told =
+    subst (AnswersFit t calls) (sym told.state) (answers_are_of_the_received t calls told.long told.named)
