@@ -33,7 +33,7 @@ STATEMENTS = [
         ],
         EXECUTIONS,
     ),
-    ("no network is stuck", [("laws_progress", "NotStuck", "NoNetworkIsStuck")], [*EXECUTIONS, ("laws_progress", "NetworkStates", "LivesWith")]),
+    ("no network is stuck", [("laws_progress", "NotStuck", "NoNetworkIsStuck")], [*EXECUTIONS, ("laws_progress", "NetworkStates", "RunsWith")]),
     ("chains reach genesis", [("laws_chains", "Chains", "FinalizedReachGenesis")], EXECUTIONS),
     ("exactness", [("laws_safety", "ExactVotes", "ExactAt")], []),
 ]

@@ -60,7 +60,7 @@ EXAMPLES = {
         "finalized_parents_are_certified", "finalized_chains_reach_genesis", "views_ahead_reach_genesis", "chains_need_offers",
         "parents_need_one_elector", "votes_may_be_on_another_parent", "verdicts_on_offers_await_parents"))),
     "laws_engine": Examples(("Examples", "Votes"), (
-        "laws::calls_were_told_before", "laws::nullifies_once_due", "laws::work_was_given", "laws::engines_run_on_offers")),
+        "laws::calls_were_received_before", "laws::nullifies_once_due", "laws::work_was_given", "laws::engines_run_on_offers")),
 }
 VOTER, RECORD, MEMBER, RESOLVER, LAWS, HISTORIES, PROGRESS, CHAINS, ENGINE = (
     (f"simplex_{name}",) for name in (
@@ -140,7 +140,7 @@ WRONG_DEFINITIONS = (
     ),
     Wrong(
         "a refused certificate counts as accepted", "laws_safety/specs/Traces.antt",
-        (("  accepted_by call _ = []", "  accepted_by call _ = handed_in call"),), LAWS,
+        (("  accepted_by call _ = []", "  accepted_by call _ = passed_certificates call"),), LAWS,
     ),
     Wrong(
         "a refused restart accepts its floor", "laws_safety/specs/Traces.antt",
@@ -264,7 +264,7 @@ WRONG_DEFINITIONS = (
     ),
     Wrong(
         "a call that is refused changes the member", "simplex_member/specs/MemberFacts.antt",
-        (("  unless_kept (Some fault) m next = m", "  unless_kept (Some fault) m next = next"),), MEMBER,
+        (("  unless_retained (Some fault) m next = m", "  unless_retained (Some fault) m next = next"),), MEMBER,
     ),
     Wrong(
         "a start records no floor", "simplex_member/specs/Start.antt",
@@ -355,7 +355,7 @@ WRONG_DEFINITIONS = (
     ),
     Wrong(
         "another member goes on in its place", "laws_safety/specs/Continuations.antt",
-        (("(Honest t ∷ later) = ExecutionGoesOn s t × ReplicasGoOn network later", "(Honest t ∷ later) = ⊤ × ReplicasGoOn network later"),), PROGRESS,
+        (("(Honest t ∷ later) = ExecutionContinues s t × ReplicasContinue network later", "(Honest t ∷ later) = ⊤ × ReplicasContinue network later"),), PROGRESS,
     ),
     Wrong(
         "nothing is asked of honest members", "laws_safety/specs/Continuations.antt",
@@ -363,7 +363,7 @@ WRONG_DEFINITIONS = (
     ),
     Wrong(
         "an exchange changes the members", "laws_progress/specs/MessageExchanges.antt",
-        (("    pub goes_on : ReplicasGoOn network later\n", "    pub goes_on : ReplicasGoOn network network\n"),), PROGRESS,
+        (("    pub continues : ReplicasContinue network later\n", "    pub continues : ReplicasContinue network network\n"),), PROGRESS,
     ),
     Wrong(
         "an exchange brings votes of its own", "laws_progress/specs/MessageExchanges.antt",
@@ -418,7 +418,7 @@ WRONG_DEFINITIONS = (
     ),
     Wrong(
         "a resolver hears once more of a certificate that is known", "engine_planner/specs/FetchRequests.antt",
-        (("(reply.Added is_new _) asked = if is_new then heard_of bytes asked else []", "(reply.Added is_new _) asked = heard_of bytes asked"),), ENGINE,
+        (("(reply.Added is_new _) asked = if is_new then views_received bytes asked else []", "(reply.Added is_new _) asked = views_received bytes asked"),), ENGINE,
     ),
     Wrong(
         "a resolver hears of genesis", "engine_planner/specs/FetchRequests.antt",
@@ -442,7 +442,7 @@ WRONG_DEFINITIONS = (
     ),
     Wrong(
         "fetches may lie a view above all that was heard of", "simplex_engine/specs/FetchHeights.antt",
-        (("highest_heard m x = max", "highest_heard m x = 1 + max"), ("{◌≡◌, ◌≤◌, ℕ", "{◌≡◌, ◌≤◌, ◌+◌, ℕ")), ENGINE,
+        (("highest_received m x = max", "highest_received m x = 1 + max"), ("{◌≡◌, ◌≤◌, ℕ", "{◌≡◌, ◌≤◌, ◌+◌, ℕ")), ENGINE,
     ),
     Wrong(
         "an engine that had failed tells want of memory", "simplex_engine/specs/Failures.antt",
@@ -454,7 +454,7 @@ WRONG_DEFINITIONS = (
     ),
     Wrong(
         "a pruning asks the state alone what stays", "engine_outbox/specs/RecordReach.antt",
-        (("lowest_left m x = min (min_active x) (finalized_in m.entries - m.retention)", "lowest_left m x = min_active x"),), ENGINE,
+        (("lowest_retained_after m x = min (min_active x) (finalized_in m.entries - m.retention)", "lowest_retained_after m x = min_active x"),), ENGINE,
     ),
     Wrong(
         "a member asks itself", "engine_fetches/specs/Fetches.antt",

@@ -20,7 +20,7 @@ use Rattle.engine_fetches.specs.declared.fetches.Fetch.{Fetch}
 use Rattle.engine_fetches.specs.declared.fetches.FetchKind.{FetchKind}
 use Rattle.engine_fetches.specs.declared.fetches.FetchKind.TheVariants.{Notarization, Nullification, Decision}
 use Rattle.engine_fetches.specs.Fetches.{same_kind, is_of, is_within, is_fetch_open, fresh, opened, closed, passed}
-use Rattle.engine_fetches.specs.OutstandingFetches.{after_effect, after_effects, fetching, wanting, AsksForWanted, holds, is_held, is_lacking, AsksForTheLacking}
+use Rattle.engine_fetches.specs.OutstandingFetches.{after_effect, after_effects, fetching, wanting, FetchesTheOutstanding, holds, is_held, is_missing, FetchesTheMissing}
 
 or_none : (b : Bool) → (b || false) ≡ b
 or_none true = refl
@@ -185,35 +185,35 @@ follows false false n out asked is = is
 
 -- once the effects are carried out
 pub asks_after : (finalized moment : ℕ) (old new : List ℕ) (es : List Effect) (xs : List Fetch)
-    → IsApplied old es new → AsksForWanted finalized old xs → AsksForWanted finalized new (after_effects moment es xs)
+    → IsApplied old es new → FetchesTheOutstanding finalized old xs → FetchesTheOutstanding finalized new (after_effects moment es xs)
 asks_after finalized moment old new es xs applied asks v is high =
     effects_are v moment es xs
     ∙ follows (has old v) (is_fetch_open Nullification v xs) (not (list_any (settles v) es)) (is_outstanding es v) (λ was. asks v was high) (sym (applied v) ∙ is)
 
-module _ (finalized : ℕ) (wanted : List ℕ) (xs : List Fetch) (asks : AsksForWanted finalized wanted xs) where
+module _ (finalized : ℕ) (wanted : List ℕ) (xs : List Fetch) (asks : FetchesTheOutstanding finalized wanted xs) where
   -- once one is opened
-  pub asks_opened : (kind : FetchKind) (view first moment : ℕ) → AsksForWanted finalized wanted (opened kind view first moment xs)
+  pub asks_opened : (kind : FetchKind) (view first moment : ℕ) → FetchesTheOutstanding finalized wanted (opened kind view first moment xs)
   asks_opened kind view first moment v is high = open_still v kind view first moment xs (asks v is high)
 
   -- once a notarization came
-  pub asks_notarized : (view : ℕ) → AsksForWanted finalized wanted (closed Notarization view xs)
+  pub asks_notarized : (view : ℕ) → FetchesTheOutstanding finalized wanted (closed Notarization view xs)
   asks_notarized view v is high =
       open_kept (λ x. not (is_of Notarization view x)) Nullification v true (λ x of. no_notarization_of v x of view) xs ∙ and_all (is_fetch_open Nullification v xs) ∙ asks v is high
 
   -- once a view is final: above each higher one
-  pub asks_passed : (later higher : ℕ) → finalized ≤ higher → later ≤ higher → AsksForWanted higher wanted (passed later xs)
+  pub asks_passed : (later higher : ℕ) → finalized ≤ higher → later ≤ higher → FetchesTheOutstanding higher wanted (passed later xs)
   asks_passed later higher before up v is high =
       open_kept (λ x. nat_lt later x.view) Nullification v true
       (λ x of. ap (λ w. nat_lt later w) (view_is v x of) ∙ lt-ltb later v (omega (arith, up, high))) xs
       ∙ and_all (is_fetch_open Nullification v xs) ∙ asks v is (omega (arith, before, high))
 
   -- once those are closed of what is not lacking
-  pub asks_lacking : {K L D : Type 0} (x : StateFacts K L D) → finalized ≤ x.finalized → AsksForTheLacking wanted x (filter (is_lacking wanted x) xs)
+  pub asks_lacking : {K L D : Type 0} (x : StateFacts K L D) → finalized ≤ x.finalized → FetchesTheMissing wanted x (filter (is_missing wanted x) xs)
   asks_lacking x before = record {
-    ahead = λ k d within. ltb-true x.finalized _ (both_are _ _ (filter_passes (is_lacking wanted x) xs k d within)).0;
-    lacking = λ k d within. is_false _ (both_are _ _ (filter_passes (is_lacking wanted x) xs k d within)).1;
+    ahead = λ k d within. ltb-true x.finalized _ (both_are _ _ (filter_passes (is_missing wanted x) xs k d within)).0;
+    lacking = λ k d within. is_false _ (both_are _ _ (filter_passes (is_missing wanted x) xs k d within)).1;
     wanted_all = λ v is high.
-        open_kept (is_lacking wanted x) Nullification v true
+        open_kept (is_missing wanted x) Nullification v true
         (λ f of.
         ap (λ w. nat_lt x.finalized w && not (is_held wanted x f)) (view_is v f of) ∙ ap (λ b. b && not (is_held wanted x f)) (lt-ltb x.finalized v high)
         ∙ ap not (not_held v f of is)) xs

@@ -43,8 +43,8 @@ OpensNoOther wanted_before before wanted now = (kind : FetchKind) (view : ℕ) �
     → (is_fetch_open kind view before ≡ true) × (wants wanted_before kind view ≡ false)
 
 -- of each view above the last finalized one that the resolver has open, a nullification is asked for
-abbrev pub AsksForWanted : ℕ → List ℕ → List Fetch → Type 0
-AsksForWanted finalized wanted fetches = (v : ℕ) → has wanted v ≡ true → finalized < v → is_fetch_open Nullification v fetches ≡ true
+abbrev pub FetchesTheOutstanding : ℕ → List ℕ → List Fetch → Type 0
+FetchesTheOutstanding finalized wanted fetches = (v : ℕ) → has wanted v ≡ true → finalized < v → is_fetch_open Nullification v fetches ≡ true
 
 module _ {K L D : Type 0} where
   -- the state holds the certificate; of a view that the resolver has open a nullification is lacking all the same
@@ -58,12 +58,12 @@ module _ {K L D : Type 0} where
   is_held wanted x fetch = holds wanted x fetch.kind fetch.view
 
   -- a fetch is of a view above the last finalized one, and of what is lacking
-  abbrev pub is_lacking : List ℕ → StateFacts K L D → Fetch → Bool
-  is_lacking wanted x fetch = nat_lt x.finalized fetch.view && not (is_held wanted x fetch)
+  abbrev pub is_missing : List ℕ → StateFacts K L D → Fetch → Bool
+  is_missing wanted x fetch = nat_lt x.finalized fetch.view && not (is_held wanted x fetch)
 
   -- just what is lacking is asked for: each fetch is of a view above the last finalized one, and of a certificate that the state
   -- does not hold; and of what the resolver has open nothing is left out
-  pub record AsksForTheLacking (wanted : List ℕ) (x : StateFacts K L D) (fetches : List Fetch) : Type 0 where
+  pub record FetchesTheMissing (wanted : List ℕ) (x : StateFacts K L D) (fetches : List Fetch) : Type 0 where
     pub ahead : All (λ fetch. x.finalized < fetch.view) fetches
     pub lacking : All (λ fetch. is_held wanted x fetch ≡ false) fetches
-    pub wanted_all : AsksForWanted x.finalized wanted fetches
+    pub wanted_all : FetchesTheOutstanding x.finalized wanted fetches

@@ -9,7 +9,7 @@ ghost use Rattle.simplex_types.specs.MessageViews.{certificate_view};
 ghost use Rattle.simplex_resolver.specs.Steps.{highest_named, highest_view, update, verdict};
 ghost use Rattle.engine_fetches.specs.Requests.{IsAsking};
 ghost use Rattle.engine_fetches.specs.Fetches.{due_at, opened, closed, passed, place_of};
-ghost use Rattle.engine_fetches.specs.OutstandingFetches.{fetching, wanting, is_lacking, AsksForWanted, AsksForTheLacking, OpensNoOther};
+ghost use Rattle.engine_fetches.specs.OutstandingFetches.{fetching, wanting, is_missing, FetchesTheOutstanding, FetchesTheMissing, OpensNoOther};
 
 use crate::fetches::{Ask, FetchKind, Fetches};
 use simplex_resolver::replay::LawfulResolver;
@@ -28,7 +28,7 @@ pub struct Repair {
     passed: View,
     /// Memory was lacking before the effects of a call were carried out.
     is_behind: bool,
-    ghost complete: { is_behind ≡ false → AsksForWanted passed resolver.open_fetches fetches.wanted.items },
+    ghost complete: { is_behind ≡ false → FetchesTheOutstanding passed resolver.open_fetches fetches.wanted.items },
 }
 
 impl Repair {
@@ -191,22 +191,22 @@ impl Repair {
     /// # Errors
     ///
     /// `Failed` where an error came before, or where the state's last finalized view is below one that was passed.
-    pub fn let_go<S: CertificateScheme, L: Elector<S>, D: Digest>(
+    pub fn drop_served<S: CertificateScheme, L: Elector<S>, D: Digest>(
         &mut self,
         state: &State<S, L, D>,
     ) -> Result<(), Fault>
         ensures kept { OnOk result (HasPassed state.now.finalized
-            (filter (is_lacking self.old.resolver.open_fetches state.now) self.old.fetches.wanted.items) self.old self.new) }
+            (filter (is_missing self.old.resolver.open_fetches state.now) self.old.fetches.wanted.items) self.old self.new) }
         ensures answers { IsOk result ↔ ((self.old.is_behind ≡ false) × (self.old.passed ≤ state.now.finalized)) }
         ensures refused { IfErr result (λ fault. (fault ≡ Failed) × (self.new ≡ self.old)) }
-        ensures lacking { OnOk result (AsksForTheLacking self.new.resolver.open_fetches state.now self.new.fetches.wanted.items) }
+        ensures lacking { OnOk result (FetchesTheMissing self.new.resolver.open_fetches state.now self.new.fetches.wanted.items) }
         ensures due { (now : ℕ) → due_at now self.old.fetches.wanted.items ≡ None → due_at now self.new.fetches.wanted.items ≡ None }
     {
         let finalized = state.last_finalized();
         if self.may_leave_out(finalized) {
             return Err(Fault::Failed);
         }
-        self.fetches.keep_lacking(self.resolver.fetches(), state);
+        self.fetches.retain_missing(self.resolver.fetches(), state);
         self.passed = finalized;
         Ok(())
     }

@@ -21,8 +21,8 @@ use Rattle.simplex_voter.specs.Timeouts.{can_trigger, trigger_answer, after_trig
 use Rattle.simplex_voter.proofs.Gaps.{and_parts, not_true}
 use Rattle.simplex_member.specs.CallConditions.{is_allowed, fault_of}
 use Rattle.simplex_member.specs.CallSemantics.{answer, if_new}
-use Rattle.simplex_member.specs.Calls.{CallFacts, Told, NotAllowed, Judged, TryPropose, TriggerTimeout, Certified}
-use Rattle.simplex_member.specs.MemberFacts.{MemberFacts, IsCall, AnswersAlive, unless_refused, unless_kept, with_call}
+use Rattle.simplex_member.specs.Calls.{CallFacts, ReplyFacts, NotAllowed, Judged, TryPropose, TriggerTimeout, Certified}
+use Rattle.simplex_member.specs.MemberFacts.{MemberFacts, IsCall, AnswersAlive, unless_refused, unless_retained, with_call}
 use Rattle.simplex_member.specs.OutstandingWork.{OutstandingWork, without_offer}
 use Rattle.engine_outbox.specs.Refusals.{is_refused, says_nothing, HasNoted, IsNoted, without_offer_at, IsLeftByCall}
 
@@ -114,11 +114,11 @@ module _ {K L D : Type 0} (same : D → D → Bool) (elect : Elect L) where
   answer_stands x o _ = refl
 
   -- a refused call
-  pub refused_left : (m left : MemberFacts K L D) (call : CallFacts D) (told : Told K D) → IsCall same elect m call told left → is_refused told ≡ true → left ≡ m
+  pub refused_left : (m left : MemberFacts K L D) (call : CallFacts D) (told : ReplyFacts K D) → IsCall same elect m call told left → is_refused told ≡ true → left ≡ m
   unfolding IsCall
   refused_left m left call told is_call refused = by_life m.life is_call
     where
-      by_test : (x : StateFacts K L D) (b : Bool) (due : Option Fault) → told ≡ cond b (unless_refused due (answer same elect x m.outstanding_work call)) NotAllowed → left ≡ cond b (unless_kept due m (with_call same elect x m call)) m → left ≡ m
+      by_test : (x : StateFacts K L D) (b : Bool) (due : Option Fault) → told ≡ cond b (unless_refused due (answer same elect x m.outstanding_work call)) NotAllowed → left ≡ cond b (unless_retained due m (with_call same elect x m call)) m → left ≡ m
       by_test x false due tells leaves = leaves
       by_test x true (Some due) tells leaves = leaves
       by_test x true None tells leaves = absurd (false≢true (sym (ap is_refused tells ∙ answer_stands x m.outstanding_work call) ∙ refused))
@@ -128,7 +128,7 @@ module _ {K L D : Type 0} (same : D → D → Bool) (elect : Elect L) where
       by_life (Some x) (inl (tells, leaves)) = by_test x (is_allowed x m.outstanding_work call) (fault_of x call) tells leaves
       by_life (Some x) (inr (_, tells, _)) = absurd (false≢true (sym (ap is_refused tells) ∙ refused))
 
-  answered_left : (x : StateFacts K L D) (m left : MemberFacts K L D) (call : CallFacts D) (told : Told K D) → m.life ≡ Some x → is_allowed x m.outstanding_work call ≡ true
+  answered_left : (x : StateFacts K L D) (m left : MemberFacts K L D) (call : CallFacts D) (told : ReplyFacts K D) → m.life ≡ Some x → is_allowed x m.outstanding_work call ≡ true
       → told ≡ answer same elect x m.outstanding_work call → left ≡ with_call same elect x m call → says_nothing told ≡ true → IsLeftByCall call m left
   answered_left x m left (TriggerTimeout view reason now) told alive allowed tells leaves says =
       inr (record {
@@ -143,12 +143,12 @@ module _ {K L D : Type 0} (same : D → D → Bool) (elect : Elect L) where
   answered_left x m left _ told alive allowed tells leaves says = absurd (false≢true (sym (ap says_nothing tells) ∙ says))
 
   -- a call of no use
-  pub dropped_left : (m left : MemberFacts K L D) (call : CallFacts D) (told : Told K D) → IsCall same elect m call told left → says_nothing told ≡ true → IsLeftByCall call m left
+  pub dropped_left : (m left : MemberFacts K L D) (call : CallFacts D) (told : ReplyFacts K D) → IsCall same elect m call told left → says_nothing told ≡ true → IsLeftByCall call m left
   unfolding IsCall
   dropped_left m left call told is_call says = by_life m.life refl is_call
     where
       by_test : (x : StateFacts K L D) → m.life ≡ Some x → (b : Bool) (due : Option Fault) → is_allowed x m.outstanding_work call ≡ b → told ≡ cond b (unless_refused due (answer same elect x m.outstanding_work call)) NotAllowed
-          → left ≡ cond b (unless_kept due m (with_call same elect x m call)) m → IsLeftByCall call m left
+          → left ≡ cond b (unless_retained due m (with_call same elect x m call)) m → IsLeftByCall call m left
       by_test x alive false due allowed tells leaves = same_left call m left leaves
       by_test x alive true (Some due) allowed tells leaves = same_left call m left leaves
       by_test x alive true None allowed tells leaves = answered_left x m left call told alive allowed tells leaves says

@@ -16,8 +16,8 @@ use Rattle.engine_outbox.specs.declared.output.Output.{Output}
 use Rattle.engine_outbox.specs.declared.output.Output.TheVariants as output
 use Rattle.engine_outbox.specs.Entries.{vote_in, votes_of_entries}
 use Rattle.engine_outbox.specs.Journals.{Journal, empty_journal, written_all, journal_of}
-use Rattle.engine_outbox.specs.EmittedVotes.{AllLeave}
-use Rattle.engine_outbox.specs.Outboxes.{IsToldWhere, IsTold}
+use Rattle.engine_outbox.specs.EmittedVotes.{AllAreReturned}
+use Rattle.engine_outbox.specs.Outboxes.{IsPassedIf, IsTold}
 use Rattle.engine_outbox.specs.Outputs.{entries_in, stored_in, storing}
 use Rattle.engine_outbox.specs.HostStops.{vote_as}
 use Rattle.engine_outbox.proofs.Behind.{votes_in-append, stored_in-append, stored_by}
@@ -104,7 +104,7 @@ module _ {S D J K G C : Type 0} where
   -- behind others, where each vote that these outputs store leaves among them, or was stored before
   pub leave_behind : (outs more : List (Output S D J K G C))
       → ((vote : Vote D G) → Contains (votes_of_entries (stored_in more)) vote → Contains (votes_of_entries (stored_in outs)) vote ⊎ Contains more (output.Vote vote))
-      → AllLeave more → AllLeave outs → AllLeave (outs ++ more)
+      → AllAreReturned more → AllAreReturned outs → AllAreReturned (outs ++ more)
   leave_behind [] more each alone before = alone
   leave_behind (first ∷ rest) more each alone before = λ vote has.
       elim (Contains-append_cases (votes_of_entries (stored_in rest)) (votes_of_entries (stored_in more)) vote
@@ -126,13 +126,13 @@ module _ {S D J K G C : Type 0} where
       settled vote (inr leaves) = inr (Contains-append_left rest more (output.Vote vote) leaves)
 
   -- one output that stores nothing
-  pub leave_plain : (outs : List (Output S D J K G C)) (out : Output S D J K G C) → entries_in out ≡ [] → AllLeave outs → AllLeave (outs ++ out ∷ [])
+  pub leave_plain : (outs : List (Output S D J K G C)) (out : Output S D J K G C) → entries_in out ≡ [] → AllAreReturned outs → AllAreReturned (outs ++ out ∷ [])
   leave_plain outs out plain before =
       leave_behind outs (out ∷ []) (λ vote has. none_in vote (subst (λ es. Contains (votes_of_entries es) vote) (append-nil (entries_in out) ∙ plain) has))
       (λ vote has. none_in vote has) before
 
   -- entries, and behind them the votes among them
-  pub leave_stored : (outs : List (Output S D J K G C)) (entries : Vec (Artifact S D K G C) Global) → AllLeave outs → AllLeave (outs ++ storing entries)
+  pub leave_stored : (outs : List (Output S D J K G C)) (entries : Vec (Artifact S D K G C) Global) → AllAreReturned outs → AllAreReturned (outs ++ storing entries)
   leave_stored outs entries before =
       leave_behind outs (storing entries)
       (λ vote has. inr (later vote (still_mapped (votes_of_entries entries.items) vote (subst (λ es. Contains (votes_of_entries es) vote) (stored_by J entries) has))))
@@ -155,24 +155,24 @@ module _ {S D J K G C : Type 0} where
   -- a record, in place of all entries, none of whose votes is new
   pub leave_replaced : (outs : List (Output S D J K G C)) (entries : Vec (Artifact S D K G C) Global) (beside : J)
       → ((vote : Vote D G) → Contains (votes_of_entries entries.items) vote → Contains (votes_of_entries (stored_in outs)) vote)
-      → AllLeave outs → AllLeave (outs ++ output.Replace entries beside ∷ [])
+      → AllAreReturned outs → AllAreReturned (outs ++ output.Replace entries beside ∷ [])
   leave_replaced outs entries beside old before =
       leave_behind outs (output.Replace entries beside ∷ []) (λ vote has. inl (old vote (subst (λ es. Contains (votes_of_entries es) vote) (append-nil entries.items) has)))
       (λ vote has. none_in vote has) before
 
   -- a life begins with one
-  pub leave_begun : (entries : Vec (Artifact S D K G C) Global) (beside : J) → AllLeave {S = S} {K = K} (output.Replace entries beside ∷ [])
+  pub leave_begun : (entries : Vec (Artifact S D K G C) Global) (beside : J) → AllAreReturned {S = S} {K = K} (output.Replace entries beside ∷ [])
   leave_begun entries beside = λ vote has. none_in vote has
 
-  leave_told_where : (given : List (Output S D J K G C)) (old new : Outbox S D J K G C) (p : Proposal D) (is_above : Bool) → IsToldWhere is_above p old new
-      → AllLeave (given ++ old.queue.items) → AllLeave (given ++ new.queue.items)
+  leave_told_where : (given : List (Output S D J K G C)) (old new : Outbox S D J K G C) (p : Proposal D) (is_above : Bool) → IsPassedIf is_above p old new
+      → AllAreReturned (given ++ old.queue.items) → AllAreReturned (given ++ new.queue.items)
   leave_told_where given old new p true is before =
-      subst AllLeave (sym (ap (λ q. given ++ q) is.0 ∙ sym (append_assoc given old.queue.items (output.Finalized p ∷ []))))
+      subst AllAreReturned (sym (ap (λ q. given ++ q) is.0 ∙ sym (append_assoc given old.queue.items (output.Finalized p ∷ []))))
       (leave_plain (given ++ old.queue.items) (output.Finalized p) refl before)
-  leave_told_where given old new p false is before = subst (λ q. AllLeave (given ++ q)) (sym is.0) before
+  leave_told_where given old new p false is before = subst (λ q. AllAreReturned (given ++ q)) (sym is.0) before
 
   -- a proposal that is final, where one is told
   pub leave_told : (given : List (Output S D J K G C)) (old new : Outbox S D J K G C) (finalized : Option (Proposal D)) → IsTold finalized old new
-      → AllLeave (given ++ old.queue.items) → AllLeave (given ++ new.queue.items)
-  leave_told given old new None is before = subst (λ q. AllLeave (given ++ q)) (sym is.0) before
+      → AllAreReturned (given ++ old.queue.items) → AllAreReturned (given ++ new.queue.items)
+  leave_told given old new None is before = subst (λ q. AllAreReturned (given ++ q)) (sym is.0) before
   leave_told given old new (Some p) is before = leave_told_where given old new p (nat_lt old.told p.round.view) is before

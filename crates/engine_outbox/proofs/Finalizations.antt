@@ -14,10 +14,10 @@ use Rattle.engine_outbox.specs.declared.outbox.Outbox.{Outbox}
 use Rattle.engine_outbox.specs.declared.output.Output.{Output}
 use Rattle.engine_outbox.specs.declared.output.Output.TheVariants as output
 use Rattle.engine_votes.specs.declared.votes.Vote.{Vote}
-use Rattle.engine_outbox.specs.SubjectActions.{IsDoneOn}
+use Rattle.engine_outbox.specs.SubjectActions.{IsActionOn}
 use Rattle.engine_outbox.specs.Entries.{votes_of_entries}
-use Rattle.engine_outbox.specs.Finalizations.{finals_in, finals_by, RiseByView, EndsAt, WereAccepted, rising_above, raised_to, TellsRising, TellsNoMore}
-use Rattle.engine_outbox.specs.Outboxes.{HasBecome, HasStayed, IsToldWhere, IsTold}
+use Rattle.engine_outbox.specs.Finalizations.{finals_in, finals_by, RiseByView, EndsAt, WereAccepted, rising_above, raised_to, ReportsRising, ReportsNoMore}
+use Rattle.engine_outbox.specs.Outboxes.{HasBecome, HasStayed, IsPassedIf, IsTold}
 use Rattle.engine_outbox.specs.Outputs.{storing}
 
 module _ {S D J K G C : Type 0} where
@@ -53,10 +53,10 @@ module _ {D : Type 0} where
   finalized_by-append (Signs signer vote ∷ xs) ys = finalized_by-append xs ys
 
   -- where no certificate is accepted
-  pub none_finalized : (events : List (TraceEvent D)) → All (IsDoneOn None) events → finals_by events ≡ []
+  pub none_finalized : (events : List (TraceEvent D)) → All (IsActionOn None) events → finals_by events ≡ []
   none_finalized [] none = refl
-  none_finalized (Accepts certificate ∷ rest) none = absurd (All-head (IsDoneOn None) (Accepts certificate) rest none)
-  none_finalized (Signs signer vote ∷ rest) none = none_finalized rest (All-tail (IsDoneOn None) (Signs signer vote) rest none)
+  none_finalized (Accepts certificate ∷ rest) none = absurd (All-head (IsActionOn None) (Accepts certificate) rest none)
+  none_finalized (Signs signer vote ∷ rest) none = none_finalized rest (All-tail (IsActionOn None) (Signs signer vote) rest none)
 
   -- each proposal that is final by what was done was accepted
   by_accepting : (events : List (TraceEvent D)) → WereAccepted events (finals_by events)
@@ -115,20 +115,20 @@ module _ {D : Type 0} where
 
 module _ {S D J K G C : Type 0} where
   -- nothing is told
-  pub tells_none : (old new : Outbox S D J K G C) → finals_in new.queue.items ≡ finals_in old.queue.items → new.told ≡ old.told → TellsRising [] old new
+  pub tells_none : (old new : Outbox S D J K G C) → finals_in new.queue.items ≡ finals_in old.queue.items → new.told ≡ old.told → ReportsRising [] old new
   tells_none old new queued told = record { queued = queued ∙ sym (append-nil (finals_in old.queue.items)); told = told }
 
-  pub stayed_tells : (old new : Outbox S D J K G C) → HasStayed old new → TellsRising [] old new
+  pub stayed_tells : (old new : Outbox S D J K G C) → HasStayed old new → ReportsRising [] old new
   stayed_tells old new stayed = tells_none old new (ap finals_in stayed.0) stayed.2
 
-  pub become_tells : (more : List (Output S D J K G C)) (repeat : Option (Vote D G)) (old new : Outbox S D J K G C) → finals_in more ≡ [] → HasBecome more repeat old new → TellsRising [] old new
+  pub become_tells : (more : List (Output S D J K G C)) (repeat : Option (Vote D G)) (old new : Outbox S D J K G C) → finals_in more ≡ [] → HasBecome more repeat old new → ReportsRising [] old new
   become_tells more repeat old new none become = record {
     queued = ap finals_in become.queue ∙ finalized_in-append old.queue.items more ∙ ap (λ ps. finals_in old.queue.items ++ ps) none;
     told = become.told_is;
   }
 
   -- where each was accepted, and those are told that are accepted besides, each still was
-  pub accepted_rising : (given : List (Output S D J K G C)) (old new : Outbox S D J K G C) (all more : List (TraceEvent D)) → TellsRising (finals_by more) old new
+  pub accepted_rising : (given : List (Output S D J K G C)) (old new : Outbox S D J K G C) (all more : List (TraceEvent D)) → ReportsRising (finals_by more) old new
       → WereAccepted all (finals_in (given ++ old.queue.items)) → WereAccepted (all ++ more) (finals_in (given ++ new.queue.items))
   accepted_rising given old new all more tells accepted p has =
       let fresh = rising_above old.told (finals_by more) in
@@ -141,7 +141,7 @@ module _ {S D J K G C : Type 0} where
       ]
 
   -- and then others are
-  pub tells_further : (xs ys : List (Proposal D)) (a b c : Outbox S D J K G C) → TellsRising xs a b → TellsRising ys b c → TellsRising (xs ++ ys) a c
+  pub tells_further : (xs ys : List (Proposal D)) (a b c : Outbox S D J K G C) → ReportsRising xs a b → ReportsRising ys b c → ReportsRising (xs ++ ys) a c
   tells_further xs ys a b c first second = record {
     queued =
         second.queued
@@ -152,7 +152,7 @@ module _ {S D J K G C : Type 0} where
     told = second.told ∙ ap (λ v. raised_to v ys) first.told ∙ sym (highest-append a.told xs ys);
   }
 
-  told_where : (p : Proposal D) (old new : Outbox S D J K G C) (t : Bool) → nat_lt old.told p.round.view ≡ t → IsToldWhere t p old new → TellsRising (p ∷ []) old new
+  told_where : (p : Proposal D) (old new : Outbox S D J K G C) (t : Bool) → nat_lt old.told p.round.view ≡ t → IsPassedIf t p old new → ReportsRising (p ∷ []) old new
   told_where p old new true e is = record {
     queued =
         ap finals_in is.0 ∙ finalized_in-append old.queue.items (output.Finalized p ∷ [])
@@ -167,22 +167,22 @@ module _ {S D J K G C : Type 0} where
   }
 
   -- one is told, or none
-  pub told_tells : (finalized : Option (Proposal D)) (old new : Outbox S D J K G C) → IsTold finalized old new → TellsRising (option_to_list finalized) old new
+  pub told_tells : (finalized : Option (Proposal D)) (old new : Outbox S D J K G C) → IsTold finalized old new → ReportsRising (option_to_list finalized) old new
   told_tells None old new is = stayed_tells old new is
   told_tells (Some p) old new is = told_where p old new (nat_lt old.told p.round.view) refl is
 
   -- nothing is given out, and then this is
-  pub tells_no_more : (finals : List (Proposal D)) (out : List (Output S D J K G C)) (a b c : Outbox S D J K G C) → finals ≡ [] → TellsRising finals a b → TellsNoMore out b c → TellsNoMore out a c
+  pub tells_no_more : (finals : List (Proposal D)) (out : List (Output S D J K G C)) (a b c : Outbox S D J K G C) → finals ≡ [] → ReportsRising finals a b → ReportsNoMore out b c → ReportsNoMore out a c
   tells_no_more finals out a b c none first second =
-      let nothing : TellsRising [] a b = subst (λ ps. TellsRising ps a b) none first in
+      let nothing : ReportsRising [] a b = subst (λ ps. ReportsRising ps a b) none first in
       record {
         queued = sym (nothing.queued ∙ append-nil (finals_in a.queue.items)) ∙ second.queued;
         told = second.told ∙ nothing.told;
       }
 
-  pub tells_nothing : (finals : List (Proposal D)) (a b : Outbox S D J K G C) → finals ≡ [] → TellsRising finals a b → TellsNoMore [] a b
+  pub tells_nothing : (finals : List (Proposal D)) (a b : Outbox S D J K G C) → finals ≡ [] → ReportsRising finals a b → ReportsNoMore [] a b
   tells_nothing finals a b none first = tells_no_more finals [] a b b none first (record { queued = refl; told = refl })
 
   -- after nothing was given out
-  pub tells_still : (out : List (Output S D J K G C)) (a b c : Outbox S D J K G C) → TellsNoMore [] a b → TellsNoMore out b c → TellsNoMore out a c
+  pub tells_still : (out : List (Output S D J K G C)) (a b c : Outbox S D J K G C) → ReportsNoMore [] a b → ReportsNoMore out b c → ReportsNoMore out a c
   tells_still out a b c first second = record { queued = first.queued ∙ second.queued; told = second.told ∙ first.told }

@@ -12,7 +12,7 @@ use Rattle.simplex_record.specs.Events.{Event, finalized_by_event}
 use Rattle.simplex_member.specs.CallConditions.{is_allowed}
 use Rattle.simplex_member.specs.CallSemantics.{answer, after_call}
 use Rattle.simplex_member.specs.Calls as calls
-use Rattle.simplex_member.specs.Calls.{CallFacts, Told, asked, told}
+use Rattle.simplex_member.specs.Calls.{CallFacts, ReplyFacts, asked, told}
 use Rattle.simplex_member.specs.Events.{in_context, events_of}
 use Rattle.simplex_member.specs.MemberFacts.{MemberFacts, IsCall}
 use Rattle.simplex_member.specs.OutstandingWork.{OutstandingWork, context_at}
@@ -25,7 +25,7 @@ use Rattle.laws_safety.proofs.frames.Rising.{event_finalizes, event_goes, finali
 use Rattle.laws_safety.proofs.lives.WithinLives.{each_call}
 use Rattle.laws_safety.specs.LifetimeLaws.{WhileAlive}
 use Rattle.laws_safety.specs.ObservedTraces.{votes_in, certificates_in, taken_by}
-use Rattle.laws_safety.specs.Traces.{of_vote, handed_in, accepted_by, signed_in}
+use Rattle.laws_safety.specs.Traces.{of_vote, passed_certificates, accepted_by, signed_in}
 use Rattle.engine_outbox.specs.SubjectActions.{final_by}
 use Rattle.engine_outbox.specs.Finalizations.{finals_by, raised_to}
 use Rattle.engine_outbox.proofs.Finalizations.{finalized_by-append}
@@ -39,7 +39,7 @@ module _ {D : Type 0} where
 
   -- a call hands a finalization in, or none
   abbrev Hands : CallFacts D → Type 0
-  Hands call = ((c : ProposalFacts D) × (now : ℕ) × (call ≡ calls.AddFinalization c now)) ⊎ (finals_by (handed_in call) ≡ [])
+  Hands call = ((c : ProposalFacts D) × (now : ℕ) × (call ≡ calls.AddFinalization c now)) ⊎ (finals_by (passed_certificates call) ≡ [])
 
   hands : (call : CallFacts D) → Hands call
   hands (calls.AddFinalization c now) = inl (c, now, refl)
@@ -47,7 +47,7 @@ module _ {D : Type 0} where
 
 module _ {K D : Type 0} where
   -- a vote finalizes nothing
-  signed_none : (t : Told K D) → finals_by (signed_in t) ≡ []
+  signed_none : (t : ReplyFacts K D) → finals_by (signed_in t) ≡ []
   signed_none (calls.Nullify None) = refl
   signed_none (calls.Nullify (Some (retry, vote))) = vote_none vote
   signed_none (calls.Finalize None) = refl
@@ -56,13 +56,13 @@ module _ {K D : Type 0} where
   signed_none (calls.Notarize (Some vote)) = vote_none vote
   signed_none _ = refl
 
-  taken_none : (call : CallFacts D) (t : Told K D) → finals_by (handed_in call) ≡ [] → finals_by (accepted_by call t) ≡ []
+  taken_none : (call : CallFacts D) (t : ReplyFacts K D) → finals_by (passed_certificates call) ≡ [] → finals_by (accepted_by call t) ≡ []
   taken_none call (calls.Added _ _) none = none
   taken_none call (calls.AddedNullification _) none = none
   taken_none call _ none = refl
 
   -- a call that hands no finalization in
-  done_none : (call : CallFacts D) (t : Told K D) → finals_by (handed_in call) ≡ [] → finals_by (accepted_by call t ++ signed_in t) ≡ []
+  done_none : (call : CallFacts D) (t : ReplyFacts K D) → finals_by (passed_certificates call) ≡ [] → finals_by (accepted_by call t ++ signed_in t) ≡ []
   done_none call t none =
       finalized_by-append (accepted_by call t) (signed_in t) ∙ ap (λ ps. ps ++ finals_by (signed_in t)) (taken_none call t none) ∙ signed_none t
 
@@ -75,7 +75,7 @@ module _ {K D : Type 0} where
   in_context_none e none None = refl
   in_context_none e none (Some c) = none c
 
-  event_none : (o : OutstandingWork K D) (call : CallFacts D) → finals_by (handed_in call) ≡ [] → view_in (events_of o call) ≡ 0
+  event_none : (o : OutstandingWork K D) (call : CallFacts D) → finals_by (passed_certificates call) ≡ [] → view_in (events_of o call) ≡ 0
   event_none o (calls.AddFinalization c now) none = cc
   event_none o (calls.Proposed v payload now) none = in_context_none (λ c. event.Proposed c payload now) (λ c. refl) (context_at o v)
   event_none o (calls.SupersedeProposalRequest v) none = in_context_none event.Supersede (λ c. refl) (context_at o v)
@@ -83,12 +83,12 @@ module _ {K D : Type 0} where
 
 module _ {K L D : Type 0} where
   -- the last finalized view is the raised_to of the one before and of those that the call finalizes
-  abbrev pub Finalizes : CallFacts D → Told K D → StateFacts K L D → StateFacts K L D → Type 0
+  abbrev pub Finalizes : CallFacts D → ReplyFacts K D → StateFacts K L D → StateFacts K L D → Type 0
   Finalizes call t x y = y.finalized ≡ raised_to x.finalized (finals_by (accepted_by call t ++ signed_in t))
 
 module _ {K L D : Type 0} (same : D → D → Bool) (elect : Elect L) where
   module _ (x : StateFacts K L D) (o : OutstandingWork K D) where
-    unfinalized : (call : CallFacts D) → is_allowed x o call ≡ true → finals_by (handed_in call) ≡ [] → (after_call same elect x o call).finalized ≡ x.finalized
+    unfinalized : (call : CallFacts D) → is_allowed x o call ≡ true → finals_by (passed_certificates call) ≡ [] → (after_call same elect x o call).finalized ≡ x.finalized
     unfinalized call allowed none =
         let no_higher : (after_call same elect x o call).finalized ≤ max x.finalized (view_in (events_of o call)) =
         call_by_event same elect x o (λ es y. y.finalized ≤ max x.finalized (view_in es)) (omega arith) (λ e is not_floor. event_finalizes same elect x e) call allowed in
@@ -107,7 +107,7 @@ module _ {K L D : Type 0} (same : D → D → Bool) (elect : Elect L) where
     by_hands call allowed (inl (c, now, is)) = subst (λ a. Finalizes a (answer same elect x o a) x (after_call same elect x o a)) (sym is) (finalizes c now)
     by_hands call allowed (inr none) = unfinalized call allowed none ∙ sym (ap (raised_to x.finalized) (done_none call (answer same elect x o call) none))
 
-  call_finalizes : (m : MemberFacts K L D) (call : CallFacts D) (t : Told K D) (left : MemberFacts K L D) → IsCall same elect m call t left → WhileAlive (Finalizes call t) m.life left.life
+  call_finalizes : (m : MemberFacts K L D) (call : CallFacts D) (t : ReplyFacts K D) (left : MemberFacts K L D) → IsCall same elect m call t left → WhileAlive (Finalizes call t) m.life left.life
   call_finalizes = each_call same elect Finalizes (λ call fault x. refl) (λ call x. refl) (λ call x o allowed. by_hands x o call allowed (hands call))
 
   -- the raised_to view that was told stays the last finalized one

@@ -13,7 +13,7 @@ use Rattle.simplex_member.specs.Journal.{stored_of}
 use Rattle.simplex_member.specs.MemberFacts.{SignedMember}
 use Rattle.simplex_member.specs.declared.member.journal.Stored.{Stored}
 use Rattle.laws_safety.specs.Traces.{TraceEvent, Signs}
-use Rattle.laws_safety.specs.MemberHistory.{HasDone}
+use Rattle.laws_safety.specs.MemberHistory.{HasHistory}
 use Rattle.laws_safety.proofs.lists.Splits.{Contains-cases}
 use Rattle.engine_votes.specs.declared.votes.Vote.{Vote}
 use Rattle.engine_outbox.specs.declared.outbox.Outbox.{Outbox}
@@ -21,7 +21,7 @@ use Rattle.engine_outbox.specs.declared.output.Output.{Output}
 use Rattle.engine_outbox.specs.declared.output.Output.TheVariants as output
 use Rattle.engine_outbox.specs.Entries.{votes_of_entries}
 use Rattle.engine_outbox.specs.Journals.{journal_of, written, IsRecordOf}
-use Rattle.engine_outbox.specs.Outboxes.{IsTold, IsToldWhere}
+use Rattle.engine_outbox.specs.Outboxes.{IsTold, IsPassedIf}
 use Rattle.engine_outbox.specs.Outputs.{entries_in, stored_in, storing, IsBehind, AreBehind}
 use Rattle.engine_outbox.specs.HostStops.{votes_recorded, WereSigned, IsTorn, MayBeCarriedOut, MayStopAfter, MayStopAfterEach, MayStopAmid, EachStopIsLawful}
 use Rattle.engine_outbox.proofs.Behind.{votes_in-append, stored_in-append, beginning, joined}
@@ -200,14 +200,14 @@ module _ {S L D K G C : Type 0} (same : D → D → Bool) (elect : Elect L) (byt
 
     -- one that makes the journal the record of the member as it is
     stop_now : (since : List (TraceEvent D)) → all ≡ earlier ++ since → (outs : List (Output S D Stored K G C)) (out : Output S D Stored K G C) (member : SignedMember K L D G)
-        → HasDone same elect term_length i all member.facts → IsRecordOf bytes_of member (journal_of (outs ++ out ∷ []))
+        → HasHistory same elect term_length i all member.facts → IsRecordOf bytes_of member (journal_of (outs ++ out ∷ []))
         → WereSigned all (votes_of_entries (stored_in outs)) → WereSigned all (votes_of_entries (entries_in out)) → MayStopAfter same elect bytes_of term_length i earlier all (outs ++ out ∷ [])
     stop_now since is outs out member done holds before new = record {
       member = member;
       since = since;
       later = [];
       is_all = is ∙ sym (append-nil (earlier ++ since));
-      done = subst (λ xs. HasDone same elect term_length i xs member.facts) is done;
+      done = subst (λ xs. HasHistory same elect term_length i xs member.facts) is done;
       holds = holds;
       signed = subst (λ xs. WereSigned xs (votes_of_entries (stored_in (outs ++ out ∷ [])))) is (subst (WereSigned all)
           (sym (ap votes_of_entries (stored_in-append outs (out ∷ []) ∙ ap (λ es. stored_in outs ++ es) (append-nil (entries_in out))) ∙ votes_in-append (stored_in outs) (entries_in out)))
@@ -216,14 +216,14 @@ module _ {S L D K G C : Type 0} (same : D → D → Bool) (elect : Elect L) (byt
 
     -- so it does behind others that one may stop behind
     pub stop_anew : (outs : List (Output S D Stored K G C)) (out : Output S D Stored K G C) (member : SignedMember K L D G) → MayStopAfter same elect bytes_of term_length i earlier all outs
-        → HasDone same elect term_length i all member.facts → IsRecordOf bytes_of member (journal_of (outs ++ out ∷ [])) → WereSigned all (votes_of_entries (entries_in out)) → MayStopAfter same elect bytes_of term_length i earlier all (outs ++ out ∷ [])
+        → HasHistory same elect term_length i all member.facts → IsRecordOf bytes_of member (journal_of (outs ++ out ∷ [])) → WereSigned all (votes_of_entries (entries_in out)) → MayStopAfter same elect bytes_of term_length i earlier all (outs ++ out ∷ [])
     stop_anew outs out member may done holds new =
         stop_now (may.since ++ may.later) (may.is_all ∙ append_assoc earlier may.since may.later) outs out member done holds
         (subst (λ xs. WereSigned xs (votes_of_entries (stored_in outs))) (sym may.is_all) (signed_still (earlier ++ may.since) may.later (votes_of_entries (stored_in outs)) may.signed)) new
 
     -- what the record has grown by is stored, and the votes in it leave
     pub stops_stored : (outs : List (Output S D Stored K G C)) (entries : Vec (Artifact S D K G C) Global) (member : SignedMember K L D G)
-        → HasDone same elect term_length i all member.facts → IsRecordOf bytes_of member (journal_of (outs ++ output.Store entries ∷ [])) → WereSigned all (votes_of_entries entries.items)
+        → HasHistory same elect term_length i all member.facts → IsRecordOf bytes_of member (journal_of (outs ++ output.Store entries ∷ [])) → WereSigned all (votes_of_entries entries.items)
         → StopsIn outs (output.Store entries) → MayStopAfterEach same elect bytes_of term_length i earlier all outs → MayStopAfterEach same elect bytes_of term_length i earlier all (outs ++ storing entries)
     stops_stored outs entries member done holds signed within before =
         subst (MayStopAfterEach same elect bytes_of term_length i earlier all) (append_assoc outs (output.Store entries ∷ []) (map output.Vote (votes_of_entries entries.items)))
@@ -232,7 +232,7 @@ module _ {S L D K G C : Type 0} (same : D → D → Bool) (elect : Elect L) (byt
         (stop_anew outs (output.Store entries) member (stop_last outs before) done holds signed) within))
 
     -- a record is stored in place of all
-    module _ (entries : Vec (Artifact S D K G C) Global) (member : SignedMember K L D G) (done : HasDone same elect term_length i all member.facts)
+    module _ (entries : Vec (Artifact S D K G C) Global) (member : SignedMember K L D G) (done : HasHistory same elect term_length i all member.facts)
         (signed : WereSigned all (votes_recorded member.votes)) (same_entries : entries_of bytes_of entries.items ≡ member.facts.entries) (same_votes : votes_of entries.items ≡ member.votes) where
       pub signed_in_all : WereSigned all (votes_of_entries entries.items)
       signed_in_all = subst (WereSigned all) (sym (all_signed entries.items ∙ ap votes_recorded same_votes)) signed
@@ -250,7 +250,7 @@ module _ {S L D K G C : Type 0} (same : D → D → Bool) (elect : Elect L) (byt
           (λ others part rest is parted. absurd (cc))
 
     -- a proposal is told as final, or nothing is
-    told_where : (given : List (Output S D Stored K G C)) (old new : Outbox S D Stored K G C) (p : Proposal D) (is_above : Bool) → IsToldWhere is_above p old new
+    told_where : (given : List (Output S D Stored K G C)) (old new : Outbox S D Stored K G C) (p : Proposal D) (is_above : Bool) → IsPassedIf is_above p old new
         → MayStopAfterEach same elect bytes_of term_length i earlier all (given ++ old.queue.items) → MayStopAfterEach same elect bytes_of term_length i earlier all (given ++ new.queue.items)
     told_where given old new p true is before =
         subst (MayStopAfterEach same elect bytes_of term_length i earlier all) (append_assoc given old.queue.items (output.Finalized p ∷ []) ∙ ap (λ q. given ++ q) (sym is.0))
@@ -289,7 +289,7 @@ module _ {S L D K G C : Type 0} (same : D → D → Bool) (elect : Elect L) (byt
 
 -- a life begins with a whole record
 module _ {S L D K G C : Type 0} (same : D → D → Bool) (elect : Elect L) (bytes_of : C → List ℕ) (term_length i : ℕ) (earlier : List (TraceEvent D)) where
-  pub stops_begun : (entries : Vec (Artifact S D K G C) Global) (member : SignedMember K L D G) → HasDone same elect term_length i earlier member.facts → WereSigned earlier (votes_recorded member.votes)
+  pub stops_begun : (entries : Vec (Artifact S D K G C) Global) (member : SignedMember K L D G) → HasHistory same elect term_length i earlier member.facts → WereSigned earlier (votes_recorded member.votes)
       → entries_of bytes_of entries.items ≡ member.facts.entries → votes_of entries.items ≡ member.votes
       → MayStopAfterEach same elect bytes_of term_length i earlier earlier (output.Replace entries (stored_of member.facts) ∷ [])
   stops_begun entries member done signed same_entries same_votes = λ carried was.

@@ -12,7 +12,7 @@ use Rattle.engine_votes.specs.declared.votes.Vote.{Vote}
 use Rattle.engine_outbox.specs.Entries.{votes_of_entries, newest_from}
 use Rattle.engine_outbox.specs.Finalizations.{finals_in, RiseByView, EndsAt}
 use Rattle.engine_outbox.specs.Outputs.{stored_in, storing, AreBehind}
-use Rattle.engine_outbox.specs.Outboxes.{IsLawfulOutbox, HasBecome, HasStayed, IsStored, IsReplaced, IsRepeated, IsToldWhere, IsTold}
+use Rattle.engine_outbox.specs.Outboxes.{IsLawfulOutbox, HasBecome, HasStayed, IsStored, IsReplaced, IsRepeated, IsPassedIf, IsTold}
 use Rattle.engine_outbox.proofs.Behind.{votes_in-append, newest_recorded, stored_in-append, joined, storing_behind, stored_by}
 use Rattle.engine_votes.proofs.Contains.{contains_left}
 use Rattle.engine_outbox.proofs.Finalizations.{finalized_in-append, storing_tells_none, rising_further, ends_with}
@@ -87,7 +87,7 @@ module _ {S D J K G C : Type 0} (given : List (Output S D J K G C)) (old new : O
   pub pushed_lawful : (work : Work S D K G C) → HasBecome (output.Work work ∷ []) old.repeat old new → IsLawfulOutbox given new
   pushed_lawful work become = more_lawful (output.Work work ∷ []) old.repeat become (tt, tt) (wider (output.Work work ∷ []) old.repeat lawful.repeat) refl
 
-  told_where : (p : Proposal D) (t : Bool) → nat_lt old.told p.round.view ≡ t → IsToldWhere t p old new → IsLawfulOutbox given new
+  told_where : (p : Proposal D) (t : Bool) → nat_lt old.told p.round.view ≡ t → IsPassedIf t p old new → IsLawfulOutbox given new
   told_where p false e is = stayed_lawful is
   told_where p true e is =
       let tells = output.Finalized p ∷ [] in

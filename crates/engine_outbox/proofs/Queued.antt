@@ -6,7 +6,7 @@ use Rattle.engine_outbox.specs.declared.outbox.Outbox.{Outbox}
 use Rattle.engine_outbox.specs.declared.output.Output.{Output}
 use Rattle.engine_outbox.specs.declared.output.Output.TheVariants as output
 use Rattle.engine_votes.specs.declared.votes.Vote.{Vote}
-use Rattle.engine_outbox.specs.Outboxes.{HasBecome, HasStayed, IsRepeated, IsToldWhere, IsTold, QueuesMore}
+use Rattle.engine_outbox.specs.Outboxes.{HasBecome, HasStayed, IsRepeated, IsPassedIf, IsTold, QueuesMore}
 
 module _ {S D J K G C : Type 0} where
   pub queues_none : (a : Outbox S D J K G C) → QueuesMore a a
@@ -34,6 +34,6 @@ module _ {S D J K G C : Type 0} where
   told_more None old new is = stayed_more old new is
   told_more (Some proposal) old new is = by_view (nat_lt old.told proposal.round.view) is
     where
-      by_view : (b : Bool) → IsToldWhere b proposal old new → QueuesMore old new
+      by_view : (b : Bool) → IsPassedIf b proposal old new → QueuesMore old new
       by_view true is = record { more = output.Finalized proposal ∷ []; queue_is = is.0 }
       by_view false is = stayed_more old new is

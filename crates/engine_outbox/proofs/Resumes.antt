@@ -8,7 +8,7 @@ use Rattle.simplex_types.specs.declared.types.window.Terms.{Terms}
 use Rattle.simplex_voter.specs.Facts.{Elect}
 use Rattle.simplex_record.specs.Entries.{entries_of}
 use Rattle.simplex_member.specs.declared.member.journal.Stored.{Stored}
-use Rattle.laws_safety.specs.MemberHistory.{HasDone}
+use Rattle.laws_safety.specs.MemberHistory.{HasHistory}
 use Rattle.laws_safety.specs.ObservedTraces.{floor_in}
 use Rattle.laws_safety.specs.Traces.{Signs}
 use Rattle.engine_outbox.specs.Entries.{votes_of_entries}
@@ -27,14 +27,14 @@ module _ {S K L D G C : Type 0} (same : D → D → Bool) (elect : Elect L) (is_
       let before = earlier ++ may.since in
       let floor = floor_in start.floor in
       let now : before ++ floor ≡ earlier ++ (may.since ++ floor) = append_assoc earlier may.since floor in
-      let begun : HasDone same elect term_length i (before ++ floor) member.facts =
+      let begun : HasHistory same elect term_length i (before ++ floor) member.facts =
       goes may.member.facts (sym (some_so stored _ (ap (λ (j : Journal S D Stored K G C). j.beside) (sym written) ∙ may.holds.beside)))
       (sym may.holds.entries ∙ ap (λ (j : Journal S D Stored K G C). entries_of bytes_of j.entries) written) term_length i before starts may.done in
       let stored_then : WereSigned before (votes_of_entries entries) = λ vote has.
       may.signed vote (was_stored outs vote (subst (λ (j : Journal S D Stored K G C). Contains (votes_of_entries j.entries) vote) (sym written) has)) in
       record {
         since = may.since ++ floor;
-        done = subst (λ xs. HasDone same elect term_length i xs member.facts) now begun;
+        done = subst (λ xs. HasHistory same elect term_length i xs member.facts) now begun;
         recorded = λ vote has. subst (λ xs. Contains xs (Signs vote.signer vote.subject)) now
             (Contains-append_left before floor (Signs vote.signer vote.subject) (stored_then vote
             (subst (λ vs. Contains vs vote) (ap votes_recorded votes ∙ sym (all_signed entries)) has)));

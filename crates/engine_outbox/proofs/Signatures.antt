@@ -9,7 +9,7 @@ use Rattle.simplex_types.specs.declared.types.messages.Proposal.{Proposal}
 use Rattle.simplex_types.specs.declared.types.messages.Subject.{Subject}
 use Rattle.simplex_voter.specs.Facts.{StateFacts, Elect}
 use Rattle.simplex_record.specs.Votes.{SignedVote, votes_of}
-use Rattle.simplex_member.specs.Calls.{CallFacts, ConstructNullify, ConstructFinalize, ConstructNotarize, Told, Refused, told}
+use Rattle.simplex_member.specs.Calls.{CallFacts, ConstructNullify, ConstructFinalize, ConstructNotarize, ReplyFacts, Refused, told}
 use Rattle.simplex_member.specs.Journal.{votes_since}
 use Rattle.simplex_member.specs.MemberFacts.{MemberFacts, IsCall, AnswersAlive}
 use Rattle.simplex_member.specs.ReplySignatures.{IsSignedReply, signed_reply}
@@ -28,7 +28,7 @@ use Rattle.engine_outbox.specs.declared.journaled.Journaled.{Journaled}
 use Rattle.engine_outbox.specs.declared.output.Output.{Output}
 use Rattle.engine_outbox.specs.declared.output.Output.TheVariants as output
 use Rattle.engine_outbox.specs.Entries.{votes_of_entries}
-use Rattle.engine_outbox.specs.Outboxes.{HasStayed, IsRepeated, IsReplaced, IsStored, IsTold, IsToldWhere}
+use Rattle.engine_outbox.specs.Outboxes.{HasStayed, IsRepeated, IsReplaced, IsStored, IsTold, IsPassedIf}
 use Rattle.engine_outbox.specs.Outputs.{stored_in, storing}
 use Rattle.engine_outbox.specs.Signatures.{SignsBy, AreSigned, StaysSigned}
 use Rattle.engine_outbox.specs.HostStops.{votes_recorded}
@@ -84,7 +84,7 @@ module _ {K L D : Type 0} (same : D → D → Bool) (elect : Elect L) (x : State
       is_me ∙ ap Some (sym so)
 
   -- a vote is signed by the state's member
-  pub exact_signer : (call : CallFacts D) (t : Told K D) → ExactAt same elect (Some x) (Calls call) t → (m : ℕ) (v : Subject D) → Contains (signed_in t) (Signs m v) → x.me ≡ Some m
+  pub exact_signer : (call : CallFacts D) (t : ReplyFacts K D) → ExactAt same elect (Some x) (Calls call) t → (m : ℕ) (v : Subject D) → Contains (signed_in t) (Signs m v) → x.me ≡ Some m
   exact_signer (ConstructNullify w) t exact m v has = named _ _ m v (exact.only (Signs m v) has).1
   exact_signer (ConstructFinalize w) t exact m v has = named _ _ m v (exact.only (Signs m v) has).1
   exact_signer (ConstructNotarize w) t exact m v has = named _ _ m v (exact.only (Signs m v) has).1
@@ -99,7 +99,7 @@ record SameKey {K L D : Type 0} (x y : StateFacts K L D) : Type 0 where
   members : y.members ≡ x.members
 
 module _ {K L D : Type 0} (same : D → D → Bool) (elect : Elect L) where
-  key_stays : (m : MemberFacts K L D) (call : CallFacts D) (told : Told K D) (left : MemberFacts K L D) → IsCall same elect m call told left → WhileAlive SameKey m.life left.life
+  key_stays : (m : MemberFacts K L D) (call : CallFacts D) (told : ReplyFacts K D) (left : MemberFacts K L D) → IsCall same elect m call told left → WhileAlive SameKey m.life left.life
   key_stays = each_call same elect (λ call told. SameKey) (λ call fault x. record { me = refl; members = refl }) (λ call x. record { me = refl; members = refl })
       (λ call x o allowed. let goes = call_goes same elect x o call in record { me = goes.me; members = goes.members })
 
@@ -112,7 +112,7 @@ module _ {K L D : Type 0} (same : D → D → Bool) (elect : Elect L) where
       let was = signs signer (sym stays.me ∙ me) in
       (was.0, ap (λ (ks : List K). slice_get ks signer) stays.members ∙ was.1)
 
-  pub call_signs : (i : ℕ) (key : K) (m : MemberFacts K L D) (call : CallFacts D) (told : Told K D) (left : MemberFacts K L D) → IsCall same elect m call told left → SignsBy i key m → SignsBy i key left
+  pub call_signs : (i : ℕ) (key : K) (m : MemberFacts K L D) (call : CallFacts D) (told : ReplyFacts K D) (left : MemberFacts K L D) → IsCall same elect m call told left → SignsBy i key m → SignsBy i key left
   call_signs i key m call told left is = signs_still i key m.life left.life (key_stays m call told left is)
 
   -- the vote of an answer
@@ -158,7 +158,7 @@ module _ {S L D K G C : Type 0} (is_signature : K → Subject D → G → Type 0
     pub signed_stayed : HasStayed old.outbox new.outbox → StaysSigned is_signature old new
     signed_stayed stayed = signed_plain [] refl (stayed.0 ∙ sym (append-nil old.outbox.queue.items)) signs recorded
 
-    told_where : (p : Proposal D) (is_above : Bool) → IsToldWhere is_above p old.outbox new.outbox → StaysSigned is_signature old new
+    told_where : (p : Proposal D) (is_above : Bool) → IsPassedIf is_above p old.outbox new.outbox → StaysSigned is_signature old new
     told_where p true is = signed_plain (output.Finalized p ∷ []) refl is.0 signs recorded
     told_where p false is = signed_stayed is
 

@@ -17,12 +17,12 @@ use Rattle.simplex_record.specs.Cuts.{is_vote}
 use Rattle.simplex_record.specs.Entries.{entries_of}
 use Rattle.simplex_record.specs.Votes.{SignedVote, signed_vote, votes_of}
 use Rattle.simplex_member.specs.CallConditions.{is_allowed, fault_of}
-use Rattle.simplex_member.specs.Calls.{CallFacts, AddNotarization, AddNullification, AddFinalization, ConstructNotarize, Certified, ConstructNullify, ConstructFinalize, Told}
+use Rattle.simplex_member.specs.Calls.{CallFacts, AddNotarization, AddNullification, AddFinalization, ConstructNotarize, Certified, ConstructNullify, ConstructFinalize, ReplyFacts}
 use Rattle.simplex_member.specs.CallSemantics.{recorded_by, if_new, vote_entry, unrepeated_vote, notarize_vote, nullify_vote, finalize_vote}
 use Rattle.simplex_member.specs.Journal.{stored_of, votes_since}
-use Rattle.simplex_member.specs.MemberFacts.{MemberFacts, SignedMember, IsCall, AnswersAlive, unless_kept, with_call}
+use Rattle.simplex_member.specs.MemberFacts.{MemberFacts, SignedMember, IsCall, AnswersAlive, unless_retained, with_call}
 use Rattle.simplex_member.specs.declared.member.journal.Stored.{Stored}
-use Rattle.laws_safety.specs.MemberHistory.{HasDone}
+use Rattle.laws_safety.specs.MemberHistory.{HasHistory}
 use Rattle.laws_safety.specs.Traces.{TraceEvent}
 use Rattle.engine_votes.specs.declared.votes.Vote.{Vote}
 use Rattle.engine_outbox.specs.declared.outbox.Outbox.{Outbox}
@@ -30,7 +30,7 @@ use Rattle.engine_outbox.specs.declared.output.Output.{Output}
 use Rattle.engine_outbox.specs.declared.output.Output.TheVariants as output
 use Rattle.engine_outbox.specs.Entries.{votes_of_entries}
 use Rattle.engine_outbox.specs.Journals.{Journal, journal_of, IsRecordOf, IsBeginningOf}
-use Rattle.engine_outbox.specs.Outboxes.{IsTold, IsToldWhere}
+use Rattle.engine_outbox.specs.Outboxes.{IsTold, IsPassedIf}
 use Rattle.engine_outbox.specs.Outputs.{stored_in}
 use Rattle.engine_outbox.specs.HostStops.{vote_as, votes_recorded, WereSigned, MayStopAfter, MayStopAmid}
 use Rattle.engine_outbox.proofs.Behind.{stored_in-append}
@@ -72,14 +72,14 @@ module _ {K L D : Type 0} (same : D → D → Bool) (elect : Elect L) where
   grows_not : (m left : MemberFacts K L D) → left.entries ≡ m.entries → GrowsByOne m left
   grows_not m left is = ([], is ∙ sym (append-nil m.entries), omega arith)
 
-  pub call_grows : (m left : MemberFacts K L D) (call : CallFacts D) (told : Told K D) → IsCall same elect m call told left → GrowsByOne m left
+  pub call_grows : (m left : MemberFacts K L D) (call : CallFacts D) (told : ReplyFacts K D) → IsCall same elect m call told left → GrowsByOne m left
   unfolding IsCall
   call_grows m left call told is_call = by_life m.life is_call
     where
       entries_now : (n : MemberFacts K L D) → left ≡ n → left.entries ≡ n.entries
       entries_now n is = ap (λ (k : MemberFacts K L D). k.entries) is
 
-      by_test : (x : StateFacts K L D) (b : Bool) (due : Option Fault) → left ≡ cond b (unless_kept due m (with_call same elect x m call)) m → GrowsByOne m left
+      by_test : (x : StateFacts K L D) (b : Bool) (due : Option Fault) → left ≡ cond b (unless_retained due m (with_call same elect x m call)) m → GrowsByOne m left
       by_test x false due leaves = grows_not m left (entries_now m leaves)
       by_test x true (Some due) leaves = grows_not m left (entries_now m leaves)
       by_test x true None leaves = (recorded_by same elect x call, entries_now (with_call same elect x m call) leaves, recorded_few x call)
@@ -153,7 +153,7 @@ module _ {S D J K G C : Type 0} (given : List (Output S D J K G C)) (old new : O
   pub same_queue : new.queue.items ≡ old.queue.items → WritesAlike
   same_queue is = (ap (λ q. journal_of (given ++ q)) (sym is), ap (λ q. stored_in (given ++ q)) (sym is))
 
-  told_where : (p : Proposal D) (is_above : Bool) → IsToldWhere is_above p old new → WritesAlike
+  told_where : (p : Proposal D) (is_above : Bool) → IsPassedIf is_above p old new → WritesAlike
   told_where p true is =
       let more : List (Output S D J K G C) = output.Finalized p ∷ [] in
       let queued : given ++ new.queue.items ≡ (given ++ old.queue.items) ++ more = ap (λ q. given ++ q) is.0 ∙ sym (append_assoc given old.queue.items more) in (
@@ -194,7 +194,7 @@ module _ {S L D K G C : Type 0} (same : D → D → Bool) (elect : Elect L) (byt
   module _ (all more : List (TraceEvent D)) (outs : List (Output S D Stored K G C)) (old new : SignedMember K L D G) (count : ℕ) (begun : IsBeginningOf bytes_of old count (journal_of outs))
       (olds : List (Artifact S D K G C)) (olds_entries : entries_of bytes_of olds ≡ old.facts.entries) (olds_votes : votes_of olds ≡ old.votes)
       (grown : GrowsByOne old.facts new.facts) (votes : List (SignedVote D G)) (voted : new.votes ≡ old.votes ++ votes) (beside : stored_of new.facts ≡ stored_of old.facts)
-      (done : HasDone same elect term_length i (all ++ more) new.facts) (signed : WereSigned (all ++ more) (votes_recorded new.votes))
+      (done : HasHistory same elect term_length i (all ++ more) new.facts) (signed : WereSigned (all ++ more) (votes_recorded new.votes))
       (stop : MayStopAfter same elect bytes_of term_length i earlier (all ++ more) outs) (amid : MayStopAmid same elect bytes_of term_length i earlier all outs old count) where
     abbrev begun_now : IsBeginningOf bytes_of new count (journal_of outs)
     begun_now = still_begun bytes_of old count (journal_of outs) begun new grown.0 votes grown.1 voted beside

@@ -15,7 +15,7 @@ use Rattle.simplex_member.specs.declared.member.calls.Call.{Call}
 use Rattle.simplex_member.specs.declared.member.calls.Reply.{Reply}
 use Rattle.simplex_member.specs.declared.member.calls.Reply.TheVariants as reply
 use Rattle.simplex_member.specs.declared.member.journal.Stored.{Stored}
-use Rattle.laws_safety.specs.MemberHistory.{HasDone, DoesMore}
+use Rattle.laws_safety.specs.MemberHistory.{HasHistory, ExtendsHistory}
 use Rattle.laws_safety.specs.ObservedTraces.{votes_in, taken_by}
 use Rattle.laws_safety.specs.Traces.{TraceEvent, Signs}
 use Rattle.laws_safety.proofs.lists.Splits.{only_one}
@@ -24,7 +24,7 @@ use Rattle.engine_outbox.specs.declared.journaled.Journaled.{Journaled}
 use Rattle.engine_outbox.specs.declared.output.Output.{Output}
 use Rattle.engine_outbox.specs.declared.output.Output.TheVariants as output
 use Rattle.engine_outbox.specs.declared.output.Work.{Work}
-use Rattle.engine_outbox.specs.Finalizations.{finals_in, finals_by, WereAccepted, TellsRising}
+use Rattle.engine_outbox.specs.Finalizations.{finals_in, finals_by, WereAccepted, ReportsRising}
 use Rattle.engine_outbox.specs.Continuity.{IsTraced, StaysTraced}
 use Rattle.engine_outbox.specs.Journals.{Journal, journal_of, written, IsRecordOf}
 use Rattle.engine_outbox.specs.Outboxes.{HasBecome, HasStayed, IsStored, IsReplaced, IsRepeated, IsTold}
@@ -71,11 +71,11 @@ module _ {S L D K G C : Type 0} (same : D → D → Bool) (elect : Elect L) (byt
   queued given more repeat become = append_assoc given old.outbox.queue.items more ∙ ap (λ q. given ++ q) (sym become.queue)
 
   -- a call, and what is told as final by it
-  pub traced_call : (more : List (TraceEvent D)) → new.failed ≡ old.failed → new.stored ≡ old.stored → Keeps bytes_of old new → DoesMore same elect old.member.facts more new.member.facts
+  pub traced_call : (more : List (TraceEvent D)) → new.failed ≡ old.failed → new.stored ≡ old.stored → Keeps bytes_of old new → ExtendsHistory same elect old.member.facts more new.member.facts
       → (olds : List (Artifact S D K G C)) → entries_of bytes_of olds ≡ old.member.facts.entries → votes_of olds ≡ old.member.votes
       → GrowsByOne old.member.facts new.member.facts → stored_of new.member.facts ≡ stored_of old.member.facts
       → (votes : List (SignedVote D G)) → new.member.votes ≡ old.member.votes ++ votes → WereSigned more (votes_recorded votes)
-      → (finalized : Option (Proposal D)) → IsTold finalized old.outbox new.outbox → TellsRising (finals_by more) old.outbox new.outbox → StaysTraced same elect bytes_of more old new
+      → (finalized : Option (Proposal D)) → IsTold finalized old.outbox new.outbox → ReportsRising (finals_by more) old.outbox new.outbox → StaysTraced same elect bytes_of more old new
   traced_call more same_failed same_stored keeps done olds olds_entries olds_votes grown beside votes voted signed finalized tells rising term_length i earlier given all is =
       let before = given ++ old.outbox.queue.items in
       let now_signed : WereSigned (all ++ more) (votes_recorded new.member.votes) =
@@ -99,8 +99,8 @@ module _ {S L D K G C : Type 0} (same : D → D → Bool) (elect : Elect L) (byt
       }
 
   -- nothing more is given out
-  pub traced_end : new.failed ≡ true → Keeps bytes_of old new → DoesMore same elect old.member.facts [] new.member.facts
-      → ((all : List (TraceEvent D)) → WereSigned all (votes_recorded old.member.votes) → WereSigned all (votes_recorded new.member.votes)) → TellsRising [] old.outbox new.outbox → Traces
+  pub traced_end : new.failed ≡ true → Keeps bytes_of old new → ExtendsHistory same elect old.member.facts [] new.member.facts
+      → ((all : List (TraceEvent D)) → WereSigned all (votes_recorded old.member.votes) → WereSigned all (votes_recorded new.member.votes)) → ReportsRising [] old.outbox new.outbox → Traces
   traced_end failed keeps done signed tells term_length i earlier given all is = record {
     kept = keeps given is.kept;
     done = done term_length i all is.done;
@@ -111,10 +111,10 @@ module _ {S L D K G C : Type 0} (same : D → D → Bool) (elect : Elect L) (byt
   }
 
   -- a whole record was queued in place of all
-  pub traced_replaced : new.failed ≡ old.failed → Keeps bytes_of old new → DoesMore same elect old.member.facts [] new.member.facts
+  pub traced_replaced : new.failed ≡ old.failed → Keeps bytes_of old new → ExtendsHistory same elect old.member.facts [] new.member.facts
       → (stays : SignedVote D G → Bool) → new.member.votes ≡ filter stays old.member.votes
       → (all : List (Artifact S D K G C)) → new.stored ≡ length all → entries_of bytes_of all ≡ new.member.facts.entries → votes_of all ≡ new.member.votes
-      → IsReplaced bytes_of all (stored_of new.member.facts) old.outbox new.outbox → TellsRising [] old.outbox new.outbox → Traces
+      → IsReplaced bytes_of all (stored_of new.member.facts) old.outbox new.outbox → ReportsRising [] old.outbox new.outbox → Traces
   traced_replaced same_failed keeps done stays left artifacts stored_now all_entries all_votes is_replaced tells term_length i earlier given all is =
       let signed : WereSigned (all ++ []) (votes_recorded new.member.votes) =
       signed_still all [] (votes_recorded new.member.votes) (subst (λ vs. WereSigned all (votes_recorded vs)) (sym left) (signed_left all stays old.member.votes is.signed)) in
@@ -136,13 +136,13 @@ module _ {S L D K G C : Type 0} (same : D → D → Bool) (elect : Elect L) (byt
 
   module _ (same_member : new.member ≡ old.member) (same_failed : new.failed ≡ old.failed) (keeps : Keeps bytes_of old new) where
     -- the member is as it was
-    with_queue : TellsRising [] old.outbox new.outbox → ((term_length i : ℕ) (earlier : List (TraceEvent D)) (given : List (Output S D Stored K G C)) (all : List (TraceEvent D)) → IsTraced same elect bytes_of term_length i earlier given all old
+    with_queue : ReportsRising [] old.outbox new.outbox → ((term_length i : ℕ) (earlier : List (TraceEvent D)) (given : List (Output S D Stored K G C)) (all : List (TraceEvent D)) → IsTraced same elect bytes_of term_length i earlier given all old
         → old.failed ≡ false → MayStopAfterEach same elect bytes_of term_length i earlier all (given ++ new.outbox.queue.items))
         → ((term_length i : ℕ) (earlier : List (TraceEvent D)) (given : List (Output S D Stored K G C)) (all : List (TraceEvent D)) → IsTraced same elect bytes_of term_length i earlier given all old
         → old.failed ≡ false → MayStopAmid same elect bytes_of term_length i earlier all (given ++ new.outbox.queue.items) old.member new.stored) → Traces
     with_queue tells stops amid term_length i earlier given all is = subst (λ xs. IsTraced same elect bytes_of term_length i earlier given xs new) (sym (append-nil all)) (record {
       kept = keeps given is.kept;
-      done = subst (λ m. HasDone same elect term_length i all m.facts) (sym same_member) is.done;
+      done = subst (λ m. HasHistory same elect term_length i all m.facts) (sym same_member) is.done;
       signed = subst (λ m. WereSigned all (votes_recorded m.votes)) (sym same_member) is.signed;
       finals = subst (λ xs. WereAccepted xs (finals_in (given ++ new.outbox.queue.items))) (append-nil all) (accepted_rising given old.outbox new.outbox all [] tells is.finals);
       stops = λ lives. stops term_length i earlier given all is (sym same_failed ∙ lives);

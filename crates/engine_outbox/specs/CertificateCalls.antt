@@ -4,7 +4,7 @@ use Rattle.simplex_types.specs.Certificates.{CertificateFacts, Notarized, Nullif
 use Rattle.simplex_member.specs.Calls.{CallFacts, AddNotarization, AddNullification, AddFinalization}
 
 -- the call that hands a certificate in, at a moment
-abbrev pub hands_in : {D : Type 0} → CertificateFacts D → ℕ → CallFacts D
-hands_in (Notarized c) now = AddNotarization c
-hands_in (Nullified c) now = AddNullification c now
-hands_in (Finalized c) now = AddFinalization c now
+abbrev pub certificate_call : {D : Type 0} → CertificateFacts D → ℕ → CallFacts D
+certificate_call (Notarized c) now = AddNotarization c
+certificate_call (Nullified c) now = AddNullification c now
+certificate_call (Finalized c) now = AddFinalization c now

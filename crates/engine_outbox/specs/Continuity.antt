@@ -6,17 +6,17 @@ use Rattle.simplex_member.specs.MemberFacts.{MemberFacts, SignedMember}
 use Rattle.simplex_member.specs.Pruning.{pruned_member}
 use Rattle.simplex_member.specs.declared.member.journal.Stored.{Stored}
 use Rattle.laws_safety.specs.Traces.{TraceEvent}
-use Rattle.laws_safety.specs.MemberHistory.{HasDone, DoesMore}
+use Rattle.laws_safety.specs.MemberHistory.{HasHistory, ExtendsHistory}
 use Rattle.laws_safety.specs.LifetimeLaws.{NeverFalls, WhileAlive}
 use Rattle.engine_outbox.specs.declared.journaled.Journaled.{Journaled}
 use Rattle.engine_outbox.specs.declared.output.Output.{Output}
-use Rattle.engine_outbox.specs.Finalizations.{finals_in, finals_by, WereAccepted, TellsRising}
-use Rattle.engine_outbox.specs.EmittedVotes.{AllLeave}
+use Rattle.engine_outbox.specs.Finalizations.{finals_in, finals_by, WereAccepted, ReportsRising}
+use Rattle.engine_outbox.specs.EmittedVotes.{AllAreReturned}
 use Rattle.engine_outbox.specs.Signatures.{StaysSigned, EmitsSigned}
 use Rattle.engine_outbox.specs.HostStops.{votes_recorded, WereSigned, MayStopAfterEach, MayStopAmid}
 use Rattle.engine_outbox.specs.Outboxes.{HasStayed, IsLawfulOutbox, QueuesMore}
 use Rattle.engine_outbox.specs.Journals.{journal_of, IsRecordOf, IsBeginningOf}
-use Rattle.engine_outbox.specs.SubjectActions.{IsDoneOn}
+use Rattle.engine_outbox.specs.SubjectActions.{IsActionOn}
 use Rattle.engine_outbox.specs.RecordReach.{ReachesTo}
 
 module _ {S L D K G C : Type 0} where
@@ -25,8 +25,8 @@ module _ {S L D K G C : Type 0} where
   has_failed member = member.failed || is_none member.member.facts.life
 
   -- no proposal is queued to be told as final
-  abbrev pub TellsNothing : Journaled S L D K G C → Type 0
-  TellsNothing member = finals_in member.outbox.queue.items ≡ []
+  abbrev pub ReportsNothing : Journaled S L D K G C → Type 0
+  ReportsNothing member = finals_in member.outbox.queue.items ≡ []
 
   -- nothing has changed
   abbrev pub IsUnchanged : Journaled S L D K G C → Journaled S L D K G C → Type 0
@@ -40,10 +40,10 @@ module _ {S L D K G C : Type 0} (bytes_of : C → List ℕ) where
   -- over all that was given out and what is queued: each vote stands behind an output that stores it, and the proposals that are told
   -- as final rise; until the engine fails, a journal that carries them out holds a beginning of the record, and each vote that is stored
   -- leaves; the last finalized view of the member is the highest one that was told; and how far back the stored entries reach is noted
-  pub record IsKept (given : List (Output S D Stored K G C)) (member : Journaled S L D K G C) : Type 0 where
+  pub record IsJournaled (given : List (Output S D Stored K G C)) (member : Journaled S L D K G C) : Type 0 where
     pub lawful : IsLawfulOutbox given member.outbox
     pub stored : member.failed ≡ false → IsBeginningOf bytes_of member.member member.stored (journal_of (given ++ member.outbox.queue.items))
-    pub leaving : member.failed ≡ false → AllLeave (given ++ member.outbox.queue.items)
+    pub emitted : member.failed ≡ false → AllAreReturned (given ++ member.outbox.queue.items)
     pub told : IfSome member.member.facts.life (λ x. member.outbox.told ≡ x.finalized)
     pub reaching : ReachesTo member.reach member.stored member.member.facts.entries
 
@@ -54,7 +54,7 @@ module _ {S L D K G C : Type 0} (bytes_of : C → List ℕ) where
   -- until it fails, a journal that carries out what was given out and what is queued holds the record
   abbrev pub StoresRecord : Journaled S L D K G C → Type 0
   StoresRecord member =
-      (given : List (Output S D Stored K G C)) → IsKept given member → member.failed ≡ false
+      (given : List (Output S D Stored K G C)) → IsJournaled given member → member.failed ≡ false
       → IsRecordOf bytes_of member.member (journal_of (given ++ member.outbox.queue.items))
 
   -- unless it has failed
@@ -67,8 +67,8 @@ module _ {S L D K G C : Type 0} (same : D → D → Bool) (elect : Elect L) (byt
   -- stop after each output that was given out or is queued, and amid each `Store`, also of what the record has grown by since
   pub record IsTraced (term_length i : ℕ) (earlier : List (TraceEvent D)) (given : List (Output S D Stored K G C)) (all : List (TraceEvent D))
       (member : Journaled S L D K G C) : Type 0 where
-    pub kept : IsKept bytes_of given member
-    pub done : HasDone same elect term_length i all member.member.facts
+    pub kept : IsJournaled bytes_of given member
+    pub done : HasHistory same elect term_length i all member.member.facts
     pub signed : WereSigned all (votes_recorded member.member.votes)
     pub finals : WereAccepted all (finals_in (given ++ member.outbox.queue.items))
     pub stops : member.failed ≡ false → MayStopAfterEach same elect bytes_of term_length i earlier all (given ++ member.outbox.queue.items)
@@ -86,7 +86,7 @@ module _ {S L D K G C : Type 0} (same : D → D → Bool) (elect : Elect L) (byt
   abbrev pub BeginsTraced : SignedMember K L D G → Journaled S L D K G C → Type 0
   BeginsTraced begun member =
       (term_length i : ℕ) (all : List (TraceEvent D))
-      → HasDone same elect term_length i all begun.facts
+      → HasHistory same elect term_length i all begun.facts
       → WereSigned all (votes_recorded begun.votes)
       → IsTraced term_length i all [] all member
 
@@ -107,36 +107,36 @@ module _ {S L D K G C : Type 0} (same : D → D → Bool) (elect : Elect L) (byt
   -- what was kept stays kept, what was queued stays queued, and what the member has done stays done; besides it accepts certificates
   -- on this subject alone, and signs votes, under its key; of the finalizations that it accepts each of a view above all that were told is told; and
   -- while it has not failed, its views do not fall
-  pub record GoesOn (old new : Journaled S L D K G C) : Type 0 where
-    pub kept : (given : List (Output S D Stored K G C)) → IsKept bytes_of given old → IsKept bytes_of given new
+  pub record Continues (old new : Journaled S L D K G C) : Type 0 where
+    pub kept : (given : List (Output S D Stored K G C)) → IsJournaled bytes_of given old → IsJournaled bytes_of given new
     pub more : List (TraceEvent D)
-    pub on_this : All (IsDoneOn taken) more
-    pub done : DoesMore same elect old.member.facts more new.member.facts
+    pub on_this : All (IsActionOn taken) more
+    pub done : ExtendsHistory same elect old.member.facts more new.member.facts
     pub traced : StaysTraced same elect bytes_of more old new
     pub signed : StaysSigned is_signature old new
-    pub told : TellsRising (finals_by more) old.outbox new.outbox
+    pub told : ReportsRising (finals_by more) old.outbox new.outbox
     pub queued : QueuesMore old.outbox new.outbox
     pub risen : WhileAlive HasRisen old.member.facts.life new.member.facts.life
 
 module _ {S L D K G C : Type 0} (bytes_of : C → List ℕ) where
   -- what was kept stays kept, with these outputs given out behind all that was
-  abbrev pub HasGivenOut : List (Output S D Stored K G C) → Journaled S L D K G C → Journaled S L D K G C → Type 0
-  HasGivenOut out old new = (given : List (Output S D Stored K G C)) → IsKept bytes_of given old → IsKept bytes_of (given ++ out) new
+  abbrev pub HasReturned : List (Output S D Stored K G C) → Journaled S L D K G C → Journaled S L D K G C → Type 0
+  HasReturned out old new = (given : List (Output S D Stored K G C)) → IsJournaled bytes_of given old → IsJournaled bytes_of (given ++ out) new
 
 module _ {L D K : Type 0} (same : D → D → Bool) (elect : Elect L) (taken : Option (Subject D)) where
   -- a member accepts certificates on this subject alone, and signs votes
-  pub record DoesMoreOn (old new : MemberFacts K L D) : Type 0 where
+  pub record ExtendsHistoryOn (old new : MemberFacts K L D) : Type 0 where
     pub more : List (TraceEvent D)
-    pub on_this : All (IsDoneOn taken) more
-    pub done : DoesMore same elect old more new
+    pub on_this : All (IsActionOn taken) more
+    pub done : ExtendsHistory same elect old more new
 
 module _ {S L D K G C : Type 0} (same : D → D → Bool) (elect : Elect L) (bytes_of : C → List ℕ) (is_signature : K → Subject D → G → Type 0)
     (taken : Option (Subject D)) where
   -- besides, these are given out, and it stays traced by what it has done so, and its votes signed under its key
   pub record EmitsOn (out : List (Output S D Stored K G C)) (old new : Journaled S L D K G C) : Type 0 where
     pub more : List (TraceEvent D)
-    pub on_this : All (IsDoneOn taken) more
-    pub done : DoesMore same elect old.member.facts more new.member.facts
+    pub on_this : All (IsActionOn taken) more
+    pub done : ExtendsHistory same elect old.member.facts more new.member.facts
     pub traced : (term_length i : ℕ) (earlier : List (TraceEvent D)) (given : List (Output S D Stored K G C)) (all : List (TraceEvent D))
         → IsTraced same elect bytes_of term_length i earlier given all old
         → IsTraced same elect bytes_of term_length i earlier (given ++ out) (all ++ more) new

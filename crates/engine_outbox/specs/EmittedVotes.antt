@@ -9,8 +9,8 @@ use Rattle.engine_outbox.specs.Outputs.{entries_in, stored_in}
 module _ {S D J K G C : Type 0} where
   -- a life's first output stores the record that the life begins with, with the votes of the lives before; each other vote that is stored
   -- leaves
-  abbrev pub AllLeave : List (Output S D J K G C) → Type 0
-  AllLeave [] = Unit {0}
-  AllLeave (first ∷ rest) =
+  abbrev pub AllAreReturned : List (Output S D J K G C) → Type 0
+  AllAreReturned [] = Unit {0}
+  AllAreReturned (first ∷ rest) =
       (vote : Vote D G) → Contains (votes_of_entries (stored_in rest)) vote
       → Contains (votes_of_entries (entries_in first)) vote ⊎ Contains rest (output.Vote vote)

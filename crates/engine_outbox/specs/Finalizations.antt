@@ -47,11 +47,11 @@ module _ {D : Type 0} where
 
 module _ {S D J K G C : Type 0} where
   -- of these proposals each that is of a view above all that were told is queued to be told as final, and nothing else is
-  pub record TellsRising (finals : List (Proposal D)) (old new : Outbox S D J K G C) : Type 0 where
+  pub record ReportsRising (finals : List (Proposal D)) (old new : Outbox S D J K G C) : Type 0 where
     pub queued : finals_in new.queue.items ≡ finals_in old.queue.items ++ rising_above old.told finals
     pub told : new.told ≡ raised_to old.told finals
 
   -- these were given out, and no other proposal is queued to be told as final
-  pub record TellsNoMore (out : List (Output S D J K G C)) (old new : Outbox S D J K G C) : Type 0 where
+  pub record ReportsNoMore (out : List (Output S D J K G C)) (old new : Outbox S D J K G C) : Type 0 where
     pub queued : finals_in old.queue.items ≡ finals_in (out ++ new.queue.items)
     pub told : new.told ≡ old.told

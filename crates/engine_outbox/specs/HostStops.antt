@@ -12,7 +12,7 @@ use Rattle.simplex_member.specs.Journal.{votes_since}
 use Rattle.simplex_member.specs.MemberFacts.{SignedMember}
 use Rattle.simplex_member.specs.declared.member.journal.Stored.{Stored}
 use Rattle.laws_safety.specs.Traces.{TraceEvent, Signs}
-use Rattle.laws_safety.specs.MemberHistory.{HasDone}
+use Rattle.laws_safety.specs.MemberHistory.{HasHistory}
 use Rattle.engine_votes.specs.declared.votes.Vote.{Vote}
 use Rattle.engine_outbox.specs.declared.output.Output.{Output}
 use Rattle.engine_outbox.specs.declared.output.Output.TheVariants as output
@@ -62,7 +62,7 @@ module _ {S L D K G C : Type 0} (same : D → D → Bool) (elect : Elect L) (byt
     pub since : List (TraceEvent D)
     pub later : List (TraceEvent D)
     pub is_all : all ≡ (earlier ++ since) ++ later
-    pub done : HasDone same elect term_length i (earlier ++ since) member.facts
+    pub done : HasHistory same elect term_length i (earlier ++ since) member.facts
     pub holds : IsRecordOf bytes_of member (journal_of outs)
     pub signed : WereSigned (earlier ++ since) (votes_of_entries (stored_in outs))
 

@@ -64,12 +64,12 @@ module _ {S D J K G C : Type 0} where
   HasRoom box = deque_len box.queue < deque_capacity box.queue
 
   -- a proposal is told as final, or nothing is
-  abbrev pub IsToldWhere : (is_above : Bool) → Proposal D → Outbox S D J K G C → Outbox S D J K G C → Type 0
-  IsToldWhere true proposal old new =
+  abbrev pub IsPassedIf : (is_above : Bool) → Proposal D → Outbox S D J K G C → Outbox S D J K G C → Type 0
+  IsPassedIf true proposal old new =
       (new.queue.items ≡ old.queue.items ++ output.Finalized proposal ∷ []) × (new.repeat ≡ old.repeat) × (new.told ≡ proposal.round.view)
-  IsToldWhere false proposal old new = HasStayed old new
+  IsPassedIf false proposal old new = HasStayed old new
 
   -- it is where there is one, of a view above all that were told
   abbrev pub IsTold : Option (Proposal D) → Outbox S D J K G C → Outbox S D J K G C → Type 0
-  IsTold (Some proposal) old new = IsToldWhere (nat_lt old.told proposal.round.view) proposal old new
+  IsTold (Some proposal) old new = IsPassedIf (nat_lt old.told proposal.round.view) proposal old new
   IsTold None old new = HasStayed old new

@@ -2,12 +2,12 @@
 use Rattle.std.specs.Prelude.{ℕ, Bool, false, ◌&&◌, nat_lt, length}
 use Rattle.std.specs.Option.{option_map_or}
 use Rattle.engine_outbox.specs.declared.journaled.Journaled.{Journaled}
-use Rattle.engine_outbox.specs.RecordReach.{is_far_below, lowest_left}
+use Rattle.engine_outbox.specs.RecordReach.{is_far_below, lowest_retained_after}
 
 module _ {S L D K G C : Type 0} where
   -- the member lives, its record has more than so many entries, and by a pruning more views go than stay
-  abbrev pub is_overgrown : ℕ → Journaled S L D K G C → Bool
-  is_overgrown long member =
+  abbrev pub is_record_too_long : ℕ → Journaled S L D K G C → Bool
+  is_record_too_long long member =
       option_map_or
-      (λ x. nat_lt long (length member.member.facts.entries) && is_far_below member.reach (lowest_left member.member.facts x) x.current)
+      (λ x. nat_lt long (length member.member.facts.entries) && is_far_below member.reach (lowest_retained_after member.member.facts x) x.current)
       member.member.facts.life false

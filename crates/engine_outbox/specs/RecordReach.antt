@@ -28,9 +28,9 @@ is_far_below reach lowest current = nat_lt (current - lowest) (lowest - reach)
 
 module _ {K L D : Type 0} where
   -- the lowest view whose entries a pruning leaves: one that the state keeps, or the record by its own last finalized view
-  abbrev pub lowest_left : MemberFacts K L D → StateFacts K L D → ℕ
-  lowest_left m x = min (min_active x) (finalized_in m.entries - m.retention)
+  abbrev pub lowest_retained_after : MemberFacts K L D → StateFacts K L D → ℕ
+  lowest_retained_after m x = min (min_active x) (finalized_in m.entries - m.retention)
 
   -- while the member lives, its record has at most so many entries, or by a pruning no more views go than stay
   abbrev pub IsShort : ℕ → MemberFacts K L D → Type 0
-  IsShort long m = IfSome m.life (λ x. (length m.entries ≤ long) ⊎ AreNear (lowest_left m x) x.current m.entries)
+  IsShort long m = IfSome m.life (λ x. (length m.entries ≤ long) ⊎ AreNear (lowest_retained_after m x) x.current m.entries)

@@ -3,7 +3,7 @@ use Rattle.std.specs.Prelude.{◌≡◌, ◌⊎◌, ℕ, Bool, true, false, not,
 use Rattle.simplex_types.specs.declared.types.fault.Fault.{Fault}
 use Rattle.simplex_types.specs.declared.types.fault.Fault.TheVariants.{OutOfMemory}
 use Rattle.simplex_voter.specs.Facts.{StateFacts, round_at}
-use Rattle.simplex_member.specs.Calls.{CallFacts, TriggerTimeout, Certified, Told, Triggered, Judged, Refused, NotAllowed}
+use Rattle.simplex_member.specs.Calls.{CallFacts, TriggerTimeout, Certified, ReplyFacts, Triggered, Judged, Refused, NotAllowed}
 use Rattle.simplex_member.specs.MemberFacts.{MemberFacts}
 use Rattle.simplex_member.specs.OutstandingWork.{without_offer}
 
@@ -14,13 +14,13 @@ is_lasting _ = true
 
 module _ {K D : Type 0} where
   -- the call is refused, and not for want of memory
-  abbrev pub is_refused : Told K D → Bool
+  abbrev pub is_refused : ReplyFacts K D → Bool
   is_refused (Refused fault) = is_lasting fault
   is_refused NotAllowed = true
   is_refused _ = false
 
   -- so is it, or a reason to give a view up doesn't count, or a verdict is on a view that is not tracked
-  abbrev pub says_nothing : Told K D → Bool
+  abbrev pub says_nothing : ReplyFacts K D → Bool
   says_nothing (Triggered latched) = not latched
   says_nothing (Judged _ None) = true
   says_nothing answer = is_refused answer

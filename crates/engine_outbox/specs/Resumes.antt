@@ -9,7 +9,7 @@ use Rattle.simplex_record.specs.Votes.{votes_of}
 use Rattle.simplex_record.specs.declared.record.start.Start.{Start}
 use Rattle.simplex_member.specs.MemberFacts.{SignedMember}
 use Rattle.simplex_member.specs.declared.member.journal.Stored.{Stored}
-use Rattle.laws_safety.specs.MemberHistory.{HasDone, HasGoneOn}
+use Rattle.laws_safety.specs.MemberHistory.{HasHistory, HasContinued}
 use Rattle.laws_safety.specs.ObservedTraces.{StartsAs}
 use Rattle.laws_safety.specs.Traces.{TraceEvent, Signs}
 use Rattle.engine_votes.specs.declared.votes.Vote.{Vote}
@@ -28,7 +28,7 @@ module _ {K L D G : Type 0} (same : D → D → Bool) (elect : Elect L) (is_sign
   pub record ContinuesFrom {S C : Type 0} (term_length i : ℕ) (earlier : List (TraceEvent D)) (outs : List (Output S D Stored K G C))
       (member : SignedMember K L D G) : Type 0 where
     pub since : List (TraceEvent D)
-    pub done : HasDone same elect term_length i (earlier ++ since) member.facts
+    pub done : HasHistory same elect term_length i (earlier ++ since) member.facts
     pub recorded : WereSigned (earlier ++ since) (votes_recorded member.votes)
     pub votes : (vote : Vote D G) → Contains outs (output.Vote vote) → Contains (earlier ++ since) (Signs vote.signer vote.subject)
     pub signed : (key : K) → AreSigned is_signature i key (votes_of_entries (stored_in outs)) → AreSigned is_signature i key (votes_recorded member.votes)
@@ -40,7 +40,7 @@ module _ {K L D G : Type 0} (same : D → D → Bool) (elect : Elect L) (is_sign
       (stored : Stored) (entries : List (Artifact S D K G C)) (start : Start S L D K G C) (member : SignedMember K L D G)
       → IsLawfulStop same elect bytes_of term_length i earlier all outs
       → journal_of outs ≡ record { entries = entries; beside = Some stored }
-      → HasGoneOn same elect me terms stored (entries_of bytes_of entries) start member.facts
+      → HasContinued same elect me terms stored (entries_of bytes_of entries) start member.facts
       → member.votes ≡ votes_of entries
       → StartsAs me terms term_length i start
       → ContinuesFrom term_length i earlier outs member

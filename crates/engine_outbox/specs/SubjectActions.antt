@@ -7,10 +7,10 @@ use Rattle.simplex_member.specs.declared.member.calls.Reply.TheVariants.{Added, 
 use Rattle.laws_safety.specs.Traces.{TraceEvent, Accepts, Signs}
 
 -- a vote, or the acceptance of a certificate on this subject, if there is one
-abbrev pub IsDoneOn : {D : Type 0} → Option (Subject D) → TraceEvent D → Type 0
-IsDoneOn taken (Signs _ _) = Unit {0}
-IsDoneOn (Some subject) (Accepts certificate) = certificate ≡ subject
-IsDoneOn None (Accepts certificate) = ⊥
+abbrev pub IsActionOn : {D : Type 0} → Option (Subject D) → TraceEvent D → Type 0
+IsActionOn taken (Signs _ _) = Unit {0}
+IsActionOn (Some subject) (Accepts certificate) = certificate ≡ subject
+IsActionOn None (Accepts certificate) = ⊥
 
 -- the proposal that a certificate finalizes which is handed in, where the answer says that it is accepted
 abbrev pub final_by : {S D K G C : Type 0} → Option (Proposal D) → Reply S D K G C → Option (Proposal D)

@@ -11,8 +11,8 @@ ghost use Rattle.simplex_types.specs.Encoding.{certificate_subject};
 ghost use Rattle.laws_safety.specs.Traces.{Accepts};
 ghost use Rattle.laws_safety.specs.ObservedTraces.{certificates_in};
 ghost use Rattle.simplex_member.specs.Calls.{asked};
-ghost use Rattle.engine_outbox.specs.CertificateCalls.{hands_in};
-ghost use Rattle.engine_outbox.specs.SubjectActions.{IsDoneOn, final_by};
+ghost use Rattle.engine_outbox.specs.CertificateCalls.{certificate_call};
+ghost use Rattle.engine_outbox.specs.SubjectActions.{IsActionOn, final_by};
 ghost use Rattle.engine_outbox.specs.Finalizations.{finals_by};
 ghost use Rattle.engine_outbox.specs.declared.output.Output.TheVariants as output;
 ghost use Rattle.engine_outbox.specs.Resumes.{EachResumeContinues};
@@ -32,8 +32,8 @@ use std::alloc::{AllocError, Global};
 
 /// A member, and what is to be carried out of its life.
 ///
-/// `IsKept` says what was given out so far, in order: `begin` begins the list, each call keeps it by its clause `goes_on`, `next`
-/// adds what it answers, and `keeps_the_laws` says what holds of the whole. `GoesOn` says besides what the member has done by a
+/// `IsJournaled` says what was given out so far, in order: `begin` begins the list, each call keeps it by its clause `continues`, `next`
+/// adds what it answers, and `keeps_the_laws` says what holds of the whole. `Continues` says besides what the member has done by a
 /// call: votes, and the acceptance of a certificate where one is handed in, which is told as final where it is a finalization.
 #[derive(Drop)]
 pub struct Journaled<S: CertificateScheme, L: Elector<S>, D: Digest> {
@@ -54,17 +54,17 @@ impl<S: Scheme<D>, L: Elector<S>, D: Digest> Journaled<S, L, D> {
     ghost use Rattle.simplex_record.specs.Entries.{entries_of};
     ghost use Rattle.simplex_record.specs.Votes.{votes_of};
     ghost use Rattle.laws_safety.specs.Lawful.{IsLawful};
-    ghost use Rattle.laws_safety.specs.MemberHistory.{OfAllDone, MayBeDoneBy};
+    ghost use Rattle.laws_safety.specs.MemberHistory.{OfEachHistory, MayBeHistoryOf};
     ghost use Rattle.laws_safety.specs.RecordsOnce.{HoldsEachEntryOnce};
     ghost use Rattle.simplex_member.specs.Journal.{stored_of};
     ghost use Rattle.simplex_member.specs.OutstandingWork.{is_offered};
     ghost use Rattle.simplex_member.specs.Pruning.{pruned_member};
     ghost use Rattle.engine_outbox.specs.Outputs.{AreBehind};
     ghost use Rattle.engine_outbox.specs.Outboxes.{HasRoom, IsRepeated, QueuesNoWork};
-    ghost use Rattle.engine_outbox.specs.Finalizations.{finals_in, WereAccepted, RiseByView, EndsAt, TellsNoMore};
+    ghost use Rattle.engine_outbox.specs.Finalizations.{finals_in, WereAccepted, RiseByView, EndsAt, ReportsNoMore};
     ghost use Rattle.engine_outbox.specs.Journals.{journal_of, IsRecordOf, BeginsWith};
-    ghost use Rattle.engine_outbox.specs.Continuity.{IsKept, IsTraced, BeginsTraced, EmitsTraced, IsWhole, StoresRecord, GoesOn, TellsNothing, IsUnchanged, IsUnpruned, has_failed};
-    ghost use Rattle.engine_outbox.specs.EmittedVotes.{AllLeave};
+    ghost use Rattle.engine_outbox.specs.Continuity.{IsJournaled, IsTraced, BeginsTraced, EmitsTraced, IsWhole, StoresRecord, Continues, ReportsNothing, IsUnchanged, IsUnpruned, has_failed};
+    ghost use Rattle.engine_outbox.specs.EmittedVotes.{AllAreReturned};
     ghost use Rattle.engine_outbox.specs.HostStops.{EachStopIsLawful};
     ghost use Rattle.engine_outbox.specs.Signatures.{AreSigned, IsSignedBy, StaysSigned, BeginsSigned, EmitsSigned};
     ghost use Rattle.engine_outbox.specs.Refusals.{is_refused, says_nothing, IsLeftByCall};
@@ -82,11 +82,11 @@ impl<S: Scheme<D>, L: Elector<S>, D: Digest> Journaled<S, L, D> {
         alloc: Global,
         member: LawfulMember<S, L, D>,
     ) -> Result<Journaled<S, L, D>, AllocError>
-        ensures kept { IfOk result (IsKept S.certificate_bytes []) }
+        ensures kept { IfOk result (IsJournaled S.certificate_bytes []) }
         ensures traced { IfOk result (BeginsTraced D.eq L.elect S.certificate_bytes member) }
         ensures signed { IfOk result (BeginsSigned S.IsSignature member) }
         ensures whole { IfOk result (λ j. IsWhole S.certificate_bytes j) }
-        ensures told { IfOk result TellsNothing }
+        ensures told { IfOk result ReportsNothing }
         ensures member { IfOk result (λ j. j.member ≡ member) }
         ensures begins { IfOk result (λ j. BeginsWith S.certificate_bytes member j.outbox.queue.items) }
     {
@@ -103,19 +103,19 @@ impl<S: Scheme<D>, L: Elector<S>, D: Digest> Journaled<S, L, D> {
         })
     }
 
-    /// Makes a call of the member; certificates are handed in by `hand_in`. What it records is queued by `store`.
+    /// Makes a call of the member; certificates are handed in by `submit`. What it records is queued by `store`.
     ///
-    /// - `goes_on`: the member accepts no certificate but the one that the call hands in, where that is no finalization.
+    /// - `continues`: the member accepts no certificate but the one that the call hands in, where that is no finalization.
     /// - `quiet`: a call that hands none in accepts none.
     /// - `answered`: as of `LawfulMember::call`.
     /// - `refused`: a call that is refused, and not for want of memory, changes nothing.
     /// - `dropped`: what a call leaves that was of no use.
     /// - `signed`: the votes that are stored stay signed under the member's key.
     pub fn call(&mut self, call: Call<S, D>) -> Reply<S, D>
-        ensures goes_on { (taken : _) → All (IsDoneOn taken) (certificates_in call) → finals_by (certificates_in call) ≡ []
-            → GoesOn D.eq L.elect S.certificate_bytes S.IsSignature taken self.old self.new }
+        ensures continues { (taken : _) → All (IsActionOn taken) (certificates_in call) → finals_by (certificates_in call) ≡ []
+            → Continues D.eq L.elect S.certificate_bytes S.IsSignature taken self.old self.new }
         ensures signed { StaysSigned S.IsSignature self.old self.new }
-        ensures quiet { certificates_in call ≡ [] → GoesOn D.eq L.elect S.certificate_bytes S.IsSignature None self.old self.new }
+        ensures quiet { certificates_in call ≡ [] → Continues D.eq L.elect S.certificate_bytes S.IsSignature None self.old self.new }
         ensures answered { IsCall D.eq L.elect self.old.member.facts (asked S.certificate_bytes call)
             (told S.certificate_bytes result) self.new.member.facts }
         ensures refused { IsTrue (is_refused (told S.certificate_bytes result)) → self.new.member.facts ≡ self.old.member.facts }
@@ -129,21 +129,21 @@ impl<S: Scheme<D>, L: Elector<S>, D: Digest> Journaled<S, L, D> {
 
     /// Hands a certificate in. Without memory nothing has changed.
     ///
-    /// - `goes_on`: the member accepts no certificate but this one; a finalization that it accepts is told as final, where its view is
+    /// - `continues`: the member accepts no certificate but this one; a finalization that it accepts is told as final, where its view is
     ///   above all that were told.
     /// - `answered`, `refused`: as of `call`.
     /// - `no_work`: no work is queued.
     /// - `signed`: the votes that are stored stay signed under the member's key.
-    pub fn hand_in(
+    pub fn submit(
         &mut self,
         certificate: Certificate<S, D>,
         now: u64,
     ) -> Result<Reply<S, D>, AllocError>
-        ensures goes_on { GoesOn D.eq L.elect S.certificate_bytes S.IsSignature
+        ensures continues { Continues D.eq L.elect S.certificate_bytes S.IsSignature
             (Some (certificate_subject (certificate_facts S.certificate_bytes certificate))) self.old self.new }
         ensures signed { StaysSigned S.IsSignature self.old self.new }
         ensures answered { IfOk result (λ reply. IsCall D.eq L.elect self.old.member.facts
-            (hands_in (certificate_facts S.certificate_bytes certificate) now) (told S.certificate_bytes reply) self.new.member.facts) }
+            (certificate_call (certificate_facts S.certificate_bytes certificate) now) (told S.certificate_bytes reply) self.new.member.facts) }
         ensures refused { IfOk result (λ reply. IsTrue (is_refused (told S.certificate_bytes reply))
             → self.new.member.facts ≡ self.old.member.facts) }
         ensures unchanged { OnErr result (IsUnchanged self.old self.new) }
@@ -158,17 +158,17 @@ impl<S: Scheme<D>, L: Elector<S>, D: Digest> Journaled<S, L, D> {
     /// Hands a certificate in, and tells the proposal as final that it finalizes, where it is accepted.
     fn take(&mut self, certificate: Certificate<S, D>, now: u64) -> Reply<S, D>
         requires { HasRoom self.old.outbox }
-        ensures goes_on { GoesOn D.eq L.elect S.certificate_bytes S.IsSignature
+        ensures continues { Continues D.eq L.elect S.certificate_bytes S.IsSignature
             (Some (certificate_subject (certificate_facts S.certificate_bytes certificate))) self.old self.new }
         ensures signed { StaysSigned S.IsSignature self.old self.new }
         ensures answered { IsCall D.eq L.elect self.old.member.facts
-            (hands_in (certificate_facts S.certificate_bytes certificate) now) (told S.certificate_bytes result) self.new.member.facts }
+            (certificate_call (certificate_facts S.certificate_bytes certificate) now) (told S.certificate_bytes result) self.new.member.facts }
         ensures refused { IsTrue (is_refused (told S.certificate_bytes result)) → self.new.member.facts ≡ self.old.member.facts }
         ensures no_work { QueuesNoWork self.old.outbox self.new.outbox }
     {
         let _record = self.member.record();
         let finalized = finalized_by(&certificate);
-        let reply = self.member.call(handing_in(certificate, now));
+        let reply = self.member.call(call_with_certificate(certificate, now));
         self.outbox.tell(final_by(finalized, &reply));
         reply
     }
@@ -176,10 +176,10 @@ impl<S: Scheme<D>, L: Elector<S>, D: Digest> Journaled<S, L, D> {
     /// Queues what the record has grown by, and behind it each vote in it. Without memory nothing has changed.
     ///
     /// - `whole`, `holds`: all of the record is queued, or was; so a journal that carries it out holds the record.
-    /// - `no_work`: as of `hand_in`.
+    /// - `no_work`: as of `submit`.
     /// - `signed`: the votes that are stored stay signed under the member's key.
     pub fn store(&mut self) -> Result<(), AllocError>
-        ensures goes_on { GoesOn D.eq L.elect S.certificate_bytes S.IsSignature None self.old self.new }
+        ensures continues { Continues D.eq L.elect S.certificate_bytes S.IsSignature None self.old self.new }
         ensures signed { StaysSigned S.IsSignature self.old self.new }
         ensures whole { OnOk result (IsWhole S.certificate_bytes self.new) }
         ensures holds { OnOk result (StoresRecord S.certificate_bytes self.new) }
@@ -205,10 +205,10 @@ impl<S: Scheme<D>, L: Elector<S>, D: Digest> Journaled<S, L, D> {
     /// - `waiting`: what the member waits for is the same.
     /// - `pruned`: the record is pruned, as by `Member::prune_record`, and nothing else has changed of the member.
     /// - `unpruned`: without memory nothing has changed, or it is so pruned and has failed: what is stored is no longer the record.
-    /// - `no_work`: as of `hand_in`.
+    /// - `no_work`: as of `submit`.
     /// - `signed`: the votes that are stored stay signed under the member's key.
     pub fn prune_record(&mut self) -> Result<(), AllocError>
-        ensures goes_on { GoesOn D.eq L.elect S.certificate_bytes S.IsSignature None self.old self.new }
+        ensures continues { Continues D.eq L.elect S.certificate_bytes S.IsSignature None self.old self.new }
         ensures signed { StaysSigned S.IsSignature self.old self.new }
         ensures waiting { self.new.member.facts.outstanding_work ≡ self.old.member.facts.outstanding_work }
         ensures whole { OnOk result (IsWhole S.certificate_bytes self.new) }
@@ -223,7 +223,7 @@ impl<S: Scheme<D>, L: Elector<S>, D: Digest> Journaled<S, L, D> {
     /// Prunes the record, of which all is queued to be stored or was, and queues what is left in place of all that is stored.
     fn replace(&mut self) -> Result<(), AllocError>
         requires { StoresRecord S.certificate_bytes self.old }
-        ensures goes_on { GoesOn D.eq L.elect S.certificate_bytes S.IsSignature None self.old self.new }
+        ensures continues { Continues D.eq L.elect S.certificate_bytes S.IsSignature None self.old self.new }
         ensures signed { StaysSigned S.IsSignature self.old self.new }
         ensures whole { OnOk result (IsWhole S.certificate_bytes self.new) }
         ensures pruned { self.new.member.facts ≡ pruned_member self.old.member.facts }
@@ -249,7 +249,7 @@ impl<S: Scheme<D>, L: Elector<S>, D: Digest> Journaled<S, L, D> {
     ///
     /// - `signed`: the votes that are stored stay signed under the member's key.
     pub fn push(&mut self, work: Work<S, D>) -> Result<(), AllocError>
-        ensures goes_on { GoesOn D.eq L.elect S.certificate_bytes S.IsSignature None self.old self.new }
+        ensures continues { Continues D.eq L.elect S.certificate_bytes S.IsSignature None self.old self.new }
         ensures signed { StaysSigned S.IsSignature self.old self.new }
         ensures member { self.new.member ≡ self.old.member }
         ensures queued { OnOk result (self.new.outbox.queue.items ≡ self.old.outbox.queue.items ++ output.Work work ∷ []) }
@@ -262,7 +262,7 @@ impl<S: Scheme<D>, L: Elector<S>, D: Digest> Journaled<S, L, D> {
     ///
     /// - `signed`: the votes that are stored stay signed under the member's key.
     pub fn repeat(&mut self, view: View) -> Result<bool, AllocError>
-        ensures goes_on { GoesOn D.eq L.elect S.certificate_bytes S.IsSignature None self.old self.new }
+        ensures continues { Continues D.eq L.elect S.certificate_bytes S.IsSignature None self.old self.new }
         ensures signed { StaysSigned S.IsSignature self.old self.new }
         ensures member { self.new.member ≡ self.old.member }
         ensures repeated { IfOk result (λ sent. IsRepeated view self.old.outbox.repeat sent self.old.outbox self.new.outbox) }
@@ -278,11 +278,11 @@ impl<S: Scheme<D>, L: Elector<S>, D: Digest> Journaled<S, L, D> {
     /// - `front`: it was queued in front.
     /// - `traced`, `signed`: it stays traced, and the votes that are stored stay signed under the member's key.
     pub fn next(&mut self) -> Option<Output<S, D, Stored>>
-        ensures kept { (given : _) → IsKept S.certificate_bytes given self.old
-            → IsKept S.certificate_bytes (given ++ option_to_list result) self.new }
+        ensures kept { (given : _) → IsJournaled S.certificate_bytes given self.old
+            → IsJournaled S.certificate_bytes (given ++ option_to_list result) self.new }
         ensures traced { EmitsTraced D.eq L.elect S.certificate_bytes (option_to_list result) self.old self.new }
         ensures signed { EmitsSigned S.IsSignature (option_to_list result) self.old self.new }
-        ensures told { TellsNoMore (option_to_list result) self.old.outbox self.new.outbox }
+        ensures told { ReportsNoMore (option_to_list result) self.old.outbox self.new.outbox }
         ensures front { self.old.outbox.queue.items ≡ option_to_list result ++ self.new.outbox.queue.items }
         ensures none { IsNone result → self.new.outbox.queue.items ≡ [] }
         ensures same { (self.new.member ≡ self.old.member) × (self.new.stored ≡ self.old.stored) × (self.new.reach ≡ self.old.reach)
@@ -302,7 +302,7 @@ impl<S: Scheme<D>, L: Elector<S>, D: Digest> Journaled<S, L, D> {
     ///
     /// - `signed`: the votes that are stored stay signed under the member's key.
     pub fn fail(&mut self)
-        ensures goes_on { GoesOn D.eq L.elect S.certificate_bytes S.IsSignature None self.old self.new }
+        ensures continues { Continues D.eq L.elect S.certificate_bytes S.IsSignature None self.old self.new }
         ensures signed { StaysSigned S.IsSignature self.old self.new }
         ensures failed { self.new ≡ record self.old { failed = true } }
     {
@@ -353,7 +353,7 @@ impl<S: Scheme<D>, L: Elector<S>, D: Digest> Journaled<S, L, D> {
     /// - `stored`: until it fails, where all of the record is queued or was, a journal that carries out what was given out and
     ///   what is queued holds the record, and beside it what a journal stores: so a member that is resumed from it goes on from
     ///   the record.
-    /// - `leaving`: until it fails, each vote that is stored was given out or is queued, but those of the record that the life began
+    /// - `emitted`: until it fails, each vote that is stored was given out or is queued, but those of the record that the life began
     ///   with, which the first output stores.
     /// - `stops`: until it fails, a host may stop after each output that was given out or is queued, and amid each `Store`, of which only
     ///   the first entries were written. The journal is then the record of a member that this one was at some moment of this lifetime, and
@@ -366,11 +366,11 @@ impl<S: Scheme<D>, L: Elector<S>, D: Digest> Journaled<S, L, D> {
     /// - `ran`: a network of `agreement` may have it as member `i`.
     /// - `once`: its record holds each entry once, and of each view at most seven.
     pub fn keeps_the_laws(&self)
-        ensures behind { (given : _) → IsKept S.certificate_bytes given self.now → AreBehind [] given }
-        ensures stored { (given : _) → IsKept S.certificate_bytes given self.now → self.now.failed ≡ false → IsWhole S.certificate_bytes self.now
+        ensures behind { (given : _) → IsJournaled S.certificate_bytes given self.now → AreBehind [] given }
+        ensures stored { (given : _) → IsJournaled S.certificate_bytes given self.now → self.now.failed ≡ false → IsWhole S.certificate_bytes self.now
             → IsRecordOf S.certificate_bytes self.now.member (journal_of (given ++ self.now.outbox.queue.items)) }
-        ensures leaving { (given : _) → IsKept S.certificate_bytes given self.now → self.now.failed ≡ false
-            → AllLeave (given ++ self.now.outbox.queue.items) }
+        ensures emitted { (given : _) → IsJournaled S.certificate_bytes given self.now → self.now.failed ≡ false
+            → AllAreReturned (given ++ self.now.outbox.queue.items) }
         ensures stops { (term_length i : _) (earlier given all : _) → IsTraced D.eq L.elect S.certificate_bytes term_length i earlier given all self.now
             → self.now.failed ≡ false
             → EachStopIsLawful D.eq L.elect S.certificate_bytes term_length i earlier all (given ++ self.now.outbox.queue.items) }
@@ -378,12 +378,12 @@ impl<S: Scheme<D>, L: Elector<S>, D: Digest> Journaled<S, L, D> {
             → WereAccepted all (finals_in given) }
         ensures signed { (i key given vote : _) → IsSignedBy S.IsSignature i key given self.now → AreBehind [] given → Contains given (output.Vote vote)
             → (vote.signer ≡ i) × S.IsSignature key vote.subject vote.signature }
-        ensures rising { (given : _) → IsKept S.certificate_bytes given self.now → RiseByView (finals_in given) }
-        ensures last { (given : _) → IsKept S.certificate_bytes given self.now → IfSome self.now.member.facts.life (λ x.
+        ensures rising { (given : _) → IsJournaled S.certificate_bytes given self.now → RiseByView (finals_in given) }
+        ensures last { (given : _) → IsJournaled S.certificate_bytes given self.now → IfSome self.now.member.facts.life (λ x.
             EndsAt x.finalized (finals_in (given ++ self.now.outbox.queue.items))) }
-        ensures lawful { OfAllDone D.eq L.elect self.now.member.facts (λ term_length i all. IsLawful term_length all) }
-        ensures ran { OfAllDone D.eq L.elect self.now.member.facts (MayBeDoneBy S.PublicKey D.eq L.elect) }
-        ensures once { OfAllDone D.eq L.elect self.now.member.facts (λ term_length i all. HoldsEachEntryOnce self.now.member.facts) }
+        ensures lawful { OfEachHistory D.eq L.elect self.now.member.facts (λ term_length i all. IsLawful term_length all) }
+        ensures ran { OfEachHistory D.eq L.elect self.now.member.facts (MayBeHistoryOf S.PublicKey D.eq L.elect) }
+        ensures once { OfEachHistory D.eq L.elect self.now.member.facts (λ term_length i all. HoldsEachEntryOnce self.now.member.facts) }
     {
         self.outbox.keeps_the_law();
         self.member.keeps_the_laws();
@@ -439,11 +439,11 @@ fn final_by<S: CertificateScheme, D: Digest>(
 }
 
 /// The call that hands a certificate in.
-fn handing_in<S: CertificateScheme, D: Digest>(
+fn call_with_certificate<S: CertificateScheme, D: Digest>(
     certificate: Certificate<S, D>,
     now: u64,
 ) -> Call<S, D>
-    ensures asked { asked S.certificate_bytes result ≡ hands_in (certificate_facts S.certificate_bytes certificate) now }
+    ensures asked { asked S.certificate_bytes result ≡ certificate_call (certificate_facts S.certificate_bytes certificate) now }
     ensures hands { certificates_in result ≡ Accepts (certificate_subject (certificate_facts S.certificate_bytes certificate)) ∷ [] }
 {
     match certificate {

@@ -33,7 +33,7 @@ pub struct Outbox<S: CertificateScheme, D, J> {
 impl<S: CertificateScheme, D: Digest, J: Drop> Outbox<S, D, J> {
     ghost use Rattle.engine_outbox.specs.Outputs.{AreBehind};
     ghost use Rattle.engine_outbox.specs.Finalizations.{finals_in, RiseByView};
-    ghost use Rattle.engine_outbox.specs.Outboxes.{IsLawfulOutbox, HasBecome, HasStayed, IsStored, IsReplaced, IsRepeated, HasRoom, IsToldWhere, IsTold, QueuesMore};
+    ghost use Rattle.engine_outbox.specs.Outboxes.{IsLawfulOutbox, HasBecome, HasStayed, IsStored, IsReplaced, IsRepeated, HasRoom, IsPassedIf, IsTold, QueuesMore};
 
     /// Nothing is to be carried out, and no proposal of this view or below is ever told as final.
     ///
@@ -56,7 +56,7 @@ impl<S: CertificateScheme, D: Digest, J: Drop> Outbox<S, D, J> {
         ensures queued { OnOk result (IsStored S.certificate_bytes fresh.now self.old self.new) }
         ensures kept { OnErr result (HasStayed self.old self.new) }
         ensures grown { QueuesMore self.old self.new }
-        ensures goes_on { (given : _) → IsLawfulOutbox given self.old → IsLawfulOutbox given self.new }
+        ensures continues { (given : _) → IsLawfulOutbox given self.old → IsLawfulOutbox given self.new }
     {
         self.queue_entries(fresh)
     }
@@ -67,7 +67,7 @@ impl<S: CertificateScheme, D: Digest, J: Drop> Outbox<S, D, J> {
         ensures queued { OnOk result (IsReplaced S.certificate_bytes all.now beside self.old self.new) }
         ensures kept { OnErr result (HasStayed self.old self.new) }
         ensures grown { QueuesMore self.old self.new }
-        ensures goes_on { (given : _) → IsLawfulOutbox given self.old → IsLawfulOutbox given self.new }
+        ensures continues { (given : _) → IsLawfulOutbox given self.old → IsLawfulOutbox given self.new }
     {
         self.queue_record(all, beside)
     }
@@ -78,7 +78,7 @@ impl<S: CertificateScheme, D: Digest, J: Drop> Outbox<S, D, J> {
         ensures queued { IfOk result (λ sent. IsRepeated view self.old.repeat sent self.old self.new) }
         ensures kept { OnErr result (HasStayed self.old self.new) }
         ensures grown { QueuesMore self.old self.new }
-        ensures goes_on { (given : _) → IsLawfulOutbox given self.old → IsLawfulOutbox given self.new }
+        ensures continues { (given : _) → IsLawfulOutbox given self.old → IsLawfulOutbox given self.new }
     {
         self.queue_repeat(view)
     }
@@ -88,7 +88,7 @@ impl<S: CertificateScheme, D: Digest, J: Drop> Outbox<S, D, J> {
         ensures queued { OnOk result (HasBecome (output.Work work ∷ []) self.old.repeat self.old self.new) }
         ensures kept { OnErr result (HasStayed self.old self.new) }
         ensures grown { QueuesMore self.old self.new }
-        ensures goes_on { (given : _) → IsLawfulOutbox given self.old → IsLawfulOutbox given self.new }
+        ensures continues { (given : _) → IsLawfulOutbox given self.old → IsLawfulOutbox given self.new }
     {
         self.queue_work(work)
     }
@@ -98,7 +98,7 @@ impl<S: CertificateScheme, D: Digest, J: Drop> Outbox<S, D, J> {
         ensures room { OnOk result (HasRoom self.new) }
         ensures kept { HasStayed self.old self.new }
         ensures grown { QueuesMore self.old self.new }
-        ensures goes_on { (given : _) → IsLawfulOutbox given self.old → IsLawfulOutbox given self.new }
+        ensures continues { (given : _) → IsLawfulOutbox given self.old → IsLawfulOutbox given self.new }
     {
         self.queue.reserve(1)
     }
@@ -108,20 +108,20 @@ impl<S: CertificateScheme, D: Digest, J: Drop> Outbox<S, D, J> {
         requires { HasRoom self.old }
         ensures told { IsTold finalized self.old self.new }
         ensures grown { QueuesMore self.old self.new }
-        ensures goes_on { (given : _) → IsLawfulOutbox given self.old → IsLawfulOutbox given self.new }
+        ensures continues { (given : _) → IsLawfulOutbox given self.old → IsLawfulOutbox given self.new }
     {
         self.queue_final(finalized)
     }
 
     /// What is to be carried out next.
     ///
-    /// - `goes_on`: it was given out behind all that was before.
+    /// - `continues`: it was given out behind all that was before.
     pub fn next(&mut self) -> Option<Output<S, D, J>>
         ensures front { self.old.queue.items ≡ option_to_list result ++ self.new.queue.items }
         ensures none { IsNone result → self.new.queue.items ≡ [] }
         ensures repeat { self.new.repeat ≡ self.old.repeat }
         ensures told { self.new.told ≡ self.old.told }
-        ensures goes_on { (given : _) → IsLawfulOutbox given self.old → IsLawfulOutbox (given ++ option_to_list result) self.new }
+        ensures continues { (given : _) → IsLawfulOutbox given self.old → IsLawfulOutbox (given ++ option_to_list result) self.new }
     {
         self.queue.pop_front()
     }
@@ -206,7 +206,7 @@ impl<S: CertificateScheme, D: Digest, J: Drop> Outbox<S, D, J> {
     /// Queues a proposal that is final, where none of its view or above was told.
     fn queue_above(&mut self, proposal: &Proposal<D>)
         requires { HasRoom self.old }
-        ensures { IsToldWhere (nat_lt self.old.told proposal.now.round.view) proposal.now self.old self.new }
+        ensures { IsPassedIf (nat_lt self.old.told proposal.now.round.view) proposal.now self.old self.new }
     {
         if self.told < proposal.round.view {
             self.told = proposal.round.view;

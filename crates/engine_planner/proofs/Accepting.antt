@@ -3,18 +3,18 @@ use Rattle.std.proofs.Common.{◌≡◌, ℕ, List, ap, sym, subst}
 use Rattle.simplex_types.specs.MessageViews.{certificate_view}
 use Rattle.simplex_types.specs.declared.types.messages.Certificate.{Certificate}
 use Rattle.engine_planner.specs.declared.plan.Plan.{Plan}
-use Rattle.engine_planner.specs.Consequences.{IsResolverTold, IsTakenIn}
+use Rattle.engine_planner.specs.Consequences.{IsResolverNotified, IsTakenIn}
 use Rattle.engine_planner.specs.PlanStates.{HasPlanned, touching, watching}
 
 module _ {S D K G C : Type 0} where
   -- the resolver is told, and then the view is touched
   pub taken_in : (bytes : D → List ℕ) (bytes_of : C → List ℕ) (now : ℕ) (taken : Certificate S D K G C) (old heard new : Plan S D K G C)
-      → heard ≡ record old { repair = heard.repair } → IsResolverTold bytes bytes_of now taken old heard.repair
+      → heard ≡ record old { repair = heard.repair } → IsResolverNotified bytes bytes_of now taken old heard.repair
       → HasPlanned (touching (certificate_view taken)) (watching heard) new → IsTakenIn bytes bytes_of now taken old new
   taken_in bytes bytes_of now taken old heard new same hears planned =
       let kept = ap (λ (p : Plan S D K G C). p.repair) planned.same in
       record {
-        heard = subst (IsResolverTold bytes bytes_of now taken old) (sym kept) hears;
+        heard = subst (IsResolverNotified bytes bytes_of now taken old) (sym kept) hears;
         planned =
             subst (λ r. HasPlanned (touching (certificate_view taken)) (watching (record old { repair = r })) new) (sym kept)
             (subst (λ p. HasPlanned (touching (certificate_view taken)) (watching p) new) same planned);

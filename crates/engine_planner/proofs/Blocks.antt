@@ -93,7 +93,7 @@ module _ {K D : Type 0} where
 
       not_this : (b.context.round.view == view) ≡ true → this ≡ true → ⊥
       not_this at is =
-          let there = eqb-true b.context.round.view other (and_parts (not b.is_told) (b.context.round.view == other) is).1 in
+          let there = eqb-true b.context.round.view other (and_parts (not b.is_reported) (b.context.round.view == other) is).1 in
           false≢true (sym differs ∙ eq-eqb view other (sym (eqb-true b.context.round.view view at) ∙ there))
 
       by_test : (at : Bool) → (b.context.round.view == view) ≡ at → (list_any (waits_for other) rest ≡ true → list_any (waits_for other) (all_but_at view rest) ≡ true)

@@ -26,7 +26,7 @@ use Rattle.engine_planner.specs.PlannedWork.{work_planned, ended_in, IsPlanned, 
 use Rattle.engine_planner.specs.PlanStates.{touching}
 use Rattle.engine_planner.specs.Blocks.{is_asked_at}
 use Rattle.engine_planner.specs.BuildPlans.{stopping}
-use Rattle.engine_planner.specs.Consequences.{Consequence, Nothing, Touched, Built, Stopped, Ended, Asked, after_refusal, after_flag, after_watch, waits, IsConsequence, IsVerifyFollowed, IsRequestFollowed, IsBroadcastFollowed, IsNullifyFollowed, certifying, IsVerdictFollowed, IsVerdictToldAbove, IsTakenInAbove, IsNewFollowed, IsCertificateFollowed, IsUnjudged, IsFollowed, IsUnfollowed}
+use Rattle.engine_planner.specs.Consequences.{Consequence, Nothing, Touched, Built, Stopped, Ended, Asked, after_refusal, after_flag, after_watch, waits, IsConsequence, IsVerifyFollowed, IsRequestFollowed, IsBroadcastFollowed, IsNullifyFollowed, certifying, IsVerdictFollowed, IsVerdictReportedAbove, IsTakenInAbove, IsNewFollowed, IsCertificateFollowed, IsUnjudged, IsFollowed, IsUnfollowed}
 use Rattle.engine_planner.proofs.PlannedWork.{has_ended, has_planned, has_requested, keeps_further, plans_behind, plans_beside, plans_none, plans_nothing, plans_same, plans_too, repaired_beside}
 
 -- an answer that is this one is followed as this one
@@ -86,7 +86,7 @@ module _ {S D K G C : Type 0} (old new : Plan S D K G C) where
   verdict_followed bytes bytes_of now is_success None is = plans_same old new is
   verdict_followed bytes bytes_of now is_success (Some n) is = by_genesis (n.proposal.round.view == 0) is
     where
-      by_genesis : (b : Bool) → IsVerdictToldAbove bytes bytes_of now b is_success n old new → KeepsPlanned old new
+      by_genesis : (b : Bool) → IsVerdictReportedAbove bytes bytes_of now b is_success n old new → KeepsPlanned old new
       by_genesis true is = plans_same old new is
       by_genesis false is =
           plans_behind old new (touching n.proposal.round.view) is.planned.steps

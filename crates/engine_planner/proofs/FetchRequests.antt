@@ -16,9 +16,9 @@ use Rattle.engine_fetches.specs.OutstandingFetches.{after_effect, after_effects,
 use Rattle.engine_fetches.proofs.OutstandingFetches.{open_more}
 use Rattle.engine_planner.specs.declared.plan.Plan.{Plan}
 use Rattle.engine_planner.specs.declared.plan.Step.{Step}
-use Rattle.engine_planner.specs.FetchRequests.{asks, ends_fetch, is_lack, is_resolve}
+use Rattle.engine_planner.specs.FetchRequests.{asks, ends_fetch, is_missing_certificate, is_resolve}
 use Rattle.engine_planner.specs.Consequences.{later}
-use Rattle.engine_planner.specs.Causes.{Lack}
+use Rattle.engine_planner.specs.Causes.{MissingCertificate}
 use Rattle.engine_planner.specs.PlanStates.{HasPlanned}
 use Rattle.engine_planner.proofs.PlannedWork.{any_left}
 
@@ -91,7 +91,7 @@ module _ (kind : FetchKind) (view : ℕ) where
   open_fetched now (it ∷ wanted) xs is = open_fetched now wanted (opened fetch.Notarization it.view 0 now xs) (open_further fetch.Notarization it.view 0 now xs is)
 
   pub open_each : (S D K G C : Type 0) (now : ℕ) (wanted : List CertificateFetch) (xs : List Fetch)
-      → list_any (is_lack {S = S} {D = D} {K = K} {G = G} {C = C} kind view) (map (λ (it : CertificateFetch). Lack fetch.Notarization it.view) wanted) ≡ true
+      → list_any (is_missing_certificate {S = S} {D = D} {K = K} {G = G} {C = C} kind view) (map (λ (it : CertificateFetch). MissingCertificate fetch.Notarization it.view) wanted) ≡ true
       → is_fetch_open kind view (fetching now wanted xs) ≡ true
   open_each S D K G C now [] xs none = absurd (false≢true none)
   open_each S D K G C now (it ∷ wanted) xs is =

@@ -14,7 +14,7 @@ use Rattle.simplex_types.specs.declared.types.messages.Context.{Context}
 use Rattle.engine_fetches.specs.declared.fetches.Fetch.{Fetch}
 use Rattle.engine_fetches.specs.declared.repair.Repair.{Repair}
 use Rattle.engine_fetches.specs.Repairs.{HasFetches, HasPassed}
-use Rattle.simplex_member.specs.Calls.{Told}
+use Rattle.simplex_member.specs.Calls.{ReplyFacts}
 use Rattle.engine_outbox.specs.declared.output.Work.{Work}
 use Rattle.engine_outbox.specs.declared.output.Work.TheVariants as work
 use Rattle.engine_planner.specs.declared.plan.builds.Building.{Building}
@@ -185,15 +185,15 @@ module _ {S D K G C : Type 0} where
   }
 
   -- a block is to be built, at once or, by a member alone, later
-  pub has_requested : (ended : ℕ → Bool) (context : Context D K) (is_told : Bool) (old new : Plan S D K G C) → (is_told ≡ false → old.is_alone ≡ true)
-      → HasBuilds (asking_for context is_told) (in_place (record { context = context; is_told = is_told }) old.builds.buildings.items) old new
+  pub has_requested : (ended : ℕ → Bool) (context : Context D K) (is_reported : Bool) (old new : Plan S D K G C) → (is_reported ≡ false → old.is_alone ≡ true)
+      → HasBuilds (asking_for context is_reported) (in_place (record { context = context; is_reported = is_reported }) old.builds.buildings.items) old new
       → IsPlanned (context.round.view ∷ []) ended (work_planned old.steps.items ++ []) (beside_of old) (work_planned new.steps.items) (beside_of new)
-  has_requested ended context is_told old new alone is = record {
+  has_requested ended context is_reported old new alone is = record {
     early = among_further (among_kept (is_early new.views.current) old.early.proposals.items)
         (among_all (ap (λ (plan : Plan S D K G C). plan.early.proposals.items) (sym is.same)));
-    found = among_further (among_all (append-nil (work_planned old.steps.items))) (planned_behind old.steps.items new.steps.items (asking_for context is_told) is.steps);
+    found = among_further (among_all (append-nil (work_planned old.steps.items))) (planned_behind old.steps.items new.steps.items (asking_for context is_reported) is.steps);
     building = λ other waits un. elim (cases_Bool (context.round.view == other)) [
-      | inl at ↦ by_told is_told refl other at
+      | inl at ↦ by_told is_reported refl other at
       | inr differs ↦ (elim (or_cases (context.round.view == other || false) (awaits (beside_of old) other) waits) [
         | inl at ↦ absurd (no_other other differs at)
         | inr before ↦ by_waiting other differs (and_parts old.is_alone (list_any (waits_for other) old.builds.buildings.items) before)
@@ -215,7 +215,7 @@ module _ {S D K G C : Type 0} where
   }
     where
       block : Building D K
-      block = record { context = context; is_told = is_told }
+      block = record { context = context; is_reported = is_reported }
 
       no_other : (other : ℕ) → (context.round.view == other) ≡ false → (context.round.view == other || false) ≡ true → ⊥
       no_other other differs at = (let e : false ≡ true = sym (ap (λ b. b || false) differs) ∙ at in cc)
@@ -223,11 +223,11 @@ module _ {S D K G C : Type 0} where
       alone_still : new.is_alone ≡ old.is_alone
       alone_still = ap (λ (plan : Plan S D K G C). plan.is_alone) is.same
 
-      planned : (told : Bool) → is_told ≡ told → work_planned new.steps.items ≡ work_planned old.steps.items ++ work_planned (asking_for {S = S} {D = D} {K = K} {G = G} {C = C} context told)
+      planned : (told : Bool) → is_reported ≡ told → work_planned new.steps.items ≡ work_planned old.steps.items ++ work_planned (asking_for {S = S} {D = D} {K = K} {G = G} {C = C} context told)
       planned told now = planned_now old.steps.items new.steps.items (asking_for context told) (is.steps ∙ ap (λ t. old.steps.items ++ asking_for context t) now)
 
       -- the block that is requested
-      by_told : (told : Bool) → is_told ≡ told → (other : ℕ) → (context.round.view == other) ≡ true → has_block (work_planned new.steps.items) (beside_of new) other ≡ true
+      by_told : (told : Bool) → is_reported ≡ told → (other : ℕ) → (context.round.view == other) ≡ true → has_block (work_planned new.steps.items) (beside_of new) other ≡ true
       by_told true now other at =
           or_left (list_any (is_build_of other) (work_planned new.steps.items)) (awaits (beside_of new) other)
           (ap (list_any (is_build_of other)) (planned true now)
@@ -237,7 +237,7 @@ module _ {S D K G C : Type 0} where
           (and_from new.is_alone _ (alone_still ∙ alone now)
           (ap (list_any (waits_for other)) is.blocks
           ∙ any_right (waits_for other) (all_but_at context.round.view old.builds.buildings.items) (block ∷ [])
-          (or_left (waits_for other block) false (and_from (not is_told) (context.round.view == other) (ap not now) at))))
+          (or_left (waits_for other block) false (and_from (not is_reported) (context.round.view == other) (ap not now) at))))
 
       -- one of another view
       by_waiting : (other : ℕ) → (context.round.view == other) ≡ false → (old.is_alone ≡ true) × (list_any (waits_for other) old.builds.buildings.items ≡ true)
@@ -325,7 +325,7 @@ module _ {S D K G C : Type 0} where
   plans_begun old new is = plans_beside old (record old { is_timeout_due = true; is_prune_due = true }) new is refl refl
 
   -- what is planned behind a change of something else
-  pub plans_then : (a b c : Plan S D K G C) (asked : Task D) (told : Told K D) → KeepsPlanned a b → PlansAnswer asked told b c → PlansAnswer asked told a c
+  pub plans_then : (a b c : Plan S D K G C) (asked : Task D) (told : ReplyFacts K D) → KeepsPlanned a b → PlansAnswer asked told b c → PlansAnswer asked told a c
   plans_then a b c asked told first second = record {
     early = early_further (beside_of a) (beside_of b) (beside_of c) first.early second.early second.reached;
     found = among_further (among_both first.found (among_still (work_of told))) second.found;
@@ -341,7 +341,7 @@ module _ {S D K G C : Type 0} where
   }
 
   -- where other views were come to before the first
-  pub plans_seen : (a b c : Plan S D K G C) (asked : Task D) (told : Told K D) → KeepsPlannedThen a b → PlansAnswer asked told b c → PlansAnswerThen asked told a c
+  pub plans_seen : (a b c : Plan S D K G C) (asked : Task D) (told : ReplyFacts K D) → KeepsPlannedThen a b → PlansAnswer asked told b c → PlansAnswerThen asked told a c
   plans_seen a b c asked told first second =
       subst (λ views. PlansAnswer asked told (record a { views = views }) c) (sym second.reached) (plans_then (record a { views = b.views }) b c asked told first second)
 

@@ -31,10 +31,10 @@ use Rattle.engine_fetches.specs.declared.fetches.FetchKind.TheVariants as fetch
 use Rattle.engine_fetches.specs.declared.repair.Repair.{Repair}
 use Rattle.engine_fetches.specs.Fetches.{fetch_kind, is_of, is_fetch_open, opened, same_kind}
 use Rattle.engine_fetches.specs.Repairs.{HasFetches, HasPassed, IsRepaired}
-use Rattle.engine_fetches.specs.OutstandingFetches.{after_effects, holds, is_lacking}
+use Rattle.engine_fetches.specs.OutstandingFetches.{after_effects, holds, is_missing}
 use Rattle.engine_fetches.proofs.Opening.{open_asked}
 use Rattle.engine_outbox.specs.declared.output.Work.TheVariants as work
-use Rattle.engine_outbox.specs.CertificateCalls.{hands_in}
+use Rattle.engine_outbox.specs.CertificateCalls.{certificate_call}
 use Rattle.engine_planner.specs.declared.plan.builds.Building.{Building}
 use Rattle.engine_planner.specs.declared.plan.Plan.{Plan}
 use Rattle.engine_planner.specs.declared.plan.Step.{Step}
@@ -42,12 +42,12 @@ use Rattle.engine_planner.specs.declared.plan.Step.TheVariants as step
 use Rattle.engine_planner.specs.declared.plan.Views.{Views}
 use Rattle.engine_planner.specs.declared.task.Task.{Task}
 use Rattle.engine_planner.specs.declared.task.Task.TheVariants as task
-use Rattle.engine_planner.specs.FetchRequests.{asks, ended_by, ends_fetch, heard_by, heard_of, is_lack, is_notarized, is_plain, is_resolve, never, AreMade, KeepsAsking}
+use Rattle.engine_planner.specs.FetchRequests.{asks, ended_by, ends_fetch, received_by, views_received, is_missing_certificate, is_notarized, is_plain, is_resolve, never, AreMade, KeepsFetching}
 use Rattle.engine_planner.specs.BuildPlans.{HasBuilds}
 use Rattle.engine_planner.specs.ViewChanges.{asking_by, offering, HasEnteredWhere, IsPassedWhere, HasSeen}
 use Rattle.engine_planner.specs.StepSelection.{watching_where, AreWatched, HasTaken, IsFetchAsked, IsPruneAsked, IsReady, IsTimeoutAsked}
-use Rattle.engine_planner.specs.Consequences.{AreCertified, Consequence, Nothing, Touched, Built, Stopped, Ended, Asked, after_flag, after_refusal, after_watch, certifying, without, later, IsBroadcastFollowed, IsCertificateFollowed, IsConsequence, IsFollowed, IsNewFollowed, IsNullifyFollowed, IsRequestFollowed, IsTakenInAbove, IsTimeoutFollowed, IsVerdictFollowed, IsVerdictToldAbove, IsVerifyFollowed}
-use Rattle.engine_planner.specs.Causes.{Matter, Duty, Expiry, Lack, given_by, of_block, shown_by}
+use Rattle.engine_planner.specs.Consequences.{AreCertified, Consequence, Nothing, Touched, Built, Stopped, Ended, Asked, after_flag, after_refusal, after_watch, certifying, without, later, IsBroadcastFollowed, IsCertificateFollowed, IsConsequence, IsFollowed, IsNewFollowed, IsNullifyFollowed, IsRequestFollowed, IsTakenInAbove, IsTimeoutFollowed, IsVerdictFollowed, IsVerdictReportedAbove, IsVerifyFollowed}
+use Rattle.engine_planner.specs.Causes.{Cause, WorkItem, Expiry, MissingCertificate, reply_causes, of_block, shown_by}
 use Rattle.engine_planner.specs.PlanStates.{HasPlanned, touching, watching}
 use Rattle.engine_planner.specs.Tasks.{call_of}
 use Rattle.engine_planner.proofs.FetchRequests.{asks_on, asks_same, kind_same, turned_over, behind_steps, open_each, open_fetched, open_further, open_kept, open_now, open_through, planned_still, queued_more}
@@ -81,11 +81,11 @@ as_open k kind v view xs both is_open =
     (subst (λ it. is_fetch_open it v xs ≡ true) (kind_same k kind (and_parts (same_kind k kind) (v == view) both).0) is_open)
 
 no_lack : (S K G C : Type 0) {D : Type 0} (kind : FetchKind) (view : ℕ) (proposals : List (Proposal D))
-    → list_any (is_lack {S = S} {K = K} {G = G} {C = C} kind view) (map (λ p. Duty (work.Certify p)) proposals) ≡ false
+    → list_any (is_missing_certificate {S = S} {K = K} {G = G} {C = C} kind view) (map (λ p. WorkItem (work.Certify p)) proposals) ≡ false
 no_lack S K G C kind view [] = refl
 no_lack S K G C kind view (p ∷ proposals) = no_lack S K G C kind view proposals
 
-shows_none : (S G C : Type 0) {D K : Type 0} (asked : CallFacts D) (leader : K) (kind : FetchKind) (view : ℕ) → list_any (is_lack {S = S} {D = D} {K = K} {G = G} {C = C} kind view) (shown_by asked leader) ≡ false
+shows_none : (S G C : Type 0) {D K : Type 0} (asked : CallFacts D) (leader : K) (kind : FetchKind) (view : ℕ) → list_any (is_missing_certificate {S = S} {D = D} {K = K} {G = G} {C = C} kind view) (shown_by asked leader) ≡ false
 shows_none S G C (call.AddNotarization c) leader kind view = refl
 shows_none S G C (call.AddNullification c at) leader kind view = refl
 shows_none S G C (call.AddFinalization c at) leader kind view = refl
@@ -113,7 +113,7 @@ shows_none S G C (call.NextTimeout at) leader kind view = refl
 shows_none S G C call.Prune leader kind view = refl
 
 -- a task hands in no certificate
-no_task_hands_in : {D : Type 0} (bytes : D → List ℕ) (now : ℕ) (asked : Task D) → heard_of bytes (call_of asked now) ≡ []
+no_task_hands_in : {D : Type 0} (bytes : D → List ℕ) (now : ℕ) (asked : Task D) → views_received bytes (call_of asked now) ≡ []
 no_task_hands_in bytes now (task.SetProposal v p) = refl
 no_task_hands_in bytes now task.Propose = refl
 no_task_hands_in bytes now (task.Proposed v payload) = refl
@@ -140,32 +140,32 @@ no_task_hands_in bytes now task.Prune = refl
 module _ {S D K G C : Type 0} where
   -- nothing of the resolver has changed, and what was asked for is
   pub keeps_asking : {old new : Plan S D K G C} (over : FetchKind → ℕ → Bool) → new.repair.resolver ≡ old.repair.resolver
-      → ((kind : FetchKind) (view : ℕ) → asks old kind view ≡ true → over kind view ≡ false → asks new kind view ≡ true) → KeepsAsking [] over [] old new
+      → ((kind : FetchKind) (view : ℕ) → asks old kind view ≡ true → over kind view ≡ false → asks new kind view ≡ true) → KeepsFetching [] over [] old new
   keeps_asking {old = old} over same still = record {
     told = same;
     still = λ kind view is un. still kind view (or_nothing (asks old kind view) is) (not_or (over kind view) false un).0;
   }
 
   -- beside matters of which none is a certificate that is lacking
-  pub asks_beside : {old new : Plan S D K G C} {over : FetchKind → ℕ → Bool} {calls : List Call} (given : List (Matter S D K G C)) → ((kind : FetchKind) (view : ℕ) → list_any (is_lack kind view) given ≡ false)
-      → KeepsAsking [] over calls old new → KeepsAsking given over calls old new
+  pub asks_beside : {old new : Plan S D K G C} {over : FetchKind → ℕ → Bool} {calls : List Call} (given : List (Cause S D K G C)) → ((kind : FetchKind) (view : ℕ) → list_any (is_missing_certificate kind view) given ≡ false)
+      → KeepsFetching [] over calls old new → KeepsFetching given over calls old new
   asks_beside {old = old} given none keeps = record {
     told = keeps.told;
     still = λ kind view is. keeps.still kind view (ap (λ b. asks old kind view || b) (sym (none kind view)) ∙ is);
   }
 
   -- whatever is over
-  pub asks_over : {old new : Plan S D K G C} {given : List (Matter S D K G C)} {calls : List Call} (over : FetchKind → ℕ → Bool) → KeepsAsking given never calls old new → KeepsAsking given over calls old new
+  pub asks_over : {old new : Plan S D K G C} {given : List (Cause S D K G C)} {calls : List Call} (over : FetchKind → ℕ → Bool) → KeepsFetching given never calls old new → KeepsFetching given over calls old new
   asks_over over keeps = record { told = keeps.told; still = λ kind view is un. keeps.still kind view is (not_or (over kind view) _ un).1 }
 
-  pub asks_where_same : {old new : Plan S D K G C} (over : FetchKind → ℕ → Bool) → new ≡ old → KeepsAsking [] over [] old new
+  pub asks_where_same : {old new : Plan S D K G C} (over : FetchKind → ℕ → Bool) → new ≡ old → KeepsFetching [] over [] old new
   asks_where_same over is = keeps_asking over (ap (λ (p : Plan S D K G C). p.repair.resolver) is) (λ kind view asked un. asks_same kind view is asked)
 
-  pub asks_behind : {more : List (Step S D K G C)} {old new : Plan S D K G C} (over : FetchKind → ℕ → Bool) → HasPlanned more old new → KeepsAsking [] over [] old new
+  pub asks_behind : {more : List (Step S D K G C)} {old new : Plan S D K G C} (over : FetchKind → ℕ → Bool) → HasPlanned more old new → KeepsFetching [] over [] old new
   asks_behind over is = keeps_asking over (ap (λ (p : Plan S D K G C). p.repair.resolver) is.same) (λ kind view asked un. planned_still kind view is asked)
 
-  pub asks_further : {a b c : Plan S D K G C} {given : List (Matter S D K G C)} {over : FetchKind → ℕ → Bool} {calls more : List Call} → KeepsAsking given over calls a b → KeepsAsking [] over more b c
-      → KeepsAsking given over (calls ++ more) a c
+  pub asks_further : {a b c : Plan S D K G C} {given : List (Cause S D K G C)} {over : FetchKind → ℕ → Bool} {calls more : List Call} → KeepsFetching given over calls a b → KeepsFetching [] over more b c
+      → KeepsFetching given over (calls ++ more) a c
   asks_further {a = a} {b = b} {c = c} {over = over} {calls = calls} {more = more} first second = record {
     told = made_on a.repair.resolver b.repair.resolver c.repair.resolver calls more first.told second.told;
     still = λ kind view is un.
@@ -176,17 +176,17 @@ module _ {S D K G C : Type 0} where
   }
 
   -- before it nothing was lost
-  pub asks_then : {a b c : Plan S D K G C} {given : List (Matter S D K G C)} {over : FetchKind → ℕ → Bool} {calls more : List Call} → KeepsAsking [] over calls a b → KeepsAsking given over more b c
-      → KeepsAsking given over (calls ++ more) a c
+  pub asks_then : {a b c : Plan S D K G C} {given : List (Cause S D K G C)} {over : FetchKind → ℕ → Bool} {calls more : List Call} → KeepsFetching [] over calls a b → KeepsFetching given over more b c
+      → KeepsFetching given over (calls ++ more) a c
   asks_then {a = a} {b = b} {c = c} {given = given} {over = over} {calls = calls} {more = more} first second = record {
     told = made_on a.repair.resolver b.repair.resolver c.repair.resolver calls more first.told second.told;
     still = λ kind view is un.
         let parts = not_or (over kind view) _ un in
         let ended = ended_on a.repair.resolver b.repair.resolver calls more first.told kind view parts.1 in
-        second.still kind view (elim (or_cases (asks a kind view) (list_any (is_lack kind view) given) is) [
-          | inl before ↦ or_left (asks b kind view) (list_any (is_lack kind view) given)
+        second.still kind view (elim (or_cases (asks a kind view) (list_any (is_missing_certificate kind view) given) is) [
+          | inl before ↦ or_left (asks b kind view) (list_any (is_missing_certificate kind view) given)
               (first.still kind view (or_left (asks a kind view) false before) (ap (λ t. t || ended_by a.repair.resolver.state calls kind view) parts.0 ∙ ended.0))
-          | inr now ↦ or_right (asks b kind view) (list_any (is_lack kind view) given) now
+          | inr now ↦ or_right (asks b kind view) (list_any (is_missing_certificate kind view) given) now
         ])
         (ap (λ t. t || ended_by b.repair.resolver.state more kind view) parts.0 ∙ ended.1);
   }
@@ -206,7 +206,7 @@ module _ {S D K G C : Type 0} where
   entered_resolver true current old new is = ap (λ (p : Plan S D K G C). p.repair.resolver) is.same
   entered_resolver false current old new is = ap (λ (p : Plan S D K G C). p.repair.resolver) is
 
-  pub seen_asks : (views : Views) (old new : Plan S D K G C) → HasSeen views old new → KeepsAsking [] (λ kind view. nat_le view views.last_finalized) [] old new
+  pub seen_asks : (views : Views) (old new : Plan S D K G C) → HasSeen views old new → KeepsFetching [] (λ kind view. nat_le view views.last_finalized) [] old new
   seen_asks views old new is =
       keeps_asking (λ kind view. nat_le view views.last_finalized)
       (entered_resolver (not (old.views.current == views.current)) views.current between new is.entered ∙ resolver_is (nat_lt old.views.last_finalized views.last_finalized) is.passed)
@@ -292,20 +292,20 @@ module _ {S D K G C : Type 0} where
 
   -- ---- answers
 
-  blocks_planned : {more : List (Step S D K G C)} {builds : List (Building D K)} {old new : Plan S D K G C} → HasBuilds more builds old new → KeepsAsking [] never [] old new
+  blocks_planned : {more : List (Step S D K G C)} {builds : List (Building D K)} {old new : Plan S D K G C} → HasBuilds more builds old new → KeepsFetching [] never [] old new
   blocks_planned {more = more} {old = old} {new = new} is =
       keeps_asking never (ap (λ (p : Plan S D K G C). p.repair.resolver) is.same) (λ kind view asked un. queued_more kind view more old new is.steps (ap (λ (p : Plan S D K G C). p.repair) is.same) asked)
 
   -- whatever of the plan is no matter of what it asks for
-  pub as_watched : {given : List (Matter S D K G C)} {over : FetchKind → ℕ → Bool} {calls : List Call} {old new : Plan S D K G C} → KeepsAsking given over calls (watching old) new
-      → KeepsAsking given over calls old new
+  pub as_watched : {given : List (Cause S D K G C)} {over : FetchKind → ℕ → Bool} {calls : List Call} {old new : Plan S D K G C} → KeepsFetching given over calls (watching old) new
+      → KeepsFetching given over calls old new
   as_watched keeps = record { told = keeps.told; still = keeps.still }
 
-  as_timed : {given : List (Matter S D K G C)} {over : FetchKind → ℕ → Bool} {calls : List Call} {old new : Plan S D K G C} {moment : ℕ} → KeepsAsking given over calls (record old { timeout = moment }) new
-      → KeepsAsking given over calls old new
+  as_timed : {given : List (Cause S D K G C)} {over : FetchKind → ℕ → Bool} {calls : List Call} {old new : Plan S D K G C} {moment : ℕ} → KeepsFetching given over calls (record old { timeout = moment }) new
+      → KeepsFetching given over calls old new
   as_timed keeps = record { told = keeps.told; still = keeps.still }
 
-  consequence_asks : (what : Consequence D) (old new : Plan S D K G C) → IsConsequence what old new → KeepsAsking [] never [] old new
+  consequence_asks : (what : Consequence D) (old new : Plan S D K G C) → IsConsequence what old new → KeepsFetching [] never [] old new
   consequence_asks Nothing old new is = asks_where_same never is
   consequence_asks (Touched view) old new is = as_watched (asks_behind never is)
   consequence_asks (Built view) old new is = as_watched (blocks_planned is)
@@ -314,15 +314,15 @@ module _ {S D K G C : Type 0} where
       keeps_asking never (ap (λ (p : Plan S D K G C). p.repair.resolver) is.same) (λ kind v asked un. ap (λ (p : Plan S D K G C). asks p kind v) is.same ∙ asked)
   consequence_asks (Asked call) old new is = asks_behind never is
 
-  verify_asks : (now : ℕ) (answer : Verify D K) (asked : CallFacts D) (old new : Plan S D K G C) → IsVerifyFollowed answer old new → KeepsAsking (given_by now (reply.Work answer) asked) never [] old new
-  verify_asks now (verify.Ready context proposal) asked old new is = asks_beside (Duty (work.Verify context proposal) ∷ []) (λ kind view. refl) (asks_behind never is)
+  verify_asks : (now : ℕ) (answer : Verify D K) (asked : CallFacts D) (old new : Plan S D K G C) → IsVerifyFollowed answer old new → KeepsFetching (reply_causes now (reply.Work answer) asked) never [] old new
+  verify_asks now (verify.Ready context proposal) asked old new is = asks_beside (WorkItem (work.Verify context proposal) ∷ []) (λ kind view. refl) (asks_behind never is)
   verify_asks now verify.Wait asked old new is = asks_where_same never is
   verify_asks now (verify.Resolve proposal at lacks target) asked old new is = by_test (is_fetch_open (fetch_kind lacks) at old.repair.fetches.wanted.items) refl is
     where
       more : List (Step S D K G C)
       more = step.Resolve (fetch_kind lacks) at proposal ∷ []
 
-      by_test : (b : Bool) → is_fetch_open (fetch_kind lacks) at old.repair.fetches.wanted.items ≡ b → HasPlanned (cond b [] more) old new → KeepsAsking (Lack (fetch_kind lacks) at ∷ []) never [] old new
+      by_test : (b : Bool) → is_fetch_open (fetch_kind lacks) at old.repair.fetches.wanted.items ≡ b → HasPlanned (cond b [] more) old new → KeepsFetching (MissingCertificate (fetch_kind lacks) at ∷ []) never [] old new
       by_test true is_open planned = record {
         told = ap (λ (p : Plan S D K G C). p.repair.resolver) planned.same;
         still = λ kind view is un. planned_still kind view planned (elim (or_cases (asks old kind view) ((same_kind (fetch_kind lacks) kind && at == view) || false) is) [
@@ -341,38 +341,38 @@ module _ {S D K G C : Type 0} where
       }
 
   request_asks : (now : ℕ) (request : Option (ProposalRequest D K)) (asked : CallFacts D) (old new : Plan S D K G C) → IsRequestFollowed request old new
-      → KeepsAsking (given_by now (reply.Request request) asked) never [] old new
+      → KeepsFetching (reply_causes now (reply.Request request) asked) never [] old new
   request_asks now None asked old new is = asks_where_same never is
   request_asks now (Some (Prepare context)) asked old new is = asks_beside (of_block context) (λ kind view. refl) (blocks_planned is)
   request_asks now (Some (Propose context)) asked old new is = asks_beside (of_block context) (λ kind view. refl) (blocks_planned is)
 
   broadcast_asks : (now : ℕ) (answer : Option (Certificate S D K G C)) (asked : CallFacts D) (old new : Plan S D K G C) → IsBroadcastFollowed answer old new
-      → KeepsAsking (given_by now (reply.Certificate answer) asked) never [] old new
+      → KeepsFetching (reply_causes now (reply.Certificate answer) asked) never [] old new
   broadcast_asks now None asked old new is = asks_where_same never is
-  broadcast_asks now (Some certificate) asked old new is = asks_beside (Duty (work.Broadcast certificate) ∷ []) (λ kind view. refl) (asks_behind never is)
+  broadcast_asks now (Some certificate) asked old new is = asks_beside (WorkItem (work.Broadcast certificate) ∷ []) (λ kind view. refl) (asks_behind never is)
 
   candidates_asks : (now : ℕ) (proposals : List (Proposal D)) (wanted : List CertificateFetch) (old new : Plan S D K G C) → AreCertified now proposals wanted old new
-      → KeepsAsking (map (λ p. Duty (work.Certify p)) proposals ++ map (λ (it : CertificateFetch). Lack fetch.Notarization it.view) wanted) never [] old new
+      → KeepsFetching (map (λ p. WorkItem (work.Certify p)) proposals ++ map (λ (it : CertificateFetch). MissingCertificate fetch.Notarization it.view) wanted) never [] old new
   candidates_asks now proposals wanted old new is = record {
     told = is.fetched.resolver;
-    still = λ kind view asked un. elim (or_cases (asks old kind view) (list_any (is_lack kind view) (offers ++ lacks)) asked) [
+    still = λ kind view asked un. elim (or_cases (asks old kind view) (list_any (is_missing_certificate kind view) (offers ++ lacks)) asked) [
       | inl before ↦ asks_on kind view old new
           (λ it. ap (is_fetch_open kind view) is.fetched.fetches_now ∙ open_fetched kind view now wanted old.repair.fetches.wanted.items it) (behind_steps kind view (certifying proposals) old new is.steps) before
       | inr given ↦ or_left (is_fetch_open kind view new.repair.fetches.wanted.items) (list_any (is_resolve kind view) new.steps.items)
           (ap (is_fetch_open kind view) is.fetched.fetches_now ∙ open_each kind view S D K G C now wanted old.repair.fetches.wanted.items
-          (ap (λ b. b || list_any (is_lack kind view) lacks) (sym (no_lack S K G C kind view proposals)) ∙ sym (list_any-append (is_lack kind view) offers lacks) ∙ given))
+          (ap (λ b. b || list_any (is_missing_certificate kind view) lacks) (sym (no_lack S K G C kind view proposals)) ∙ sym (list_any-append (is_missing_certificate kind view) offers lacks) ∙ given))
     ];
   }
     where
-      offers : List (Matter S D K G C)
-      offers = map (λ p. Duty (work.Certify p)) proposals
+      offers : List (Cause S D K G C)
+      offers = map (λ p. WorkItem (work.Certify p)) proposals
 
-      lacks : List (Matter S D K G C)
-      lacks = map (λ (it : CertificateFetch). Lack fetch.Notarization it.view) wanted
+      lacks : List (Cause S D K G C)
+      lacks = map (λ (it : CertificateFetch). MissingCertificate fetch.Notarization it.view) wanted
 
   -- the resolver was told, and then steps are planned
   told_asks : {moment : ℕ} {it : Call} {more : List (Step S D K G C)} {old new : Plan S D K G C} → IsRepaired moment it old.repair new.repair
-      → HasPlanned more (watching (record old { repair = new.repair })) new → KeepsAsking [] never (it ∷ []) old new
+      → HasPlanned more (watching (record old { repair = new.repair })) new → KeepsFetching [] never (it ∷ []) old new
   told_asks {moment = moment} {it = it} {more = more} {old = old} {new = new} is planned = record {
     told = (new.repair.resolver, is.made, refl);
     still = λ kind view asked un. planned_still kind view {old = watching (record old { repair = new.repair })} planned
@@ -382,39 +382,39 @@ module _ {S D K G C : Type 0} where
   }
 
   module _ (bytes : D → List ℕ) (bytes_of : C → List ℕ) (now : ℕ) where
-    verdict_asks : (b is_success : Bool) (notarization : Notarization S D K G C) (old new : Plan S D K G C) → IsVerdictToldAbove bytes bytes_of now b is_success notarization old new
-        → KeepsAsking [] never (cond b [] (verdict bytes (notarization_facts bytes_of notarization) is_success ∷ [])) old new
+    verdict_asks : (b is_success : Bool) (notarization : Notarization S D K G C) (old new : Plan S D K G C) → IsVerdictReportedAbove bytes bytes_of now b is_success notarization old new
+        → KeepsFetching [] never (cond b [] (verdict bytes (notarization_facts bytes_of notarization) is_success ∷ [])) old new
     verdict_asks true is_success notarization old new is = asks_where_same never is
     verdict_asks false is_success notarization old new is = told_asks {old = old} is.repaired is.planned
 
     judged_asks : (asked : CallFacts D) (is_success : Bool) (notarization : Option (Notarization S D K G C)) (old new : Plan S D K G C)
         → IsVerdictFollowed bytes bytes_of now is_success notarization old new
-        → KeepsAsking [] never (heard_by bytes bytes_of (reply.Certified is_success notarization) asked) old new
+        → KeepsFetching [] never (received_by bytes bytes_of (reply.Certified is_success notarization) asked) old new
     judged_asks asked is_success None old new is = asks_where_same never is
     judged_asks asked is_success (Some notarization) old new is = verdict_asks (notarization.proposal.round.view == 0) is_success notarization old new is
 
-    nullify_asks : (answer : Option (Bool × Nullify S K G C)) (old new : Plan S D K G C) → IsNullifyFollowed now answer old new → KeepsAsking [] never [] old new
+    nullify_asks : (answer : Option (Bool × Nullify S K G C)) (old new : Plan S D K G C) → IsNullifyFollowed now answer old new → KeepsFetching [] never [] old new
     nullify_asks None old new is = keeps_asking never (ap (λ (p : Plan S D K G C). p.repair.resolver) is) (λ kind view asked un. asks_same kind view is asked)
     nullify_asks (Some (true, vote)) old new is = asks_behind never is
     nullify_asks (Some (false, vote)) old new is = asks_behind never is
 
     timeout_asks : (moment : ℕ) (reason : TimeoutReason) (asked : CallFacts D) (old new : Plan S D K G C) → IsTimeoutFollowed now moment reason old new
-        → KeepsAsking (given_by now (reply.Timeout moment reason) asked) never [] old new
+        → KeepsFetching (reply_causes now (reply.Timeout moment reason) asked) never [] old new
     timeout_asks moment reason asked old new is =
-        asks_beside (given_by now (reply.Timeout moment reason) asked) (λ kind view. none kind view (nat_le moment now)) (as_timed (asks_behind never is))
+        asks_beside (reply_causes now (reply.Timeout moment reason) asked) (λ kind view. none kind view (nat_le moment now)) (as_timed (asks_behind never is))
       where
-        none : (kind : FetchKind) (view : ℕ) (b : Bool) → list_any (is_lack {S = S} {D = D} {K = K} {G = G} {C = C} kind view) (cond b (Expiry ∷ []) []) ≡ false
+        none : (kind : FetchKind) (view : ℕ) (b : Bool) → list_any (is_missing_certificate {S = S} {D = D} {K = K} {G = G} {C = C} kind view) (cond b (Expiry ∷ []) []) ≡ false
         none kind view true = refl
         none kind view false = refl
 
-    unheard : (asked : Task D) (is_new : Bool) {given : List (Matter S D K G C)} {old new : Plan S D K G C} → KeepsAsking given never [] old new
-        → KeepsAsking given never (cond is_new (heard_of bytes (call_of asked now)) []) old new
-    unheard asked true {given = given} {old = old} {new = new} keeps = subst (λ calls. KeepsAsking given never calls old new) (sym (no_task_hands_in bytes now asked)) keeps
+    unheard : (asked : Task D) (is_new : Bool) {given : List (Cause S D K G C)} {old new : Plan S D K G C} → KeepsFetching given never [] old new
+        → KeepsFetching given never (cond is_new (views_received bytes (call_of asked now)) []) old new
+    unheard asked true {given = given} {old = old} {new = new} keeps = subst (λ calls. KeepsFetching given never calls old new) (sym (no_task_hands_in bytes now asked)) keeps
     unheard asked false keeps = keeps
 
     -- the answer to a task is followed
     pub followed_asks : (asked : Task D) (answer : Reply S D K G C) (old new : Plan S D K G C) → IsFollowed bytes bytes_of now asked answer old new
-        → KeepsAsking (given_by now answer (call_of asked now)) never (heard_by bytes bytes_of answer (call_of asked now)) old new
+        → KeepsFetching (reply_causes now answer (call_of asked now)) never (received_by bytes bytes_of answer (call_of asked now)) old new
     followed_asks asked (reply.Flag is_taken) old new is = consequence_asks (after_flag asked is_taken) old new is
     followed_asks asked (reply.Triggered is_latched) old new is = consequence_asks (after_flag asked is_latched) old new is
     followed_asks asked (reply.Released was_open) old new is = consequence_asks (after_flag asked was_open) old new is
@@ -453,7 +453,7 @@ module _ {S D K G C : Type 0} where
             ∙ turned_over kind view n.proposal.round.view ∙ un)
 
     taken_in : (b : Bool) (accepted : Certificate S D K G C) (old new : Plan S D K G C) → IsTakenInAbove bytes bytes_of now b accepted old new
-        → KeepsAsking [] never (cond b [] (update bytes (certificate_facts bytes_of accepted) ∷ [])) old new
+        → KeepsFetching [] never (cond b [] (update bytes (certificate_facts bytes_of accepted) ∷ [])) old new
     taken_in true accepted old new is = asks_where_same never is
     taken_in false accepted old new is = record {
       told = (new.repair.resolver, is.heard.made, refl);
@@ -472,23 +472,23 @@ module _ {S D K G C : Type 0} where
         moment = later bytes bytes_of now old
 
     -- what the resolver is told is of the certificate
-    heard_as : (handed : Certificate S D K G C) → heard_of bytes (hands_in (certificate_facts bytes_of handed) now)
+    heard_as : (handed : Certificate S D K G C) → views_received bytes (certificate_call (certificate_facts bytes_of handed) now)
         ≡ cond (certificate_view handed == 0) [] (update bytes (certificate_facts bytes_of handed) ∷ [])
     heard_as (certificate.Notarization n) = refl
     heard_as (certificate.Nullification n) = refl
     heard_as (certificate.Finalization f) = refl
 
     new_asks : (b : Bool) (handed : Certificate S D K G C) (old new : Plan S D K G C) → IsNewFollowed bytes bytes_of now b handed old new
-        → KeepsAsking [] never (cond b (heard_of bytes (hands_in (certificate_facts bytes_of handed) now)) []) old new
-    new_asks true handed old new is = subst (λ calls. KeepsAsking [] never calls old new) (sym (heard_as handed)) (taken_in (certificate_view handed == 0) handed old new is)
+        → KeepsFetching [] never (cond b (views_received bytes (certificate_call (certificate_facts bytes_of handed) now)) []) old new
+    new_asks true handed old new is = subst (λ calls. KeepsFetching [] never calls old new) (sym (heard_as handed)) (taken_in (certificate_view handed == 0) handed old new is)
     new_asks false handed old new is = asks_where_same never is
 
     pub certificate_asks : (handed : Certificate S D K G C) (answer : Reply S D K G C) (old new : Plan S D K G C) → is_plain answer ≡ true → IsCertificateFollowed bytes bytes_of now handed answer old new
-        → KeepsAsking (given_by now answer (hands_in (certificate_facts bytes_of handed) now)) never
-        (heard_by bytes bytes_of answer (hands_in (certificate_facts bytes_of handed) now)) old new
+        → KeepsFetching (reply_causes now answer (certificate_call (certificate_facts bytes_of handed) now)) never
+        (received_by bytes bytes_of answer (certificate_call (certificate_facts bytes_of handed) now)) old new
     certificate_asks handed (reply.Added is_new None) old new answers is = asks_further (asks_behind never is.is_shown) (new_asks is_new handed is.shown new is.followed)
     certificate_asks handed (reply.Added is_new (Some leader)) old new answers is =
-        asks_beside (shown_by (hands_in (certificate_facts bytes_of handed) now) leader) (shows_none S G C (hands_in (certificate_facts bytes_of handed) now) leader)
+        asks_beside (shown_by (certificate_call (certificate_facts bytes_of handed) now) leader) (shows_none S G C (certificate_call (certificate_facts bytes_of handed) now) leader)
         (asks_further (asks_behind never is.is_shown) (new_asks is_new handed is.shown new is.followed))
     certificate_asks handed (reply.AddedNullification is_new) old new answers is = new_asks is_new handed old new is
     certificate_asks handed (reply.Flag is_taken) old new answers is = asks_where_same never is
@@ -516,7 +516,7 @@ module _ {S D K G C : Type 0} where
   -- a certificate that is lacking is asked for, or, for want of memory, nothing has changed
   pub resolves_asks : {X E : Type 0} (r : Result X E) (k : FetchKind) (v first moment : ℕ) (old new : Plan S D K G C) → new ≡ record old { repair = new.repair }
       → OnOk r (HasFetches (opened k v first moment old.repair.fetches.wanted.items) old.repair new.repair) → OnErr r (HasFetches old.repair.fetches.wanted.items old.repair new.repair)
-      → OnOk r (KeepsAsking (Lack k v ∷ []) never [] old new)
+      → OnOk r (KeepsFetching (MissingCertificate k v ∷ []) never [] old new)
   resolves_asks (Err e) k v first moment old new is opens refused = tt
   resolves_asks (Ok x) k v first moment old new is opens refused = record {
     told = opens.resolver;
@@ -530,14 +530,14 @@ module _ {S D K G C : Type 0} where
 
   -- what is lacking is asked for still
   pub lets_go_asks : {X E : Type 0} {L : Type 0} (r : Result X E) (x : StateFacts K L D) (old new : Plan S D K G C) → new ≡ record old { repair = new.repair }
-      → OnOk r (HasPassed x.finalized (filter (is_lacking old.repair.resolver.open_fetches x) old.repair.fetches.wanted.items) old.repair new.repair)
-      → OnOk r (KeepsAsking [] (λ kind view. holds new.repair.resolver.open_fetches x kind view || nat_le view x.finalized) [] old new)
+      → OnOk r (HasPassed x.finalized (filter (is_missing old.repair.resolver.open_fetches x) old.repair.fetches.wanted.items) old.repair new.repair)
+      → OnOk r (KeepsFetching [] (λ kind view. holds new.repair.resolver.open_fetches x kind view || nat_le view x.finalized) [] old new)
   lets_go_asks (Err e) x old new is passes = tt
   lets_go_asks {L = L} (Ok done) x old new is passes =
-      subst (λ (r : LawfulResolverFacts). KeepsAsking [] (λ kind view. holds r.open_fetches x kind view || nat_le view x.finalized) [] old new) (sym passes.resolver)
+      subst (λ (r : LawfulResolverFacts). KeepsFetching [] (λ kind view. holds r.open_fetches x kind view || nat_le view x.finalized) [] old new) (sym passes.resolver)
       (keeps_asking (λ kind view. holds wanted x kind view || nat_le view x.finalized) passes.resolver
       (λ kind view asked un. asks_on kind view old new
-      (λ before. ap (is_fetch_open kind view) passes.fetches_now ∙ open_kept kind view (is_lacking wanted x) (λ f here. lacks kind view f here (not_or (holds wanted x kind view) _ un)) old.repair.fetches.wanted.items before)
+      (λ before. ap (is_fetch_open kind view) passes.fetches_now ∙ open_kept kind view (is_missing wanted x) (λ f here. lacks kind view f here (not_or (holds wanted x kind view) _ un)) old.repair.fetches.wanted.items before)
       (λ queued. ap (λ (p : Plan S D K G C). list_any (is_resolve kind view) p.steps.items) is ∙ queued) asked))
     where
       wanted : List ℕ
@@ -546,7 +546,7 @@ module _ {S D K G C : Type 0} where
       above : (a b : ℕ) → nat_le b a ≡ false → nat_lt a b ≡ true
       above a b un = grind (arith, nat_tests, un)
 
-      lacks : (kind : FetchKind) (view : ℕ) (f : Fetch) → is_of kind view f ≡ true → (holds wanted x kind view ≡ false) × (nat_le view x.finalized ≡ false) → is_lacking wanted x f ≡ true
+      lacks : (kind : FetchKind) (view : ℕ) (f : Fetch) → is_of kind view f ≡ true → (holds wanted x kind view ≡ false) × (nat_le view x.finalized ≡ false) → is_missing wanted x f ≡ true
       lacks kind view f here both =
           let of_it = and_parts (same_kind f.kind kind) (f.view == view) here in
           ap (λ k. nat_lt x.finalized f.view && not (holds wanted x k f.view)) (kind_same f.kind kind of_it.0)

@@ -46,7 +46,7 @@ module _ (S G C : Type 0) {K D : Type 0} where
   asked_or_waits : (view other : ℕ) (builds : List (Building D K)) → list_any (waits_for other) builds ≡ true → AsksOrWaits view other builds
   asked_or_waits view other [] waits = waits
   asked_or_waits view other (b ∷ rest) waits = elim (or_cases (waits_for other b) (list_any (waits_for other) rest) waits) [
-    | inl this ↦ (let parts = and_parts (not b.is_told) (b.context.round.view == other) this in by_time (nat_le b.context.round.view view) refl (not-true b.is_told parts.0) parts.1)
+    | inl this ↦ (let parts = and_parts (not b.is_reported) (b.context.round.view == other) this in by_time (nat_le b.context.round.view view) refl (not-true b.is_reported parts.0) parts.1)
     | inr that ↦ elim (or_cases (is_asked other (asking_by view rest)) (list_any (waits_for other) (map (told_by view) rest)) (asked_or_waits view other rest that)) [
       | inl is ↦ or_left (is_asked other (asking_by view (b ∷ rest))) (list_any (waits_for other) (map (told_by view) (b ∷ rest)))
           (ap (list_any (is_build_of {S = S} {D = D} {K = K} {G = G} {C = C} other)) (planned-append (asking_for b.context (has_waited view b)) (asking_by view rest))
@@ -56,15 +56,15 @@ module _ (S G C : Type 0) {K D : Type 0} where
     ]
   ]
     where
-      by_time : (in_time : Bool) → nat_le b.context.round.view view ≡ in_time → b.is_told ≡ false → (b.context.round.view == other) ≡ true → AsksOrWaits view other (b ∷ rest)
+      by_time : (in_time : Bool) → nat_le b.context.round.view view ≡ in_time → b.is_reported ≡ false → (b.context.round.view == other) ≡ true → AsksOrWaits view other (b ∷ rest)
       by_time true is untold at =
-          let waited : has_waited view b ≡ true = and_from (not b.is_told) (nat_le b.context.round.view view) (ap not untold) is in
+          let waited : has_waited view b ≡ true = and_from (not b.is_reported) (nat_le b.context.round.view view) (ap not untold) is in
           or_left (is_asked other (asking_by view (b ∷ rest))) (list_any (waits_for other) (map (told_by view) (b ∷ rest)))
           (ap (λ w. is_asked other (asking_for b.context w ++ asking_by view rest)) waited ∙ or_left (b.context.round.view == other) (is_asked other (asking_by view rest)) at)
       by_time false is untold at =
           or_right (is_asked other (asking_by view (b ∷ rest))) (list_any (waits_for other) (map (told_by view) (b ∷ rest)))
           (or_left (waits_for other (told_by view b)) (list_any (waits_for other) (map (told_by view) rest))
-          (and_from (not (b.is_told || nat_le b.context.round.view view)) (b.context.round.view == other) (ap not (or_from b.is_told (nat_le b.context.round.view view) untold is)) at))
+          (and_from (not (b.is_reported || nat_le b.context.round.view view)) (b.context.round.view == other) (ap not (or_from b.is_reported (nat_le b.context.round.view view) untold is)) at))
 
 module _ {S D K G C : Type 0} where
   -- the view is touched, and then comes what waited for it

@@ -13,11 +13,11 @@ module _ {K D : Type 0} where
   -- the application was asked for the block, in this round and on this parent
   abbrev pub is_asked_in : (D → D → Bool) → Context D K → Building D K → Bool
   is_asked_in same context building =
-      building.is_told && same_round building.context.round context.round && same_parent same building.context.parent context.parent
+      building.is_reported && same_round building.context.round context.round && same_parent same building.context.parent context.parent
 
   -- the application was asked for the block, in this view
   abbrev pub is_asked_at : ℕ → Building D K → Bool
-  is_asked_at view building = building.is_told && building.context.round.view == view
+  is_asked_at view building = building.is_reported && building.context.round.view == view
 
   -- it is of a view above this one, or of this one and was asked for
   abbrev pub is_ahead : ℕ → Building D K → Bool
@@ -50,12 +50,12 @@ module _ {K D : Type 0} where
 
   -- the application was not asked for this view's block yet
   abbrev pub waits_for : ℕ → Building D K → Bool
-  waits_for view building = not building.is_told && building.context.round.view == view
+  waits_for view building = not building.is_reported && building.context.round.view == view
 
   -- the block was to be asked for in this view, or in one below it, and was not yet
   abbrev pub has_waited : ℕ → Building D K → Bool
-  has_waited view building = not building.is_told && nat_le building.context.round.view view
+  has_waited view building = not building.is_reported && nat_le building.context.round.view view
 
   -- it was by now
   abbrev pub told_by : ℕ → Building D K → Building D K
-  told_by view building = record building { is_told = building.is_told || nat_le building.context.round.view view }
+  told_by view building = record building { is_reported = building.is_reported || nat_le building.context.round.view view }

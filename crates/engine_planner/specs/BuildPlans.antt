@@ -12,11 +12,11 @@ use Rattle.engine_outbox.specs.declared.output.Work.TheVariants.{Build, StopBuil
 module _ {S D K G C : Type 0} where
   -- the application is told that the view's block is of no use any more, where it was asked for it
   abbrev pub stopping : ℕ → Bool → List (Step S D K G C)
-  stopping view is_told = if is_told then Push (StopBuilding view) ∷ [] else []
+  stopping view is_reported = if is_reported then Push (StopBuilding view) ∷ [] else []
 
   -- the application is asked for a block, now or not yet
   abbrev pub asking_for : Context D K → Bool → List (Step S D K G C)
-  asking_for context is_told = if is_told then Push (Build context) ∷ [] else []
+  asking_for context is_reported = if is_reported then Push (Build context) ∷ [] else []
 
   -- these steps stand behind those that were queued, these blocks are to be built, and nothing else has changed
   pub record HasBuilds (more : List (Step S D K G C)) (builds : List (Building D K)) (old new : Plan S D K G C) : Type 0 where

@@ -26,41 +26,41 @@ use Rattle.engine_planner.specs.declared.task.Task.{Task}
 use Rattle.engine_planner.specs.declared.task.Task.TheVariants as task
 
 -- what something comes of
-pub data Matter (S D K G C : Type 0) : Type 0 where
+pub data Cause (S D K G C : Type 0) : Type 0 where
   -- work that the host is to do
-  Duty : Work S D K G C → Matter S D K G C
+  WorkItem : Work S D K G C → Cause S D K G C
   -- a certificate of this view is lacking
-  Lack : FetchKind → ℕ → Matter S D K G C
+  MissingCertificate : FetchKind → ℕ → Cause S D K G C
   -- a proposal that this member made
-  Arrival : ℕ → Proposal D → Matter S D K G C
+  Arrival : ℕ → Proposal D → Cause S D K G C
   -- a certificate on this
-  Quorum : Subject D → Matter S D K G C
+  Quorum : Subject D → Cause S D K G C
   -- what the host has to tell the member
-  Message : Task D → Matter S D K G C
+  Message : Task D → Cause S D K G C
   -- the moment of the current view's timeout has come
-  Expiry : Matter S D K G C
+  Expiry : Cause S D K G C
 
 module _ {S D K G C : Type 0} where
   -- work comes of itself; but what is asked of a peer of an open fetch
-  abbrev pub of_work : Work S D K G C → List (Matter S D K G C)
+  abbrev pub of_work : Work S D K G C → List (Cause S D K G C)
   of_work (AskPeer _) = []
-  of_work work = Duty work ∷ []
+  of_work work = WorkItem work ∷ []
 
   -- each of these
-  abbrev pub of_works : List (Work S D K G C) → List (Matter S D K G C)
+  abbrev pub of_works : List (Work S D K G C) → List (Cause S D K G C)
   of_works [] = []
   of_works (work ∷ rest) = of_work work ++ of_works rest
 
   -- a block is asked for in the context, or is of no use any more
-  abbrev pub of_block : Context D K → List (Matter S D K G C)
-  of_block context = Duty (Build context) ∷ Duty (StopBuilding context.round.view) ∷ []
+  abbrev pub of_block : Context D K → List (Cause S D K G C)
+  of_block context = WorkItem (Build context) ∷ WorkItem (StopBuilding context.round.view) ∷ []
 
-  abbrev pub of_blocks : List (Building D K) → List (Matter S D K G C)
+  abbrev pub of_blocks : List (Building D K) → List (Cause S D K G C)
   of_blocks [] = []
   of_blocks (building ∷ rest) = of_block building.context ++ of_blocks rest
 
   -- a call comes of what is told, where it is not of the engine's own accord
-  abbrev pub of_task : Task D → List (Matter S D K G C)
+  abbrev pub of_task : Task D → List (Cause S D K G C)
   of_task (task.SetProposal view proposal) = Message (task.SetProposal view proposal) ∷ []
   of_task (task.Proposed view payload) = Message (task.Proposed view payload) ∷ []
   of_task (task.Verified view) = Message (task.Verified view) ∷ []
@@ -71,52 +71,52 @@ module _ {S D K G C : Type 0} where
   of_task _ = []
 
   -- what a step comes of
-  abbrev pub of_step : Step S D K G C → List (Matter S D K G C)
+  abbrev pub of_step : Step S D K G C → List (Cause S D K G C)
   of_step (step.Ask asked) = of_task asked
   of_step (step.Offer from proposal) = Arrival from proposal ∷ []
-  of_step (step.Resolve kind view proposal) = Lack kind view ∷ []
+  of_step (step.Resolve kind view proposal) = MissingCertificate kind view ∷ []
   of_step (step.Repeat view) = []
   of_step (step.Push work) = of_work work
 
-  abbrev pub of_steps : List (Step S D K G C) → List (Matter S D K G C)
+  abbrev pub of_steps : List (Step S D K G C) → List (Cause S D K G C)
   of_steps [] = []
   of_steps (step ∷ rest) = of_step step ++ of_steps rest
 
   -- a fetch comes of what the resolver has open, or of a certificate that is lacking
-  abbrev pub of_fetch : List ℕ → Fetch → List (Matter S D K G C)
-  of_fetch wanted fetch = if wants wanted fetch.kind fetch.view then [] else Lack fetch.kind fetch.view ∷ []
+  abbrev pub of_fetch : List ℕ → Fetch → List (Cause S D K G C)
+  of_fetch wanted fetch = if wants wanted fetch.kind fetch.view then [] else MissingCertificate fetch.kind fetch.view ∷ []
 
-  abbrev pub of_fetches : List ℕ → List Fetch → List (Matter S D K G C)
+  abbrev pub of_fetches : List ℕ → List Fetch → List (Cause S D K G C)
   of_fetches wanted [] = []
   of_fetches wanted (fetch ∷ rest) = of_fetch wanted fetch ++ of_fetches wanted rest
 
-  abbrev pub of_repair : Repair → List (Matter S D K G C)
+  abbrev pub of_repair : Repair → List (Cause S D K G C)
   of_repair repair = of_fetches repair.resolver.open_fetches repair.fetches.wanted.items
 
   -- proposals that came early
-  abbrev pub of_early : List (Early D) → List (Matter S D K G C)
+  abbrev pub of_early : List (Early D) → List (Cause S D K G C)
   of_early early = map (λ (it : Early D). Arrival it.from it.proposal) early
 
   -- what a plan has at hand
-  abbrev pub planned_matters : Plan S D K G C → List (Matter S D K G C)
-  planned_matters plan =
+  abbrev pub planned_causes : Plan S D K G C → List (Cause S D K G C)
+  planned_causes plan =
       of_steps plan.steps.items ++ (of_blocks plan.builds.buildings.items ++ (of_early plan.early.proposals.items ++ of_repair plan.repair))
 
   -- a leader signed two proposals of the view of the certificate that is handed in
-  abbrev pub shown_by : CallFacts D → K → List (Matter S D K G C)
-  shown_by (AddNotarization c) leader = Duty (ProposedTwice c.proposal.round.view leader) ∷ []
-  shown_by (AddNullification c _) leader = Duty (ProposedTwice c.round.view leader) ∷ []
-  shown_by (AddFinalization c _) leader = Duty (ProposedTwice c.proposal.round.view leader) ∷ []
+  abbrev pub shown_by : CallFacts D → K → List (Cause S D K G C)
+  shown_by (AddNotarization c) leader = WorkItem (ProposedTwice c.proposal.round.view leader) ∷ []
+  shown_by (AddNullification c _) leader = WorkItem (ProposedTwice c.round.view leader) ∷ []
+  shown_by (AddFinalization c _) leader = WorkItem (ProposedTwice c.proposal.round.view leader) ∷ []
   shown_by _ leader = []
 
   -- what the answer to a call gives, at a moment
-  abbrev pub given_by : ℕ → Reply S D K G C → CallFacts D → List (Matter S D K G C)
-  given_by now (reply.Work (verify.Ready context proposal)) asked = Duty (Verify context proposal) ∷ []
-  given_by now (reply.Work (verify.Resolve _ view kind _)) asked = Lack (fetch_kind kind) view ∷ []
-  given_by now (reply.Request (Some request)) asked = of_block (request_context request)
-  given_by now (reply.Candidates proposals wanted) asked =
-      map (λ proposal. Duty (Certify proposal)) proposals.items ++ map (λ (it : CertificateFetch). Lack Notarization it.view) wanted.items
-  given_by now (reply.Certificate (Some certificate)) asked = Duty (Broadcast certificate) ∷ []
-  given_by now (reply.Added _ (Some leader)) asked = shown_by asked leader
-  given_by now (reply.Timeout moment reason) asked = if nat_le moment now then Expiry ∷ [] else []
-  given_by now _ asked = []
+  abbrev pub reply_causes : ℕ → Reply S D K G C → CallFacts D → List (Cause S D K G C)
+  reply_causes now (reply.Work (verify.Ready context proposal)) asked = WorkItem (Verify context proposal) ∷ []
+  reply_causes now (reply.Work (verify.Resolve _ view kind _)) asked = MissingCertificate (fetch_kind kind) view ∷ []
+  reply_causes now (reply.Request (Some request)) asked = of_block (request_context request)
+  reply_causes now (reply.Candidates proposals wanted) asked =
+      map (λ proposal. WorkItem (Certify proposal)) proposals.items ++ map (λ (it : CertificateFetch). MissingCertificate Notarization it.view) wanted.items
+  reply_causes now (reply.Certificate (Some certificate)) asked = WorkItem (Broadcast certificate) ∷ []
+  reply_causes now (reply.Added _ (Some leader)) asked = shown_by asked leader
+  reply_causes now (reply.Timeout moment reason) asked = if nat_le moment now then Expiry ∷ [] else []
+  reply_causes now _ asked = []

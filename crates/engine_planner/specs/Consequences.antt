@@ -101,8 +101,8 @@ module _ {S D K G C : Type 0} where
 
   -- a block is to be built, in place of one of its view: now, or once its view is entered
   abbrev pub IsBuilt : Bool → Context D K → Plan S D K G C → Plan S D K G C → Type 0
-  IsBuilt is_told context old new =
-      HasBuilds (asking_for context is_told) (in_place (record { context = context; is_told = is_told }) old.builds.buildings.items) old new
+  IsBuilt is_reported context old new =
+      HasBuilds (asking_for context is_reported) (in_place (record { context = context; is_reported = is_reported }) old.builds.buildings.items) old new
 
   abbrev pub IsRequestFollowed : Option (ProposalRequest D K) → Plan S D K G C → Plan S D K G C → Type 0
   IsRequestFollowed (Some (Prepare context)) old new = IsBuilt (not (waits old.is_alone old.views.current context)) context old new
@@ -156,26 +156,26 @@ module _ {S D K G C : Type 0} (bytes : D → List ℕ) (bytes_of : C → List �
   later plan = min (now + plan.options.on_its_way) (2 ^ 64 - 1)
 
   -- the resolver is told of a verdict, and something of the view has changed
-  pub record IsVerdictTold (is_success : Bool) (notarization : Notarization S D K G C) (old new : Plan S D K G C) : Type 0 where
+  pub record IsVerdictReported (is_success : Bool) (notarization : Notarization S D K G C) (old new : Plan S D K G C) : Type 0 where
     pub repaired : IsRepaired (later old) (verdict bytes (notarization_facts bytes_of notarization) is_success) old.repair new.repair
     pub planned : HasPlanned (touching notarization.proposal.round.view) (watching (record old { repair = new.repair })) new
 
   -- where it is not on genesis
-  abbrev pub IsVerdictToldAbove : Bool → Bool → Notarization S D K G C → Plan S D K G C → Plan S D K G C → Type 0
-  IsVerdictToldAbove true is_success notarization old new = new ≡ old
-  IsVerdictToldAbove false is_success notarization old new = IsVerdictTold is_success notarization old new
+  abbrev pub IsVerdictReportedAbove : Bool → Bool → Notarization S D K G C → Plan S D K G C → Plan S D K G C → Type 0
+  IsVerdictReportedAbove true is_success notarization old new = new ≡ old
+  IsVerdictReportedAbove false is_success notarization old new = IsVerdictReported is_success notarization old new
 
   -- a verdict was given, where the view is notarized
   abbrev pub IsVerdictFollowed : Bool → Option (Notarization S D K G C) → Plan S D K G C → Plan S D K G C → Type 0
   IsVerdictFollowed is_success None old new = new ≡ old
-  IsVerdictFollowed is_success (Some notarization) old new = IsVerdictToldAbove (notarization.proposal.round.view == 0) is_success notarization old new
+  IsVerdictFollowed is_success (Some notarization) old new = IsVerdictReportedAbove (notarization.proposal.round.view == 0) is_success notarization old new
 
   -- what follows from a certificate for the resolver
   abbrev pub effects_due : Certificate S D K G C → Plan S D K G C → List Effect
   effects_due told old = effects old.repair.resolver.state (update bytes (certificate_facts bytes_of told))
 
   -- it is told of one
-  pub record IsResolverTold (told : Certificate S D K G C) (old : Plan S D K G C) (repair : Repair) : Type 0 where
+  pub record IsResolverNotified (told : Certificate S D K G C) (old : Plan S D K G C) (repair : Repair) : Type 0 where
     pub made : IsMade (update bytes (certificate_facts bytes_of told)) old.repair.resolver (effects_due told old) repair.resolver
     pub fetched : repair.fetches.wanted.items ≡ without told (after_effects (later old) (effects_due told old) old.repair.fetches.wanted.items)
     pub peers : repair.fetches.peers ≡ old.repair.fetches.peers
@@ -183,7 +183,7 @@ module _ {S D K G C : Type 0} (bytes : D → List ℕ) (bytes_of : C → List �
 
   -- a new certificate: the resolver is told, and something of the view has changed
   pub record IsTakenIn (accepted : Certificate S D K G C) (old new : Plan S D K G C) : Type 0 where
-    pub heard : IsResolverTold accepted old new.repair
+    pub heard : IsResolverNotified accepted old new.repair
     pub planned : HasPlanned (touching (certificate_view accepted)) (watching (record old { repair = new.repair })) new
 
   -- where it is not of genesis

@@ -17,7 +17,7 @@ use Rattle.engine_fetches.specs.Fetches.{fetch_kind, is_fetch_open, same_kind}
 use Rattle.engine_planner.specs.declared.plan.Plan.{Plan}
 use Rattle.engine_planner.specs.declared.plan.Step.{Step}
 use Rattle.engine_planner.specs.declared.plan.Step.TheVariants.{Resolve}
-use Rattle.engine_planner.specs.Causes.{Matter, Lack}
+use Rattle.engine_planner.specs.Causes.{Cause, MissingCertificate}
 
 -- an effect of a resolver ends the fetch of this kind and view
 abbrev pub ends_fetch : FetchKind → ℕ → Effect → Bool
@@ -52,13 +52,13 @@ module _ {S D K G C : Type 0} where
   asks plan kind view = is_fetch_open kind view plan.repair.fetches.wanted.items || list_any (is_resolve kind view) plan.steps.items
 
   -- it is said to be lacking
-  abbrev pub is_lack : FetchKind → ℕ → Matter S D K G C → Bool
-  is_lack kind view (Lack k v) = same_kind k kind && v == view
-  is_lack kind view _ = false
+  abbrev pub is_missing_certificate : FetchKind → ℕ → Cause S D K G C → Bool
+  is_missing_certificate kind view (MissingCertificate k v) = same_kind k kind && v == view
+  is_missing_certificate kind view _ = false
 
   -- by one of these, or it is asked for already
-  abbrev pub with_lack : (FetchKind → ℕ → Bool) → List (Matter S D K G C) → FetchKind → ℕ → Bool
-  with_lack asked given kind view = asked kind view || list_any (is_lack kind view) given
+  abbrev pub with_missing_certificate : (FetchKind → ℕ → Bool) → List (Cause S D K G C) → FetchKind → ℕ → Bool
+  with_missing_certificate asked given kind view = asked kind view || list_any (is_missing_certificate kind view) given
 
 -- a reply as a certificate gets that is handed in: it names none as lacking, and is no verdict's
 abbrev pub is_plain : {S D K G C : Type 0} → Reply S D K G C → Bool
@@ -83,23 +83,23 @@ abbrev pub above_genesis : ℕ → Call → List Call
 above_genesis view it = if view == 0 then [] else it ∷ []
 
 -- of a new certificate
-abbrev pub heard_of : {D : Type 0} → (D → List ℕ) → CallFacts D → List Call
-heard_of bytes (AddNotarization c) = above_genesis c.proposal.round.view (update bytes (Notarized c))
-heard_of bytes (AddNullification c _) = above_genesis c.round.view (update bytes (Nullified c))
-heard_of bytes (AddFinalization c _) = above_genesis c.proposal.round.view (update bytes (Finalized c))
-heard_of bytes _ = []
+abbrev pub views_received : {D : Type 0} → (D → List ℕ) → CallFacts D → List Call
+views_received bytes (AddNotarization c) = above_genesis c.proposal.round.view (update bytes (Notarized c))
+views_received bytes (AddNullification c _) = above_genesis c.round.view (update bytes (Nullified c))
+views_received bytes (AddFinalization c _) = above_genesis c.proposal.round.view (update bytes (Finalized c))
+views_received bytes _ = []
 
 -- by the reply to a call: of a certificate that is new, or of a verdict on a notarization
-abbrev pub heard_by : {S D K G C : Type 0} → (D → List ℕ) → (C → List ℕ) → Reply S D K G C → CallFacts D → List Call
-heard_by bytes bytes_of (reply.Added is_new _) asked = if is_new then heard_of bytes asked else []
-heard_by bytes bytes_of (reply.AddedNullification is_new) asked = if is_new then heard_of bytes asked else []
-heard_by bytes bytes_of (reply.Certified is_success (Some n)) asked =
+abbrev pub received_by : {S D K G C : Type 0} → (D → List ℕ) → (C → List ℕ) → Reply S D K G C → CallFacts D → List Call
+received_by bytes bytes_of (reply.Added is_new _) asked = if is_new then views_received bytes asked else []
+received_by bytes bytes_of (reply.AddedNullification is_new) asked = if is_new then views_received bytes asked else []
+received_by bytes bytes_of (reply.Certified is_success (Some n)) asked =
     above_genesis n.proposal.round.view (verdict bytes (notarization_facts bytes_of n) is_success)
-heard_by bytes bytes_of _ asked = []
+received_by bytes bytes_of _ asked = []
 
 -- a plan goes on to ask for what it asked for, and asks for what was said to be lacking, where that is not over, and its resolver,
 -- which was told just this, was told nothing that ends it
-pub record KeepsAsking {S D K G C : Type 0} (given : List (Matter S D K G C)) (over : FetchKind → ℕ → Bool) (calls : List Call) (old new : Plan S D K G C)
+pub record KeepsFetching {S D K G C : Type 0} (given : List (Cause S D K G C)) (over : FetchKind → ℕ → Bool) (calls : List Call) (old new : Plan S D K G C)
     : Type 0 where
   pub told : AreMade old.repair.resolver calls new.repair.resolver
-  pub still : IsStill (with_lack (asks old) given) (λ kind view. over kind view || ended_by old.repair.resolver.state calls kind view) (asks new)
+  pub still : IsStill (with_missing_certificate (asks old) given) (λ kind view. over kind view || ended_by old.repair.resolver.state calls kind view) (asks new)

@@ -3,7 +3,7 @@ use Rattle.std.specs.Prelude.{◌≡◌, ℕ, Bool, true, false, ◌&&◌, ◌||
 use Rattle.std.specs.List.{list_any}
 use Rattle.simplex_voter.specs.ProposalRequests.{request_context}
 use Rattle.simplex_voter.specs.declared.voter.verify.Verify.TheVariants.{Ready}
-use Rattle.simplex_member.specs.Calls.{Told, Answered, Triggered, Released, Abandoned, NotAllowed, Standing, Requested, Candidates}
+use Rattle.simplex_member.specs.Calls.{ReplyFacts, Answered, Triggered, Released, Abandoned, NotAllowed, Standing, Requested, Candidates}
 use Rattle.engine_fetches.specs.declared.fetches.Peers.{Peers}
 use Rattle.engine_outbox.specs.declared.output.Work.{Work}
 use Rattle.engine_outbox.specs.declared.output.Work.TheVariants.{Verify, Certify, Build}
@@ -38,7 +38,7 @@ ended_in _ other = false
 
 module _ {K D : Type 0} where
   -- what follows from an answer that says no more than yes, no, why, or that the call is not allowed
-  abbrev pub consequence_of : Task D → Told K D → Consequence D
+  abbrev pub consequence_of : Task D → ReplyFacts K D → Consequence D
   consequence_of asked (Answered is_taken) = after_flag asked is_taken
   consequence_of asked (Triggered is_taken) = after_flag asked is_taken
   consequence_of asked (Released is_taken) = after_flag asked is_taken
@@ -47,11 +47,11 @@ module _ {K D : Type 0} where
   consequence_of asked _ = Nothing
 
   -- so nothing is built in this view any more
-  abbrev pub ends : Task D → Told K D → ℕ → Bool
+  abbrev pub ends : Task D → ReplyFacts K D → ℕ → Bool
   ends asked told = ended_in (consequence_of asked told)
 
   -- the view of the block that an answer requests
-  abbrev pub views_requested : Told K D → List ℕ
+  abbrev pub views_requested : ReplyFacts K D → List ℕ
   views_requested (Requested (Some request)) = (request_context request).round.view ∷ []
   views_requested _ = []
 
@@ -68,7 +68,7 @@ module _ {S D K G C : Type 0} where
   work_planned (_ ∷ rest) = work_planned rest
 
   -- what an answer of the member asks of the application on proposals
-  abbrev pub work_of : Told K D → List (Work S D K G C)
+  abbrev pub work_of : ReplyFacts K D → List (Work S D K G C)
   work_of (Standing (Ready context proposal)) = Verify context proposal ∷ []
   work_of (Candidates proposals _) = map Certify proposals
   work_of _ = []
@@ -133,11 +133,11 @@ module _ {S D K G C : Type 0} where
   KeepsPlannedThen old new = KeepsPlanned (record old { views = new.views }) new
 
   -- what the answer to a task asks for is planned too
-  abbrev pub PlansAnswer : Task D → Told K D → Plan S D K G C → Plan S D K G C → Type 0
+  abbrev pub PlansAnswer : Task D → ReplyFacts K D → Plan S D K G C → Plan S D K G C → Type 0
   PlansAnswer asked told old new =
       IsPlanned (views_requested told) (ends asked told) (work_planned old.steps.items ++ work_of told) (beside_of old) (work_planned new.steps.items)
       (beside_of new)
 
   -- and where other views were come to before
-  abbrev pub PlansAnswerThen : Task D → Told K D → Plan S D K G C → Plan S D K G C → Type 0
+  abbrev pub PlansAnswerThen : Task D → ReplyFacts K D → Plan S D K G C → Plan S D K G C → Type 0
   PlansAnswerThen asked told old new = PlansAnswer asked told (record old { views = new.views }) new

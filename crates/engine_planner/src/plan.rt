@@ -13,7 +13,7 @@ mod work;
 ghost use Rattle.std.specs.Prelude.{◌≡◌, ◌+◌, ◌-◌, ◌^◌, ℕ, min, max, true, [], ◌∷◌, ◌++◌, filter, OnOk, IfErr, IsOk, IsTrue, ◌↔◌, ◌≤◌, false};
 ghost use Rattle.simplex_types.specs.declared.types.fault.Fault.TheVariants.{Failed};
 ghost use Rattle.engine_fetches.specs.Repairs.{HasPassed};
-ghost use Rattle.engine_fetches.specs.OutstandingFetches.{is_lacking, AsksForTheLacking};
+ghost use Rattle.engine_fetches.specs.OutstandingFetches.{is_missing, FetchesTheMissing};
 ghost use Rattle.engine_planner.specs.PlanStates.{IsIdle, IsWake, HasPlanned, asking_for_votes, asking_for_certificates, touching, watching};
 ghost use Rattle.engine_planner.specs.Blocks.{builds_from};
 ghost use Rattle.engine_planner.specs.declared.plan.Step.TheVariants.{Ask, Push};
@@ -193,18 +193,18 @@ impl<S: CertificateScheme, D: Digest> Plan<S, D> {
     ///
     /// # Errors
     ///
-    /// Those of `Repair::let_go`.
-    pub fn let_go<L: Elector<S>>(&mut self, state: &State<S, L, D>) -> Result<(), Fault>
+    /// Those of `Repair::drop_served`.
+    pub fn drop_served<L: Elector<S>>(&mut self, state: &State<S, L, D>) -> Result<(), Fault>
         ensures same { self.new ≡ record self.old { repair = self.new.repair } }
         ensures kept { let repair = self.old.repair in
             OnOk result (HasPassed state.now.finalized
-            (filter (is_lacking repair.resolver.open_fetches state.now) repair.fetches.wanted.items) repair self.new.repair) }
+            (filter (is_missing repair.resolver.open_fetches state.now) repair.fetches.wanted.items) repair self.new.repair) }
         ensures answers { IsOk result ↔ ((self.old.repair.is_behind ≡ false) × (self.old.repair.passed ≤ state.now.finalized)) }
         ensures refused { IfErr result (λ fault. (fault ≡ Failed) × (self.new ≡ self.old)) }
-        ensures lacking { OnOk result (AsksForTheLacking self.new.repair.resolver.open_fetches state.now self.new.repair.fetches.wanted.items) }
+        ensures lacking { OnOk result (FetchesTheMissing self.new.repair.resolver.open_fetches state.now self.new.repair.fetches.wanted.items) }
         ensures idle { (now : ℕ) → IsIdle now self.old → IsIdle now self.new }
     {
-        self.repair.let_go(state)
+        self.repair.drop_served(state)
     }
 
     /// Whether nothing is to be done at the moment.

@@ -2,7 +2,7 @@
 
 ghost use Rattle.std.specs.Prelude.{◌≡◌, true};
 ghost use Rattle.simplex_types.specs.declared.types.messages.Subject.TheVariants.{Finalize};
-ghost use Rattle.laws_safety.specs.MemberHistory.{OfAllDone};
+ghost use Rattle.laws_safety.specs.MemberHistory.{OfEachHistory};
 ghost use Rattle.laws_safety.specs.Replicas.{OfEachNetwork, Backed};
 ghost use Rattle.example_calls.specs.FinalizeVotes.{FinalizesOneProposal};
 
@@ -15,7 +15,7 @@ use simplex_types::types::{Digest, Elector, Proposal, Scheme};
 pub fn a_view_is_finalized_once<S: Scheme<D>, L: Elector<S>, D: Digest>(
     member: &LawfulMember<S, L, D>,
 )
-    ensures { OfAllDone D.eq L.elect member.now.facts (λ term_length i all. FinalizesOneProposal all) }
+    ensures { OfEachHistory D.eq L.elect member.now.facts (λ term_length i all. FinalizesOneProposal all) }
 {
     member.keeps_the_laws();
 }

@@ -6,7 +6,7 @@ pub mod lawful;
 
 ghost use Rattle.std.specs.Prelude.{◌≡◌, ◌++◌, OnOk, IfOk, IfSome, IsNone};
 ghost use Rattle.simplex_voter.specs.StateAnswers.{broadcast_notarization_answer};
-ghost use Rattle.simplex_member.specs.Calls.{told_finalize};
+ghost use Rattle.simplex_member.specs.Calls.{reply_finalize};
 ghost use Rattle.simplex_member.specs.CallSemantics.{vote_entry};
 ghost use Rattle.simplex_member.specs.ReplySignatures.{signed_finalize};
 ghost use Rattle.simplex_member.specs.MethodContracts.{HasNoneLeft};
@@ -56,7 +56,7 @@ pub fn finalize<S: Scheme<D>, L: Elector<S>, D: Digest>(
     member: &mut Member<S, L, D>,
     view: View,
 ) -> Result<Option<Finalize<S, D>>, Refusal>
-    ensures recorded { IfOk result (λ vote. member.new.facts.entries ≡ member.old.facts.entries ++ vote_entry (told_finalize vote)) }
+    ensures recorded { IfOk result (λ vote. member.new.facts.entries ≡ member.old.facts.entries ++ vote_entry (reply_finalize vote)) }
     ensures signed { IfOk result (λ vote. member.new.votes ≡ member.old.votes ++ signed_finalize vote) }
 {
     member.construct_finalize(view)

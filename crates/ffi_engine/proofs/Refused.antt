@@ -3,7 +3,7 @@ use Rattle.std.proofs.Common.{◌≡◌, ◌∙◌, ap, sym, subst, ℕ, Bool, t
 use Rattle.simplex_member.specs.declared.member.resume.ResumeError.TheVariants as resume
 use Rattle.simplex_engine.specs.declared.engine.begin.StartError.{StartError}
 use Rattle.simplex_engine.specs.declared.engine.begin.StartError.TheVariants as start_error
-use Rattle.simplex_engine.specs.EngineStart.{IsNotBegun}
+use Rattle.simplex_engine.specs.EngineStart.{IsStartRefusal}
 use Rattle.ffi_scheme.specs.Host.{host_keys}
 use Rattle.simplex_record.specs.Settings as settings
 use Rattle.simplex_types.specs.Config.{first_broken, config_rules}
@@ -14,9 +14,9 @@ use Rattle.ffi_member.specs.declared.resumption.NotResumed.TheVariants as not_re
 use Rattle.ffi_member.specs.declared.view_types.FlatStored.{FlatStored}
 use Rattle.ffi_member.specs.Resumption.{IsNotResumedBy}
 use Rattle.ffi_member.specs.Settings.{HostStart, IsStart}
-use Rattle.ffi_engine.specs.declared.begin.NotBegun.TheVariants as not_begun
+use Rattle.ffi_engine.specs.declared.begin.EngineNotStarted.TheVariants as engine_not_started
 use Rattle.ffi_engine.specs.declared.flat.FlatOptions.{FlatOptions}
-use Rattle.ffi_engine.specs.EngineStarts.{IsEngineNotBegun, IsEngineNotResumed, IsStartRefused, IsResumeRefused, not_begun_of}
+use Rattle.ffi_engine.specs.EngineStarts.{IsEngineNotStarted, IsEngineNotResumed, IsStartRefused, IsResumeRefused, engine_not_started_of}
 
 -- no rule of a list is broken
 abbrev NoneIsBroken : List (Bool × ConfigError) → Type 0
@@ -43,7 +43,7 @@ module _ (f : FlatSettings) (leaders bytes : List ℕ) (now : ℕ) (start : Host
       true≢false (sym (ap (λ n. n == 0) retry) ∙ rules.1.1.1.1.1.0)
 
 -- only an engine without a retry is refused for that
-is_retry_zero : (e : StartError) → not_begun_of start_error.RetryZero ≡ not_begun_of e → e ≡ start_error.RetryZero
+is_retry_zero : (e : StartError) → engine_not_started_of start_error.RetryZero ≡ engine_not_started_of e → e ≡ start_error.RetryZero
 is_retry_zero start_error.RetryZero same = refl
 is_retry_zero (start_error.Resume resume.EntriesLost) same = absurd (cc)
 is_retry_zero (start_error.Resume (resume.Recover e)) same = absurd (cc)
@@ -51,7 +51,7 @@ is_retry_zero (start_error.Replay e) same = absurd (cc)
 
 -- what refuses a member refuses its engine
 pub member_refused : (f : FlatSettings) (leaders bytes : List ℕ) (options : FlatOptions) (now : ℕ) (beside : FlatStored) (journal : List ℕ) (e : NotResumed)
-    → IsNotResumedBy f leaders bytes now beside journal e → IsEngineNotResumed f leaders bytes options now beside journal (not_begun.Member e)
+    → IsNotResumedBy f leaders bytes now beside journal e → IsEngineNotResumed f leaders bytes options now beside journal (engine_not_started.Member e)
 member_refused f leaders bytes options now beside journal (not_resumed.Settings e) is = is
 member_refused f leaders bytes options now beside journal not_resumed.NoFlag is = is
 member_refused f leaders bytes options now beside journal (not_resumed.Journal e) is = is
@@ -68,18 +68,18 @@ member_refused f leaders bytes options now beside journal (not_resumed.Recover e
 
 -- and an engine may be refused for what was read
 pub engine_refused : (f : FlatSettings) (leaders bytes : List ℕ) (options : FlatOptions) (now : ℕ) (beside : FlatStored) (journal : List ℕ) (e : StartError)
-    → IsResumeRefused f leaders bytes now beside journal (not_begun_of e) → IsEngineNotResumed f leaders bytes options now beside journal (not_begun_of e)
+    → IsResumeRefused f leaders bytes now beside journal (engine_not_started_of e) → IsEngineNotResumed f leaders bytes options now beside journal (engine_not_started_of e)
 engine_refused f leaders bytes options now beside journal start_error.RetryZero read =
-    absurd (has_retry f leaders bytes now read.start read.from.started (subst (IsNotBegun read.start.settings.timeout_retry _ _) (is_retry_zero read.error read.is_of) read.refused))
+    absurd (has_retry f leaders bytes now read.start read.from.started (subst (IsStartRefusal read.start.settings.timeout_retry _ _) (is_retry_zero read.error read.is_of) read.refused))
 engine_refused f leaders bytes options now beside journal (start_error.Resume resume.EntriesLost) read = inr read
 engine_refused f leaders bytes options now beside journal (start_error.Resume (resume.Recover e)) read = read
 engine_refused f leaders bytes options now beside journal (start_error.Replay e) read = read
 
 -- or for what it begins with
 pub start_refused : (f : FlatSettings) (leaders bytes : List ℕ) (options : FlatOptions) (now : ℕ) (e : StartError)
-    → IsStartRefused f leaders bytes now (not_begun_of e) → IsEngineNotBegun f leaders bytes options now (not_begun_of e)
+    → IsStartRefused f leaders bytes now (engine_not_started_of e) → IsEngineNotStarted f leaders bytes options now (engine_not_started_of e)
 start_refused f leaders bytes options now start_error.RetryZero is =
-    absurd (has_retry f leaders bytes now is.start is.by (subst (IsNotBegun is.start.settings.timeout_retry _ _) (is_retry_zero is.error is.is_of) is.refused))
+    absurd (has_retry f leaders bytes now is.start is.by (subst (IsStartRefusal is.start.settings.timeout_retry _ _) (is_retry_zero is.error is.is_of) is.refused))
 start_refused f leaders bytes options now (start_error.Resume resume.EntriesLost) is = is
 start_refused f leaders bytes options now (start_error.Resume (resume.Recover e)) is = is
 start_refused f leaders bytes options now (start_error.Replay e) is = is

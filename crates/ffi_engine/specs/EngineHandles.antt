@@ -16,22 +16,22 @@ use Rattle.simplex_engine.specs.Admission.{IsTurnedAway, ignoring, is_input_admi
 use Rattle.simplex_engine.specs.OwnSteps.{ForgetsNoOther}
 use Rattle.simplex_engine.specs.CertificateVotes.{IsBackedInput, KeepsVotes, TakesNone, TakesVotes, votes_of_input}
 use Rattle.simplex_engine.specs.Bounds.{HoldsAdmitted, HoldsFromKept, HoldsNoneAhead, StaysBounded}
-use Rattle.simplex_engine.specs.MissingCertificates.{AsksForItsLacking}
-use Rattle.simplex_engine.specs.FetchHeights.{AsksNoHigher}
-use Rattle.simplex_engine.specs.Provenance.{came_in, forgettable, held_by, Comes, ComesWith}
+use Rattle.simplex_engine.specs.MissingCertificates.{FetchesItsMissing}
+use Rattle.simplex_engine.specs.FetchHeights.{FetchesNoHigher}
+use Rattle.simplex_engine.specs.Provenance.{input_causes, forgettable, held_by, IsCaused, IsCausedWith}
 use Rattle.simplex_engine.specs.DroppedInputs.{IsDropped}
 use Rattle.engine_outbox.specs.Outputs.{work_in}
-use Rattle.simplex_engine.specs.ApplicationWork.{AllIsGivenOut, HasToldAll, KeepsTelling, work_ahead}
-use Rattle.engine_outbox.specs.Finalizations.{TellsNoMore}
-use Rattle.engine_outbox.specs.Continuity.{DoesMoreOn, EmitsOn, GoesOn, IsKept, IsWhole, has_failed}
+use Rattle.simplex_engine.specs.ApplicationWork.{AllIsReturned, HasReportedAll, KeepsReports, work_ahead}
+use Rattle.engine_outbox.specs.Finalizations.{ReportsNoMore}
+use Rattle.engine_outbox.specs.Continuity.{ExtendsHistoryOn, EmitsOn, Continues, IsJournaled, IsWhole, has_failed}
 use Rattle.simplex_engine.specs.Inputs.{subject_in}
 use Rattle.engine_outbox.specs.Journals.{IsRecordOf, journal_of}
 use Rattle.engine_outbox.specs.RecordReach.{IsShort}
 use Rattle.engine_planner.specs.PlannedWork.{AreAmong, constants_of}
 use Rattle.engine_planner.specs.PlanStates.{IsIdle}
-use Rattle.simplex_engine.specs.AtRest.{IsSettled}
+use Rattle.simplex_engine.specs.AtRest.{IsEngineAtRest}
 use Rattle.simplex_engine.specs.BuildBounds.{BuildsAhead, BuildsNear}
-use Rattle.simplex_engine.specs.MemberViews.{HasComeTo, StaysEarly}
+use Rattle.simplex_engine.specs.MemberViews.{TracksViews, StaysStoredEarly}
 use Rattle.simplex_engine.specs.Failures.{IsFailure}
 use Rattle.ffi_member.specs.declared.journal.NotWritten.{NotWritten}
 use Rattle.ffi_member.specs.declared.view_types.FlatStored.{FlatStored}
@@ -44,7 +44,7 @@ use Rattle.ffi_engine.specs.declared.held.HeldEngine.{HeldEngine}
 use Rattle.ffi_engine.specs.declared.flat.FlatInput.{FlatInput}
 use Rattle.ffi_engine.specs.declared.flat.FlatOutput.{FlatOutput}
 use Rattle.ffi_engine.specs.declared.flat.FlatTaken.{FlatTaken}
-use Rattle.ffi_engine.specs.Inputs.{HandsInBytes, HasInputNumbers, HostInput, IsNoInput, IsToldAs}
+use Rattle.ffi_engine.specs.Inputs.{PassesBytes, HasInputNumbers, HostInput, IsNoInput, IsToldAs}
 use Rattle.ffi_engine.specs.Outputs.{HasOutputOf, HostEngine, HostOutput, other_signature, first_bytes_in}
 
 -- nothing was given out or shown yet, and nothing is lost
@@ -79,7 +79,7 @@ pub record IsTaken (now : ℕ) (input : HostInput) (old : HeldEngine) (r : FlatT
   pub acted : IsTrue (is_input_admitted certificate_bytes old.engine.core.member.facts input) → IfOk answer
       (IsActedOn same_host_payload host_leader certificate_bytes AreTheSignatures host_keys now input old.engine
       new.engine.core.member.facts new.engine.batcher new.engine.plan.steps.items)
-  pub goes_on : GoesOn same_host_payload host_leader certificate_bytes (IsOrder bytes_in_digest) (subject_in certificate_bytes input)
+  pub continues : Continues same_host_payload host_leader certificate_bytes (IsOrder bytes_in_digest) (subject_in certificate_bytes input)
       old.engine.core new.engine.core
   pub votes : TakesVotes (votes_of_input input) old.engine.batcher new.engine.batcher
   -- but for a vote, the same votes are held
@@ -88,12 +88,12 @@ pub record IsTaken (now : ℕ) (input : HostInput) (old : HeldEngine) (r : FlatT
       input old.engine.batcher old.engine.core new.engine.core
   pub bounded : StaysBounded host_keys old.engine.core old.engine.batcher new.engine.core new.engine.batcher
   -- each proposal and block that the application is to be told of stays told
-  pub duties : OnOk answer (KeepsTelling old.engine new.engine)
+  pub due_work : OnOk answer (KeepsReports old.engine new.engine)
   -- what the member is asked, and what is at hand, comes of the input and of what was at hand; what was asked of peers is still
-  pub comes : OnOk answer (ComesWith same_host_payload host_leader bytes_in_digest certificate_bytes now (came_in certificate_bytes old.engine.batcher input)
+  pub provenance : OnOk answer (IsCausedWith same_host_payload host_leader bytes_in_digest certificate_bytes now (input_causes certificate_bytes old.engine.batcher input)
       old.engine new.engine)
   -- of no view above those that the member has heard of does a certificate come to be asked for
-  pub heights : OnOk answer (AsksNoHigher same_host_payload host_leader old.engine new.engine)
+  pub fetch_heights : OnOk answer (FetchesNoHigher same_host_payload host_leader old.engine new.engine)
   -- what is of no use is counted, and nothing else
   pub ignored : IfOk answer (λ is_of_use. new.engine.plan.ignored ≡ (if is_of_use then old.engine.plan.ignored else one_more old.engine.plan.ignored))
   pub rest : new ≡ record old { engine = new.engine }
@@ -107,20 +107,20 @@ Takes now input old r new = HasLost old r.status new ⊎ IsTaken now input old r
 
 -- nothing was told, and all is as it was: one of the numbers is none of an input, a vote would make a certificate from which leaders
 -- are drawn, or there was no memory for its bytes
-abbrev pub IsInputNotTold : HeldEngine → FlatInput → FlatTaken → HeldEngine → Type 0
-IsInputNotTold old f r new =
-    (new ≡ old) × (((r.status ≡ 6) × (IsNoInput f ⊎ ((old.draws ≡ 1) × (f.kind ≡ 2)))) ⊎ ((r.status ≡ 7) × HandsInBytes f))
+abbrev pub IsInputNotPassed : HeldEngine → FlatInput → FlatTaken → HeldEngine → Type 0
+IsInputNotPassed old f r new =
+    (new ≡ old) × (((r.status ≡ 6) × (IsNoInput f ⊎ ((old.draws ≡ 1) × (f.kind ≡ 2)))) ⊎ ((r.status ≡ 7) × PassesBytes f))
 
 -- the input that the flat one stands for was told, at a moment
-pub record IsInputTold (now : ℕ) (old : HeldEngine) (f : FlatInput) (bytes : List ℕ) (r : FlatTaken) (new : HeldEngine) : Type 0 where
+pub record IsInputPassed (now : ℕ) (old : HeldEngine) (f : FlatInput) (bytes : List ℕ) (r : FlatTaken) (new : HeldEngine) : Type 0 where
   pub input : HostInput
   pub numbers : HasInputNumbers f
-  pub is_told : IsToldAs f bytes input
+  pub is_reported : IsToldAs f bytes input
   pub taken : Takes now input old r new
 
 -- what came in was told, or nothing was
 abbrev pub IsHandled : ℕ → HeldEngine → FlatInput → List ℕ → FlatTaken → HeldEngine → Type 0
-IsHandled now old f bytes r new = IsInputNotTold old f r new ⊎ IsInputTold now old f bytes r new
+IsHandled now old f bytes r new = IsInputNotPassed old f r new ⊎ IsInputPassed now old f bytes r new
 
 -- the bytes of an output: its entries as these frames, what is to be signed, a certificate, or the first signature of two
 abbrev pub bytes_in : List ℕ → Option HostOutput → List ℕ
@@ -165,14 +165,14 @@ pub record IsNothing (status : ℕ) (r : FlatOutput) (new : HeldEngine) : Type 0
   pub last : new.last ≡ None
 
 -- an output is given out, its entries written; or they could not be, for want of memory or since no frame holds one, and all is lost
-abbrev pub IsGivenOut : HostOutput → FlatStored → FlatOutput → HeldEngine → Type 0
-IsGivenOut out before r new =
+abbrev pub IsReturned : HostOutput → FlatStored → FlatOutput → HeldEngine → Type 0
+IsReturned out before r new =
     (IsReadAs out r new × AreFramed out before new.frames.items new.stored × (new.is_lost ≡ false))
     ⊎ ((new.is_lost ≡ true) × ((error : NotWritten) × IsNothing (not_written_number error) r new))
 
 -- all that was given out since the life began, until something is lost
-abbrev pub IsAllGiven : List HostOutput → HeldEngine → Type 0
-IsAllGiven given held = held.is_lost ≡ false → IsKept certificate_bytes given held.engine.core
+abbrev pub IsAllReturned : List HostOutput → HeldEngine → Type 0
+IsAllReturned given held = held.is_lost ≡ false → IsJournaled certificate_bytes given held.engine.core
 
 -- where nothing is queued and all of the record was given out, a journal that carries out what was given out holds the record
 abbrev pub HoldsRecord : List HostOutput → HeldEngine → Type 0
@@ -185,58 +185,58 @@ HoldsRecord given held =
 -- alone waits for the block's view; where no vote was held above those that are taken, each that is held is a member's, and of a view
 -- whose votes are taken
 pub record IsAtRest (now : ℕ) (old new : HostEngine) : Type 0 where
-  pub settled : IsSettled same_host_payload host_leader certificate_bytes new.core
+  pub settled : IsEngineAtRest same_host_payload host_leader certificate_bytes new.core
   pub idle : IsIdle now new.plan
   pub ahead : BuildsAhead new.core new.plan
   pub lowest : HoldsFromKept new.core new.batcher
-  pub lacking : AsksForItsLacking new.core new.plan.repair
-  pub short : (given : List HostOutput) → IsKept certificate_bytes given old.core → IsShort new.plan.options.long_record new.core.member.facts
-  pub waiting : (given : List HostOutput) → HasToldAll given old → AllIsGivenOut given new
+  pub lacking : FetchesItsMissing new.core new.plan.repair
+  pub short : (given : List HostOutput) → IsJournaled certificate_bytes given old.core → IsShort new.plan.options.long_record new.core.member.facts
+  pub waiting : (given : List HostOutput) → HasReportedAll given old → AllIsReturned given new
   pub admitted : HoldsNoneAhead host_keys old.core old.batcher → HoldsAdmitted host_keys new.core new.batcher
 
 -- what a poll comes to at a moment: something is given out; nothing is left to be done then; or the engine has failed
 abbrev pub IsOutcome : ℕ → HeldEngine → FlatOutput → HeldEngine → Type 0
 IsOutcome now old r new =
-    ((out : HostOutput) × IsGivenOut out old.stored r new)
+    ((out : HostOutput) × IsReturned out old.stored r new)
     ⊎ (IsNothing 0 r new × IsAtRest now old.engine new.engine)
     ⊎ ((fault : Fault) × IsFailure (has_failed old.engine.core) fault × IsNothing (fault_status fault) r new × (has_failed new.engine.core ≡ true))
 
 -- an engine that has lost nothing is asked what is to be carried out next at a moment
 pub record IsAsked (now : ℕ) (old : HeldEngine) (r : FlatOutput) (new : HeldEngine) : Type 0 where
   -- what is given out stands behind all that was
-  pub given : (given : List HostOutput) → IsAllGiven given old → IsAllGiven (given ++ option_to_list new.last) new
+  pub given : (given : List HostOutput) → IsAllReturned given old → IsAllReturned (given ++ option_to_list new.last) new
   -- no other proposal is queued to be told as final
-  pub told : new.is_lost ≡ false → TellsNoMore (option_to_list new.last) old.engine.core.outbox new.engine.core.outbox
+  pub told : new.is_lost ≡ false → ReportsNoMore (option_to_list new.last) old.engine.core.outbox new.engine.core.outbox
   -- what is given out is traced by what the member has done
   pub traced : new.is_lost ≡ false
       → EmitsOn same_host_payload host_leader certificate_bytes (IsOrder bytes_in_digest) None (option_to_list new.last) old.engine.core new.engine.core
   -- no certificate is accepted, and no vote is taken
-  pub does : DoesMoreOn same_host_payload host_leader None old.engine.core.member.facts new.engine.core.member.facts
+  pub does : ExtendsHistoryOn same_host_payload host_leader None old.engine.core.member.facts new.engine.core.member.facts
   pub votes : TakesNone old.engine.batcher new.engine.batcher
   -- just those of views below the lowest one that is kept are forgotten, or none is
   pub held : ForgetsNoOther new.engine.core old.engine.batcher new.engine.batcher
   pub bounded : StaysBounded host_keys old.engine.core old.engine.batcher new.engine.core new.engine.batcher
   -- each proposal and block that the application is to be told of stays told
-  pub duties : has_failed new.engine.core ≡ false → new.is_lost ≡ false → (given : List HostOutput) → HasToldAll given old.engine
-      → HasToldAll (given ++ option_to_list new.last) new.engine
+  pub due_work : has_failed new.engine.core ≡ false → new.is_lost ≡ false → (given : List HostOutput) → HasReportedAll given old.engine
+      → HasReportedAll (given ++ option_to_list new.last) new.engine
   -- no work is lost: what is queued or planned is given out, or is so still
   pub works : has_failed new.engine.core ≡ false → new.is_lost ≡ false
       → AreAmong (work_ahead old.engine) (work_in (option_to_list new.last) ++ work_ahead new.engine)
   -- what the member is asked, what is given out and what is at hand comes of what was at hand, but that views may be forgotten below the
   -- lowest one that it keeps; and what was asked of peers is still
-  pub comes : has_failed new.engine.core ≡ false → new.is_lost ≡ false
-      → Comes same_host_payload host_leader bytes_in_digest certificate_bytes now (forgettable new.engine.core.member.facts)
+  pub provenance : has_failed new.engine.core ≡ false → new.is_lost ≡ false
+      → IsCaused same_host_payload host_leader bytes_in_digest certificate_bytes now (forgettable new.engine.core.member.facts)
       (work_in (option_to_list new.last)) (held_by new.engine) old.engine new.engine
   -- of no view above those that the member has heard of does a certificate come to be asked for
-  pub heights : has_failed new.engine.core ≡ false → AsksNoHigher same_host_payload host_leader old.engine new.engine
+  pub fetch_heights : has_failed new.engine.core ≡ false → FetchesNoHigher same_host_payload host_leader old.engine new.engine
   -- no block comes to be built above the first view of the next term
   pub near : has_failed new.engine.core ≡ false → BuildsNear old.engine.core old.engine.plan → BuildsNear new.engine.core new.engine.plan
   -- its views stay the member's
-  pub seen : has_failed new.engine.core ≡ false → HasComeTo old.engine.core.member.facts old.engine.plan
-      → HasComeTo new.engine.core.member.facts new.engine.plan
+  pub seen : has_failed new.engine.core ≡ false → TracksViews old.engine.core.member.facts old.engine.plan
+      → TracksViews new.engine.core.member.facts new.engine.plan
   -- no proposal is lost that came early, until its view is entered
-  pub early : has_failed new.engine.core ≡ false → HasComeTo old.engine.core.member.facts old.engine.plan
-      → StaysEarly old.engine.plan new.engine.core.member.facts new.engine.plan
+  pub early : has_failed new.engine.core ≡ false → TracksViews old.engine.core.member.facts old.engine.plan
+      → StaysStoredEarly old.engine.plan new.engine.core.member.facts new.engine.plan
   -- no input is counted as of no use
   pub ignored : has_failed new.engine.core ≡ false → new.engine.plan.ignored ≡ old.engine.plan.ignored
   -- the options stay, and so does whether there are other members

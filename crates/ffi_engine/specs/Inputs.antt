@@ -73,8 +73,8 @@ IsToldAs f bytes (input.Certified v success) = (f.kind ≡ 6) × (v ≡ f.view) 
 IsToldAs f bytes (input.GivenUp v reason) = (f.kind ≡ 7) × (v ≡ f.view) × (reason_number reason ≡ f.reason)
 
 -- it hands in a signature or a certificate
-abbrev pub HandsInBytes : FlatInput → Type 0
-HandsInBytes f = ((f.kind ≡ 2) ⊎ (f.kind ≡ 3)) × HasKind f.subject
+abbrev pub PassesBytes : FlatInput → Type 0
+PassesBytes f = ((f.kind ≡ 2) ⊎ (f.kind ≡ 3)) × HasKind f.subject
 
 -- one of its numbers is none of an input
 abbrev pub IsNoInput : FlatInput → Type 0

@@ -1,13 +1,13 @@
 //! How an engine behind a handle begins: a first life at a floor, or another from the bytes of a journal.
 
 ghost use Rattle.std.specs.Prelude.{◌≡◌, Err, IfOk, IfErr};
-ghost use Rattle.ffi_engine.specs.EngineStarts.{not_begun_number, not_begun_of, options_of};
+ghost use Rattle.ffi_engine.specs.EngineStarts.{engine_not_started_number, engine_not_started_of, options_of};
 
 use crate::held::HeldEngine;
 use crate::flat::FlatOptions;
 use simplex_engine::engine::{Engine, Options, StartError};
 use ffi_member::flat::FlatSettings;
-use ffi_member::resumption::{NotResumed, going_on};
+use ffi_member::resumption::{NotResumed, resumption};
 use ffi_member::resolver_calls::{NotReplayed, number_of_not_replayed};
 use ffi_member::settings::{SettingsError, start_of};
 use ffi_member::view_types::FlatStored;
@@ -20,7 +20,7 @@ use std::alloc::Global;
 
 /// Why no engine begins.
 #[derive(Clone, Copy, PartialEq, Eq, Debug)]
-pub enum NotBegun {
+pub enum EngineNotStarted {
     /// For what no member of these settings goes on.
     Member(NotResumed),
     /// The resolver refuses the record.
@@ -30,8 +30,8 @@ pub enum NotBegun {
 }
 
 impl HeldEngine {
-    ghost use Rattle.ffi_engine.specs.EngineStarts.{IsEngineBegun, IsEngineNotBegun, IsEngineNotResumed, IsEngineResumed};
-    ghost use Rattle.ffi_engine.specs.declared.begin.NotBegun.TheVariants.{FetchRetryZero};
+    ghost use Rattle.ffi_engine.specs.EngineStarts.{IsEngineStarted, IsEngineNotStarted, IsEngineNotResumed, IsEngineResumed};
+    ghost use Rattle.ffi_engine.specs.declared.begin.EngineNotStarted.TheVariants.{FetchRetryZero};
 
     /// An engine whose member never voted, by flat settings with a table of leaders and the bytes of the floor's certificate.
     ///
@@ -45,21 +45,21 @@ impl HeldEngine {
         certificate: &[u8],
         options: &FlatOptions,
         now: u64,
-    ) -> Result<HeldEngine, NotBegun>
-        ensures begun { IfOk result (IsEngineBegun flat.now leaders.now certificate.now options.now now) }
+    ) -> Result<HeldEngine, EngineNotStarted>
+        ensures begun { IfOk result (IsEngineStarted flat.now leaders.now certificate.now options.now now) }
         ensures no_retry { options.now.retry ≡ 0 → result ≡ Err FetchRetryZero }
-        ensures refused { IfErr result (IsEngineNotBegun flat.now leaders.now certificate.now options.now now) }
+        ensures refused { IfErr result (IsEngineNotStarted flat.now leaders.now certificate.now options.now now) }
     {
         if options.retry == 0 {
-            return Err(NotBegun::FetchRetryZero);
+            return Err(EngineNotStarted::FetchRetryZero);
         }
         let start = match start_of(alloc, flat, leaders, certificate, now) {
             Ok(start) => start,
-            Err(error) => return Err(NotBegun::Member(NotResumed::Settings(error))),
+            Err(error) => return Err(EngineNotStarted::Member(NotResumed::Settings(error))),
         };
         match Engine::start(alloc, start, options_in(options)) {
             Ok(engine) => Ok(HeldEngine::new(alloc, engine, flat.draws)),
-            Err(error) => Err(not_begun(error)),
+            Err(error) => Err(engine_not_started(error)),
         }
     }
 
@@ -78,22 +78,22 @@ impl HeldEngine {
         now: u64,
         stored: &FlatStored,
         journal: &[u8],
-    ) -> Result<HeldEngine, NotBegun>
+    ) -> Result<HeldEngine, EngineNotStarted>
         ensures resumed { IfOk result (IsEngineResumed flat.now leaders.now certificate.now options.now now stored.now journal.now) }
         ensures no_retry { options.now.retry ≡ 0 → result ≡ Err FetchRetryZero }
         ensures refused { IfErr result (IsEngineNotResumed flat.now leaders.now certificate.now options.now now stored.now journal.now) }
     {
         if options.retry == 0 {
-            return Err(NotBegun::FetchRetryZero);
+            return Err(EngineNotStarted::FetchRetryZero);
         }
-        let from = match going_on(alloc, flat, leaders, certificate, now, stored, journal) {
+        let from = match resumption(alloc, flat, leaders, certificate, now, stored, journal) {
             Ok(from) => from,
-            Err(error) => return Err(NotBegun::Member(error)),
+            Err(error) => return Err(EngineNotStarted::Member(error)),
         };
         let options = options_in(options);
         match Engine::resume(alloc, from.start, from.stored, from.entries, options) {
             Ok(engine) => Ok(HeldEngine::new(alloc, engine, flat.draws)),
-            Err(error) => Err(not_begun(error)),
+            Err(error) => Err(engine_not_started(error)),
         }
     }
 }
@@ -109,28 +109,28 @@ fn options_in(flat: &FlatOptions) -> Options
     }
 }
 
-fn not_begun(error: StartError) -> NotBegun
-    ensures { result ≡ not_begun_of error }
+fn engine_not_started(error: StartError) -> EngineNotStarted
+    ensures { result ≡ engine_not_started_of error }
 {
     match error {
-        StartError::RetryZero => NotBegun::Member(NotResumed::Settings(SettingsError::Refused(
+        StartError::RetryZero => EngineNotStarted::Member(NotResumed::Settings(SettingsError::Refused(
             RefusedStart::Config(ConfigError::RetryZero),
         ))),
-        StartError::Resume(ResumeError::EntriesLost) => NotBegun::Member(NotResumed::EntriesLost),
+        StartError::Resume(ResumeError::EntriesLost) => EngineNotStarted::Member(NotResumed::EntriesLost),
         StartError::Resume(ResumeError::Recover(error)) => {
-            NotBegun::Member(NotResumed::Recover(error))
+            EngineNotStarted::Member(NotResumed::Recover(error))
         }
-        StartError::Replay(error) => NotBegun::Resolver(error),
+        StartError::Replay(error) => EngineNotStarted::Resolver(error),
     }
 }
 
 /// The number of what refuses a start or a resume.
-pub fn number_of_not_begun(error: NotBegun) -> u32
-    ensures { result ≡ not_begun_number error }
+pub fn number_of_engine_not_started(error: EngineNotStarted) -> u32
+    ensures { result ≡ engine_not_started_number error }
 {
     match error {
-        NotBegun::Member(error) => number_of_not_resumed(error),
-        NotBegun::Resolver(error) => number_of_not_replayed(NotReplayed::Replay(error)),
-        NotBegun::FetchRetryZero => 33,
+        EngineNotStarted::Member(error) => number_of_not_resumed(error),
+        EngineNotStarted::Resolver(error) => number_of_not_replayed(NotReplayed::Replay(error)),
+        EngineNotStarted::FetchRetryZero => 33,
     }
 }

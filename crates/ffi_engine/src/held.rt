@@ -24,7 +24,7 @@ use std::alloc::Global;
 pub const STATUS_NO_INPUT: u32 = 6;
 
 /// A status where there was no memory for a signature or a certificate: nothing was told.
-pub const STATUS_NOT_TOLD: u32 = 7;
+pub const STATUS_NOT_PASSED: u32 = 7;
 
 /// An engine, and what it gave out last.
 #[derive(Drop)]
@@ -45,12 +45,12 @@ pub struct HeldEngine {
 }
 
 impl HeldEngine {
-    ghost use Rattle.ffi_engine.specs.EngineHandles.{HasShownNothing, IsGivenOut, IsHandled, IsNothing, IsPolled, IsReadAs, AreFramed, Takes};
-    ghost use Rattle.ffi_engine.specs.EngineHandles.{HoldsRecord, IsAllGiven, first_bytes, second_bytes};
+    ghost use Rattle.ffi_engine.specs.EngineHandles.{HasShownNothing, IsReturned, IsHandled, IsNothing, IsPolled, IsReadAs, AreFramed, Takes};
+    ghost use Rattle.ffi_engine.specs.EngineHandles.{HoldsRecord, IsAllReturned, first_bytes, second_bytes};
     ghost use Rattle.laws_safety.specs.Lawful.{IsLawful};
-    ghost use Rattle.laws_safety.specs.MemberHistory.{OfAllDone, MayBeDoneBy};
+    ghost use Rattle.laws_safety.specs.MemberHistory.{OfEachHistory, MayBeHistoryOf};
     ghost use Rattle.laws_safety.specs.RecordsOnce.{HoldsEachEntryOnce};
-    ghost use Rattle.engine_outbox.specs.EmittedVotes.{AllLeave};
+    ghost use Rattle.engine_outbox.specs.EmittedVotes.{AllAreReturned};
     ghost use Rattle.engine_outbox.specs.Outputs.{AreBehind};
     ghost use Rattle.engine_outbox.specs.Finalizations.{finals_in, RiseByView, WereAccepted};
     ghost use Rattle.engine_outbox.specs.Continuity.{IsTraced};
@@ -90,7 +90,7 @@ impl HeldEngine {
         match input_of(self.alloc, flat, bytes) {
             Ok(Some(input)) => self.take(input, now),
             Ok(None) => untaken(STATUS_NO_INPUT),
-            Err(_) => untaken(STATUS_NOT_TOLD),
+            Err(_) => untaken(STATUS_NOT_PASSED),
         }
     }
 
@@ -139,7 +139,7 @@ impl HeldEngine {
         requires empty { self.old.frames.items ≡ [] }
         requires last { self.old.last ≡ None }
         requires going { self.old.is_lost ≡ false }
-        ensures given { IsGivenOut output self.old.stored result self.new }
+        ensures given { IsReturned output self.old.stored result self.new }
         ensures rest { (self.new.engine ≡ self.old.engine) × (self.new.draws ≡ self.old.draws) × (self.new.shown ≡ self.old.shown) }
     {
         match self.write(&output) {
@@ -226,7 +226,7 @@ impl HeldEngine {
     /// - `behind`: each vote stands behind an output that stores it, with its very order.
     /// - `stored`: where all of the record was given out, a journal that carries out what was given out holds the record, and beside
     ///   it what a journal stores.
-    /// - `leaving`: until it fails, each vote that is stored was given out or is queued, but those of the record that the life began
+    /// - `emitted`: until it fails, each vote that is stored was given out or is queued, but those of the record that the life began
     ///   with, which the first output stores.
     /// - `stops`: until it fails, a host may stop after each output that was given out: the journal is then the record of a member that
     ///   the engine's member was, which had signed each vote among these outputs.
@@ -237,10 +237,10 @@ impl HeldEngine {
     /// - `ran`: a network of `agreement` may have it as member `i`.
     /// - `once`: its record holds each entry once: of each view at most seven.
     pub fn keeps_the_laws(&self)
-        ensures behind { (given : _) → IsAllGiven given self.now → self.now.is_lost ≡ false → AreBehind [] given }
-        ensures stored { (given : _) → IsAllGiven given self.now → self.now.is_lost ≡ false → HoldsRecord given self.now }
-        ensures leaving { (given : _) → IsAllGiven given self.now → self.now.is_lost ≡ false → self.now.engine.core.failed ≡ false
-            → AllLeave (given ++ self.now.engine.core.outbox.queue.items) }
+        ensures behind { (given : _) → IsAllReturned given self.now → self.now.is_lost ≡ false → AreBehind [] given }
+        ensures stored { (given : _) → IsAllReturned given self.now → self.now.is_lost ≡ false → HoldsRecord given self.now }
+        ensures emitted { (given : _) → IsAllReturned given self.now → self.now.is_lost ≡ false → self.now.engine.core.failed ≡ false
+            → AllAreReturned (given ++ self.now.engine.core.outbox.queue.items) }
         ensures stops { (term_length i : _) (earlier given all : _)
             → IsTraced same_host_payload host_leader certificate_bytes term_length i earlier given all self.now.engine.core
             → self.now.engine.core.failed ≡ false → EachStopIsLawful same_host_payload host_leader certificate_bytes term_length i earlier all
@@ -250,10 +250,10 @@ impl HeldEngine {
             → WereAccepted all (finals_in given) }
         ensures signed { (i key given vote : _) → IsSignedBy (IsOrder bytes_in_digest) i key given self.now.engine.core → AreBehind [] given
             → Contains given (output.Vote vote) → (vote.signer ≡ i) × IsOrder bytes_in_digest key vote.subject vote.signature }
-        ensures rising { (given : _) → IsAllGiven given self.now → self.now.is_lost ≡ false → RiseByView (finals_in given) }
-        ensures lawful { OfAllDone same_host_payload host_leader self.now.engine.core.member.facts (λ term_length i all. IsLawful term_length all) }
-        ensures ran { OfAllDone same_host_payload host_leader self.now.engine.core.member.facts (MayBeDoneBy HostKey same_host_payload host_leader) }
-        ensures once { OfAllDone same_host_payload host_leader self.now.engine.core.member.facts (λ term_length i all.
+        ensures rising { (given : _) → IsAllReturned given self.now → self.now.is_lost ≡ false → RiseByView (finals_in given) }
+        ensures lawful { OfEachHistory same_host_payload host_leader self.now.engine.core.member.facts (λ term_length i all. IsLawful term_length all) }
+        ensures ran { OfEachHistory same_host_payload host_leader self.now.engine.core.member.facts (MayBeHistoryOf HostKey same_host_payload host_leader) }
+        ensures once { OfEachHistory same_host_payload host_leader self.now.engine.core.member.facts (λ term_length i all.
             HoldsEachEntryOnce self.now.engine.core.member.facts) }
     {
         self.engine.keeps_the_laws();

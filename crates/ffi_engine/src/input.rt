@@ -3,7 +3,7 @@
 ghost use Rattle.std.specs.Prelude.{◌≡◌, ◌≤◌, ◌<◌, IfOk, OnErr, MatchOption};
 ghost use Rattle.ffi_member.specs.Numbers.{flag_number, reason_number};
 ghost use Rattle.ffi_member.specs.Replies.{IsContext};
-ghost use Rattle.ffi_engine.specs.Inputs.{HandsInBytes, HasKind, HasInputNumbers, IsCertificate, IsNoInput, IsNoKind, IsOn, IsToldAs, IsVote};
+ghost use Rattle.ffi_engine.specs.Inputs.{PassesBytes, HasKind, HasInputNumbers, IsCertificate, IsNoInput, IsNoKind, IsOn, IsToldAs, IsVote};
 
 use crate::flat::{FlatInput, FlatSubject};
 use bytes::Bytes;
@@ -30,7 +30,7 @@ pub fn input_of(
     flat: &FlatInput,
     bytes: &[u8],
 ) -> Result<Option<HostInput>, AllocError>
-    ensures wanting { OnErr result (HandsInBytes flat.now) }
+    ensures wanting { OnErr result (PassesBytes flat.now) }
     ensures made { IfOk result (λ made. MatchOption made (IsNoInput flat.now)
         (λ input. HasInputNumbers flat.now × IsToldAs flat.now bytes.now input)) }
 {
@@ -52,7 +52,7 @@ fn input_of_kind(
 ) -> Result<Option<HostInput>, AllocError>
     requires reason { (reason_number reason ≡ flat.now.reason) × (flat.now.reason < 10) }
     requires success { (flag_number success ≡ flat.now.success) × (flat.now.success < 2) }
-    ensures wanting { OnErr result (HandsInBytes flat.now) }
+    ensures wanting { OnErr result (PassesBytes flat.now) }
     ensures made { IfOk result (λ made. MatchOption made (IsNoInput flat.now)
         (λ input. HasInputNumbers flat.now × IsToldAs flat.now bytes.now input)) }
 {

@@ -39,9 +39,9 @@ abbrev pub heap : Global
 heap = record { memory = record { seal = tt } }
 
 -- what a start has written: nothing yet, and there may be anything; or a handle that is not null
-abbrev pub handed_at : Ptr → Option Held → Fml
-handed_at at None = ftrue
-handed_at at (Some now) = in_block at (owned_at heap at now)
+abbrev pub passed_at : Ptr → Option Held → Fml
+passed_at at None = ftrue
+passed_at at (Some now) = in_block at (owned_at heap at now)
 
 -- how a place of a handle stores what is behind it
 abbrev pub coded_held : Coded (Option Held)
@@ -61,9 +61,9 @@ resolver_owned_at alloc null_ptr now = ftrue
 resolver_owned_at alloc (block_ptr b o) now =
     fsep (fact_formula (Testable (block_ptr b o))) (box_owns (global.ghosts.dealloc_token alloc) resolver.the_row (block_ptr b o) now)
 
-abbrev pub resolver_handed_at : Ptr → Option HeldResolver → Fml
-resolver_handed_at at None = ftrue
-resolver_handed_at at (Some now) = in_block at (resolver_owned_at heap at now)
+abbrev pub resolver_passed_at : Ptr → Option HeldResolver → Fml
+resolver_passed_at at None = ftrue
+resolver_passed_at at (Some now) = in_block at (resolver_owned_at heap at now)
 
 abbrev pub coded_resolver : Coded (Option HeldResolver)
 coded_resolver = coded_option resolver.the_row.coded
@@ -82,9 +82,9 @@ engine_owned_at alloc null_ptr now = ftrue
 engine_owned_at alloc (block_ptr b o) now =
     fsep (fact_formula (Testable (block_ptr b o))) (box_owns (global.ghosts.dealloc_token alloc) engine.the_row (block_ptr b o) now)
 
-abbrev pub engine_handed_at : Ptr → Option HeldEngine → Fml
-engine_handed_at at None = ftrue
-engine_handed_at at (Some now) = in_block at (engine_owned_at heap at now)
+abbrev pub engine_passed_at : Ptr → Option HeldEngine → Fml
+engine_passed_at at None = ftrue
+engine_passed_at at (Some now) = in_block at (engine_owned_at heap at now)
 
 abbrev pub coded_engine : Coded (Option HeldEngine)
 coded_engine = coded_option engine.the_row.coded

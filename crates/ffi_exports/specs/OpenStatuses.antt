@@ -13,13 +13,13 @@ use Rattle.ffi_member.specs.declared.resolver_calls.NotReplayed.{NotReplayed}
 use Rattle.ffi_member.specs.declared.view_types.FlatRestart.{FlatRestart}
 use Rattle.ffi_member.specs.declared.view_types.FlatStored.{FlatStored}
 use Rattle.ffi_member.specs.Resumption.{IsNotResumedBy, IsRestartedBy, IsResumedBy}
-use Rattle.ffi_member.specs.ResolverHandles.{IsBegunFrom, IsNotBegunFrom, not_replayed_number}
+use Rattle.ffi_member.specs.ResolverHandles.{IsReplayedFrom, IsNotReplayedFrom, not_replayed_number}
 use Rattle.ffi_member.specs.MemberStart.{IsNotStarted, IsStarted}
 use Rattle.ffi_member.specs.Statuses.{not_resumed_number, not_started_number, restart_number}
-use Rattle.ffi_engine.specs.declared.begin.NotBegun.{NotBegun}
+use Rattle.ffi_engine.specs.declared.begin.EngineNotStarted.{EngineNotStarted}
 use Rattle.ffi_engine.specs.declared.held.HeldEngine.{HeldEngine}
 use Rattle.ffi_engine.specs.declared.flat.FlatOptions.{FlatOptions}
-use Rattle.ffi_engine.specs.EngineStarts.{IsEngineBegun, IsEngineNotBegun, IsEngineNotResumed, IsEngineResumed, not_begun_number}
+use Rattle.ffi_engine.specs.EngineStarts.{IsEngineStarted, IsEngineNotStarted, IsEngineNotResumed, IsEngineResumed, engine_not_started_number}
 
 -- the handle of this member was written, or there was no memory for it, and nothing was
 abbrev pub IsWritten : Held → ℕ → MemberHandle → MemberHandle → Type 0
@@ -53,21 +53,21 @@ IsRestartStatus old f leaders bytes status new =
 -- the handle of the resolver was written; or there was no memory for it, or none starts, and nothing was
 abbrev pub IsReplayStatus : ℕ → List ℕ → ℕ → ResolverHandle → ResolverHandle → Type 0
 IsReplayStatus term_length journal status old new =
-    ((status ≡ 0) × IsSomeAnd new.held (IsBegunFrom term_length journal))
+    ((status ≡ 0) × IsSomeAnd new.held (IsReplayedFrom term_length journal))
     ⊎ ((status ≡ 1) × (new ≡ old))
-    ⊎ ((e : NotReplayed) × IsNotBegunFrom term_length journal e × (status ≡ not_replayed_number e) × (new ≡ old))
+    ⊎ ((e : NotReplayed) × IsNotReplayedFrom term_length journal e × (status ≡ not_replayed_number e) × (new ≡ old))
 
 -- the handle of the engine that begins was written; or there was no memory for it, or the start is refused, and nothing was
-abbrev pub IsBegunStatus : FlatSettings → List ℕ → List ℕ → FlatOptions → ℕ → ℕ → EngineHandle → EngineHandle → Type 0
-IsBegunStatus f leaders bytes options now status old new =
-    ((status ≡ 0) × IsSomeAnd new.held (IsEngineBegun f leaders bytes options now))
+abbrev pub IsStartedStatus : FlatSettings → List ℕ → List ℕ → FlatOptions → ℕ → ℕ → EngineHandle → EngineHandle → Type 0
+IsStartedStatus f leaders bytes options now status old new =
+    ((status ≡ 0) × IsSomeAnd new.held (IsEngineStarted f leaders bytes options now))
     ⊎ ((status ≡ 1) × (new ≡ old))
-    ⊎ ((e : NotBegun) × IsEngineNotBegun f leaders bytes options now e × (status ≡ not_begun_number e) × (new ≡ old))
+    ⊎ ((e : EngineNotStarted) × IsEngineNotStarted f leaders bytes options now e × (status ≡ engine_not_started_number e) × (new ≡ old))
 
 -- the handle of the engine that goes on was written; or there was no memory for it, or the resume is refused, and nothing was
-abbrev pub IsGoingOnStatus : FlatSettings → List ℕ → List ℕ → FlatOptions → ℕ → FlatStored → List ℕ → ℕ → EngineHandle → EngineHandle
+abbrev pub IsResumptionStatus : FlatSettings → List ℕ → List ℕ → FlatOptions → ℕ → FlatStored → List ℕ → ℕ → EngineHandle → EngineHandle
     → Type 0
-IsGoingOnStatus f leaders bytes options now beside journal status old new =
+IsResumptionStatus f leaders bytes options now beside journal status old new =
     ((status ≡ 0) × IsSomeAnd new.held (IsEngineResumed f leaders bytes options now beside journal))
     ⊎ ((status ≡ 1) × (new ≡ old))
-    ⊎ ((e : NotBegun) × IsEngineNotResumed f leaders bytes options now beside journal e × (status ≡ not_begun_number e) × (new ≡ old))
+    ⊎ ((e : EngineNotStarted) × IsEngineNotResumed f leaders bytes options now beside journal e × (status ≡ engine_not_started_number e) × (new ≡ old))

@@ -8,16 +8,16 @@ ghost use Rattle.ffi_engine.specs.declared.held.HeldEngine.{HeldEngine};
 ghost use Rattle.ffi_engine.specs.EngineHandles.{IsHandled, IsPolled};
 ghost use Rattle.ffi_engine.specs.EngineViews.{ShowsChunk, ShowsFound, ShowsOpenFetch, ShowsServed, ShowsStatus, ShowsView, ShowsWithheld};
 ghost use Rattle.ffi_exports.specs.HandleContents.{IsRead, engine_at, engine_left_at, engine_owned_at};
-ghost use Rattle.ffi_exports.specs.OpenStatuses.{IsBegunStatus, IsGoingOnStatus};
+ghost use Rattle.ffi_exports.specs.OpenStatuses.{IsStartedStatus, IsResumptionStatus};
 
 use crate::handles::EngineHandle;
-use crate::raw_box::Loose;
+use crate::raw_box::RawBox;
 use ffi_member::null_handle;
 use ffi_member::flat::FlatSettings;
 use ffi_member::resolver_types::FlatServed;
 use ffi_member::view_types::{FlatChunk, FlatFound, FlatStored, FlatView, FlatWithheld};
 use ffi_engine::null_handle as absent_engine;
-use ffi_engine::begin::number_of_not_begun;
+use ffi_engine::begin::number_of_engine_not_started;
 use ffi_engine::held::HeldEngine;
 use ffi_engine::flat::{
     FlatInput, FlatOpen, FlatOptions, FlatOutput, FlatStatus, FlatTaken,
@@ -35,12 +35,12 @@ pub extern "C" fn simplex_engine_start(
     now: u64,
     out: &mut EngineHandle,
 ) -> u32
-    ensures begun { IsBegunStatus settings.now leaders.now certificate.now options.now now result out.old out.new }
+    ensures begun { IsStartedStatus settings.now leaders.now certificate.now options.now now result out.old out.new }
     ensures no_retry { options.now.retry ≡ 0 → result ≡ 33 }
 {
     match HeldEngine::start(alloc, settings, leaders, certificate, options, now) {
         Ok(held) => out.write(alloc, held),
-        Err(error) => number_of_not_begun(error),
+        Err(error) => number_of_engine_not_started(error),
     }
 }
 
@@ -57,7 +57,7 @@ pub extern "C" fn simplex_engine_resume(
     journal: &[u8],
     out: &mut EngineHandle,
 ) -> u32
-    ensures resumed { IsGoingOnStatus settings.now leaders.now certificate.now options.now now stored.now journal.now result out.old out.new }
+    ensures resumed { IsResumptionStatus settings.now leaders.now certificate.now options.now now stored.now journal.now result out.old out.new }
     ensures no_retry { options.now.retry ≡ 0 → result ≡ 33 }
 {
     match HeldEngine::resume(
@@ -71,7 +71,7 @@ pub extern "C" fn simplex_engine_resume(
         journal,
     ) {
         Ok(held) => out.write(alloc, held),
-        Err(error) => number_of_not_begun(error),
+        Err(error) => number_of_engine_not_started(error),
     }
 }
 
@@ -128,10 +128,10 @@ pub unsafe extern "C" fn simplex_engine_bytes(at: *mut u8, which: u32, from: u64
     if at.is_null() {
         return null_handle::chunk();
     }
-    hand_chunk(unsafe { &mut *(at as *mut HeldEngine) }, which, from)
+    pass_chunk(unsafe { &mut *(at as *mut HeldEngine) }, which, from)
 }
 
-fn hand_chunk(held: &mut HeldEngine, which: u32, from: u64) -> FlatChunk
+fn pass_chunk(held: &mut HeldEngine, which: u32, from: u64) -> FlatChunk
     ensures { IsRead held.old held.new (ShowsChunk held.old which from result) }
 {
     held.chunk(which, from)
@@ -147,10 +147,10 @@ pub unsafe extern "C" fn simplex_engine_status(at: *mut u8) -> FlatStatus
     if at.is_null() {
         return absent_engine::engine_status();
     }
-    hand_status(unsafe { &mut *(at as *mut HeldEngine) })
+    pass_status(unsafe { &mut *(at as *mut HeldEngine) })
 }
 
-fn hand_status(held: &mut HeldEngine) -> FlatStatus
+fn pass_status(held: &mut HeldEngine) -> FlatStatus
     ensures { IsRead held.old held.new (ShowsStatus held.old result) }
 {
     held.status()
@@ -166,10 +166,10 @@ pub unsafe extern "C" fn simplex_engine_open(at: *mut u8, index: u64) -> FlatOpe
     if at.is_null() {
         return absent_engine::open();
     }
-    hand_open(unsafe { &mut *(at as *mut HeldEngine) }, index)
+    pass_open(unsafe { &mut *(at as *mut HeldEngine) }, index)
 }
 
-fn hand_open(held: &mut HeldEngine, index: u64) -> FlatOpen
+fn pass_open(held: &mut HeldEngine, index: u64) -> FlatOpen
     ensures { IsRead held.old held.new (ShowsOpenFetch held.old index result) }
 {
     held.open(index)
@@ -185,10 +185,10 @@ pub unsafe extern "C" fn simplex_engine_view(at: *mut u8, view: u64) -> FlatView
     if at.is_null() {
         return null_handle::view();
     }
-    hand_view(unsafe { &mut *(at as *mut HeldEngine) }, view)
+    pass_view(unsafe { &mut *(at as *mut HeldEngine) }, view)
 }
 
-fn hand_view(held: &mut HeldEngine, view: u64) -> FlatView
+fn pass_view(held: &mut HeldEngine, view: u64) -> FlatView
     ensures { IsRead held.old held.new (ShowsView held.old view result) }
 {
     held.view(view)
@@ -204,10 +204,10 @@ pub unsafe extern "C" fn simplex_engine_withheld(at: *mut u8, kind: u32, view: u
     if at.is_null() {
         return null_handle::withheld();
     }
-    hand_withheld(unsafe { &mut *(at as *mut HeldEngine) }, kind, view)
+    pass_withheld(unsafe { &mut *(at as *mut HeldEngine) }, kind, view)
 }
 
-fn hand_withheld(held: &mut HeldEngine, kind: u32, view: u64) -> FlatWithheld
+fn pass_withheld(held: &mut HeldEngine, kind: u32, view: u64) -> FlatWithheld
     ensures { IsRead held.old held.new (ShowsWithheld held.old kind view result) }
 {
     held.withheld(kind, view)
@@ -223,10 +223,10 @@ pub unsafe extern "C" fn simplex_engine_certificate(at: *mut u8, kind: u32, view
     if at.is_null() {
         return null_handle::found();
     }
-    hand_certificate(unsafe { &mut *(at as *mut HeldEngine) }, kind, view)
+    pass_certificate(unsafe { &mut *(at as *mut HeldEngine) }, kind, view)
 }
 
-fn hand_certificate(held: &mut HeldEngine, kind: u32, view: u64) -> FlatFound
+fn pass_certificate(held: &mut HeldEngine, kind: u32, view: u64) -> FlatFound
     ensures { ShowsFound held.old kind view result held.new }
 {
     held.certificate(kind, view)
@@ -242,10 +242,10 @@ pub unsafe extern "C" fn simplex_engine_serve(at: *mut u8, view: u64) -> FlatSer
     if at.is_null() {
         return null_handle::served();
     }
-    hand_served(unsafe { &mut *(at as *mut HeldEngine) }, view)
+    pass_served(unsafe { &mut *(at as *mut HeldEngine) }, view)
 }
 
-fn hand_served(held: &mut HeldEngine, view: u64) -> FlatServed
+fn pass_served(held: &mut HeldEngine, view: u64) -> FlatServed
     ensures { ShowsServed held.old view result held.new }
 {
     held.serve(view)
@@ -260,13 +260,13 @@ pub unsafe extern "C" fn simplex_engine_free(alloc: Global, at: *mut u8)
     if at.is_null() {
         return;
     }
-    end(Loose {
+    end(RawBox {
         at: at as *mut HeldEngine,
         alloc,
     })
 }
 
 /// Drops the engine at a pointer.
-fn end(engine: Loose<HeldEngine, Global>) {
+fn end(engine: RawBox<HeldEngine, Global>) {
     let _engine = engine.into_box();
 }

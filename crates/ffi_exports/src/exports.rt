@@ -1,5 +1,5 @@
 //! The functions that C calls. `held_at` says what a handle is: null, or a pointer to a member that `simplex_member_start` or
-//! `simplex_member_resume` made, and that no other call has. At null each answers the status 15, and does nothing. `handed_at` says
+//! `simplex_member_resume` made, and that no other call has. At null each answers the status 15, and does nothing. `passed_at` says
 //! what these two write.
 
 ghost use Rattle.std.specs.Prelude.{◌≡◌};
@@ -14,7 +14,7 @@ ghost use Rattle.ffi_exports.specs.HandleContents.{IsRead, held_at, member_left_
 ghost use Rattle.ffi_exports.specs.OpenStatuses.{IsRestartStatus, IsResumeStatus, IsStartStatus};
 
 use crate::handles::MemberHandle;
-use crate::raw_box::Loose;
+use crate::raw_box::RawBox;
 use ffi_member::null_handle;
 use ffi_member::flat::{FlatCall, FlatProposal, FlatReply, FlatSettings};
 use ffi_member::held::Held;
@@ -106,10 +106,10 @@ pub unsafe extern "C" fn simplex_member_bytes(at: *mut u8, which: u32, from: u64
     if at.is_null() {
         return null_handle::chunk();
     }
-    hand_chunk(unsafe { &mut *(at as *mut Held) }, which, from)
+    pass_chunk(unsafe { &mut *(at as *mut Held) }, which, from)
 }
 
-fn hand_chunk(held: &mut Held, which: u32, from: u64) -> FlatChunk
+fn pass_chunk(held: &mut Held, which: u32, from: u64) -> FlatChunk
     ensures { IsRead held.old held.new (IsChunkOf held.old which from result) }
 {
     held.chunk(which, from)
@@ -125,10 +125,10 @@ pub unsafe extern "C" fn simplex_member_item(at: *mut u8, which: u32, index: u64
     if at.is_null() {
         return null_handle::item();
     }
-    hand_item(unsafe { &mut *(at as *mut Held) }, which, index)
+    pass_item(unsafe { &mut *(at as *mut Held) }, which, index)
 }
 
-fn hand_item(held: &mut Held, which: u32, index: u64) -> FlatItem
+fn pass_item(held: &mut Held, which: u32, index: u64) -> FlatItem
     ensures { IsRead held.old held.new (IsItem held.old.last which index result) }
 {
     held.item(which, index)
@@ -144,10 +144,10 @@ pub unsafe extern "C" fn simplex_member_certificate(at: *mut u8, kind: u32, view
     if at.is_null() {
         return null_handle::found();
     }
-    hand_certificate(unsafe { &mut *(at as *mut Held) }, kind, view)
+    pass_certificate(unsafe { &mut *(at as *mut Held) }, kind, view)
 }
 
-fn hand_certificate(held: &mut Held, kind: u32, view: u64) -> FlatFound
+fn pass_certificate(held: &mut Held, kind: u32, view: u64) -> FlatFound
     ensures { IsFound held.old kind view result held.new }
 {
     held.certificate(kind, view)
@@ -163,10 +163,10 @@ pub unsafe extern "C" fn simplex_member_entries(at: *mut u8, count: u64) -> Flat
     if at.is_null() {
         return null_handle::entries();
     }
-    hand_entries(unsafe { &mut *(at as *mut Held) }, count)
+    pass_entries(unsafe { &mut *(at as *mut Held) }, count)
 }
 
-fn hand_entries(held: &mut Held, count: u64) -> FlatEntries
+fn pass_entries(held: &mut Held, count: u64) -> FlatEntries
     ensures { IsEntries held.old count result held.new }
 {
     held.entries(count)
@@ -182,10 +182,10 @@ pub unsafe extern "C" fn simplex_member_prune_record(at: *mut u8) -> FlatEntries
     if at.is_null() {
         return null_handle::entries();
     }
-    hand_pruned(unsafe { &mut *(at as *mut Held) })
+    pass_pruned(unsafe { &mut *(at as *mut Held) })
 }
 
-fn hand_pruned(held: &mut Held) -> FlatEntries
+fn pass_pruned(held: &mut Held) -> FlatEntries
     ensures { IsPruned held.old result held.new }
 {
     held.prune_record()
@@ -201,10 +201,10 @@ pub unsafe extern "C" fn simplex_member_view(at: *mut u8, view: u64) -> FlatView
     if at.is_null() {
         return null_handle::view();
     }
-    hand_view(unsafe { &mut *(at as *mut Held) }, view)
+    pass_view(unsafe { &mut *(at as *mut Held) }, view)
 }
 
-fn hand_view(held: &mut Held, view: u64) -> FlatView
+fn pass_view(held: &mut Held, view: u64) -> FlatView
     ensures { IsRead held.old held.new (IsView held.old.member.facts view result) }
 {
     held.view(view)
@@ -220,10 +220,10 @@ pub unsafe extern "C" fn simplex_member_withheld(at: *mut u8, kind: u32, view: u
     if at.is_null() {
         return null_handle::withheld();
     }
-    hand_withheld(unsafe { &mut *(at as *mut Held) }, kind, view)
+    pass_withheld(unsafe { &mut *(at as *mut Held) }, kind, view)
 }
 
-fn hand_withheld(held: &mut Held, kind: u32, view: u64) -> FlatWithheld
+fn pass_withheld(held: &mut Held, kind: u32, view: u64) -> FlatWithheld
     ensures { IsRead held.old held.new (IsWithheld held.old.member.facts kind view result) }
 {
     held.withheld(kind, view)
@@ -267,14 +267,14 @@ pub unsafe extern "C" fn simplex_member_free(alloc: Global, at: *mut u8)
     if at.is_null() {
         return;
     }
-    end(Loose {
+    end(RawBox {
         at: at as *mut Held,
         alloc,
     })
 }
 
 /// Drops the member at a pointer.
-fn end(member: Loose<Held, Global>) {
+fn end(member: RawBox<Held, Global>) {
     let _member = member.into_box();
 }
 

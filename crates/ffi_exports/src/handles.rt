@@ -6,7 +6,7 @@ ghost use Rattle.ffi_member.specs.declared.resolver_calls.HeldResolver.{HeldReso
 ghost use Rattle.ffi_engine.specs.declared.held.HeldEngine.{HeldEngine};
 ghost use Rattle.ffi_exports.specs.HandleContents.{coded_engine, coded_held, coded_resolver};
 
-use crate::raw_box::Loose;
+use crate::raw_box::RawBox;
 use ffi_member::held::Held;
 use ffi_member::resolver_calls::HeldResolver;
 use ffi_engine::held::HeldEngine;
@@ -22,18 +22,18 @@ pub struct MemberHandle {
 }
 
 impl Model for MemberHandle {
-    ghost use Rattle.ffi_exports.specs.HandleContents.{handed_at};
+    ghost use Rattle.ffi_exports.specs.HandleContents.{passed_at};
 
-    ghost also_owns = { λ h. handed_at h.at h.held };
+    ghost also_owns = { λ h. passed_at h.at h.held };
 }
 
 impl MemberHandle {
     ghost use Rattle.ffi_exports.specs.OpenStatuses.{IsWritten};
 
-    fn of(member: Loose<Held, Global>) -> MemberHandle
+    fn of(member: RawBox<Held, Global>) -> MemberHandle
         ensures { result.held ≡ Some member.value }
     {
-        let Loose { at, alloc: _alloc } = member;
+        let RawBox { at, alloc: _alloc } = member;
         MemberHandle { at: at as *mut u8 }
     }
 
@@ -43,7 +43,7 @@ impl MemberHandle {
     {
         match Box::new(alloc, held) {
             Ok(held) => {
-                *self = MemberHandle::of(Loose::of(held));
+                *self = MemberHandle::of(RawBox::of(held));
                 0
             }
             Err(_) => 1,
@@ -60,18 +60,18 @@ pub struct ResolverHandle {
 }
 
 impl Model for ResolverHandle {
-    ghost use Rattle.ffi_exports.specs.HandleContents.{resolver_handed_at};
+    ghost use Rattle.ffi_exports.specs.HandleContents.{resolver_passed_at};
 
-    ghost also_owns = { λ h. resolver_handed_at h.at h.held };
+    ghost also_owns = { λ h. resolver_passed_at h.at h.held };
 }
 
 impl ResolverHandle {
     ghost use Rattle.ffi_exports.specs.OpenStatuses.{IsResolverWritten};
 
-    fn of(resolver: Loose<HeldResolver, Global>) -> ResolverHandle
+    fn of(resolver: RawBox<HeldResolver, Global>) -> ResolverHandle
         ensures { result.held ≡ Some resolver.value }
     {
-        let Loose { at, alloc: _alloc } = resolver;
+        let RawBox { at, alloc: _alloc } = resolver;
         ResolverHandle { at: at as *mut u8 }
     }
 
@@ -81,7 +81,7 @@ impl ResolverHandle {
     {
         match Box::new(alloc, held) {
             Ok(held) => {
-                *self = ResolverHandle::of(Loose::of(held));
+                *self = ResolverHandle::of(RawBox::of(held));
                 0
             }
             Err(_) => 1,
@@ -98,18 +98,18 @@ pub struct EngineHandle {
 }
 
 impl Model for EngineHandle {
-    ghost use Rattle.ffi_exports.specs.HandleContents.{engine_handed_at};
+    ghost use Rattle.ffi_exports.specs.HandleContents.{engine_passed_at};
 
-    ghost also_owns = { λ h. engine_handed_at h.at h.held };
+    ghost also_owns = { λ h. engine_passed_at h.at h.held };
 }
 
 impl EngineHandle {
     ghost use Rattle.ffi_exports.specs.OpenStatuses.{IsEngineWritten};
 
-    fn of(engine: Loose<HeldEngine, Global>) -> EngineHandle
+    fn of(engine: RawBox<HeldEngine, Global>) -> EngineHandle
         ensures { result.held ≡ Some engine.value }
     {
-        let Loose { at, alloc: _alloc } = engine;
+        let RawBox { at, alloc: _alloc } = engine;
         EngineHandle { at: at as *mut u8 }
     }
 
@@ -119,7 +119,7 @@ impl EngineHandle {
     {
         match Box::new(alloc, held) {
             Ok(held) => {
-                *self = EngineHandle::of(Loose::of(held));
+                *self = EngineHandle::of(RawBox::of(held));
                 0
             }
             Err(_) => 1,

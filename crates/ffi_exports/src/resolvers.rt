@@ -10,10 +10,10 @@ ghost use Rattle.ffi_exports.specs.HandleContents.{IsRead, resolver_at, resolver
 ghost use Rattle.ffi_exports.specs.OpenStatuses.{IsReplayStatus};
 
 use crate::handles::ResolverHandle;
-use crate::raw_box::Loose;
+use crate::raw_box::RawBox;
 use ffi_member::null_handle;
 use ffi_member::resolver_types::{
-    FlatEffect, FlatEffects, FlatOutstanding, FlatServed, FlatSettled, FlatTold,
+    FlatEffect, FlatEffects, FlatOutstanding, FlatServed, FlatSettled, FlatResolverReply,
 };
 use ffi_member::resolver_calls::{HeldResolver, number_of_not_replayed};
 use ffi_member::view_types::FlatChunk;
@@ -39,7 +39,7 @@ pub extern "C" fn simplex_resolver_start(
 #[unsafe(no_mangle)]
 pub unsafe extern "C" fn simplex_resolver_told(
     at: *mut u8,
-    told: &FlatTold,
+    told: &FlatResolverReply,
     certificate: &[u8],
 ) -> FlatEffects
     ghost held: { HeldResolver }
@@ -56,7 +56,7 @@ pub unsafe extern "C" fn simplex_resolver_told(
     )
 }
 
-fn tell(held: &mut HeldResolver, told: &FlatTold, certificate: &[u8]) -> FlatEffects
+fn tell(held: &mut HeldResolver, told: &FlatResolverReply, certificate: &[u8]) -> FlatEffects
     ensures { IsHeard held.old told.now certificate.now result held.new }
 {
     held.told(told, certificate)
@@ -72,10 +72,10 @@ pub unsafe extern "C" fn simplex_resolver_effect(at: *mut u8, index: u64) -> Fla
     if at.is_null() {
         return null_handle::effect();
     }
-    hand_effect(unsafe { &mut *(at as *mut HeldResolver) }, index)
+    pass_effect(unsafe { &mut *(at as *mut HeldResolver) }, index)
 }
 
-fn hand_effect(held: &mut HeldResolver, index: u64) -> FlatEffect
+fn pass_effect(held: &mut HeldResolver, index: u64) -> FlatEffect
     ensures { IsRead held.old held.new (IsEffectAt held.old.last.items index result) }
 {
     held.effect(index)
@@ -91,10 +91,10 @@ pub unsafe extern "C" fn simplex_resolver_settled(at: *mut u8, view: u64) -> Fla
     if at.is_null() {
         return null_handle::settled();
     }
-    hand_settled(unsafe { &mut *(at as *mut HeldResolver) }, view)
+    pass_settled(unsafe { &mut *(at as *mut HeldResolver) }, view)
 }
 
-fn hand_settled(held: &mut HeldResolver, view: u64) -> FlatSettled
+fn pass_settled(held: &mut HeldResolver, view: u64) -> FlatSettled
     ensures { IsRead held.old held.new (IsSettledAt held.old.resolver view result) }
 {
     held.settled(view)
@@ -110,10 +110,10 @@ pub unsafe extern "C" fn simplex_resolver_outstanding(at: *mut u8) -> FlatOutsta
     if at.is_null() {
         return null_handle::outstanding();
     }
-    hand_outstanding(unsafe { &mut *(at as *mut HeldResolver) })
+    pass_outstanding(unsafe { &mut *(at as *mut HeldResolver) })
 }
 
-fn hand_outstanding(held: &mut HeldResolver) -> FlatOutstanding
+fn pass_outstanding(held: &mut HeldResolver) -> FlatOutstanding
     ensures { AreOutstanding held.old result held.new }
 {
     held.outstanding()
@@ -129,10 +129,10 @@ pub unsafe extern "C" fn simplex_resolver_produce(at: *mut u8, view: u64) -> Fla
     if at.is_null() {
         return null_handle::served();
     }
-    hand_served(unsafe { &mut *(at as *mut HeldResolver) }, view)
+    pass_served(unsafe { &mut *(at as *mut HeldResolver) }, view)
 }
 
-fn hand_served(held: &mut HeldResolver, view: u64) -> FlatServed
+fn pass_served(held: &mut HeldResolver, view: u64) -> FlatServed
     ensures { IsServedFor held.old view result held.new }
 {
     held.produce(view)
@@ -148,10 +148,10 @@ pub unsafe extern "C" fn simplex_resolver_bytes(at: *mut u8, from: u64) -> FlatC
     if at.is_null() {
         return null_handle::chunk();
     }
-    hand_bytes(unsafe { &mut *(at as *mut HeldResolver) }, from)
+    pass_bytes(unsafe { &mut *(at as *mut HeldResolver) }, from)
 }
 
-fn hand_bytes(held: &mut HeldResolver, from: u64) -> FlatChunk
+fn pass_bytes(held: &mut HeldResolver, from: u64) -> FlatChunk
     ensures { IsRead held.old held.new (IsChunk held.old.served.items from result) }
 {
     held.chunk(from)
@@ -166,13 +166,13 @@ pub unsafe extern "C" fn simplex_resolver_free(alloc: Global, at: *mut u8)
     if at.is_null() {
         return;
     }
-    end(Loose {
+    end(RawBox {
         at: at as *mut HeldResolver,
         alloc,
     })
 }
 
 /// Drops the resolver at a pointer.
-fn end(resolver: Loose<HeldResolver, Global>) {
+fn end(resolver: RawBox<HeldResolver, Global>) {
     let _resolver = resolver.into_box();
 }

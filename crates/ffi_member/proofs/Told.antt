@@ -3,14 +3,14 @@ use Rattle.std.proofs.Common.{◌≡◌, ◌<◌, ◌≤◌, arith}
 use Rattle.simplex_types.specs.declared.types.messages.Proposal.{Proposal}
 use Rattle.simplex_codec.specs.declared.digest.BytesDigest.{BytesDigest}
 use Rattle.simplex_resolver.specs.Steps.{highest_named}
-use Rattle.ffi_member.specs.declared.resolver_types.FlatTold.{FlatTold}
+use Rattle.ffi_member.specs.declared.resolver_types.FlatResolverReply.{FlatResolverReply}
 use Rattle.ffi_member.specs.Calls.{IsFlatProposal}
-use Rattle.ffi_member.specs.ResolverHandles.{HasTold, highest_told}
+use Rattle.ffi_member.specs.ResolverHandles.{HasTold, highest_passed}
 
 -- each of them is one
-pub is_told_verdict : (f : FlatTold) → f.kind ≡ 4 → f.success < 2 → 1 ≤ f.proposal.round.view → HasTold f
+pub is_told_verdict : (f : FlatResolverReply) → f.kind ≡ 4 → f.success < 2 → 1 ≤ f.proposal.round.view → HasTold f
 is_told_verdict f kind success view = (omega (arith, kind), omega (arith, kind), success, view)
 
 -- the highest view that is named
-pub highest_of_verdict : (f : FlatTold) (q : Proposal (BytesDigest 32)) → f.kind ≡ 4 → IsFlatProposal f.proposal q → highest_told f ≡ highest_named q
+pub highest_of_verdict : (f : FlatResolverReply) (q : Proposal (BytesDigest 32)) → f.kind ≡ 4 → IsFlatProposal f.proposal q → highest_passed f ≡ highest_named q
 highest_of_verdict f q kind is = grind (arith, kind, is.round, is.parent)

@@ -27,37 +27,37 @@ pub record IsFlatProposal (f : FlatProposal) (q : Proposal (BytesDigest 32)) : T
   pub payload : bytes_in_digest q.payload ≡ f.payload
 
 -- the call that a flat call of a kind stands for, which hands in a certificate of these bytes
-abbrev pub StandsForCall : CallKind → FlatCall → List ℕ → HostCallFacts → Type 0
-StandsForCall kind.AddNotarization f bytes (AddNotarization c) = IsFlatProposal f.proposal c.proposal × (c.bytes ≡ bytes)
-StandsForCall kind.AddNullification f bytes (AddNullification c now) = (c.round ≡ flat_round f.round) × (c.bytes ≡ bytes) × (now ≡ f.moment)
-StandsForCall kind.AddFinalization f bytes (AddFinalization c now) = IsFlatProposal f.proposal c.proposal × (c.bytes ≡ bytes) × (now ≡ f.moment)
-StandsForCall kind.SetProposal f bytes (SetProposal v q) = (v ≡ f.view) × IsFlatProposal f.proposal q
-StandsForCall kind.TryPropose f bytes call = call ≡ TryPropose
-StandsForCall kind.Proposed f bytes (Proposed v payload now) = (v ≡ f.view) × (bytes_in_digest payload ≡ f.proposal.payload) × (now ≡ f.moment)
-StandsForCall kind.SupersedeProposalRequest f bytes call = call ≡ SupersedeProposalRequest f.view
-StandsForCall kind.PendingHandoffAbandonment f bytes call = call ≡ PendingHandoffAbandonment f.view
-StandsForCall kind.ReleaseProposalRequest f bytes call = call ≡ ReleaseProposalRequest f.view
-StandsForCall kind.TryVerify f bytes call = call ≡ TryVerify
-StandsForCall kind.Verified f bytes call = call ≡ Verified f.view
-StandsForCall kind.VerificationFailed f bytes (VerificationFailed v reason now) = (v ≡ f.view) × (reason_number reason ≡ f.reason) × (now ≡ f.moment)
-StandsForCall kind.CertifyCandidates f bytes call = call ≡ CertifyCandidates
-StandsForCall kind.SetCertifyHandle f bytes call = call ≡ SetCertifyHandle f.view f.token
-StandsForCall kind.Certified f bytes (Certified v success now) = (v ≡ f.view) × (flag_number success ≡ f.success) × (now ≡ f.moment)
-StandsForCall kind.ConstructNotarize f bytes call = call ≡ ConstructNotarize f.view
-StandsForCall kind.ConstructNullify f bytes call = call ≡ ConstructNullify f.view
-StandsForCall kind.ConstructFinalize f bytes call = call ≡ ConstructFinalize f.view
-StandsForCall kind.BroadcastNotarization f bytes call = call ≡ BroadcastNotarization f.view
-StandsForCall kind.BroadcastNullification f bytes call = call ≡ BroadcastNullification f.view
-StandsForCall kind.BroadcastFinalization f bytes call = call ≡ BroadcastFinalization f.view
-StandsForCall kind.GetBestCertificate f bytes call = call ≡ GetBestCertificate
-StandsForCall kind.TriggerTimeout f bytes (TriggerTimeout v reason now) = (v ≡ f.view) × (reason_number reason ≡ f.reason) × (now ≡ f.moment)
-StandsForCall kind.NextTimeout f bytes call = call ≡ NextTimeout f.moment
-StandsForCall kind.Prune f bytes call = call ≡ Prune
-StandsForCall _ _ _ _ = ⊥
+abbrev pub DenotesFlatCall : CallKind → FlatCall → List ℕ → HostCallFacts → Type 0
+DenotesFlatCall kind.AddNotarization f bytes (AddNotarization c) = IsFlatProposal f.proposal c.proposal × (c.bytes ≡ bytes)
+DenotesFlatCall kind.AddNullification f bytes (AddNullification c now) = (c.round ≡ flat_round f.round) × (c.bytes ≡ bytes) × (now ≡ f.moment)
+DenotesFlatCall kind.AddFinalization f bytes (AddFinalization c now) = IsFlatProposal f.proposal c.proposal × (c.bytes ≡ bytes) × (now ≡ f.moment)
+DenotesFlatCall kind.SetProposal f bytes (SetProposal v q) = (v ≡ f.view) × IsFlatProposal f.proposal q
+DenotesFlatCall kind.TryPropose f bytes call = call ≡ TryPropose
+DenotesFlatCall kind.Proposed f bytes (Proposed v payload now) = (v ≡ f.view) × (bytes_in_digest payload ≡ f.proposal.payload) × (now ≡ f.moment)
+DenotesFlatCall kind.SupersedeProposalRequest f bytes call = call ≡ SupersedeProposalRequest f.view
+DenotesFlatCall kind.PendingHandoffAbandonment f bytes call = call ≡ PendingHandoffAbandonment f.view
+DenotesFlatCall kind.ReleaseProposalRequest f bytes call = call ≡ ReleaseProposalRequest f.view
+DenotesFlatCall kind.TryVerify f bytes call = call ≡ TryVerify
+DenotesFlatCall kind.Verified f bytes call = call ≡ Verified f.view
+DenotesFlatCall kind.VerificationFailed f bytes (VerificationFailed v reason now) = (v ≡ f.view) × (reason_number reason ≡ f.reason) × (now ≡ f.moment)
+DenotesFlatCall kind.CertifyCandidates f bytes call = call ≡ CertifyCandidates
+DenotesFlatCall kind.SetCertifyHandle f bytes call = call ≡ SetCertifyHandle f.view f.token
+DenotesFlatCall kind.Certified f bytes (Certified v success now) = (v ≡ f.view) × (flag_number success ≡ f.success) × (now ≡ f.moment)
+DenotesFlatCall kind.ConstructNotarize f bytes call = call ≡ ConstructNotarize f.view
+DenotesFlatCall kind.ConstructNullify f bytes call = call ≡ ConstructNullify f.view
+DenotesFlatCall kind.ConstructFinalize f bytes call = call ≡ ConstructFinalize f.view
+DenotesFlatCall kind.BroadcastNotarization f bytes call = call ≡ BroadcastNotarization f.view
+DenotesFlatCall kind.BroadcastNullification f bytes call = call ≡ BroadcastNullification f.view
+DenotesFlatCall kind.BroadcastFinalization f bytes call = call ≡ BroadcastFinalization f.view
+DenotesFlatCall kind.GetBestCertificate f bytes call = call ≡ GetBestCertificate
+DenotesFlatCall kind.TriggerTimeout f bytes (TriggerTimeout v reason now) = (v ≡ f.view) × (reason_number reason ≡ f.reason) × (now ≡ f.moment)
+DenotesFlatCall kind.NextTimeout f bytes call = call ≡ NextTimeout f.moment
+DenotesFlatCall kind.Prune f bytes call = call ≡ Prune
+DenotesFlatCall _ _ _ _ = ⊥
 
 -- a flat call asks for this: the call of its kind
 abbrev pub IsAskedBy : FlatCall → List ℕ → HostCallFacts → Type 0
-IsAskedBy f bytes call = (k : CallKind) × (kind_number k ≡ f.kind) × StandsForCall k f bytes call
+IsAskedBy f bytes call = (k : CallKind) × (kind_number k ≡ f.kind) × DenotesFlatCall k f bytes call
 
 -- one of the numbers is none of a kind, a reason or a verdict
 abbrev pub IsNoFlatCall : FlatCall → Type 0
@@ -68,5 +68,5 @@ abbrev pub HasNumbers : FlatCall → Type 0
 HasNumbers f = (f.kind < 25) × (f.reason < 10) × (f.success < 2)
 
 -- and they are those of a call that hands in a certificate
-abbrev pub HandsInCertificate : FlatCall → Type 0
-HandsInCertificate f = (f.kind < 3) × HasNumbers f
+abbrev pub PassesCertificate : FlatCall → Type 0
+PassesCertificate f = (f.kind < 3) × HasNumbers f

@@ -24,8 +24,8 @@ use Rattle.ffi_member.specs.declared.flat.FlatFetch.{FlatFetch}
 use Rattle.ffi_member.specs.declared.flat.FlatProposal.{FlatProposal}
 use Rattle.ffi_member.specs.declared.flat.FlatReply.{FlatReply}
 use Rattle.ffi_member.specs.declared.held.Held.{Held}
-use Rattle.ffi_member.specs.Calls.{HandsInCertificate, HasNumbers, HostCallFacts, IsAskedBy, IsNoFlatCall, IsFlatProposal}
-use Rattle.ffi_member.specs.Replies.{Tells}
+use Rattle.ffi_member.specs.Calls.{PassesCertificate, HasNumbers, HostCallFacts, IsAskedBy, IsNoFlatCall, IsFlatProposal}
+use Rattle.ffi_member.specs.Replies.{RepresentsReply}
 
 -- two payloads have the same bytes
 abbrev pub same_host_payload : BytesDigest 32 → BytesDigest 32 → Bool
@@ -37,7 +37,7 @@ host_leader e round seed = leader_after e round.view seed
 
 -- no call was made, and all is as it was: one of its numbers is none of a call, or there was no memory for its certificate
 abbrev pub IsNotMade : Held → FlatCall → FlatReply → Held → Type 0
-IsNotMade old f r new = (new ≡ old) × (((r.status ≡ 6) × IsNoFlatCall f) ⊎ ((r.status ≡ 7) × HandsInCertificate f))
+IsNotMade old f r new = (new ≡ old) × (((r.status ≡ 6) × IsNoFlatCall f) ⊎ ((r.status ≡ 7) × PassesCertificate f))
 
 -- the call that the flat one stands for was made
 pub record IsCallMade (old : Held) (f : FlatCall) (bytes : List ℕ) (r : FlatReply) (new : Held) : Type 0 where
@@ -47,7 +47,7 @@ pub record IsCallMade (old : Held) (f : FlatCall) (bytes : List ℕ) (r : FlatRe
   -- the member answered it, by its contract; its reply is kept
   pub made : IsCall same_host_payload host_leader old.member.facts call (told certificate_bytes new.last) new.member.facts
   -- the flat reply tells what it tells
-  pub tells : Tells r (told certificate_bytes new.last)
+  pub tells : RepresentsReply r (told certificate_bytes new.last)
   -- a vote in it is ordered, for just its own bytes
   pub ordered : IfSome old.member.facts.life (IsSignedReply (IsOrder bytes_in_digest) new.last)
   -- it stands last among the record's votes, with its order

@@ -57,9 +57,9 @@ vote_number vote.Nullify = certificate_number certificate.Nullification
 vote_number vote.Finalize = certificate_number certificate.Finalization
 
 -- the number of a certificate that is lacking
-abbrev pub lacking_number : Kind → ℕ
-lacking_number lacking.Nullification = certificate_number certificate.Nullification
-lacking_number lacking.Notarization = certificate_number certificate.Notarization
+abbrev pub missing_number : Kind → ℕ
+missing_number lacking.Nullification = certificate_number certificate.Nullification
+missing_number lacking.Notarization = certificate_number certificate.Notarization
 
 -- a number is that of a kind of votes and of certificates
 abbrev pub IsKind : ℕ → Type 0

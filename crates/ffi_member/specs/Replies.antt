@@ -10,12 +10,12 @@ use Rattle.simplex_voter.specs.declared.voter.verify.Verify.TheVariants.{Ready, 
 use Rattle.simplex_codec.specs.declared.digest.BytesDigest.{BytesDigest}
 use Rattle.simplex_codec.specs.Digests.{bytes_in_digest}
 use Rattle.ffi_scheme.specs.declared.scheme.HostKey.{HostKey}
-use Rattle.simplex_member.specs.Calls.{Told, Added, AddedNullification, Judged, Nullify, Finalize, Notarize, Handed, Dropped, Requested, Standing, Answered, Abandoned, Candidates, Released, Triggered, TimesOut, Done, Restarted, Refused, NotAllowed}
+use Rattle.simplex_member.specs.Calls.{ReplyFacts, Added, AddedNullification, Judged, Nullify, Finalize, Notarize, Returned, Dropped, Requested, Standing, Answered, Abandoned, Candidates, Released, Triggered, TimesOut, Done, Restarted, Refused, NotAllowed}
 use Rattle.ffi_member.specs.declared.flat.FlatContext.{FlatContext}
 use Rattle.ffi_member.specs.declared.flat.FlatReply.{FlatReply}
 use Rattle.ffi_member.specs.Calls.{IsFlatProposal, flat_round}
 use Rattle.ffi_member.specs.declared.kinds.CertificateKind.TheVariants as kind
-use Rattle.ffi_member.specs.Numbers.{abandoned_number, certificate_number, fault_status, flag_number, lacking_number, member_number, reason_number}
+use Rattle.ffi_member.specs.Numbers.{abandoned_number, certificate_number, fault_status, flag_number, missing_number, member_number, reason_number}
 
 -- the call is answered, by an answer of this kind
 abbrev pub HasAnswer : ℕ → FlatReply → Type 0
@@ -38,7 +38,7 @@ abbrev pub HasWork : Verify (BytesDigest 32) HostKey → FlatReply → Type 0
 HasWork Wait f = f.has ≡ 0
 HasWork (Ready c q) f = (f.has ≡ 1) × (f.member ≡ c.leader.0) × IsContext f.context c × IsFlatProposal f.proposal q
 HasWork (Resolve waiting view kind leader) f =
-    (f.has ≡ 2) × (f.reason ≡ lacking_number kind) × (f.member ≡ leader.0) × (f.waiting ≡ waiting) × (f.lacking ≡ view)
+    (f.has ≡ 2) × (f.reason ≡ missing_number kind) × (f.member ≡ leader.0) × (f.waiting ≡ waiting) × (f.lacking ≡ view)
 
 -- the notarization of a verdict's view, if it is there
 abbrev pub HasNotarization : Option (ProposalFacts (BytesDigest 32)) → FlatReply → Type 0
@@ -77,25 +77,25 @@ HasReason None f = f.has ≡ 0
 HasReason (Some reason) f = (f.has ≡ 1) × (f.reason ≡ abandoned_number reason)
 
 -- what a flat reply tells, but for what has no fixed size
-abbrev pub Tells : FlatReply → Told HostKey (BytesDigest 32) → Type 0
-Tells f Done = HasAnswer 0 f
-Tells f (Answered taken) = HasAnswer 1 f × (f.flag ≡ flag_number taken)
-Tells f (Added newly leader) = HasAnswer 2 f × (f.flag ≡ flag_number newly) × (f.member ≡ member_number leader)
-Tells f (AddedNullification newly) = HasAnswer 3 f × (f.flag ≡ flag_number newly)
-Tells f (Requested request) = HasAnswer 4 f × HasRequest request f
-Tells f (Standing work) = HasAnswer 5 f × HasWork work f
-Tells f (Candidates proposals fetches) = HasAnswer 6 f × (f.count ≡ length proposals) × (f.fetches ≡ length fetches)
-Tells f (Judged success notarization) = HasAnswer 7 f × (f.flag ≡ flag_number success) × HasNotarization notarization f
-Tells f (Notarize vote) = HasAnswer 8 f × HasNotarize vote f
-Tells f (Nullify vote) = HasAnswer 9 f × HasNullify vote f
-Tells f (Finalize vote) = HasAnswer 10 f × HasFinalize vote f
-Tells f (Handed certificate) = HasAnswer 11 f × HasCertificate certificate f
-Tells f (TimesOut (Some (moment, reason))) = HasAnswer 12 f × (f.moment ≡ moment) × (f.reason ≡ reason_number reason)
-Tells f (Dropped views) = HasAnswer 13 f × (f.count ≡ length views)
-Tells f (Released was_open) = HasAnswer 14 f × (f.flag ≡ flag_number was_open)
-Tells f (Triggered latched) = HasAnswer 15 f × (f.flag ≡ flag_number latched)
-Tells f (Abandoned reason) = HasAnswer 16 f × HasReason reason f
-Tells f Restarted = HasAnswer 17 f
-Tells f (Refused fault) = f.status ≡ fault_status fault
-Tells f NotAllowed = f.status ≡ 5
-Tells _ _ = ⊥
+abbrev pub RepresentsReply : FlatReply → ReplyFacts HostKey (BytesDigest 32) → Type 0
+RepresentsReply f Done = HasAnswer 0 f
+RepresentsReply f (Answered taken) = HasAnswer 1 f × (f.flag ≡ flag_number taken)
+RepresentsReply f (Added newly leader) = HasAnswer 2 f × (f.flag ≡ flag_number newly) × (f.member ≡ member_number leader)
+RepresentsReply f (AddedNullification newly) = HasAnswer 3 f × (f.flag ≡ flag_number newly)
+RepresentsReply f (Requested request) = HasAnswer 4 f × HasRequest request f
+RepresentsReply f (Standing work) = HasAnswer 5 f × HasWork work f
+RepresentsReply f (Candidates proposals fetches) = HasAnswer 6 f × (f.count ≡ length proposals) × (f.fetches ≡ length fetches)
+RepresentsReply f (Judged success notarization) = HasAnswer 7 f × (f.flag ≡ flag_number success) × HasNotarization notarization f
+RepresentsReply f (Notarize vote) = HasAnswer 8 f × HasNotarize vote f
+RepresentsReply f (Nullify vote) = HasAnswer 9 f × HasNullify vote f
+RepresentsReply f (Finalize vote) = HasAnswer 10 f × HasFinalize vote f
+RepresentsReply f (Returned certificate) = HasAnswer 11 f × HasCertificate certificate f
+RepresentsReply f (TimesOut (Some (moment, reason))) = HasAnswer 12 f × (f.moment ≡ moment) × (f.reason ≡ reason_number reason)
+RepresentsReply f (Dropped views) = HasAnswer 13 f × (f.count ≡ length views)
+RepresentsReply f (Released was_open) = HasAnswer 14 f × (f.flag ≡ flag_number was_open)
+RepresentsReply f (Triggered latched) = HasAnswer 15 f × (f.flag ≡ flag_number latched)
+RepresentsReply f (Abandoned reason) = HasAnswer 16 f × HasReason reason f
+RepresentsReply f Restarted = HasAnswer 17 f
+RepresentsReply f (Refused fault) = f.status ≡ fault_status fault
+RepresentsReply f NotAllowed = f.status ≡ 5
+RepresentsReply _ _ = ⊥

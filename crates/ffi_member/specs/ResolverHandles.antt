@@ -22,27 +22,27 @@ use Rattle.simplex_resolver.specs.RecordRules.{record_error}
 use Rattle.simplex_resolver.specs.Repair.{has}
 use Rattle.simplex_resolver.specs.ReplayErrors.{IsDue}
 use Rattle.simplex_resolver.specs.Steps.{Call, update, verdict}
-use Rattle.simplex_resolver.specs.CallHistory.{LawfulResolverFacts, HasBeenTold, IsLeftBy, IsMade, IsToldMore}
+use Rattle.simplex_resolver.specs.CallHistory.{LawfulResolverFacts, HasReceivedCalls, IsLeftBy, IsMade, ReceivesMore}
 use Rattle.ffi_member.specs.declared.journal.NotRead.TheVariants as not_read
 use Rattle.ffi_member.specs.declared.resolver_types.FlatEffect.{FlatEffect}
 use Rattle.ffi_member.specs.declared.resolver_types.FlatEffects.{FlatEffects}
 use Rattle.ffi_member.specs.declared.resolver_types.FlatOutstanding.{FlatOutstanding}
 use Rattle.ffi_member.specs.declared.resolver_types.FlatServed.{FlatServed}
 use Rattle.ffi_member.specs.declared.resolver_types.FlatSettled.{FlatSettled}
-use Rattle.ffi_member.specs.declared.resolver_types.FlatTold.{FlatTold}
+use Rattle.ffi_member.specs.declared.resolver_types.FlatResolverReply.{FlatResolverReply}
 use Rattle.ffi_member.specs.declared.resolver_calls.HeldResolver.{HeldResolver}
 use Rattle.ffi_member.specs.declared.resolver_calls.NotReplayed.{NotReplayed}
 use Rattle.ffi_member.specs.declared.resolver_calls.NotReplayed.TheVariants as not_replayed
 use Rattle.ffi_member.specs.Calls.{IsFlatProposal, flat_round}
 use Rattle.ffi_member.specs.Journals.{HostArtifact, IsNotRead, framed}
-use Rattle.ffi_member.specs.Numbers.{fault_status, flag_number, lacking_number}
+use Rattle.ffi_member.specs.Numbers.{fault_status, flag_number, missing_number}
 
 -- a resolver that was told the entries whose frames these bytes are, and then that its replay has ended; nothing is to be read yet
-pub record IsBegunFrom (term_length : ℕ) (journal : List ℕ) (held : HeldResolver) : Type 0 where
+pub record IsReplayedFrom (term_length : ℕ) (journal : List ℕ) (held : HeldResolver) : Type 0 where
   pub entries : List HostArtifact
   pub read : journal ≡ framed entries
   pub accepted : record_error (newest_first certificate_bytes entries) ≡ None
-  pub told : HasBeenTold term_length (replay_calls (bytes_in_digest {n = 32}) certificate_bytes entries) held.resolver
+  pub told : HasReceivedCalls term_length (replay_calls (bytes_in_digest {n = 32}) certificate_bytes entries) held.resolver
   pub last : held.last.items ≡ []
   pub served : held.served.items ≡ []
 
@@ -53,10 +53,10 @@ pub record IsNotReplayed (journal : List ℕ) (error : ReplayError) : Type 0 whe
   pub due : IsDue (record_error (newest_first certificate_bytes entries)) error
 
 -- why no resolver starts
-abbrev pub IsNotBegunFrom : ℕ → List ℕ → NotReplayed → Type 0
-IsNotBegunFrom term_length journal not_replayed.NoTerm = term_length ≡ 0
-IsNotBegunFrom term_length journal (not_replayed.Journal e) = IsNotRead journal e
-IsNotBegunFrom term_length journal (not_replayed.Replay e) = IsNotReplayed journal e
+abbrev pub IsNotReplayedFrom : ℕ → List ℕ → NotReplayed → Type 0
+IsNotReplayedFrom term_length journal not_replayed.NoTerm = term_length ≡ 0
+IsNotReplayedFrom term_length journal (not_replayed.Journal e) = IsNotRead journal e
+IsNotReplayedFrom term_length journal (not_replayed.Replay e) = IsNotReplayed journal e
 
 -- the number of why no resolver starts
 abbrev pub not_replayed_number : NotReplayed → ℕ
@@ -70,14 +70,14 @@ not_replayed_number (not_replayed.Replay replay.ViewTooLarge) = 43
 not_replayed_number (not_replayed.Replay replay.VerdictWithoutNotarization) = 46
 
 -- a certificate of a kind is of these numbers and bytes
-abbrev pub IsFlatCertificate : ℕ → FlatTold → List ℕ → CertificateFacts (BytesDigest 32) → Type 0
+abbrev pub IsFlatCertificate : ℕ → FlatResolverReply → List ℕ → CertificateFacts (BytesDigest 32) → Type 0
 IsFlatCertificate (suc zero) f bytes (Notarized c) = IsFlatProposal f.proposal c.proposal × (c.bytes ≡ bytes)
 IsFlatCertificate (suc (suc zero)) f bytes (Nullified c) = (c.round ≡ flat_round f.proposal.round) × (c.bytes ≡ bytes)
 IsFlatCertificate (suc (suc (suc zero))) f bytes (Finalized c) = IsFlatProposal f.proposal c.proposal × (c.bytes ≡ bytes)
 IsFlatCertificate _ f bytes c = ⊥
 
 -- a verdict on a notarization of these numbers and bytes
-pub record IsJudged (f : FlatTold) (bytes : List ℕ) (call : Call) : Type 0 where
+pub record IsJudged (f : FlatResolverReply) (bytes : List ℕ) (call : Call) : Type 0 where
   pub notarization : ProposalFacts (BytesDigest 32)
   pub success : Bool
   pub proposal : IsFlatProposal f.proposal notarization.proposal
@@ -86,14 +86,14 @@ pub record IsJudged (f : FlatTold) (bytes : List ℕ) (call : Call) : Type 0 whe
   pub told : call ≡ verdict (bytes_in_digest {n = 32}) notarization success
 
 -- what is told: a certificate, or a verdict
-abbrev pub IsToldCall : FlatTold → List ℕ → Call → Type 0
-IsToldCall f bytes call =
+abbrev pub IsResolverCall : FlatResolverReply → List ℕ → Call → Type 0
+IsResolverCall f bytes call =
     ((c : CertificateFacts (BytesDigest 32)) × IsFlatCertificate f.kind f bytes c × (call ≡ update (bytes_in_digest {n = 32}) c))
     ⊎ ((f.kind ≡ 4) × IsJudged f bytes call)
 
 -- the highest view that is named: of a nullification its own, else the greater of its own and its parent's
-abbrev pub highest_told : FlatTold → ℕ
-highest_told f = if f.kind == 2 then f.proposal.round.view else max f.proposal.round.view f.proposal.parent
+abbrev pub highest_passed : FlatResolverReply → ℕ
+highest_passed f = if f.kind == 2 then f.proposal.round.view else max f.proposal.round.view f.proposal.parent
 
 -- it is told, and these are its effects
 pub record HasEffects (old : HeldResolver) (highest : ℕ) (call : Call) (r : FlatEffects) (new : HeldResolver) : Type 0 where
@@ -101,7 +101,7 @@ pub record HasEffects (old : HeldResolver) (highest : ℕ) (call : Call) (r : Fl
   pub living : old.resolver.state.is_failed ≡ false
   pub views : highest < 2 ^ 63
   pub made : IsMade call old.resolver new.last.items new.resolver
-  pub told : IsToldMore old.resolver call new.resolver
+  pub told : ReceivesMore old.resolver call new.resolver
   pub count : r.count ≡ length new.last.items
   pub fetches : r.fetches ≡ length new.resolver.open_fetches
 
@@ -120,28 +120,28 @@ IsHeardAs old highest call r new =
     (HasEffects old highest call r new ⊎ HasFault old highest call r new) × (new.served ≡ old.served)
 
 -- one of the numbers is none of a verdict, or of a kind
-abbrev pub IsNoTold : FlatTold → Type 0
-IsNoTold f = (2 ≤ f.success) ⊎ ((1 ≤ f.proposal.round.view) × ((f.kind ≡ 0) ⊎ (5 ≤ f.kind)))
+abbrev pub IsNoResolverCall : FlatResolverReply → Type 0
+IsNoResolverCall f = (2 ≤ f.success) ⊎ ((1 ≤ f.proposal.round.view) × ((f.kind ≡ 0) ⊎ (5 ≤ f.kind)))
 
 -- each of them is one, and the view is not that of genesis
-abbrev pub HasTold : FlatTold → Type 0
+abbrev pub HasTold : FlatResolverReply → Type 0
 HasTold f = (0 < f.kind) × (f.kind < 5) × (f.success < 2) × (1 ≤ f.proposal.round.view)
 
 -- why nothing was told: the view is that of genesis, a number is none, or there was no memory for the certificate
-abbrev pub IsUntold : FlatTold → FlatEffects → Type 0
+abbrev pub IsUntold : FlatResolverReply → FlatEffects → Type 0
 IsUntold f r =
     (HasNoEffects 5 r × (f.success < 2) × (f.proposal.round.view ≡ 0))
-    ⊎ (HasNoEffects 6 r × IsNoTold f)
+    ⊎ (HasNoEffects 6 r × IsNoResolverCall f)
     ⊎ (HasNoEffects 7 r × HasTold f)
 
 -- nothing was told, and all is as it was
-abbrev pub IsResolverNotTold : HeldResolver → FlatTold → FlatEffects → HeldResolver → Type 0
-IsResolverNotTold old f r new = (new ≡ old) × IsUntold f r
+abbrev pub IsResolverNotNotified : HeldResolver → FlatResolverReply → FlatEffects → HeldResolver → Type 0
+IsResolverNotNotified old f r new = (new ≡ old) × IsUntold f r
 
 -- what flat numbers tell a resolver
-abbrev pub IsHeard : HeldResolver → FlatTold → List ℕ → FlatEffects → HeldResolver → Type 0
+abbrev pub IsHeard : HeldResolver → FlatResolverReply → List ℕ → FlatEffects → HeldResolver → Type 0
 IsHeard old f bytes r new =
-    IsResolverNotTold old f r new ⊎ (HasTold f × ((call : Call) × IsToldCall f bytes call × IsHeardAs old (highest_told f) call r new))
+    IsResolverNotNotified old f r new ⊎ (HasTold f × ((call : Call) × IsResolverCall f bytes call × IsHeardAs old (highest_passed f) call r new))
 
 -- why a fetch is opened, and what is settled
 abbrev pub why_number : FetchReason → ℕ
@@ -151,7 +151,7 @@ why_number why.CertificationFailed = 1
 -- an effect is of these numbers
 abbrev pub IsEffect : Effect → FlatEffect → Type 0
 IsEffect (effect.Fetch view cause reason) f = (f.kind ≡ 1) × (f.view ≡ view) × (f.cause ≡ cause) × (f.reason ≡ why_number reason)
-IsEffect (effect.Settled kind start end) f = (f.kind ≡ 2) × (f.view ≡ start) × (f.end ≡ end) × (f.reason ≡ lacking_number kind)
+IsEffect (effect.Settled kind start end) f = (f.kind ≡ 2) × (f.view ≡ start) × (f.end ≡ end) × (f.reason ≡ missing_number kind)
 IsEffect (effect.Finalized view) f = (f.kind ≡ 3) × (f.view ≡ view)
 IsEffect (effect.Raised view) f = (f.kind ≡ 4) × (f.view ≡ view)
 

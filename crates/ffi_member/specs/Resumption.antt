@@ -40,7 +40,7 @@ abbrev pub host_start : HostStart → StartFacts HostKey HostElector (BytesDiges
 host_start start = start_facts host_signer host_keys host_terms is_early certificate_bytes start
 
 -- a start, a record and what is stored beside it, by flat settings and the bytes of a journal
-pub record IsGoingOn
+pub record IsResumption
     (f : FlatSettings) (leaders bytes : List ℕ) (now : ℕ) (beside : FlatStored) (journal : List ℕ)
     (start : HostStart) (stored : Stored) (entries : List HostArtifact) : Type 0 where
   pub started : IsStart f leaders bytes now start
@@ -53,7 +53,7 @@ pub record IsResumedBy
   pub start : HostStart
   pub stored : Stored
   pub entries : List HostArtifact
-  pub from : IsGoingOn f leaders bytes now beside journal start stored entries
+  pub from : IsResumption f leaders bytes now beside journal start stored entries
   pub whole : beside.entries ≤ length entries
   pub resumed : IsResumed same_host_payload host_leader stored (entries_of certificate_bytes entries) (host_start start) held.member.facts
   -- its votes are those of the journal, with their orders
@@ -72,7 +72,7 @@ pub record IsNotRecovered
   pub start : HostStart
   pub stored : Stored
   pub entries : List HostArtifact
-  pub from : IsGoingOn f leaders bytes now beside journal start stored entries
+  pub from : IsResumption f leaders bytes now beside journal start stored entries
   pub refused : IsNotResumed same_host_payload host_leader stored (entries_of certificate_bytes entries) (host_start start) (resume.Recover error)
 
 -- why no member goes on from them

@@ -58,7 +58,7 @@ abbrev pub IsSame : Held → Held → Type 0
 IsSame old new = (new.member ≡ old.member) × (new.last ≡ old.last)
 
 -- the entries behind the first of a record, the votes among them with their orders
-pub record AreViewsBehind (m : HostMember) (count : ℕ) (entries : List HostArtifact) : Type 0 where
+pub record AreViewsAfter (m : HostMember) (count : ℕ) (entries : List HostArtifact) : Type 0 where
   pub behind : entries_of certificate_bytes entries ≡ drop count m.facts.entries
   pub votes : votes_of entries ≡ votes_since count m
 
@@ -71,7 +71,7 @@ AreShown entries r shown =
 
 -- how the entries behind the first of a member's record are shown
 abbrev pub HasEntries : HostMember → ℕ → FlatEntries → List ℕ → Type 0
-HasEntries m count r shown = (entries : List HostArtifact) × AreViewsBehind m count entries × AreShown entries r shown
+HasEntries m count r shown = (entries : List HostArtifact) × AreViewsAfter m count entries × AreShown entries r shown
 
 -- how the entries behind the first of a record are shown
 pub record IsEntries (old : Held) (count : ℕ) (r : FlatEntries) (new : Held) : Type 0 where

@@ -18,7 +18,7 @@ pub struct FlatProposal {
     pub payload: [u8; 32],
 }
 
-/// A call. Which fields each kind reads is said by `StandsFor`; the others may be anything, but `reason` and `success`, which
+/// A call. Which fields each kind reads is said by `DenotesCall`; the others may be anything, but `reason` and `success`, which
 /// are tested in each call.
 #[repr(C)]
 #[derive(Clone, Copy)]
@@ -54,7 +54,7 @@ pub struct FlatContext {
     pub payload: [u8; 32],
 }
 
-/// What a call is answered. Which fields each kind has is said by `Tells`; the others have no meaning. A certificate, what is
+/// What a call is answered. Which fields each kind has is said by `RepresentsReply`; the others have no meaning. A certificate, what is
 /// to be signed, and lists stay behind the handle until the next call.
 #[repr(C)]
 #[derive(Clone, Copy)]

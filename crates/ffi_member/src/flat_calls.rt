@@ -3,7 +3,7 @@
 ghost use Rattle.std.specs.Prelude.{◌≡◌, ◌<◌, IfOk, OnErr, MatchOption};
 ghost use Rattle.ffi_scheme.specs.Host.{certificate_bytes};
 ghost use Rattle.simplex_member.specs.Calls.{asked};
-ghost use Rattle.ffi_member.specs.Calls.{HandsInCertificate, HasNumbers, IsAskedBy, IsNoFlatCall, StandsForCall, IsFlatProposal, flat_round};
+ghost use Rattle.ffi_member.specs.Calls.{PassesCertificate, HasNumbers, IsAskedBy, IsNoFlatCall, DenotesFlatCall, IsFlatProposal, flat_round};
 ghost use Rattle.ffi_member.specs.Numbers.{kind_number, reason_number, flag_number};
 
 use crate::call_kind::{CallKind, kind_of};
@@ -28,7 +28,7 @@ pub fn call_of(
     flat: &FlatCall,
     certificate: &[u8],
 ) -> Result<Option<HostCall>, AllocError>
-    ensures wanting { OnErr result (HandsInCertificate flat.now) }
+    ensures wanting { OnErr result (PassesCertificate flat.now) }
     ensures made { IfOk result (λ made. MatchOption made (IsNoFlatCall flat.now)
         (λ call. HasNumbers flat.now × IsAskedBy flat.now certificate.now (asked certificate_bytes call))) }
 {
@@ -55,7 +55,7 @@ fn call_of_kind(
     requires reason { reason_number reason ≡ flat.now.reason }
     requires success { flag_number success ≡ flat.now.success }
     ensures wanting { OnErr result (kind_number kind < 3) }
-    ensures call { IfOk result (λ call. StandsForCall kind flat.now certificate.now (asked certificate_bytes call)) }
+    ensures call { IfOk result (λ call. DenotesFlatCall kind flat.now certificate.now (asked certificate_bytes call)) }
 {
     let view = View::new(flat.view);
     let now = flat.moment;

@@ -4,13 +4,13 @@
 ghost use Rattle.std.specs.Prelude.{◌≡◌, option_map};
 ghost use Rattle.simplex_types.specs.Certificates.{certificate_facts};
 ghost use Rattle.ffi_scheme.specs.Host.{certificate_bytes};
-ghost use Rattle.simplex_member.specs.Calls.{told, told_notarize, told_nullify, told_finalize};
+ghost use Rattle.simplex_member.specs.Calls.{told, reply_notarize, reply_nullify, reply_finalize};
 ghost use Rattle.ffi_member.specs.Numbers.{abandoned_number, fault_status, flag_number, member_number, reason_number};
 ghost use Rattle.ffi_member.specs.Calls.{IsFlatProposal, flat_round};
-ghost use Rattle.ffi_member.specs.Replies.{HasAnswer, HasCertificate, HasFinalize, HasNotarize, HasNullify, HasRequest, HasWork, IsContext, Tells};
+ghost use Rattle.ffi_member.specs.Replies.{HasAnswer, HasCertificate, HasFinalize, HasNotarize, HasNullify, HasRequest, HasWork, IsContext, RepresentsReply};
 
 use crate::flat::{FlatContext, FlatProposal, FlatReply, FlatRound};
-use crate::kinds::{CertificateKind, number_of_certificate, number_of_lacking};
+use crate::kinds::{CertificateKind, number_of_certificate, number_of_missing};
 use crate::numbers::{
     number_of_abandoned, number_of_fault, number_of_flag, number_of_member, number_of_reason,
 };
@@ -24,7 +24,7 @@ pub type HostReply = Reply<HostScheme, HostDigest>;
 
 /// What a reply tells, but for what has no fixed size.
 pub fn flat_reply(reply: &HostReply) -> FlatReply
-    ensures { Tells result (told certificate_bytes reply.now) }
+    ensures { RepresentsReply result (told certificate_bytes reply.now) }
 {
     match reply {
         Reply::Unit => answered(0),
@@ -201,7 +201,7 @@ fn flat_work(work: &Verify<HostDigest, HostKey>) -> FlatReply
             target: HostKey(leader),
         } => FlatReply {
             has: 2,
-            reason: number_of_lacking(*kind),
+            reason: number_of_missing(*kind),
             member: *leader,
             waiting: proposal.get(),
             lacking: view.get(),
@@ -212,7 +212,7 @@ fn flat_work(work: &Verify<HostDigest, HostKey>) -> FlatReply
 
 fn flat_notarize(vote: &Option<Notarize<HostScheme, HostDigest>>) -> FlatReply
     ensures answered { HasAnswer 8 result }
-    ensures vote { HasNotarize (told_notarize vote.now) result }
+    ensures vote { HasNotarize (reply_notarize vote.now) result }
 {
     match vote {
         Some(vote) => FlatReply {
@@ -227,7 +227,7 @@ fn flat_notarize(vote: &Option<Notarize<HostScheme, HostDigest>>) -> FlatReply
 
 fn flat_nullify(vote: &Option<(bool, Nullify<HostScheme>)>) -> FlatReply
     ensures answered { HasAnswer 9 result }
-    ensures vote { HasNullify (told_nullify vote.now) result }
+    ensures vote { HasNullify (reply_nullify vote.now) result }
 {
     match vote {
         Some((is_retry, vote)) => FlatReply {
@@ -246,7 +246,7 @@ fn flat_nullify(vote: &Option<(bool, Nullify<HostScheme>)>) -> FlatReply
 
 fn flat_finalize(vote: &Option<Finalize<HostScheme, HostDigest>>) -> FlatReply
     ensures answered { HasAnswer 10 result }
-    ensures vote { HasFinalize (told_finalize vote.now) result }
+    ensures vote { HasFinalize (reply_finalize vote.now) result }
 {
     match vote {
         Some(vote) => FlatReply {

@@ -1,7 +1,7 @@
 //! The kinds of certificates and of votes, and their numbers: votes of a kind make the certificate of the same number.
 
 ghost use Rattle.std.specs.Prelude.{◌≡◌, MatchOption};
-ghost use Rattle.ffi_member.specs.Numbers.{IsKind, IsNoKind, certificate_number, lacking_number, vote_number};
+ghost use Rattle.ffi_member.specs.Numbers.{IsKind, IsNoKind, certificate_number, missing_number, vote_number};
 
 use simplex_types::reasons::Kind;
 
@@ -57,8 +57,8 @@ pub fn number_of_certificate(kind: CertificateKind) -> u32
 }
 
 /// The number of a certificate that is lacking.
-pub fn number_of_lacking(kind: Kind) -> u32
-    ensures { result ≡ lacking_number kind }
+pub fn number_of_missing(kind: Kind) -> u32
+    ensures { result ≡ missing_number kind }
 {
     match kind {
         Kind::Nullification => number_of_certificate(CertificateKind::Nullification),

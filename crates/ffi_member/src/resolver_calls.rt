@@ -7,15 +7,15 @@ ghost use Rattle.simplex_codec.specs.Digests.{bytes_in_digest};
 ghost use Rattle.ffi_scheme.specs.Host.{certificate_bytes};
 ghost use Rattle.simplex_resolver.specs.Steps.{highest_named, highest_view, update, verdict};
 ghost use Rattle.ffi_member.specs.Numbers.{fault_status, flag_number};
-ghost use Rattle.ffi_member.specs.ResolverHandles.{HasNoEffects, HasServed, HasServedOf, IsEffect, IsFlatCertificate, highest_told, not_replayed_number, view_bytes};
+ghost use Rattle.ffi_member.specs.ResolverHandles.{HasNoEffects, HasServed, HasServedOf, IsEffect, IsFlatCertificate, highest_passed, not_replayed_number, view_bytes};
 ghost use Rattle.ffi_member.specs.ShownFacts.{IsChunk};
 
 use crate::flat_calls::{finalization_of, notarization_of, nullification_of};
 use crate::journal::{NotRead, read_entries};
-use crate::kinds::{CertificateKind, certificate_kind_of, number_of_lacking};
+use crate::kinds::{CertificateKind, certificate_kind_of, number_of_missing};
 use crate::numbers::{flag_of, number_of_fault, number_of_flag};
 use crate::resolver_types::{
-    FlatEffect, FlatEffects, FlatOutstanding, FlatServed, FlatSettled, FlatTold,
+    FlatEffect, FlatEffects, FlatOutstanding, FlatServed, FlatSettled, FlatResolverReply,
 };
 use crate::views::chunk_of;
 use crate::view_types::FlatChunk;
@@ -53,7 +53,7 @@ pub struct HeldResolver {
 }
 
 impl HeldResolver {
-    ghost use Rattle.ffi_member.specs.ResolverHandles.{AreOutstanding, IsBegunFrom, IsEffectAt, IsHeard, IsHeardAs, IsNotBegunFrom, IsServedFor, IsSettledAt};
+    ghost use Rattle.ffi_member.specs.ResolverHandles.{AreOutstanding, IsReplayedFrom, IsEffectAt, IsHeard, IsHeardAs, IsNotReplayedFrom, IsServedFor, IsSettledAt};
 
     /// A resolver that starts from the bytes of a journal, with its first fetches open.
     pub fn start(
@@ -61,8 +61,8 @@ impl HeldResolver {
         term_length: u32,
         journal: &[u8],
     ) -> Result<HeldResolver, NotReplayed>
-        ensures begun { IfOk result (IsBegunFrom term_length journal.now) }
-        ensures refused { IfErr result (IsNotBegunFrom term_length journal.now) }
+        ensures begun { IfOk result (IsReplayedFrom term_length journal.now) }
+        ensures refused { IfErr result (IsNotReplayedFrom term_length journal.now) }
     {
         let Some(length) = NonZeroU32::new(term_length) else {
             return Err(NotReplayed::NoTerm);
@@ -83,7 +83,7 @@ impl HeldResolver {
     }
 
     /// Tells of a certificate that was newly accepted, or of a verdict. The effects are read below until it is told again.
-    pub fn told(&mut self, flat: &FlatTold, certificate: &[u8]) -> FlatEffects
+    pub fn told(&mut self, flat: &FlatResolverReply, certificate: &[u8]) -> FlatEffects
         ensures { IsHeard self.old flat.now certificate.now result self.new }
     {
         let Some(success) = flag_of(flat.success) else {
@@ -102,7 +102,7 @@ impl HeldResolver {
         }
     }
 
-    fn judged(&mut self, flat: &FlatTold, success: bool, certificate: &[u8]) -> FlatEffects
+    fn judged(&mut self, flat: &FlatResolverReply, success: bool, certificate: &[u8]) -> FlatEffects
         requires kind { flat.now.kind ≡ 4 }
         requires success { flag_number success ≡ flat.now.success }
         requires fits { flat.now.success < 2 }
@@ -274,13 +274,13 @@ fn put_views(out: &mut BytesMut, views: &BTreeSet<View>) -> Result<(), AllocErro
 /// The certificate that is handed in; none where no certificate has the kind.
 fn certificate_in(
     alloc: Global,
-    flat: &FlatTold,
+    flat: &FlatResolverReply,
     bytes: &[u8],
 ) -> Result<Option<HostCertified>, AllocError>
     ensures made { IfOk result (λ found. MatchOption found ((flat.now.kind ≡ 0) ⊎ (4 ≤ flat.now.kind))
         (λ c. IsFlatCertificate flat.now.kind flat.now bytes.now (certificate_facts certificate_bytes c))) }
     ensures view { IfOk result (λ found. IfSome found (λ c. certificate_view c ≡ flat.now.proposal.round.view)) }
-    ensures highest { IfOk result (λ found. IfSome found (λ c. highest_view c ≡ highest_told flat.now)) }
+    ensures highest { IfOk result (λ found. IfSome found (λ c. highest_view c ≡ highest_passed flat.now)) }
     ensures kind { IfOk result (λ found. IfSome found (λ _. (0 < flat.now.kind) × (flat.now.kind < 4))) }
     ensures wanting { OnErr result ((0 < flat.now.kind) × (flat.now.kind < 4)) }
 {
@@ -346,7 +346,7 @@ fn flat_effect(effect: Effect) -> FlatEffect
         },
         Effect::Settled { kind, start, end } => FlatEffect {
             kind: 2,
-            reason: number_of_lacking(kind),
+            reason: number_of_missing(kind),
             view: start.get(),
             end: end.get(),
             ..no_effect()

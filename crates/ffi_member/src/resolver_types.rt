@@ -5,7 +5,7 @@ use crate::flat::FlatProposal;
 /// What a resolver is told.
 #[repr(C)]
 #[derive(Clone, Copy)]
-pub struct FlatTold {
+pub struct FlatResolverReply {
     /// 1 for a notarization that was newly accepted, 2 for a nullification, 3 for a finalization; 4 for the verdict on a
     /// notarization.
     pub kind: u32,

@@ -3,7 +3,7 @@
 ghost use Rattle.std.specs.Prelude.{◌≡◌, ◌≤◌, nat_lt, length, IfOk, IfErr, MatchOption};
 ghost use Rattle.ffi_scheme.specs.HostLeaders.{host_members};
 ghost use Rattle.ffi_scheme.specs.Host.{host_keys};
-ghost use Rattle.ffi_member.specs.Resumption.{IsGoingOn, IsNotResumedBy, IsFlatStored};
+ghost use Rattle.ffi_member.specs.Resumption.{IsResumption, IsNotResumedBy, IsFlatStored};
 
 use crate::flat::FlatSettings;
 use crate::held::{Held, NotStarted};
@@ -47,7 +47,7 @@ impl Held {
         ensures resumed { IfOk result (IsResumedBy flat.now leaders.now certificate.now now stored.now journal.now) }
         ensures refused { IfErr result (IsNotResumedBy flat.now leaders.now certificate.now now stored.now journal.now) }
     {
-        let from = going_on(alloc, flat, leaders, certificate, now, stored, journal)?;
+        let from = resumption(alloc, flat, leaders, certificate, now, stored, journal)?;
         match Member::resume(alloc, from.start, from.stored, from.entries) {
             Ok(member) => Ok(Held::new(alloc, member)),
             Err(refusal) => match refusal.error {
@@ -96,14 +96,14 @@ impl Held {
 
 /// With what a member goes on: its settings, what is stored beside its record, and the record.
 #[derive(Drop)]
-pub struct GoingOn {
+pub struct Resumption {
     pub start: HostStart,
     pub stored: Stored,
     pub entries: Vec<HostArtifact>,
 }
 
 /// With what a member goes on, by flat settings and the bytes of a journal, which has all entries that were counted.
-pub fn going_on(
+pub fn resumption(
     alloc: Global,
     flat: &FlatSettings,
     leaders: &[u32],
@@ -111,8 +111,8 @@ pub fn going_on(
     now: u64,
     stored: &FlatStored,
     journal: &[u8],
-) -> Result<GoingOn, NotResumed>
-    ensures from { IfOk result (λ it. IsGoingOn flat.now leaders.now certificate.now now stored.now journal.now it.start it.stored it.entries.items) }
+) -> Result<Resumption, NotResumed>
+    ensures from { IfOk result (λ it. IsResumption flat.now leaders.now certificate.now now stored.now journal.now it.start it.stored it.entries.items) }
     ensures whole { IfOk result (λ it. stored.now.entries ≤ length it.entries.items) }
     ensures fits { IfOk result (λ it. host_members it.start.settings.elector ≡ length (host_keys it.start.settings.scheme)) }
     ensures refused { IfErr result (IsNotResumedBy flat.now leaders.now certificate.now now stored.now journal.now) }
@@ -131,7 +131,7 @@ pub fn going_on(
     if has_fewer(&entries, stored.entries) {
         return Err(NotResumed::EntriesLost);
     }
-    Ok(GoingOn {
+    Ok(Resumption {
         start,
         stored: beside,
         entries,

@@ -4,12 +4,12 @@ use Rattle.std.proofs.Common.{◌≡◌, refl, ap, ◌∙◌, Bool, true, false,
 use Rattle.simplex_types.specs.declared.types.fault.Fault.{Fault}
 use Rattle.simplex_voter.specs.Facts.{StateFacts, Elect}
 use Rattle.simplex_member.specs.CallConditions.{is_allowed, fault_of}
-use Rattle.simplex_member.specs.Calls.{CallFacts, Told}
+use Rattle.simplex_member.specs.Calls.{CallFacts, ReplyFacts}
 use Rattle.simplex_member.specs.Journal.{stored_of}
-use Rattle.simplex_member.specs.MemberFacts.{MemberFacts, IsCall, AnswersAlive, unless_kept, with_call}
+use Rattle.simplex_member.specs.MemberFacts.{MemberFacts, IsCall, AnswersAlive, unless_retained, with_call}
 
-module _ {K L D : Type 0} (same : D → D → Bool) (elect : Elect L) (m left : MemberFacts K L D) (call : CallFacts D) (told : Told K D) where
-  by_definition : (x : StateFacts K L D) (b : Bool) (due : Option Fault) → stored_of (cond b (unless_kept due m (with_call same elect x m call)) m) ≡ stored_of m
+module _ {K L D : Type 0} (same : D → D → Bool) (elect : Elect L) (m left : MemberFacts K L D) (call : CallFacts D) (told : ReplyFacts K D) where
+  by_definition : (x : StateFacts K L D) (b : Bool) (due : Option Fault) → stored_of (cond b (unless_retained due m (with_call same elect x m call)) m) ≡ stored_of m
   by_definition x true None = refl
   by_definition x true (Some due) = refl
   by_definition x false due = refl

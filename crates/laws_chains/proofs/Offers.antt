@@ -26,11 +26,11 @@ use Rattle.simplex_record.specs.declared.record.error.RecoverError.{RecoverError
 use Rattle.simplex_record.specs.Recovery.{recover_error}
 use Rattle.simplex_record.specs.Start.{new_state}
 use Rattle.simplex_member.specs.CallConditions.{is_allowed, fault_of}
-use Rattle.simplex_member.specs.Calls.{CallFacts, TryPropose, SupersedeProposalRequest, TryVerify, CertifyCandidates, Certified, Told, Candidates, Judged, NotAllowed}
+use Rattle.simplex_member.specs.Calls.{CallFacts, TryPropose, SupersedeProposalRequest, TryVerify, CertifyCandidates, Certified, ReplyFacts, Candidates, Judged, NotAllowed}
 use Rattle.simplex_member.specs.CallSemantics.{answer, outstanding_work_after}
-use Rattle.simplex_member.specs.MemberFacts.{MemberFacts, IsCall, AnswersAlive, unless_refused, unless_kept, with_call, without_life}
+use Rattle.simplex_member.specs.MemberFacts.{MemberFacts, IsCall, AnswersAlive, unless_refused, unless_retained, with_call, without_lifetime}
 use Rattle.simplex_member.specs.OutstandingWork.{OutstandingWork, no_outstanding_work, context_at, is_among, is_offered, with_open_request, with_verification, without_context}
-use Rattle.simplex_member.specs.Restarts.{RestartFacts, cut_member, new_life, retention_grows, IsRestart, IsRestartWhere}
+use Rattle.simplex_member.specs.Restarts.{RestartFacts, cut_member, new_lifetime, retention_grows, IsRestart, IsRestartWhere}
 use Rattle.simplex_member.specs.Runs.{StepFacts, Calls, Prunes, Restarts, IsStep, IsRun}
 use Rattle.laws_safety.specs.Executions.{new_member, Execution, trace_of}
 use Rattle.laws_safety.specs.Replicas.{Replica, Honest, Backed, IsNetworkOf}
@@ -53,15 +53,15 @@ none_in x h = absurd (omega (arith, h.1))
 
 module _ {K D : Type 0} where
   -- a proposal of the view is among the offers of these replies
-  abbrev IsOfferedIn : List (Told K D) → ℕ → Type 0
+  abbrev IsOfferedIn : List (ReplyFacts K D) → ℕ → Type 0
   IsOfferedIn told v =
       (offers : List (Proposal D)) × (fetches : List CertificateFetch) × (p : Proposal D) × Contains told (Candidates offers fetches) × Contains offers p × (p.round.view ≡ v)
 
   -- so it is of each view whose offer is open
-  abbrev AreOfferedIn : List (Told K D) → OutstandingWork K D → Type 0
+  abbrev AreOfferedIn : List (ReplyFacts K D) → OutstandingWork K D → Type 0
   AreOfferedIn told o = (v : ℕ) → is_offered o v ≡ true → IsOfferedIn told v
 
-  offered_more : (told more : List (Told K D)) (v : ℕ) → IsOfferedIn told v → IsOfferedIn (told ++ more) v
+  offered_more : (told more : List (ReplyFacts K D)) (v : ℕ) → IsOfferedIn told v → IsOfferedIn (told ++ more) v
   offered_more told more v (offers, fetches, p, h, among, at) = (offers, fetches, p, Contains-append_left told more (Candidates offers fetches) h, among, at)
 
   -- what is open beside offers does not matter
@@ -90,7 +90,7 @@ offered_now view (p ∷ rest) views is = elim (offered_now view rest (insert_key
 ]
 
 module _ {K L D : Type 0} (same : D → D → Bool) (elect : Elect L) where
-  answer_opens : (told : List (Told K D)) (x : StateFacts K L D) (o : OutstandingWork K D) (call : CallFacts D) → AreOfferedIn told o
+  answer_opens : (told : List (ReplyFacts K D)) (x : StateFacts K L D) (o : OutstandingWork K D) (call : CallFacts D) → AreOfferedIn told o
       → AreOfferedIn (told ++ answer same elect x o call ∷ []) (outstanding_work_after same elect x o call)
   answer_opens told x o CertifyCandidates are v is =
       let offers = (candidates_answer same elect x).0 in
@@ -107,7 +107,7 @@ module _ {K L D : Type 0} (same : D → D → Bool) (elect : Elect L) where
       offered_more told (answer same elect x o (SupersedeProposalRequest u) ∷ []) v (are v (sym (superseded_offers o u replaced v) ∙ is))
   answer_opens told x o call are v is = offered_more told (answer same elect x o call ∷ []) v (are v is)
 
-  module _ (told : List (Told K D)) (m next : MemberFacts K L D) (reply : Told K D) (are : AreOfferedIn told m.outstanding_work) where
+  module _ (told : List (ReplyFacts K D)) (m next : MemberFacts K L D) (reply : ReplyFacts K D) (are : AreOfferedIn told m.outstanding_work) where
     still_open : next.outstanding_work ≡ m.outstanding_work → AreOfferedIn (told ++ reply ∷ []) next.outstanding_work
     still_open is v opened = offered_more told (reply ∷ []) v (are v (subst (λ o. is_offered o v ≡ true) is opened))
 
@@ -122,7 +122,7 @@ module _ {K L D : Type 0} (same : D → D → Bool) (elect : Elect L) where
     call_opens call is_call = by_life m.life is_call
       where
         by_test : (x : StateFacts K L D) (b : Bool) (due : Option Fault) → reply ≡ cond b (unless_refused due (answer same elect x m.outstanding_work call)) NotAllowed
-            → next ≡ cond b (unless_kept due m (with_call same elect x m call)) m → AreOfferedIn (told ++ reply ∷ []) next.outstanding_work
+            → next ≡ cond b (unless_retained due m (with_call same elect x m call)) m → AreOfferedIn (told ++ reply ∷ []) next.outstanding_work
         by_test x false due tells leaves = still_open (ap open_in leaves)
         by_test x true (Some due) tells leaves = still_open (ap open_in leaves)
         by_test x true None tells leaves = λ v opened.
@@ -142,7 +142,7 @@ module _ {K L D : Type 0} (same : D → D → Bool) (elect : Elect L) where
         cut : MemberFacts K L D
         cut = cut_member m r.drop r.prune
 
-        by_error : (copy : List _) (o : Option RecoverError) → MatchOption o ((result ≡ Ok tt) × (next ≡ new_life same elect cut r.start copy)) (λ e. (result ≡ Err e) × (next ≡ without_life cut))
+        by_error : (copy : List _) (o : Option RecoverError) → MatchOption o ((result ≡ Ok tt) × (next ≡ new_lifetime same elect cut r.start copy)) (λ e. (result ≡ Err e) × (next ≡ without_lifetime cut))
             → AreOfferedIn (told ++ reply ∷ []) next.outstanding_work
         by_error copy None (done, leaves) = none_open (ap open_in leaves)
         by_error copy (Some e) (refused, leaves) = none_open (ap open_in leaves)
@@ -173,10 +173,10 @@ module _ {K L D : Type 0} (same : D → D → Bool) (elect : Elect L) (q : Propo
   answer_judges m x (Certified v success now) on_offer h = (v, on_offer, (success, h))
   answer_judges m x _ on_offer h = absurd (none_in (true, q) h)
 
-  not_judged : {A : Type 0} (told other : Told K D) → told ≡ other → judged_by other ≡ [] → Contains (judged_by told) (true, q) → A
+  not_judged : {A : Type 0} (told other : ReplyFacts K D) → told ≡ other → judged_by other ≡ [] → Contains (judged_by told) (true, q) → A
   not_judged told other is none h = absurd (none_in (true, q) (subst (λ js. Contains js (true, q)) (ap judged_by is ∙ none) h))
 
-  call_judges : (m next : MemberFacts K L D) (call : CallFacts D) (told : Told K D) → IsCall same elect m call told next → IsStepOnOffer m (Calls call) → Contains (judged_by told) (true, q) → Judges m m.life
+  call_judges : (m next : MemberFacts K L D) (call : CallFacts D) (told : ReplyFacts K D) → IsCall same elect m call told next → IsStepOnOffer m (Calls call) → Contains (judged_by told) (true, q) → Judges m m.life
   unfolding IsCall
   call_judges m next call told is_call on_offer h = by_life m.life is_call
     where
@@ -184,7 +184,7 @@ module _ {K L D : Type 0} (same : D → D → Bool) (elect : Elect L) (q : Propo
       by_test x false due tells = not_judged told NotAllowed tells refl h
       by_test x true (Some due) tells = not_judged told _ tells refl h
       by_test x true None tells =
-          let it = answer_judges m x call on_offer (subst (λ (t : Told K D). Contains (judged_by t) (true, q)) tells h) in
+          let it = answer_judges m x call on_offer (subst (λ (t : ReplyFacts K D). Contains (judged_by t) (true, q)) tells h) in
           (x, refl, it.0, it.1, it.2)
 
       by_life : (life : Option (StateFacts K L D)) → AnswersAlive same elect life m call told next → Judges m life
@@ -192,18 +192,18 @@ module _ {K L D : Type 0} (same : D → D → Bool) (elect : Elect L) (q : Propo
       by_life (Some x) (inl (tells, leaves)) = by_test x (is_allowed x m.outstanding_work call) (fault_of x call) tells
       by_life (Some x) (inr (allowed, tells, leaves)) = not_judged told _ tells refl h
 
-  step_judges : (m next : MemberFacts K L D) (step : StepFacts K L D) (told : Told K D) → IsStep same elect m step told next → IsStepOnOffer m step → Contains (judged_by told) (true, q) → Judges m m.life
+  step_judges : (m next : MemberFacts K L D) (step : StepFacts K L D) (told : ReplyFacts K D) → IsStep same elect m step told next → IsStepOnOffer m step → Contains (judged_by told) (true, q) → Judges m m.life
   step_judges m next (Calls call) told is_step on_offer h = call_judges m next call told is_step on_offer h
   step_judges m next Prunes told is_step on_offer h = not_judged told _ is_step.0 refl h
   step_judges m next (Restarts r) told (Ok done, restarts, is) on_offer h = not_judged told _ is refl h
   step_judges m next (Restarts r) told (Err error, restarts, is) on_offer h = not_judged told _ is refl h
 
   -- the run up to there, where these replies came before
-  record JudgedIn (before : List (Told K D)) (m : MemberFacts K L D) (steps : List (StepFacts K L D)) (replies : List (Told K D)) : Type 0 where
+  record JudgedIn (before : List (ReplyFacts K D)) (m : MemberFacts K L D) (steps : List (StepFacts K L D)) (replies : List (ReplyFacts K D)) : Type 0 where
     first : List (StepFacts K L D)
-    told : List (Told K D)
+    told : List (ReplyFacts K D)
     more : List (StepFacts K L D)
-    rest : List (Told K D)
+    rest : List (ReplyFacts K D)
     steps_are : steps ≡ first ++ more
     replies_are : replies ≡ told ++ rest
     middle : MemberFacts K L D
@@ -214,7 +214,7 @@ module _ {K L D : Type 0} (same : D → D → Bool) (elect : Elect L) (q : Propo
     offered : IsOfferedIn (before ++ told) view
     judges : JudgesAt x view
 
-  judged_at : (before : List (Told K D)) (steps : List (StepFacts K L D)) (replies : List (Told K D)) (m end : MemberFacts K L D) → IsRunOnOffers same elect m steps replies end → AreOfferedIn before m.outstanding_work
+  judged_at : (before : List (ReplyFacts K D)) (steps : List (StepFacts K L D)) (replies : List (ReplyFacts K D)) (m end : MemberFacts K L D) → IsRunOnOffers same elect m steps replies end → AreOfferedIn before m.outstanding_work
       → Contains (judged_in replies) (true, q) → JudgedIn before m steps replies
   judged_at before [] [] m end run are h = absurd (none_in (true, q) h)
   judged_at before [] (reply ∷ replies) m end run are h = absurd run
@@ -246,7 +246,7 @@ module _ {K L D : Type 0} (same : D → D → Bool) (elect : Elect L) (q : Propo
               more = v.more;
               rest = v.rest;
               steps_are = ap (λ (ss : List (StepFacts K L D)). step ∷ ss) v.steps_are;
-              replies_are = ap (λ (rs : List (Told K D)). reply ∷ rs) v.replies_are;
+              replies_are = ap (λ (rs : List (ReplyFacts K D)). reply ∷ rs) v.replies_are;
               middle = v.middle;
               run = (next, is_step, v.run);
               x = v.x;

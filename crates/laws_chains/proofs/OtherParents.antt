@@ -19,7 +19,7 @@ use Rattle.laws_safety.proofs.agreement.Claims.{one_proposal}
 use Rattle.laws_safety.proofs.networks.Continuations.{AreExecutions, network_of, backed_so}
 use Rattle.laws_safety.proofs.networks.ScenarioSteps.{told_in, ran_as_told}
 use Rattle.simplex_voter.specs.declared.voter.verify.Verify.TheVariants.{Ready}
-use Rattle.simplex_member.specs.Calls.{Told, Standing}
+use Rattle.simplex_member.specs.Calls.{ReplyFacts, Standing}
 use Rattle.laws_safety.proofs.lists.Splits.{Contains-cases}
 use Rattle.laws_safety.proofs.networks.Continuations.{done}
 use Rattle.laws_chains.specs.UnofferedVerdicts.{long_start, first_of}
@@ -71,15 +71,15 @@ pub parent_is_twelve : ParentIsTwelve
 parent_is_twelve q at notarized = ap (λ (k : Proposal ℕ). k.payload) (one_proposal nat_eq eqb-true in_turn 3 verified_apart apart_network q (first_of 1) (inl notarized) (inl first_notarized) at)
 
 -- the payload that a reply asks to verify view 2 on
-abbrev payload_in : Told ℕ ℕ → ℕ
+abbrev payload_in : ReplyFacts ℕ ℕ → ℕ
 payload_in (Standing (Ready context p)) = if p.round.view == 2 then context.parent.1 else 11
 payload_in _ = 11
 
-abbrev AllEleven : List (Told ℕ ℕ) → Type 0
+abbrev AllEleven : List (ReplyFacts ℕ ℕ) → Type 0
 AllEleven [] = Unit {0}
 AllEleven (told ∷ replies) = (payload_in told ≡ 11) × AllEleven replies
 
-each_eleven : (replies : List (Told ℕ ℕ)) → AllEleven replies → (told : Told ℕ ℕ) → Contains replies told → payload_in told ≡ 11
+each_eleven : (replies : List (ReplyFacts ℕ ℕ)) → AllEleven replies → (told : ReplyFacts ℕ ℕ) → Contains replies told → payload_in told ≡ 11
 each_eleven [] all told h = absurd (omega (arith, h.1))
 each_eleven (first ∷ replies) all told h = elim (Contains-cases first replies told h) [
   | inl here ↦ ap payload_in (sym here) ∙ all.0

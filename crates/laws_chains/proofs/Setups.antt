@@ -6,9 +6,9 @@ use Rattle.simplex_record.specs.declared.record.error.RecoverError.{RecoverError
 use Rattle.simplex_record.specs.Events.{Event, SetFloor, after_event}
 use Rattle.simplex_record.specs.Recovery.{recover_error}
 use Rattle.simplex_record.specs.Start.{StartFacts, new_state}
-use Rattle.simplex_member.specs.Calls.{CallFacts, Told}
-use Rattle.simplex_member.specs.MemberFacts.{MemberFacts, IsCall, without_life}
-use Rattle.simplex_member.specs.Restarts.{RestartFacts, cut_member, new_life, retention_grows, RecoversByView, IsRestart, IsRestartWhere}
+use Rattle.simplex_member.specs.Calls.{CallFacts, ReplyFacts}
+use Rattle.simplex_member.specs.MemberFacts.{MemberFacts, IsCall, without_lifetime}
+use Rattle.simplex_member.specs.Restarts.{RestartFacts, cut_member, new_lifetime, retention_grows, RecoversByView, IsRestart, IsRestartWhere}
 use Rattle.simplex_member.specs.Runs.{StepFacts, Calls, Prunes, Restarts, IsRun}
 use Rattle.simplex_member.proofs.EventsMake.{call_by_any}
 use Rattle.laws_safety.specs.Executions.{new_member, Execution}
@@ -17,7 +17,7 @@ use Rattle.laws_safety.proofs.frames.Rising.{event_goes}
 use Rattle.laws_safety.proofs.frames.RunsKeep.{HoldsIn}
 use Rattle.laws_safety.proofs.lists.Splits.{Contains-cons_rest}
 use Rattle.laws_safety.proofs.lives.WithinLives.{call_outcome}
-use Rattle.laws_progress.specs.NetworkStates.{LivesWith}
+use Rattle.laws_progress.specs.NetworkStates.{RunsWith}
 
 module _ {K L D : Type 0} (same : D → D → Bool) (elect : Elect L) (P : StateFacts K L D → Type 0)
     (keeps : (x : StateFacts K L D) (e : Event K D) → P x → P (after_event same elect x e)) where
@@ -25,7 +25,7 @@ module _ {K L D : Type 0} (same : D → D → Bool) (elect : Elect L) (P : State
   from_copy n start result left begun (inl (is, leaves)) = rw leaves tt
   from_copy n start result left begun (inr (copy, by_view, goes)) = by_error (recover_error same (new_state start.setup) start.floor start.now copy) goes
     where
-      by_error : (o : Option RecoverError) → MatchOption o ((result ≡ Ok tt) × (left ≡ new_life same elect n start copy)) (λ e. (result ≡ Err e) × (left ≡ without_life n)) → HoldsIn P left.life
+      by_error : (o : Option RecoverError) → MatchOption o ((result ≡ Ok tt) × (left ≡ new_lifetime same elect n start copy)) (λ e. (result ≡ Err e) × (left ≡ without_lifetime n)) → HoldsIn P left.life
       by_error None (_, leaves) = rw leaves (recovered_keeps same elect P keeps start.now (new_state start.setup) start.floor copy begun)
       by_error (Some e) (_, leaves) = rw leaves tt
 
@@ -37,7 +37,7 @@ module _ {K L D : Type 0} (same : D → D → Bool) (elect : Elect L) (P : State
       by_test true (_, leaves) = rw leaves holds
       by_test false goes = from_copy (cut_member m r.drop r.prune) r.start result left begun goes
 
-  told_keeps : (m : MemberFacts K L D) (call : CallFacts D) (told : Told K D) (left : MemberFacts K L D) → IsCall same elect m call told left → HoldsIn P m.life → HoldsIn P left.life
+  told_keeps : (m : MemberFacts K L D) (call : CallFacts D) (told : ReplyFacts K D) (left : MemberFacts K L D) → IsCall same elect m call told left → HoldsIn P m.life → HoldsIn P left.life
   told_keeps m call told left is_step holds =
       elim (call_outcome same elect (λ c t x y. P x → P y) (λ c f x s. s) (λ c x s. s)
       (λ c x o allowed s. call_by_any same elect x o P s (λ e. keeps x e s) c) m call told left is_step) [
@@ -45,7 +45,7 @@ module _ {K L D : Type 0} (same : D → D → Bool) (elect : Elect L) (P : State
         | inr (x, y, alive, lives, leads) ↦ subst (HoldsIn P) (sym lives) (leads (subst (HoldsIn P) alive holds))
       ]
 
-  run_keeps : (steps : List (StepFacts K L D)) (replies : List (Told K D)) (m end : MemberFacts K L D) → ((r : RestartFacts K L D) → Contains steps (Restarts r) → P (new_state r.start.setup)) → HoldsIn P m.life → IsRun same elect m steps replies end → HoldsIn P end.life
+  run_keeps : (steps : List (StepFacts K L D)) (replies : List (ReplyFacts K D)) (m end : MemberFacts K L D) → ((r : RestartFacts K L D) → Contains steps (Restarts r) → P (new_state r.start.setup)) → HoldsIn P m.life → IsRun same elect m steps replies end → HoldsIn P end.life
   run_keeps [] [] m end later holds run = subst (λ n. HoldsIn P n.life) run holds
   run_keeps [] (told ∷ replies) m end later holds run = absurd run
   run_keeps (step ∷ steps) [] m end later holds run = absurd run
@@ -57,7 +57,7 @@ module _ {K L D : Type 0} (same : D → D → Bool) (elect : Elect L) (P : State
       run_keeps steps replies next end (λ r h. later r (Contains-cons_rest (Restarts q) steps (Restarts r) h)) (restart_keeps m q is_step.0 next (later q (0, omega arith, refl)) holds is_step.1) rest
 
   -- of a state that an execution lives with
-  pub state_kept : (s : Execution K L D) (x : StateFacts K L D) → LivesWith same elect s x → P (new_state s.start.setup) → ((r : RestartFacts K L D) → Contains s.steps (Restarts r) → P (new_state r.start.setup)) → P x
+  pub state_kept : (s : Execution K L D) (x : StateFacts K L D) → RunsWith same elect s x → P (new_state s.start.setup) → ((r : RestartFacts K L D) → Contains s.steps (Restarts r) → P (new_state r.start.setup)) → P x
   state_kept s x (m, run, alive) first later =
       subst (HoldsIn P) alive (run_keeps s.steps s.replies (new_member same elect s.start) m later (keeps (new_state s.start.setup) (SetFloor s.start.floor s.start.now) first) run)
 

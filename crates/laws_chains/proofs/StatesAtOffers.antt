@@ -17,7 +17,7 @@ use Rattle.simplex_voter.specs.Rules.{required_certification_parent, was_handed_
 use Rattle.simplex_voter.specs.Certification.{certification_parent_ready, offered_of}
 use Rattle.simplex_voter.proofs.Gaps.{and_parts}
 use Rattle.simplex_member.specs.CallConditions.{is_allowed, fault_of}
-use Rattle.simplex_member.specs.Calls.{CallFacts, CertifyCandidates, Told, Candidates, NotAllowed}
+use Rattle.simplex_member.specs.Calls.{CallFacts, CertifyCandidates, ReplyFacts, Candidates, NotAllowed}
 use Rattle.simplex_member.specs.CallSemantics.{answer}
 use Rattle.simplex_member.specs.MemberFacts.{MemberFacts, IsCall, AnswersAlive, reply_of, unless_refused}
 use Rattle.simplex_member.specs.OutstandingWork.{OutstandingWork}
@@ -29,7 +29,7 @@ use Rattle.laws_chains.specs.Chains.{WasOffered}
 use Rattle.laws_chains.proofs.StatesAtVotes.{StateWhere, state_where}
 
 -- what a reply offers
-abbrev offers_in : {K D : Type 0} → Told K D → List (Proposal D)
+abbrev offers_in : {K D : Type 0} → ReplyFacts K D → List (Proposal D)
 offers_in (Candidates offers fetches) = offers
 offers_in _ = []
 
@@ -66,34 +66,34 @@ module _ {K L D : Type 0} (same : D → D → Bool) (elect : Elect L) (q : Propo
   abbrev IsOffering : Option (StateFacts K L D) → Type 0
   IsOffering life = (x : StateFacts K L D) × (life ≡ Some x) × Offers x
 
-  call_offers : (m next : MemberFacts K L D) (call : CallFacts D) (told : Told K D) → IsCall same elect m call told next → Contains (offers_in told) q → IsOffering m.life
+  call_offers : (m next : MemberFacts K L D) (call : CallFacts D) (told : ReplyFacts K D) → IsCall same elect m call told next → Contains (offers_in told) q → IsOffering m.life
   unfolding IsCall
   call_offers m next call told is_call h = by_life m.life is_call h
     where
       by_life : (o : Option (StateFacts K L D)) → AnswersAlive same elect o m call told next → Contains (offers_in told) q → IsOffering o
-      by_life None (tells, leaves) h = absurd (none_in q (subst (λ (t : Told K D). Contains (offers_in t) q) tells h))
-      by_life (Some x) (inl (tells, leaves)) h = (x, refl, reply_offers x m.outstanding_work call (subst (λ (t : Told K D). Contains (offers_in t) q) tells h))
-      by_life (Some x) (inr (allowed, tells, leaves)) h = absurd (none_in q (subst (λ (t : Told K D). Contains (offers_in t) q) tells h))
+      by_life None (tells, leaves) h = absurd (none_in q (subst (λ (t : ReplyFacts K D). Contains (offers_in t) q) tells h))
+      by_life (Some x) (inl (tells, leaves)) h = (x, refl, reply_offers x m.outstanding_work call (subst (λ (t : ReplyFacts K D). Contains (offers_in t) q) tells h))
+      by_life (Some x) (inr (allowed, tells, leaves)) h = absurd (none_in q (subst (λ (t : ReplyFacts K D). Contains (offers_in t) q) tells h))
 
-  step_offers : (m next : MemberFacts K L D) (step : StepFacts K L D) (told : Told K D) → IsStep same elect m step told next → Contains (offers_in told) q → IsOffering m.life
+  step_offers : (m next : MemberFacts K L D) (step : StepFacts K L D) (told : ReplyFacts K D) → IsStep same elect m step told next → Contains (offers_in told) q → IsOffering m.life
   step_offers m next (Calls call) told is_step h = call_offers m next call told is_step h
-  step_offers m next Prunes told is_step h = absurd (none_in q (subst (λ (t : Told K D). Contains (offers_in t) q) is_step.0 h))
-  step_offers m next (Restarts r) told (Ok done, restarts, is) h = absurd (none_in q (subst (λ (t : Told K D). Contains (offers_in t) q) is h))
-  step_offers m next (Restarts r) told (Err error, restarts, is) h = absurd (none_in q (subst (λ (t : Told K D). Contains (offers_in t) q) is h))
+  step_offers m next Prunes told is_step h = absurd (none_in q (subst (λ (t : ReplyFacts K D). Contains (offers_in t) q) is_step.0 h))
+  step_offers m next (Restarts r) told (Ok done, restarts, is) h = absurd (none_in q (subst (λ (t : ReplyFacts K D). Contains (offers_in t) q) is h))
+  step_offers m next (Restarts r) told (Err error, restarts, is) h = absurd (none_in q (subst (λ (t : ReplyFacts K D). Contains (offers_in t) q) is h))
 
   -- the step that offers it
-  record OfferedIn (m : MemberFacts K L D) (steps : List (StepFacts K L D)) (replies : List (Told K D)) : Type 0 where
+  record OfferedIn (m : MemberFacts K L D) (steps : List (StepFacts K L D)) (replies : List (ReplyFacts K D)) : Type 0 where
     first : List (StepFacts K L D)
-    told : List (Told K D)
+    told : List (ReplyFacts K D)
     more : List (StepFacts K L D)
-    rest : List (Told K D)
+    rest : List (ReplyFacts K D)
     steps_are : steps ≡ first ++ more
     replies_are : replies ≡ told ++ rest
     middle : MemberFacts K L D
     run : IsRun same elect m first told middle
     offering : IsOffering middle.life
 
-  offered_at : (steps : List (StepFacts K L D)) (replies : List (Told K D)) (m end : MemberFacts K L D) → IsRun same elect m steps replies end → (wanted : Told K D) → Contains replies wanted → Contains (offers_in wanted) q → OfferedIn m steps replies
+  offered_at : (steps : List (StepFacts K L D)) (replies : List (ReplyFacts K D)) (m end : MemberFacts K L D) → IsRun same elect m steps replies end → (wanted : ReplyFacts K D) → Contains replies wanted → Contains (offers_in wanted) q → OfferedIn m steps replies
   offered_at [] [] m end run wanted h among = absurd (none_in wanted h)
   offered_at [] (reply ∷ replies) m end run wanted h among = absurd run
   offered_at (step ∷ steps) [] m end run wanted h among = absurd run
@@ -108,7 +108,7 @@ module _ {K L D : Type 0} (same : D → D → Bool) (elect : Elect L) (q : Propo
           replies_are = refl;
           middle = m;
           run = refl;
-          offering = step_offers m next step reply is_step (subst (λ (t : Told K D). Contains (offers_in t) q) (sym here) among);
+          offering = step_offers m next step reply is_step (subst (λ (t : ReplyFacts K D). Contains (offers_in t) q) (sym here) among);
         }
         | inr later ↦ (
             let v = offered_at steps replies next end run wanted later among in
@@ -118,7 +118,7 @@ module _ {K L D : Type 0} (same : D → D → Bool) (elect : Elect L) (q : Propo
               more = v.more;
               rest = v.rest;
               steps_are = ap (λ (ss : List (StepFacts K L D)). step ∷ ss) v.steps_are;
-              replies_are = ap (λ (rs : List (Told K D)). reply ∷ rs) v.replies_are;
+              replies_are = ap (λ (rs : List (ReplyFacts K D)). reply ∷ rs) v.replies_are;
               middle = v.middle;
               run = (next, is_step, v.run);
               offering = v.offering;

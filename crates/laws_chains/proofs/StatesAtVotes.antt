@@ -9,22 +9,22 @@ use Rattle.simplex_types.specs.declared.types.messages.Subject.{Subject}
 use Rattle.simplex_types.specs.declared.types.messages.Subject.TheVariants as subject
 use Rattle.simplex_voter.specs.Facts.{StateFacts, Elect, round_number}
 use Rattle.simplex_voter.specs.Rules.{NotarizeRule, NullifyRule, FinalizeRule}
-use Rattle.simplex_member.specs.Calls.{CallFacts, AddNotarization, AddNullification, AddFinalization, ConstructNotarize, ConstructNullify, ConstructFinalize, Told, Added, AddedNullification, Restarted}
+use Rattle.simplex_member.specs.Calls.{CallFacts, AddNotarization, AddNullification, AddFinalization, ConstructNotarize, ConstructNullify, ConstructFinalize, ReplyFacts, Added, AddedNullification, Restarted}
 use Rattle.simplex_member.specs.MemberFacts.{MemberFacts}
 use Rattle.simplex_member.specs.Runs.{StepFacts, Calls, Prunes, Restarts, IsStep, IsRun, IsRunFrom}
-use Rattle.laws_safety.specs.Traces.{TraceEvent, Signs, handed_in, of_floor, accepted_at, signed_in, trace_at, trace_of_steps}
+use Rattle.laws_safety.specs.Traces.{TraceEvent, Signs, passed_certificates, of_floor, accepted_at, signed_in, trace_at, trace_of_steps}
 use Rattle.laws_safety.specs.ExactVotes.{IsExact, proposal_at, ExactAt}
 use Rattle.laws_safety.specs.Executions.{new_member, Execution, trace_of, IsExecution}
 use Rattle.laws_safety.proofs.agreement.Exactly.{step_exact}
 use Rattle.laws_safety.proofs.lists.Splits.{only_one}
-use Rattle.laws_progress.specs.NetworkStates.{LivesWith}
+use Rattle.laws_progress.specs.NetworkStates.{RunsWith}
 use Rattle.laws_progress.specs.ViewCauses.{judged_in, judged_of}
 use Rattle.laws_progress.proofs.runs.Onward.{judged_joined, traces_joined}
 
 -- no vote is among what is accepted
 
 module _ {D : Type 0} (i : ℕ) (vote : Subject D) where
-  handed_none : (call : CallFacts D) → Contains (handed_in call) (Signs i vote) → ⊥
+  handed_none : (call : CallFacts D) → Contains (passed_certificates call) (Signs i vote) → ⊥
   handed_none (AddNotarization c) h = absurd (let e = only_one _ _ h in cc)
   handed_none (AddNullification c now) h = absurd (let e = only_one _ _ h in cc)
   handed_none (AddFinalization c now) h = absurd (let e = only_one _ _ h in cc)
@@ -34,12 +34,12 @@ module _ {D : Type 0} (i : ℕ) (vote : Subject D) where
   floor_none (Genesis payload) h = absurd (omega (arith, h.1))
   floor_none (Finalized c) h = absurd (let e = only_one _ _ h in cc)
 
-  called_none : (K L : Type 0) (call : CallFacts D) (told : Told K D) → Contains (accepted_at {L = L} (Calls call) told) (Signs i vote) → ⊥
+  called_none : (K L : Type 0) (call : CallFacts D) (told : ReplyFacts K D) → Contains (accepted_at {L = L} (Calls call) told) (Signs i vote) → ⊥
   called_none K L call (Added b o) h = handed_none call h
   called_none K L call (AddedNullification b) h = handed_none call h
   called_none K L call _ h = absurd (omega (arith, h.1))
 
-  accepted_none : {K L : Type 0} (step : StepFacts K L D) (told : Told K D) → Contains (accepted_at step told) (Signs i vote) → ⊥
+  accepted_none : {K L : Type 0} (step : StepFacts K L D) (told : ReplyFacts K D) → Contains (accepted_at step told) (Signs i vote) → ⊥
   accepted_none {K} {L} (Calls call) told h = called_none K L call told h
   accepted_none Prunes told h = absurd (omega (arith, h.1))
   accepted_none (Restarts r) Restarted h = floor_none r.start.floor h
@@ -51,22 +51,22 @@ module _ {D : Type 0} (i : ℕ) (vote : Subject D) where
 -- the step that signs it
 
 module _ {K L D : Type 0} (same : D → D → Bool) (elect : Elect L) (i : ℕ) (vote : Subject D) where
-  record SignedIn (m : MemberFacts K L D) (steps : List (StepFacts K L D)) (replies : List (Told K D)) : Type 0 where
+  record SignedIn (m : MemberFacts K L D) (steps : List (StepFacts K L D)) (replies : List (ReplyFacts K D)) : Type 0 where
     first : List (StepFacts K L D)
-    told : List (Told K D)
+    told : List (ReplyFacts K D)
     more : List (StepFacts K L D)
-    rest : List (Told K D)
+    rest : List (ReplyFacts K D)
     steps_are : steps ≡ first ++ more
     replies_are : replies ≡ told ++ rest
     middle : MemberFacts K L D
     run : IsRun same elect m first told middle
     step : StepFacts K L D
-    reply : Told K D
+    reply : ReplyFacts K D
     next : MemberFacts K L D
     is_step : IsStep same elect middle step reply next
     signs : Contains (signed_in reply) (Signs i vote)
 
-  signed_at : (steps : List (StepFacts K L D)) (replies : List (Told K D)) (m end : MemberFacts K L D) → IsRun same elect m steps replies end → Contains (trace_of_steps steps replies) (Signs i vote) → SignedIn m steps replies
+  signed_at : (steps : List (StepFacts K L D)) (replies : List (ReplyFacts K D)) (m end : MemberFacts K L D) → IsRun same elect m steps replies end → Contains (trace_of_steps steps replies) (Signs i vote) → SignedIn m steps replies
   signed_at [] [] m end run h = absurd (omega (arith, h.1))
   signed_at [] (reply ∷ replies) m end run h = absurd run
   signed_at (step ∷ steps) [] m end run h = absurd run
@@ -98,7 +98,7 @@ module _ {K L D : Type 0} (same : D → D → Bool) (elect : Elect L) (i : ℕ) 
               more = v.more;
               rest = v.rest;
               steps_are = ap (λ (ss : List (StepFacts K L D)). step ∷ ss) v.steps_are;
-              replies_are = ap (λ (rs : List (Told K D)). reply ∷ rs) v.replies_are;
+              replies_are = ap (λ (rs : List (ReplyFacts K D)). reply ∷ rs) v.replies_are;
               middle = v.middle;
               run = (next, is_step, v.run);
               step = v.step;
@@ -141,7 +141,7 @@ module _ {K L D : Type 0} (same : D → D → Bool) (elect : Elect L) where
   IsRuled x i vote = RuleFor x vote × (x.me ≡ Some i)
 
   module _ (i : ℕ) (vote : Subject D) where
-    by_exact : (x : StateFacts K L D) (Rule : Type 0) (about : Option (Subject D)) (told : Told K D) → ((given : Subject D) → Rule → about ≡ Some given → RuleFor x given) → IsExact Rule x.me about told → Contains (signed_in told) (Signs i vote) → IsRuled x i vote
+    by_exact : (x : StateFacts K L D) (Rule : Type 0) (about : Option (Subject D)) (told : ReplyFacts K D) → ((given : Subject D) → Rule → about ≡ Some given → RuleFor x given) → IsExact Rule x.me about told → Contains (signed_in told) (Signs i vote) → IsRuled x i vote
     by_exact x Rule about told ruled exact signs =
         let found = exact.only (Signs i vote) signs in
         let signed = found.1 in
@@ -150,18 +150,18 @@ module _ {K L D : Type 0} (same : D → D → Bool) (elect : Elect L) where
         let what : vote ≡ signed.1 = cc in
         (subst (RuleFor x) (sym what) (ruled signed.1 found.0 signed.3), signed.2 ∙ ap (λ (k : ℕ). Some k) (sym who))
 
-    call_ruled : (x : StateFacts K L D) (call : CallFacts D) (told : Told K D) → ExactAt same elect (Some x) (Calls call) told → Contains (signed_in told) (Signs i vote) → IsRuled x i vote
+    call_ruled : (x : StateFacts K L D) (call : CallFacts D) (told : ReplyFacts K D) → ExactAt same elect (Some x) (Calls call) told → Contains (signed_in told) (Signs i vote) → IsRuled x i vote
     call_ruled x (ConstructNullify v) told exact signs = by_exact x (NullifyRule x v) (Some (subject.Nullify (round_number x v))) told (λ given rule is. of_nullify x v given is) exact signs
     call_ruled x (ConstructFinalize v) told exact signs = by_exact x (FinalizeRule elect x v) (option_map subject.Finalize (proposal_at x v)) told (λ given rule is. of_finalize x v rule (proposal_at x v) refl given is) exact signs
     call_ruled x (ConstructNotarize v) told exact signs = by_exact x (NotarizeRule same elect x v) (option_map subject.Notarize (proposal_at x v)) told (λ given rule is. of_notarize x v rule (proposal_at x v) refl given is) exact signs
     call_ruled x _ told exact signs = absurd (unsigned i vote (signed_in told) exact signs)
 
-    step_ruled : (x : StateFacts K L D) (step : StepFacts K L D) (told : Told K D) → ExactAt same elect (Some x) step told → Contains (signed_in told) (Signs i vote) → IsRuled x i vote
+    step_ruled : (x : StateFacts K L D) (step : StepFacts K L D) (told : ReplyFacts K D) → ExactAt same elect (Some x) step told → Contains (signed_in told) (Signs i vote) → IsRuled x i vote
     step_ruled x (Calls call) told exact signs = call_ruled x call told exact signs
     step_ruled x Prunes told exact signs = absurd (unsigned i vote (signed_in told) exact signs)
     step_ruled x (Restarts r) told exact signs = absurd (unsigned i vote (signed_in told) exact signs)
 
-    life_ruled : (life : Option (StateFacts K L D)) (step : StepFacts K L D) (told : Told K D) → ExactAt same elect life step told → Contains (signed_in told) (Signs i vote) → (x : StateFacts K L D) × (life ≡ Some x) × IsRuled x i vote
+    life_ruled : (life : Option (StateFacts K L D)) (step : StepFacts K L D) (told : ReplyFacts K D) → ExactAt same elect life step told → Contains (signed_in told) (Signs i vote) → (x : StateFacts K L D) × (life ≡ Some x) × IsRuled x i vote
     life_ruled None step told exact signs = absurd (unsigned i vote (signed_in told) exact signs)
     life_ruled (Some x) step told exact signs = (x, refl, step_ruled x step told exact signs)
 
@@ -171,10 +171,10 @@ module _ {K L D : Type 0} (same : D → D → Bool) (elect : Elect L) (term_leng
   -- a state that the execution lives with on its way
   pub record StateWhere (Holds : StateFacts K L D → Type 0) : Type 0 where
     pub steps : List (StepFacts K L D)
-    pub replies : List (Told K D)
+    pub replies : List (ReplyFacts K D)
     pub ran : IsExecution same elect term_length member (record s { steps = steps; replies = replies })
     pub x : StateFacts K L D
-    pub lives : LivesWith same elect (record s { steps = steps; replies = replies }) x
+    pub lives : RunsWith same elect (record s { steps = steps; replies = replies }) x
     pub trace_within : (d : TraceEvent D) → Contains (trace_of (record s { steps = steps; replies = replies })) d → Contains (trace_of s) d
     pub judged_within : (j : Bool × Proposal D) → Contains (judged_of (record s { steps = steps; replies = replies })) j → Contains (judged_of s) j
     pub restarts_within : (r : _) → Contains steps (Restarts r) → Contains s.steps (Restarts r)
@@ -184,7 +184,7 @@ module _ {K L D : Type 0} (same : D → D → Bool) (elect : Elect L) (term_leng
   StateAtVote i vote = StateWhere (λ x. IsRuled same elect x i vote)
 
   module _ (ran : IsExecution same elect term_length member s) where
-    pub state_where : (Holds : StateFacts K L D → Type 0) (first more : List (StepFacts K L D)) (told rest : List (Told K D)) (middle : MemberFacts K L D) → s.steps ≡ first ++ more → s.replies ≡ told ++ rest → IsRun same elect (new_member same elect s.start) first told middle → (x : StateFacts K L D) → middle.life ≡ Some x → Holds x → StateWhere Holds
+    pub state_where : (Holds : StateFacts K L D → Type 0) (first more : List (StepFacts K L D)) (told rest : List (ReplyFacts K D)) (middle : MemberFacts K L D) → s.steps ≡ first ++ more → s.replies ≡ told ++ rest → IsRun same elect (new_member same elect s.start) first told middle → (x : StateFacts K L D) → middle.life ≡ Some x → Holds x → StateWhere Holds
     unfolding IsRunFrom
     state_where Holds first more told rest middle steps_are replies_are run x alive holds =
         record {

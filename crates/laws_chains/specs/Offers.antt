@@ -1,7 +1,7 @@
 -- A member that receives verdicts on its offers alone, step by step.
 use Rattle.std.specs.Prelude.{◌≡◌, Bool, true, List, [], ◌∷◌}
 use Rattle.simplex_voter.specs.Facts.{Elect}
-use Rattle.simplex_member.specs.Calls.{Certified, Told}
+use Rattle.simplex_member.specs.Calls.{Certified, ReplyFacts}
 use Rattle.simplex_member.specs.MemberFacts.{MemberFacts}
 use Rattle.simplex_member.specs.OutstandingWork.{is_offered}
 use Rattle.simplex_member.specs.Runs.{StepFacts, Calls, IsStep}
@@ -17,7 +17,7 @@ IsStepOnOffer m _ = Unit {0}
 
 module _ {K L D : Type 0} (same : D → D → Bool) (elect : Elect L) where
   -- a member takes these steps, each with its reply, and each verdict is on an offer
-  abbrev pub IsRunOnOffers : MemberFacts K L D → List (StepFacts K L D) → List (Told K D) → MemberFacts K L D → Type 0
+  abbrev pub IsRunOnOffers : MemberFacts K L D → List (StepFacts K L D) → List (ReplyFacts K D) → MemberFacts K L D → Type 0
   IsRunOnOffers m [] [] end = m ≡ end
   IsRunOnOffers m [] (told ∷ rest) end = ⊥
   IsRunOnOffers m (step ∷ steps) [] end = ⊥

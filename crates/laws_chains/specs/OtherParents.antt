@@ -5,7 +5,7 @@ use Rattle.simplex_types.specs.declared.types.messages.Context.{Context}
 use Rattle.simplex_types.specs.declared.types.messages.Proposal.{Proposal}
 use Rattle.simplex_types.specs.declared.types.messages.Subject.TheVariants as subject
 use Rattle.simplex_voter.specs.declared.voter.verify.Verify.TheVariants.{Ready}
-use Rattle.simplex_member.specs.Calls.{AddNotarization, CertifyCandidates, Certified, TryVerify, Verified, ConstructNotarize, Told, Added, Candidates, Judged, Standing, Answered}
+use Rattle.simplex_member.specs.Calls.{AddNotarization, CertifyCandidates, Certified, TryVerify, Verified, ConstructNotarize, ReplyFacts, Added, Candidates, Judged, Standing, Answered}
 use Rattle.simplex_member.specs.Runs.{StepFacts, Calls}
 use Rattle.laws_safety.specs.Executions.{Execution, trace_of}
 use Rattle.laws_safety.specs.Replicas.{Replica, Faulty, Honest, Backed}
@@ -18,7 +18,7 @@ abbrev pub asked_on : ℕ → Context ℕ ℕ
 asked_on payload = record { round = two.round; leader = 3; parent = (1, payload) }
 
 -- it verifies view 2 on that, and votes for it
-abbrev pub verifies_on : ℕ → ℕ → List (StepFacts ℕ ℕ ℕ × Told ℕ ℕ)
+abbrev pub verifies_on : ℕ → ℕ → List (StepFacts ℕ ℕ ℕ × ReplyFacts ℕ ℕ)
 verifies_on payload me =
     (Calls TryVerify, Standing (Ready (asked_on payload) two))
     ∷ (Calls (Verified 2), Answered true)
@@ -26,7 +26,7 @@ verifies_on payload me =
     ∷ []
 
 -- it hears of the notarization of another proposal than its own, and of the leader's fault
-abbrev pub certifies_other : Proposal ℕ → List (StepFacts ℕ ℕ ℕ × Told ℕ ℕ)
+abbrev pub certifies_other : Proposal ℕ → List (StepFacts ℕ ℕ ℕ × ReplyFacts ℕ ℕ)
 certifies_other p =
     (Calls (AddNotarization (certificate p)), Added true (Some 3))
     ∷ (Calls CertifyCandidates, Candidates (p ∷ []) [])

@@ -5,7 +5,7 @@ use Rattle.simplex_types.specs.declared.types.messages.Proposal.{Proposal}
 use Rattle.simplex_types.specs.declared.types.messages.Subject.TheVariants as subject
 use Rattle.simplex_voter.specs.declared.voter.verify.Verify.TheVariants.{Ready}
 use Rattle.simplex_record.specs.Start.{StartFacts}
-use Rattle.simplex_member.specs.Calls.{TryVerify, Verified, ConstructNotarize, Told, Standing, Answered}
+use Rattle.simplex_member.specs.Calls.{TryVerify, Verified, ConstructNotarize, ReplyFacts, Standing, Answered}
 use Rattle.simplex_member.specs.Runs.{StepFacts, Calls}
 use Rattle.laws_safety.specs.AheadNetwork.{three}
 use Rattle.laws_safety.specs.Executions.{Execution}
@@ -24,7 +24,7 @@ abbrev pub first_of : ℕ → Proposal ℕ
 first_of me = record { round = round 1; parent = 0; payload = 11 + me }
 
 -- it verifies view 2 on the payload that it voted for in view 1, and votes for it
-abbrev pub verifies_two : ℕ → List (StepFacts ℕ ℕ ℕ × Told ℕ ℕ)
+abbrev pub verifies_two : ℕ → List (StepFacts ℕ ℕ ℕ × ReplyFacts ℕ ℕ)
 verifies_two me =
     (Calls TryVerify, Standing (Ready (record { round = round 2; leader = 3; parent = (1, 11 + me) }) two))
     ∷ (Calls (Verified 2), Answered true)

@@ -20,14 +20,14 @@ use Rattle.simplex_member.specs.declared.member.calls.Reply.TheVariants as reply
 use Rattle.laws_safety.specs.RecordsOnce.{are_alike}
 use Rattle.engine_fetches.specs.declared.fetches.FetchKind.TheVariants.{Notarization, Nullification, Decision}
 use Rattle.engine_fetches.specs.Fetches.{asked_again, due_at, fresh, opened, passed, peers_of, settled, whose_turn}
-use Rattle.engine_outbox.specs.RecordReach.{is_far_below, lowest_left, lowest_of}
+use Rattle.engine_outbox.specs.RecordReach.{is_far_below, lowest_retained_after, lowest_of}
 use Rattle.engine_outbox.specs.declared.output.Work.TheVariants.{Forget}
 use Rattle.engine_planner.specs.declared.plan.Step.TheVariants.{Resolve}
-use Rattle.engine_planner.specs.FetchRequests.{ended_by, ends_fetch, heard_by, is_notarized}
-use Rattle.engine_planner.specs.Causes.{Matter, Duty, Expiry, given_by}
-use Rattle.simplex_engine.specs.Provenance.{forgettable, heard_in, is_final}
+use Rattle.engine_planner.specs.FetchRequests.{ended_by, ends_fetch, received_by, is_notarized}
+use Rattle.engine_planner.specs.Causes.{Cause, WorkItem, Expiry, reply_causes}
+use Rattle.simplex_engine.specs.Provenance.{forgettable, received_in, is_final}
 use Rattle.simplex_engine.specs.Failures.{IsFailure}
-use Rattle.simplex_engine.specs.FetchHeights.{highest_heard, resolves_above}
+use Rattle.simplex_engine.specs.FetchHeights.{highest_received, resolves_above}
 
 -- fetches
 
@@ -81,10 +81,10 @@ abbrev nullified : ℕ → NullificationFacts
 nullified view = record { round = round view; bytes = [] }
 
 abbrev heard : Answer → CallFacts ℕ → List told.Call
-heard answer call = heard_by (λ payload. []) (λ certificate. []) answer call
+heard answer call = received_by (λ payload. []) (λ certificate. []) answer call
 
 abbrev heard_by_steps : List (StepFacts ℕ ℕ ℕ × Answer) → List told.Call
-heard_by_steps steps = heard_in (λ payload. []) (λ certificate. []) steps
+heard_by_steps steps = received_in (λ payload. []) (λ certificate. []) steps
 
 -- a certificate that is new, and not one that was known
 heard_once : heard (reply.Added false None) (AddNotarization (notarized 3)) ≡ []
@@ -136,8 +136,8 @@ ended_by_no_verdict = refl
 
 -- what a timeout gives
 
-abbrev given : ℕ → Answer → List (Matter ℕ ℕ ℕ ℕ ℕ)
-given now answer = given_by now answer (NextTimeout now)
+abbrev given : ℕ → Answer → List (Cause ℕ ℕ ℕ ℕ ℕ)
+given now answer = reply_causes now answer (NextTimeout now)
 
 due_now : given 100 (reply.Timeout 100 LeaderTimeout) ≡ Expiry ∷ []
 due_now = refl
@@ -172,10 +172,10 @@ abbrev failed : Member
 failed = record (member []) { life = None }
 
 -- it has heard of the first view of the next term, or of a higher one by its record
-next_term : highest_heard (member (notarization 29 ∷ [])) state ≡ 31
+next_term : highest_received (member (notarization 29 ∷ [])) state ≡ 31
 next_term = refl
 
-beyond : highest_heard (member (nullify 27 ∷ finalization 40 ∷ notarization 29 ∷ [])) state ≡ 40
+beyond : highest_received (member (nullify 27 ∷ finalization 40 ∷ notarization 29 ∷ [])) state ≡ 40
 beyond = refl
 
 -- it is to ask for a view above another, and not for that one
@@ -183,7 +183,7 @@ above : map (λ view. resolves_above {S = ℕ} {D = ℕ} {K = ℕ} {G = ℕ} {C 
 above = refl
 
 -- ten views below the last finalized one are kept, and what lies below them may be forgotten; by a failed member nothing may
-kept : forgettable {S = ℕ} {G = ℕ} {C = ℕ} (member []) ≡ Duty (Forget 10) ∷ []
+kept : forgettable {S = ℕ} {G = ℕ} {C = ℕ} (member []) ≡ WorkItem (Forget 10) ∷ []
 kept = refl
 
 all_kept : forgettable {S = ℕ} {G = ℕ} {C = ℕ} failed ≡ []
@@ -212,10 +212,10 @@ not_before is = cc
 -- records
 
 -- the pruning of a record leaves what its state keeps, and what the record's own last finalized view keeps
-left : lowest_left (member (finalization 15 ∷ [])) state ≡ 5
+left : lowest_retained_after (member (finalization 15 ∷ [])) state ≡ 5
 left = refl
 
-left_by_state : lowest_left (member (finalization 40 ∷ [])) state ≡ 10
+left_by_state : lowest_retained_after (member (finalization 40 ∷ [])) state ≡ 10
 left_by_state = refl
 
 lowest : lowest_of 50 (nullify 27 ∷ finalization 15 ∷ notarization 29 ∷ []) ≡ 15

@@ -14,33 +14,33 @@ use Rattle.simplex_member.specs.Runs.{StepFacts, Calls, Prunes, Restarts}
 use Rattle.simplex_member.specs.declared.member.calls.Reply.{Reply}
 use Rattle.simplex_member.specs.declared.member.calls.Reply.TheVariants as reply
 use Rattle.engine_fetches.specs.declared.fetches.FetchKind.{FetchKind}
-use Rattle.engine_outbox.specs.CertificateCalls.{hands_in}
-use Rattle.engine_planner.specs.FetchRequests.{with_lack}
-use Rattle.engine_planner.specs.Causes.{Matter, Duty, Lack, Arrival, Message, Quorum, Expiry, given_by, of_task}
+use Rattle.engine_outbox.specs.CertificateCalls.{certificate_call}
+use Rattle.engine_planner.specs.FetchRequests.{with_missing_certificate}
+use Rattle.engine_planner.specs.Causes.{Cause, WorkItem, MissingCertificate, Arrival, Message, Quorum, Expiry, reply_causes, of_task}
 use Rattle.engine_planner.specs.Tasks.{call_of}
 use Rattle.engine_planner.specs.declared.task.Task.{Task}
 use Rattle.engine_planner.specs.declared.task.Task.TheVariants as task
 use Rattle.engine_planner.proofs.PlannedWork.{any_either}
-use Rattle.simplex_engine.specs.Provenance.{given_in, ComesBy, IsIn, IsMeant, IsStepMeant}
+use Rattle.simplex_engine.specs.Provenance.{step_causes, IsCausedBy, IsIn, IsCallCaused, IsStepCaused}
 use Rattle.laws_engine.specs.Laws.{SaysDue}
 use Rattle.laws_engine.proofs.Told.{any_weaker, candidates_give_none, first_or_later, shown_gives_none}
 
 module _ {S D K G C : Type 0} where
   -- it is of a timeout
-  abbrev is_expiry : Matter S D K G C → Bool
+  abbrev is_expiry : Cause S D K G C → Bool
   is_expiry Expiry = true
   is_expiry _ = false
 
-  expired : (matters : List (Matter S D K G C)) → list_any is_expiry matters ≡ true → IsIn Expiry matters
-  expired matters some = record { found = λ test passes. any_weaker is_expiry test (by_matter test passes) matters some }
+  expired : (causes : List (Cause S D K G C)) → list_any is_expiry causes ≡ true → IsIn Expiry causes
+  expired causes some = record { found = λ test passes. any_weaker is_expiry test (by_matter test passes) causes some }
     where
-      by_matter : (test : Matter S D K G C → Bool) → list_any test (Expiry ∷ []) ≡ true → (it : Matter S D K G C) → is_expiry it ≡ true → test it ≡ true
+      by_matter : (test : Cause S D K G C → Bool) → list_any test (Expiry ∷ []) ≡ true → (it : Cause S D K G C) → is_expiry it ≡ true → test it ≡ true
       by_matter test passes Expiry is = elim (or_cases (test Expiry) false passes) [
         | inl it ↦ it
         | inr none ↦ absurd (false≢true none)
       ]
-      by_matter test passes (Duty work) is = absurd (false≢true is)
-      by_matter test passes (Lack kind view) is = absurd (false≢true is)
+      by_matter test passes (WorkItem work) is = absurd (false≢true is)
+      by_matter test passes (MissingCertificate kind view) is = absurd (false≢true is)
       by_matter test passes (Arrival from proposal) is = absurd (false≢true is)
       by_matter test passes (Quorum subject) is = absurd (false≢true is)
       by_matter test passes (Message asked) is = absurd (false≢true is)
@@ -51,11 +51,11 @@ module _ {S D K G C : Type 0} where
 
 module _ {S D K G C : Type 0} (now : ℕ) where
   timeout_says : (moment : ℕ) (reason : TimeoutReason) (call : CallFacts D) (due : Bool) → nat_le moment now ≡ due
-      → list_any is_expiry (given_by {S = S} {K = K} {G = G} {C = C} now (reply.Timeout moment reason) call) ≡ true → SaysDue {S = S} {D = D} {K = K} {G = G} {C = C} now (reply.Timeout moment reason)
+      → list_any is_expiry (reply_causes {S = S} {K = K} {G = G} {C = C} now (reply.Timeout moment reason) call) ≡ true → SaysDue {S = S} {D = D} {K = K} {G = G} {C = C} now (reply.Timeout moment reason)
   timeout_says moment reason call true is some = record { moment = moment; reason = reason; says = refl; due = grind (arith, nat_tests, is) }
   timeout_says moment reason call false is some = absurd (false≢true (subst (λ (b : Bool). list_any (is_expiry {S = S} {D = D} {K = K} {G = G} {C = C}) (if b then Expiry ∷ [] else []) ≡ true) is some))
 
-  reply_says : (answer : Reply S D K G C) (call : CallFacts D) → list_any is_expiry (given_by now answer call) ≡ true → SaysDue now answer
+  reply_says : (answer : Reply S D K G C) (call : CallFacts D) → list_any is_expiry (reply_causes now answer call) ≡ true → SaysDue now answer
   reply_says (reply.Timeout moment reason) call some = timeout_says moment reason call (nat_le moment now) refl some
   reply_says (reply.Work (verify.Ready context proposal)) call some = absurd (false≢true some)
   reply_says (reply.Work (verify.Resolve proposal view kind leader)) call some = absurd (false≢true some)
@@ -70,38 +70,38 @@ module _ {S D K G C : Type 0} (now : ℕ) where
   reply_says answer call some = absurd (false≢true some)
 
 -- no certificate is handed in by it
-no_certificate : {D : Type 0} (now view : ℕ) (certificate : CertificateFacts D) → ConstructNullify view ≡ hands_in certificate now → ⊥
+no_certificate : {D : Type 0} (now view : ℕ) (certificate : CertificateFacts D) → ConstructNullify view ≡ certificate_call certificate now → ⊥
 no_certificate now view (Notarized c) is = cc
 no_certificate now view (Nullified c) is = cc
 no_certificate now view (Finalized c) is = cc
 
 module _ {S L D K G C : Type 0} (now : ℕ) where
-  nullify_meant : (matters : List (Matter S D K G C)) (m : MemberFacts K L D) (view : ℕ) → IsMeant now matters m (ConstructNullify view) → list_any is_expiry matters ≡ true
-  nullify_meant matters m view (inl (asked, is, of_these, on_offer)) = of_these.found is_expiry (rw (task_expires {S = S} {K = K} {G = G} {C = C} now view asked is) refl)
-  nullify_meant matters m view (inr (inl (from, proposal, is, in_these, admits))) = absurd (cc)
-  nullify_meant matters m view (inr (inr (certificate, is, in_these))) = absurd (no_certificate now view certificate is)
+  nullify_meant : (causes : List (Cause S D K G C)) (m : MemberFacts K L D) (view : ℕ) → IsCallCaused now causes m (ConstructNullify view) → list_any is_expiry causes ≡ true
+  nullify_meant causes m view (inl (asked, is, of_these, on_offer)) = of_these.found is_expiry (rw (task_expires {S = S} {K = K} {G = G} {C = C} now view asked is) refl)
+  nullify_meant causes m view (inr (inl (from, proposal, is, in_these, admits))) = absurd (cc)
+  nullify_meant causes m view (inr (inr (certificate, is, in_these))) = absurd (no_certificate now view certificate is)
 
 -- one of these steps was answered so
 abbrev SomeSaysDue : {S L D K G C : Type 0} → ℕ → List (StepFacts K L D × Reply S D K G C) → Type 0
 SomeSaysDue {S} {L} {D} {K} {G} {C} now steps = (call : CallFacts D) × (said : Reply S D K G C) × Contains steps (Calls call, said) × SaysDue now said
 
 module _ {S L D K G C : Type 0} (same : D → D → Bool) (elect : Elect L) (bytes_of : C → List ℕ) (now : ℕ) (asks_now over : FetchKind → ℕ → Bool) where
-  said_by : (step : StepFacts K L D) (answer : Reply S D K G C) (rest : List (StepFacts K L D × Reply S D K G C)) → list_any is_expiry (given_in {L = L} now step answer) ≡ true
+  said_by : (step : StepFacts K L D) (answer : Reply S D K G C) (rest : List (StepFacts K L D × Reply S D K G C)) → list_any is_expiry (step_causes {L = L} now step answer) ≡ true
       → SomeSaysDue now ((step, answer) ∷ rest)
   said_by (Calls call) answer rest some = (call, answer, Contains-append_left ((Calls call, answer) ∷ []) rest (Calls call, answer) (0, omega arith, refl), reply_says now answer call some)
   said_by Prunes answer rest some = absurd (false≢true some)
   said_by (Restarts restart) answer rest some = absurd (false≢true some)
 
-  nullified : (steps : List (StepFacts K L D × Reply S D K G C)) (matters left : List (Matter S D K G C)) (asked : FetchKind → ℕ → Bool) (m end : MemberFacts K L D)
-      → ComesBy same elect bytes_of now asks_now over steps matters asked m left end → (view : ℕ) (answer : Reply S D K G C) → Contains steps (Calls (ConstructNullify view), answer)
-      → (list_any is_expiry matters ≡ true) ⊎ SomeSaysDue now steps
-  nullified [] matters left asked m end comes view answer there = (let none = there.1 in absurd (omega (arith, none)))
-  nullified ((step, reply) ∷ rest) matters left asked m end (meant, next, is_step, comes) view answer there =
+  nullified : (steps : List (StepFacts K L D × Reply S D K G C)) (causes left : List (Cause S D K G C)) (asked : FetchKind → ℕ → Bool) (m end : MemberFacts K L D)
+      → IsCausedBy same elect bytes_of now asks_now over steps causes asked m left end → (view : ℕ) (answer : Reply S D K G C) → Contains steps (Calls (ConstructNullify view), answer)
+      → (list_any is_expiry causes ≡ true) ⊎ SomeSaysDue now steps
+  nullified [] causes left asked m end provenance view answer there = (let none = there.1 in absurd (omega (arith, none)))
+  nullified ((step, reply) ∷ rest) causes left asked m end (meant, next, is_step, provenance) view answer there =
       elim (first_or_later (step, reply) rest (Calls (ConstructNullify view), answer) there) [
-        | inl is ↦ inl (nullify_meant now matters m view (subst (IsStepMeant now matters m) (ap (λ (it : StepFacts K L D × Reply S D K G C). it.0) is) meant))
-        | inr later ↦ (let given : List (Matter S D K G C) = given_in {L = L} now step reply in
-            elim (nullified rest (matters ++ given) left (with_lack asked given) next end comes view answer later) [
-              | inl some ↦ elim (any_either is_expiry matters given some) [
+        | inl is ↦ inl (nullify_meant now causes m view (subst (IsStepCaused now causes m) (ap (λ (it : StepFacts K L D × Reply S D K G C). it.0) is) meant))
+        | inr later ↦ (let given : List (Cause S D K G C) = step_causes {L = L} now step reply in
+            elim (nullified rest (causes ++ given) left (with_missing_certificate asked given) next end provenance view answer later) [
+              | inl some ↦ elim (any_either is_expiry causes given some) [
                 | inl before ↦ inl before
                 | inr said ↦ inr (said_by step reply rest said)
               ]
@@ -109,10 +109,10 @@ module _ {S L D K G C : Type 0} (same : D → D → Bool) (elect : Elect L) (byt
             ])
       ]
 
-  pub nullified_once_due : (steps : List (StepFacts K L D × Reply S D K G C)) (matters left : List (Matter S D K G C)) (asked : FetchKind → ℕ → Bool) (m end : MemberFacts K L D)
-      → ComesBy same elect bytes_of now asks_now over steps matters asked m left end → (view : ℕ) (answer : Reply S D K G C) → Contains steps (Calls (ConstructNullify view), answer)
-      → IsIn Expiry matters ⊎ SomeSaysDue now steps
-  nullified_once_due steps matters left asked m end comes view answer there = elim (nullified steps matters left asked m end comes view answer there) [
-    | inl some ↦ inl (expired matters some)
+  pub nullified_once_due : (steps : List (StepFacts K L D × Reply S D K G C)) (causes left : List (Cause S D K G C)) (asked : FetchKind → ℕ → Bool) (m end : MemberFacts K L D)
+      → IsCausedBy same elect bytes_of now asks_now over steps causes asked m left end → (view : ℕ) (answer : Reply S D K G C) → Contains steps (Calls (ConstructNullify view), answer)
+      → IsIn Expiry causes ⊎ SomeSaysDue now steps
+  nullified_once_due steps causes left asked m end provenance view answer there = elim (nullified steps causes left asked m end provenance view answer there) [
+    | inl some ↦ inl (expired causes some)
     | inr said ↦ inr said
   ]

@@ -16,17 +16,17 @@ use Rattle.simplex_member.specs.declared.member.calls.Reply.{Reply}
 use Rattle.simplex_member.specs.declared.member.calls.Reply.TheVariants as reply
 use Rattle.engine_fetches.specs.declared.fetches.FetchKind.{FetchKind}
 use Rattle.engine_fetches.specs.declared.fetches.FetchKind.TheVariants.{Notarization}
-use Rattle.engine_outbox.specs.CertificateCalls.{hands_in}
+use Rattle.engine_outbox.specs.CertificateCalls.{certificate_call}
 use Rattle.engine_outbox.specs.declared.output.Work.{Work}
 use Rattle.engine_outbox.specs.declared.output.Work.TheVariants.{Certify, ProposedTwice}
-use Rattle.engine_planner.specs.FetchRequests.{with_lack}
-use Rattle.engine_planner.specs.Causes.{Matter, Duty, Lack, Arrival, Message, Quorum, Expiry, given_by, of_task, shown_by}
+use Rattle.engine_planner.specs.FetchRequests.{with_missing_certificate}
+use Rattle.engine_planner.specs.Causes.{Cause, WorkItem, MissingCertificate, Arrival, Message, Quorum, Expiry, reply_causes, of_task, shown_by}
 use Rattle.engine_planner.specs.PlannedWork.{AreAmong}
 use Rattle.engine_planner.specs.Tasks.{call_of}
 use Rattle.engine_planner.specs.declared.task.Task.{Task}
 use Rattle.engine_planner.specs.declared.task.Task.TheVariants as task
 use Rattle.engine_planner.proofs.PlannedWork.{any_either, among_all, among_further, among_more}
-use Rattle.simplex_engine.specs.Provenance.{given_in, ComesBy, IsIn, IsMeant, IsStepMeant}
+use Rattle.simplex_engine.specs.Provenance.{step_causes, IsCausedBy, IsIn, IsCallCaused, IsStepCaused}
 use Rattle.laws_engine.specs.Laws.{given_by_all, IsToldBy}
 
 pub any_weaker : {A : Type 0} (p q : A → Bool) → ((a : A) → p a ≡ true → q a ≡ true) → (items : List A) → list_any p items ≡ true → list_any q items ≡ true
@@ -49,16 +49,16 @@ first_or_later x rest y there = elim (Contains-append_cases (x ∷ []) rest y th
 
 module _ {S D K G C : Type 0} where
   -- it comes from outside
-  abbrev is_outside : Matter S D K G C → Bool
+  abbrev is_outside : Cause S D K G C → Bool
   is_outside (Message asked) = true
   is_outside (Arrival from proposal) = true
   is_outside (Quorum subject) = true
   is_outside _ = false
 
 -- what is no duty and no lack is not given by candidates, nor shown of a leader
-module _ {S D K G C : Type 0} (test : Matter S D K G C → Bool) (no_duty : (work : Work S D K G C) → test (Duty work) ≡ false) where
-  pub candidates_give_none : ((kind : FetchKind) (view : ℕ) → test (Lack kind view) ≡ false) → (proposals : List (Proposal D)) (wanted : List CertificateFetch)
-      → list_any test (map (λ proposal. Duty (Certify proposal)) proposals ++ map (λ (it : CertificateFetch). Lack Notarization it.view) wanted) ≡ false
+module _ {S D K G C : Type 0} (test : Cause S D K G C → Bool) (no_duty : (work : Work S D K G C) → test (WorkItem work) ≡ false) where
+  pub candidates_give_none : ((kind : FetchKind) (view : ℕ) → test (MissingCertificate kind view) ≡ false) → (proposals : List (Proposal D)) (wanted : List CertificateFetch)
+      → list_any test (map (λ proposal. WorkItem (Certify proposal)) proposals ++ map (λ (it : CertificateFetch). MissingCertificate Notarization it.view) wanted) ≡ false
   candidates_give_none no_lack [] [] = refl
   candidates_give_none no_lack [] (it ∷ wanted) = rw (no_lack Notarization it.view) (candidates_give_none no_lack [] wanted)
   candidates_give_none no_lack (proposal ∷ proposals) wanted = rw (no_duty (Certify proposal)) (candidates_give_none no_lack proposals wanted)
@@ -70,11 +70,11 @@ module _ {S D K G C : Type 0} (test : Matter S D K G C → Bool) (no_duty : (wor
   shown_gives_none call leader = refl
 
 module _ {S D K G C : Type 0} where
-  timeout_gives_none : (test : Matter S D K G C → Bool) → test Expiry ≡ false → (due : Bool) → list_any test (if due then Expiry ∷ [] else []) ≡ false
+  timeout_gives_none : (test : Cause S D K G C → Bool) → test Expiry ≡ false → (due : Bool) → list_any test (if due then Expiry ∷ [] else []) ≡ false
   timeout_gives_none test no_expiry true = rw no_expiry refl
   timeout_gives_none test no_expiry false = refl
 
-  replies_inside : (now : ℕ) (answer : Reply S D K G C) (call : CallFacts D) → list_any is_outside (given_by now answer call) ≡ false
+  replies_inside : (now : ℕ) (answer : Reply S D K G C) (call : CallFacts D) → list_any is_outside (reply_causes now answer call) ≡ false
   replies_inside now (reply.Work (verify.Ready context proposal)) call = refl
   replies_inside now (reply.Work (verify.Resolve proposal view kind leader)) call = refl
   replies_inside now (reply.Work verify.Wait) call = refl
@@ -89,75 +89,75 @@ module _ {S D K G C : Type 0} where
   replies_inside now answer call = refl
 
   -- what comes from outside is among the rest
-  outside_before : (matters given : List (Matter S D K G C)) → list_any is_outside given ≡ false → (matter : Matter S D K G C) → is_outside matter ≡ true → IsIn matter (matters ++ given)
-      → IsIn matter matters
-  outside_before matters given inside matter outside is = record {
+  outside_before : (causes given : List (Cause S D K G C)) → list_any is_outside given ≡ false → (the_cause : Cause S D K G C) → is_outside the_cause ≡ true → IsIn the_cause (causes ++ given)
+      → IsIn the_cause causes
+  outside_before causes given inside the_cause outside is = record {
     found = λ test some.
-        let both : Matter S D K G C → Bool = λ it. is_outside it && test it in
-        elim (any_either both matters given (is.found both (rw outside some))) [
-          | inl here ↦ any_weaker both test (λ it passes. (and_parts (is_outside it) (test it) passes).1) matters here
+        let both : Cause S D K G C → Bool = λ it. is_outside it && test it in
+        elim (any_either both causes given (is.found both (rw outside some))) [
+          | inl here ↦ any_weaker both test (λ it passes. (and_parts (is_outside it) (test it) passes).1) causes here
           | inr there ↦ absurd (false≢true (sym inside ∙ any_weaker both is_outside (λ it passes. (and_parts (is_outside it) (test it) passes).0) given there))
         ];
   }
 
-  told_before : (matters given : List (Matter S D K G C)) → list_any is_outside given ≡ false → (call : CallFacts D) → IsToldBy (matters ++ given) call → IsToldBy matters call
-  told_before matters given inside (Verified view) is = outside_before matters given inside (Message (task.Verified view)) refl is
-  told_before matters given inside (VerificationFailed view reason now) is = outside_before matters given inside (Message (task.VerificationFailed view)) refl is
-  told_before matters given inside (Proposed view payload now) is = outside_before matters given inside (Message (task.Proposed view payload)) refl is
-  told_before matters given inside (Certified view success now) is = outside_before matters given inside (Message (task.Certified view success)) refl is
-  told_before matters given inside (TriggerTimeout view reason now) is = outside_before matters given inside (Message (task.GiveUp view reason)) refl is
-  told_before matters given inside (SetProposal view proposal) (inl is) = inl (outside_before matters given inside (Message (task.SetProposal view proposal)) refl is)
-  told_before matters given inside (SetProposal view proposal) (inr (from, is)) = inr (from, outside_before matters given inside (Arrival from proposal) refl is)
-  told_before matters given inside (AddNotarization c) is = outside_before matters given inside (Quorum (certificate_subject (Notarized c))) refl is
-  told_before matters given inside (AddNullification c now) is = outside_before matters given inside (Quorum (certificate_subject (Nullified c))) refl is
-  told_before matters given inside (AddFinalization c now) is = outside_before matters given inside (Quorum (certificate_subject (Finalized c))) refl is
-  told_before matters given inside call is = tt
+  told_before : (causes given : List (Cause S D K G C)) → list_any is_outside given ≡ false → (call : CallFacts D) → IsToldBy (causes ++ given) call → IsToldBy causes call
+  told_before causes given inside (Verified view) is = outside_before causes given inside (Message (task.Verified view)) refl is
+  told_before causes given inside (VerificationFailed view reason now) is = outside_before causes given inside (Message (task.VerificationFailed view)) refl is
+  told_before causes given inside (Proposed view payload now) is = outside_before causes given inside (Message (task.Proposed view payload)) refl is
+  told_before causes given inside (Certified view success now) is = outside_before causes given inside (Message (task.Certified view success)) refl is
+  told_before causes given inside (TriggerTimeout view reason now) is = outside_before causes given inside (Message (task.GiveUp view reason)) refl is
+  told_before causes given inside (SetProposal view proposal) (inl is) = inl (outside_before causes given inside (Message (task.SetProposal view proposal)) refl is)
+  told_before causes given inside (SetProposal view proposal) (inr (from, is)) = inr (from, outside_before causes given inside (Arrival from proposal) refl is)
+  told_before causes given inside (AddNotarization c) is = outside_before causes given inside (Quorum (certificate_subject (Notarized c))) refl is
+  told_before causes given inside (AddNullification c now) is = outside_before causes given inside (Quorum (certificate_subject (Nullified c))) refl is
+  told_before causes given inside (AddFinalization c now) is = outside_before causes given inside (Quorum (certificate_subject (Finalized c))) refl is
+  told_before causes given inside call is = tt
 
   -- what a task or a certificate comes of
 
-  task_told : (matters : List (Matter S D K G C)) (now : ℕ) (asked : Task D) → AreAmong (of_task asked) matters → IsToldBy matters (call_of asked now)
-  task_told matters now (task.Verified view) is = is
-  task_told matters now (task.VerificationFailed view) is = is
-  task_told matters now (task.Proposed view payload) is = is
-  task_told matters now (task.Certified view success) is = is
-  task_told matters now (task.GiveUp view reason) is = is
-  task_told matters now (task.SetProposal view proposal) is = inl is
-  task_told matters now asked is = tt
+  task_told : (causes : List (Cause S D K G C)) (now : ℕ) (asked : Task D) → AreAmong (of_task asked) causes → IsToldBy causes (call_of asked now)
+  task_told causes now (task.Verified view) is = is
+  task_told causes now (task.VerificationFailed view) is = is
+  task_told causes now (task.Proposed view payload) is = is
+  task_told causes now (task.Certified view success) is = is
+  task_told causes now (task.GiveUp view reason) is = is
+  task_told causes now (task.SetProposal view proposal) is = inl is
+  task_told causes now asked is = tt
 
-  certificate_told : (matters : List (Matter S D K G C)) (now : ℕ) (certificate : CertificateFacts D) → IsIn (Quorum (certificate_subject certificate)) matters
-      → IsToldBy matters (hands_in certificate now)
-  certificate_told matters now (Notarized c) is = is
-  certificate_told matters now (Nullified c) is = is
-  certificate_told matters now (Finalized c) is = is
+  certificate_told : (causes : List (Cause S D K G C)) (now : ℕ) (certificate : CertificateFacts D) → IsIn (Quorum (certificate_subject certificate)) causes
+      → IsToldBy causes (certificate_call certificate now)
+  certificate_told causes now (Notarized c) is = is
+  certificate_told causes now (Nullified c) is = is
+  certificate_told causes now (Finalized c) is = is
 
 module _ {S L D K G C : Type 0} (now : ℕ) where
-  meant_told : (matters : List (Matter S D K G C)) (m : MemberFacts K L D) (call : CallFacts D) → IsMeant now matters m call → IsToldBy matters call
-  meant_told matters m call (inl (asked, is, of_these, on_offer)) = subst (IsToldBy matters) (sym is) (task_told matters now asked of_these)
-  meant_told matters m call (inr (inl (from, proposal, is, in_these, admits))) = subst (IsToldBy matters) (sym is) (inr (from, in_these))
-  meant_told matters m call (inr (inr (certificate, is, in_these))) = subst (IsToldBy matters) (sym is) (certificate_told matters now certificate in_these)
+  meant_told : (causes : List (Cause S D K G C)) (m : MemberFacts K L D) (call : CallFacts D) → IsCallCaused now causes m call → IsToldBy causes call
+  meant_told causes m call (inl (asked, is, of_these, on_offer)) = subst (IsToldBy causes) (sym is) (task_told causes now asked of_these)
+  meant_told causes m call (inr (inl (from, proposal, is, in_these, admits))) = subst (IsToldBy causes) (sym is) (inr (from, in_these))
+  meant_told causes m call (inr (inr (certificate, is, in_these))) = subst (IsToldBy causes) (sym is) (certificate_told causes now certificate in_these)
 
-  steps_inside : (step : StepFacts K L D) (answer : Reply S D K G C) → list_any is_outside (given_in now step answer) ≡ false
+  steps_inside : (step : StepFacts K L D) (answer : Reply S D K G C) → list_any is_outside (step_causes now step answer) ≡ false
   steps_inside (Calls call) answer = replies_inside now answer call
   steps_inside Prunes answer = refl
   steps_inside (Restarts restart) answer = refl
 
 module _ {S L D K G C : Type 0} (same : D → D → Bool) (elect : Elect L) (bytes_of : C → List ℕ) (now : ℕ) (asks_now over : FetchKind → ℕ → Bool) where
   -- a call of one of these steps was told by what was at hand before all of them
-  pub calls_told : (steps : List (StepFacts K L D × Reply S D K G C)) (matters left : List (Matter S D K G C)) (asked : FetchKind → ℕ → Bool) (m end : MemberFacts K L D)
-      → ComesBy same elect bytes_of now asks_now over steps matters asked m left end → (call : CallFacts D) (answer : Reply S D K G C) → Contains steps (Calls call, answer)
-      → IsToldBy matters call
-  calls_told [] matters left asked m end comes call answer there = (let none = there.1 in absurd (omega (arith, none)))
-  calls_told ((step, reply) ∷ rest) matters left asked m end (meant, next, is_step, comes) call answer there = elim (first_or_later (step, reply) rest (Calls call, answer) there) [
-    | inl is ↦ meant_told now matters m call (subst (IsStepMeant now matters m) (ap (λ (it : StepFacts K L D × Reply S D K G C). it.0) is) meant)
-    | inr later ↦ (let given : List (Matter S D K G C) = given_in {L = L} now step reply in
-        told_before matters given (steps_inside now step reply) call
-        (calls_told rest (matters ++ given) left (with_lack asked given) next end comes call answer later))
+  pub calls_told : (steps : List (StepFacts K L D × Reply S D K G C)) (causes left : List (Cause S D K G C)) (asked : FetchKind → ℕ → Bool) (m end : MemberFacts K L D)
+      → IsCausedBy same elect bytes_of now asks_now over steps causes asked m left end → (call : CallFacts D) (answer : Reply S D K G C) → Contains steps (Calls call, answer)
+      → IsToldBy causes call
+  calls_told [] causes left asked m end provenance call answer there = (let none = there.1 in absurd (omega (arith, none)))
+  calls_told ((step, reply) ∷ rest) causes left asked m end (meant, next, is_step, provenance) call answer there = elim (first_or_later (step, reply) rest (Calls call, answer) there) [
+    | inl is ↦ meant_told now causes m call (subst (IsStepCaused now causes m) (ap (λ (it : StepFacts K L D × Reply S D K G C). it.0) is) meant)
+    | inr later ↦ (let given : List (Cause S D K G C) = step_causes {L = L} now step reply in
+        told_before causes given (steps_inside now step reply) call
+        (calls_told rest (causes ++ given) left (with_missing_certificate asked given) next end provenance call answer later))
   ]
 
   -- what is left was at hand before all of them, or was given by a reply
-  pub left_given : (steps : List (StepFacts K L D × Reply S D K G C)) (matters left : List (Matter S D K G C)) (asked : FetchKind → ℕ → Bool) (m end : MemberFacts K L D)
-      → ComesBy same elect bytes_of now asks_now over steps matters asked m left end → AreAmong left (matters ++ given_by_all now steps)
-  left_given [] matters left asked m end comes = among_further comes.0 (among_more matters [])
-  left_given ((step, reply) ∷ rest) matters left asked m end (meant, next, is_step, comes) =
-      let given : List (Matter S D K G C) = given_in {L = L} now step reply in
-      among_further (left_given rest (matters ++ given) left (with_lack asked given) next end comes) (among_all (append_assoc matters given (given_by_all now rest)))
+  pub left_given : (steps : List (StepFacts K L D × Reply S D K G C)) (causes left : List (Cause S D K G C)) (asked : FetchKind → ℕ → Bool) (m end : MemberFacts K L D)
+      → IsCausedBy same elect bytes_of now asks_now over steps causes asked m left end → AreAmong left (causes ++ given_by_all now steps)
+  left_given [] causes left asked m end provenance = among_further provenance.0 (among_more causes [])
+  left_given ((step, reply) ∷ rest) causes left asked m end (meant, next, is_step, provenance) =
+      let given : List (Cause S D K G C) = step_causes {L = L} now step reply in
+      among_further (left_given rest (causes ++ given) left (with_missing_certificate asked given) next end provenance) (among_all (append_assoc causes given (given_by_all now rest)))

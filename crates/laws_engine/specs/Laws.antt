@@ -10,51 +10,51 @@ use Rattle.simplex_member.specs.declared.member.calls.Reply.{Reply}
 use Rattle.simplex_member.specs.declared.member.calls.Reply.TheVariants.{Timeout}
 use Rattle.engine_fetches.specs.declared.fetches.FetchKind.{FetchKind}
 use Rattle.engine_outbox.specs.declared.output.Work.{Work}
-use Rattle.engine_planner.specs.Causes.{Matter, Arrival, Expiry, Message, Quorum, of_works}
+use Rattle.engine_planner.specs.Causes.{Cause, Arrival, Expiry, Message, Quorum, of_works}
 use Rattle.engine_planner.specs.PlannedWork.{AreAmong}
 use Rattle.engine_planner.specs.declared.task.Task.TheVariants as task
-use Rattle.simplex_engine.specs.Provenance.{at_hand, given_in, Comes, IsIn}
+use Rattle.simplex_engine.specs.Provenance.{pending_causes, step_causes, IsCaused, IsIn}
 use Rattle.simplex_engine.specs.declared.engine.Engine.{Engine}
 
 module _ {S D K G C : Type 0} where
   -- what was told before such a call: just this answer of the application, that the leader gave the view up, the proposal by its
   -- leader, or a certificate on the same; any other call is the engine's own
-  abbrev pub IsToldBy : List (Matter S D K G C) → CallFacts D → Type 0
-  IsToldBy matters (Verified view) = IsIn (Message (task.Verified view)) matters
-  IsToldBy matters (VerificationFailed view _ _) = IsIn (Message (task.VerificationFailed view)) matters
-  IsToldBy matters (Proposed view payload _) = IsIn (Message (task.Proposed view payload)) matters
-  IsToldBy matters (Certified view is_success _) = IsIn (Message (task.Certified view is_success)) matters
-  IsToldBy matters (TriggerTimeout view reason _) = IsIn (Message (task.GiveUp view reason)) matters
-  IsToldBy matters (SetProposal view proposal) =
-      IsIn (Message (task.SetProposal view proposal)) matters ⊎ ((from : ℕ) × IsIn (Arrival from proposal) matters)
-  IsToldBy matters (AddNotarization c) = IsIn (Quorum (certificate_subject (Notarized c))) matters
-  IsToldBy matters (AddNullification c _) = IsIn (Quorum (certificate_subject (Nullified c))) matters
-  IsToldBy matters (AddFinalization c _) = IsIn (Quorum (certificate_subject (Finalized c))) matters
-  IsToldBy matters _ = Unit {0}
+  abbrev pub IsToldBy : List (Cause S D K G C) → CallFacts D → Type 0
+  IsToldBy causes (Verified view) = IsIn (Message (task.Verified view)) causes
+  IsToldBy causes (VerificationFailed view _ _) = IsIn (Message (task.VerificationFailed view)) causes
+  IsToldBy causes (Proposed view payload _) = IsIn (Message (task.Proposed view payload)) causes
+  IsToldBy causes (Certified view is_success _) = IsIn (Message (task.Certified view is_success)) causes
+  IsToldBy causes (TriggerTimeout view reason _) = IsIn (Message (task.GiveUp view reason)) causes
+  IsToldBy causes (SetProposal view proposal) =
+      IsIn (Message (task.SetProposal view proposal)) causes ⊎ ((from : ℕ) × IsIn (Arrival from proposal) causes)
+  IsToldBy causes (AddNotarization c) = IsIn (Quorum (certificate_subject (Notarized c))) causes
+  IsToldBy causes (AddNullification c _) = IsIn (Quorum (certificate_subject (Nullified c))) causes
+  IsToldBy causes (AddFinalization c _) = IsIn (Quorum (certificate_subject (Finalized c))) causes
+  IsToldBy causes _ = Unit {0}
 
 -- what all replies to some steps gave
-abbrev pub given_by_all : {S L D K G C : Type 0} → ℕ → List (StepFacts K L D × Reply S D K G C) → List (Matter S D K G C)
+abbrev pub given_by_all : {S L D K G C : Type 0} → ℕ → List (StepFacts K L D × Reply S D K G C) → List (Cause S D K G C)
 given_by_all now [] = []
-given_by_all {L} now ((step, reply) ∷ rest) = given_in {L = L} now step reply ++ given_by_all now rest
+given_by_all {L} now ((step, reply) ∷ rest) = step_causes {L = L} now step reply ++ given_by_all now rest
 
 -- a law of each way in which an engine goes on, whatever came in, is given out, and need not be asked for
 abbrev pub OfEachWay : (S L D K G C : Type 0)
-    → (ℕ → List (Matter S D K G C) → List (Work S D K G C) → Engine S L D K G C → Engine S L D K G C → List (StepFacts K L D × Reply S D K G C) → Type 0)
+    → (ℕ → List (Cause S D K G C) → List (Work S D K G C) → Engine S L D K G C → Engine S L D K G C → List (StepFacts K L D × Reply S D K G C) → Type 0)
     → Type 0
 OfEachWay S L D K G C law =
-    (same : D → D → Bool) (elect : Elect L) (bytes : D → List ℕ) (bytes_of : C → List ℕ) (now : ℕ) (came : List (Matter S D K G C))
+    (same : D → D → Bool) (elect : Elect L) (bytes : D → List ℕ) (bytes_of : C → List ℕ) (now : ℕ) (came : List (Cause S D K G C))
     (out : List (Work S D K G C)) (held : FetchKind → ℕ → Bool) (old new : Engine S L D K G C)
-    (it : Comes same elect bytes bytes_of now came out held old new) → law now came out old new it.steps
+    (it : IsCaused same elect bytes bytes_of now came out held old new) → law now came out old new it.steps
 
 -- each call was told before: by what came in, or was at hand
-abbrev pub CallsWereToldBefore : (S L D K G C : Type 0) → Type 0
-CallsWereToldBefore S L D K G C = OfEachWay S L D K G C (λ now came out old new steps. (call : CallFacts D) (reply : Reply S D K G C)
-    → Contains steps (Calls call, reply) → IsToldBy (came ++ at_hand old) call)
+abbrev pub CallsWereReceivedBefore : (S L D K G C : Type 0) → Type 0
+CallsWereReceivedBefore S L D K G C = OfEachWay S L D K G C (λ now came out old new steps. (call : CallFacts D) (reply : Reply S D K G C)
+    → Contains steps (Calls call, reply) → IsToldBy (came ++ pending_causes old) call)
 
 -- what is given out, queued and planned in the end, but what is asked of peers, came in, was at hand, or was given by a reply
 abbrev pub WorkWasGiven : (S L D K G C : Type 0) → Type 0
 WorkWasGiven S L D K G C = OfEachWay S L D K G C (λ now came out old new steps.
-    AreAmong (of_works out ++ at_hand new) ((came ++ at_hand old) ++ given_by_all now steps))
+    AreAmong (of_works out ++ pending_causes new) ((came ++ pending_causes old) ++ given_by_all now steps))
 
 -- a reply says that the moment of a timeout has come
 pub record SaysDue {S D K G C : Type 0} (now : ℕ) (reply : Reply S D K G C) : Type 0 where
@@ -67,4 +67,4 @@ pub record SaysDue {S D K G C : Type 0} (now : ℕ) (reply : Reply S D K G C) : 
 abbrev pub NullifiesOnceDue : (S L D K G C : Type 0) → Type 0
 NullifiesOnceDue S L D K G C = OfEachWay S L D K G C (λ now came out old new steps. (view : ℕ) (reply : Reply S D K G C)
     → Contains steps (Calls (ConstructNullify view), reply)
-    → IsIn Expiry (came ++ at_hand old) ⊎ ((call : CallFacts D) × (said : Reply S D K G C) × Contains steps (Calls call, said) × SaysDue now said))
+    → IsIn Expiry (came ++ pending_causes old) ⊎ ((call : CallFacts D) × (said : Reply S D K G C) × Contains steps (Calls call, said) × SaysDue now said))

@@ -1,13 +1,13 @@
 //! The laws of the definitions that an engine's contracts cite. Each function does nothing: its contract is the law.
 //! `S` are the schemes, `L` the elector, `D` the payloads, `K` the members' keys, `G` signatures and `C` certificates.
 
-ghost use Rattle.laws_engine.specs.Laws.{CallsWereToldBefore, NullifiesOnceDue, WorkWasGiven};
+ghost use Rattle.laws_engine.specs.Laws.{CallsWereReceivedBefore, NullifiesOnceDue, WorkWasGiven};
 ghost use Rattle.laws_engine.specs.Offers.{EnginesRunOnOffers, LifetimesRunOnOffers, RunsOnOffersJoin};
 
-/// An engine that goes on as `comes` says tells its member no verdict, block, proposal or certificate, and gives no leader up,
+/// An engine that goes on as `provenance` says tells its member no verdict, block, proposal or certificate, and gives no leader up,
 /// but what came in, or was at hand before.
-pub fn calls_were_told_before<S, L, D, K, G, C>()
-    ensures { CallsWereToldBefore S L D K G C }
+pub fn calls_were_received_before<S, L, D, K, G, C>()
+    ensures { CallsWereReceivedBefore S L D K G C }
 {}
 
 /// All work that it gives out, queues or plans came in, was at hand before, or was given by a reply of its member; but what it asks
@@ -23,7 +23,7 @@ pub fn nullifies_once_due<S, L, D, K, G, C>()
 
 /// Each verdict that it passes to its member is on a proposal that the member offered and that has no verdict.
 ///
-/// - `runs`: the steps of a call that returns `Ok`, as `comes` says them, are a run on offers.
+/// - `runs`: the steps of a call that returns `Ok`, as `provenance` says them, are a run on offers.
 /// - `lifetimes`: so are the steps of all calls of a lifetime that return `Ok`, one after another.
 /// - `join`: where one such run ends, another may go on, as after a restart. `verdicts_on_offers_await_parents` of `laws_chains` says
 ///   what follows for a network.

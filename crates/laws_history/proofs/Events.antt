@@ -17,7 +17,7 @@ use Rattle.laws_history.specs.OwnWork.{was_done, casts_nullify}
 use Rattle.laws_history.specs.LeaderHistory.{comes_to_track}
 use Rattle.laws_history.specs.WorkRequests.{names}
 use Rattle.laws_history.specs.Moments.{enters}
-use Rattle.laws_history.specs.HistoryFacts.{Shows, kept_of, comes_up}
+use Rattle.laws_history.specs.HistoryFacts.{DeterminesState, kept_of, comes_up}
 use Rattle.laws_history.proofs.Following.{FollowsEvent, left_from}
 use Rattle.laws_safety.proofs.frames.InOrder.{event_in_order}
 use Rattle.laws_history.proofs.UnchangedHistories.{from_T}
@@ -80,7 +80,7 @@ module _ {K D : Type 0} where
   moment_follows None history = refl
   moment_follows (Some now) history = refl
 
-module _ {K L D : Type 0} (same : D → D → Bool) (elect : Elect L) (history : History K L D) (x : StateFacts K L D) (shows : Shows same elect history x) where
+module _ {K L D : Type 0} (same : D → D → Bool) (elect : Elect L) (history : History K L D) (x : StateFacts K L D) (shows : DeterminesState same elect history x) where
   -- a view for which a verdict may be given is tracked where a notarization was handed in
   tracked_notarized : (v : ℕ) (success : Bool) → takes_verdict x v success ≡ true → kept_of history ≤ v → is_tracked x v ≡ is_notarized_in history.events v
   tracked_notarized v success takes kept = notarized (round_at x v) refl ∙ ap (λ (r : RoundFacts K D). is_some r.notarization) (shows.rounds v kept)
@@ -125,7 +125,7 @@ module _ {K L D : Type 0} (same : D → D → Bool) (elect : Elect L) (history :
   entered_alike t current (Certified w false now) takes = refl
   entered_alike t current _ takes = refl
 
-  pub event_shown : ((d e : D) → same d e ≡ true → d ≡ e) → (e : Event K D) → IsEvent x e → Shows same elect (with_event history e) (after_event same elect x e)
+  pub event_shown : ((d e : D) → same d e ≡ true → d ≡ e) → (e : Event K D) → IsEvent x e → DeterminesState same elect (with_event history e) (after_event same elect x e)
   event_shown decides e allowed = record {
     facts = ap (λ z. after_event same elect z e) shows.facts;
     dropped = λ some v below. gone some v below (cases_lt v (kept_in fresh.settings.view_retention events));

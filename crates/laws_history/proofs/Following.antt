@@ -8,7 +8,7 @@ use Rattle.simplex_voter.specs.Windows.{min_active}
 use Rattle.simplex_member.specs.OutstandingWork.{is_among}
 use Rattle.simplex_record.specs.Events.{Event, covers_from, finalized_by_event, is_prune}
 use Rattle.laws_history.specs.HistoryFolds.{brings_notarization, brings_nullification, brings_finalization, verdict_of_event, sets_genesis, entered_by, moment_by, or_new}
-use Rattle.laws_history.specs.OwnWork.{contradicts, hands_out_notarization, hands_out_nullification, hands_out_finalization, decides_nullify, casts_nullify, first_certificate_by, hears_of, decides_finalize, decides_notarize, owns}
+use Rattle.laws_history.specs.OwnWork.{contradicts, returns_notarization, returns_nullification, returns_finalization, decides_nullify, casts_nullify, first_certificate_by, hears_of, decides_finalize, decides_notarize, owns}
 use Rattle.simplex_record.proofs.Growing.{round_of-put, round_of-same}
 use Rattle.laws_history.proofs.UnchangedHistories.{Known, known_of_round, UnchangedKnown, UnchangedButNumbers, UnchangedHistory, quiet}
 
@@ -24,9 +24,9 @@ module _ {K L D : Type 0} (same : D → D → Bool) (elect : Elect L) where
     nullification = or_new k.nullification (brings_nullification v e);
     finalization = or_new k.finalization (brings_finalization v e);
     verdict = or_new k.verdict (verdict_of_event (is_tracked x) v e);
-    notarization_broadcast = hands_out_notarization v x e || k.notarization_broadcast;
-    nullification_broadcast = hands_out_nullification v x e || k.nullification_broadcast;
-    finalization_broadcast = hands_out_finalization v x e || k.finalization_broadcast;
+    notarization_broadcast = returns_notarization v x e || k.notarization_broadcast;
+    nullification_broadcast = returns_nullification v x e || k.nullification_broadcast;
+    finalization_broadcast = returns_finalization v x e || k.finalization_broadcast;
     notarize_decided = decides_notarize same elect v x e || k.notarize_decided;
     nullify_decided = decides_nullify v x e || k.nullify_decided;
     finalize_decided = decides_finalize same elect v x e || k.finalize_decided;

@@ -10,14 +10,14 @@ use Rattle.simplex_voter.specs.Facts.{StateFacts, Elect, round_of}
 use Rattle.simplex_record.specs.Events.{Event}
 use Rattle.laws_history.specs.History.{History, with_event}
 use Rattle.laws_history.specs.LeaderHistory.{leader_by_event}
-use Rattle.laws_history.specs.OwnWork.{facts_after, was_done, first_said, last_said, held_in, conflict_in, contradicts, first_certificate_by, hears_of, owns, hands_out_notarization, hands_out_nullification, hands_out_finalization, decides_notarize, decides_nullify, decides_finalize}
+use Rattle.laws_history.specs.OwnWork.{facts_after, was_done, first_said, last_said, held_in, conflict_in, contradicts, first_certificate_by, hears_of, owns, returns_notarization, returns_nullification, returns_finalization, decides_notarize, decides_nullify, decides_finalize}
 use Rattle.laws_history.specs.WorkRequests.{sets_verified, asks_to_build, asks_to_verify, asks_for, binds, sets_certification}
 use Rattle.laws_history.specs.HistoryRounds.{round_in}
 use Rattle.laws_history.specs.HistoryFolds.{or_new, brings_notarization, brings_nullification, brings_finalization}
 use Rattle.laws_history.specs.Moments.{enters, proposes, latches, retries, retry_in, decision_in}
 use Rattle.laws_history.proofs.Following.{adds}
 use Rattle.laws_history.proofs.UnchangedHistories.{known_of_round}
-use Rattle.laws_history.proofs.ShownWork.{told_finalize, decided_further, stalled_further, done_further, first_further, last_further, known_further}
+use Rattle.laws_history.proofs.ShownWork.{reply_finalize, decided_further, stalled_further, done_further, first_further, last_further, known_further}
 use Rattle.laws_history.proofs.Worked.{work_of, timed, decides, adds_work}
 
 module _ {K L D : Type 0} (same : D → D → Bool) (elect : Elect L) (history : History K L D) (x : StateFacts K L D) (facts : x ≡ facts_after same elect history.fresh history.events) (settings : x.settings ≡ history.fresh.settings) (terms : x.terms ≡ history.fresh.terms) (e : Event K D) (y : StateFacts K L D) (v : ℕ) (earlier : round_of x v ≡ round_in same elect history v) (known : known_of_round (round_of y v) ≡ adds same elect x e v (known_of_round (round_of x v))) (work : work_of y v ≡ adds_work same elect x e v (work_of x v)) where
@@ -36,7 +36,7 @@ module _ {K L D : Type 0} (same : D → D → Bool) (elect : Elect L) (history :
       ∙ ap (λ (a : StateFacts K L D). decides same elect a e v (decision_in same elect v fresh events)) facts in
       let finalized : is_finalize (round_of x v).decision ≡ was_done same elect (decides_finalize same elect v) fresh events =
       ap (λ (r : RoundFacts K D). is_finalize r.decision) earlier
-      ∙ told_finalize fresh.settings
+      ∙ reply_finalize fresh.settings
       (was_done same elect (decides_finalize same elect v) fresh events)
       (was_done same elect (decides_nullify v) fresh events)
       (last_said same elect (enters v) fresh events)
@@ -83,11 +83,11 @@ module _ {K L D : Type 0} (same : D → D → Bool) (elect : Elect L) (history :
         stall_deadline = stall_further i;
         notarize_decided = (ap (λ k. k.notarize_decided) known ∙ done_further same elect history x facts e (decides_notarize same elect v) (round_of x v).notarize_decided (ap (λ r. r.notarize_decided) earlier)) i;
         notarization = (ap (λ k. k.notarization) known ∙ ap (λ r. or_new r.notarization (brings_notarization v e)) earlier) i;
-        notarization_broadcast = (ap (λ k. k.notarization_broadcast) known ∙ done_further same elect history x facts e (hands_out_notarization v) (round_of x v).notarization_broadcast (ap (λ r. r.notarization_broadcast) earlier)) i;
+        notarization_broadcast = (ap (λ k. k.notarization_broadcast) known ∙ done_further same elect history x facts e (returns_notarization v) (round_of x v).notarization_broadcast (ap (λ r. r.notarization_broadcast) earlier)) i;
         nullification = (ap (λ k. k.nullification) known ∙ ap (λ r. or_new r.nullification (brings_nullification v e)) earlier) i;
-        nullification_broadcast = (ap (λ k. k.nullification_broadcast) known ∙ done_further same elect history x facts e (hands_out_nullification v) (round_of x v).nullification_broadcast (ap (λ r. r.nullification_broadcast) earlier)) i;
+        nullification_broadcast = (ap (λ k. k.nullification_broadcast) known ∙ done_further same elect history x facts e (returns_nullification v) (round_of x v).nullification_broadcast (ap (λ r. r.nullification_broadcast) earlier)) i;
         finalization = (ap (λ k. k.finalization) known ∙ ap (λ r. or_new r.finalization (brings_finalization v e)) earlier) i;
-        finalization_broadcast = (ap (λ k. k.finalization_broadcast) known ∙ done_further same elect history x facts e (hands_out_finalization v) (round_of x v).finalization_broadcast (ap (λ r. r.finalization_broadcast) earlier)) i;
+        finalization_broadcast = (ap (λ k. k.finalization_broadcast) known ∙ done_further same elect history x facts e (returns_finalization v) (round_of x v).finalization_broadcast (ap (λ r. r.finalization_broadcast) earlier)) i;
         certification = (ap (λ k. k.certification) work ∙ known_further same elect history x facts e (sets_certification v) Ready (round_of x v).certification (ap (λ r. r.certification) earlier)) i;
         last_request = (ap (λ k. k.last_request) work ∙ last_further same elect history x facts e (asks_for same elect v) (round_of x v).last_request (ap (λ r. r.last_request) earlier)) i;
         binding = (ap (λ k. k.binding) work ∙ known_further same elect history x facts e (binds same elect v) None (round_of x v).binding (ap (λ r. r.binding) earlier)) i;

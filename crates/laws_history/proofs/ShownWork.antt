@@ -24,10 +24,10 @@ told_decision settings finalize nullify entry latch retry =
     else Pending (option_map (λ at. at + settings.leader_timeout) entry) (option_map (λ at. at + settings.certification_timeout) entry) latch)
 
 -- it is to finalize where that vote is told
-pub told_finalize : (settings : Settings) (finalize nullify : Bool) (entry : Option ℕ) (latch : Option (ℕ × TimeoutReason)) (retry : Option ℕ) → is_finalize (told_decision settings finalize nullify entry latch retry) ≡ finalize
-told_finalize s true nullify entry latch retry = refl
-told_finalize s false true entry latch retry = refl
-told_finalize s false false entry latch retry = refl
+pub reply_finalize : (settings : Settings) (finalize nullify : Bool) (entry : Option ℕ) (latch : Option (ℕ × TimeoutReason)) (retry : Option ℕ) → is_finalize (told_decision settings finalize nullify entry latch retry) ≡ finalize
+reply_finalize s true nullify entry latch retry = refl
+reply_finalize s false true entry latch retry = refl
+reply_finalize s false false entry latch retry = refl
 
 either_entry : (limit : ℕ) (new old : Option ℕ) → option_or (option_map (λ at. at + limit) new) (option_map (λ at. at + limit) old) ≡ option_map (λ at. at + limit) (option_or new old)
 either_entry limit None old = refl

@@ -2,7 +2,7 @@
 use Rattle.std.specs.Prelude.{◌≡◌, ℕ, Bool, ◌-◌, nat_lt, if◌then◌else◌, List, [], ◌∷◌, ◌++◌, None, MatchOption, Ok}
 use Rattle.simplex_types.specs.Certificates.{ArtifactFacts, Verdict, Accepted, Notarized, Nullified, Finalized}
 use Rattle.simplex_voter.specs.Facts.{StateFacts, Elect}
-use Rattle.simplex_member.specs.Calls.{CallFacts, Told, Refused, NotAllowed, NotRestarted}
+use Rattle.simplex_member.specs.Calls.{CallFacts, ReplyFacts, Refused, NotAllowed, NotRestarted}
 use Rattle.simplex_member.specs.OutstandingWork.{OutstandingWork}
 use Rattle.simplex_record.specs.Entries.{entry_view}
 use Rattle.laws_safety.specs.Executions.{new_member}
@@ -13,7 +13,7 @@ use Rattle.simplex_member.specs.MemberFacts.{MemberFacts, IsCall}
 use Rattle.simplex_record.specs.Recovery.{recovered_state, recover_error}
 use Rattle.simplex_member.specs.Restarts.{RestartFacts, IsByView, IsRestart, cut_member}
 use Rattle.simplex_member.specs.Runs.{StepFacts, Calls, Prunes, Restarts, IsStep, IsRun}
-use Rattle.laws_history.specs.HistoryFacts.{Shows}
+use Rattle.laws_history.specs.HistoryFacts.{DeterminesState}
 use Rattle.simplex_record.specs.Start.{Setup, StartFacts, new_state}
 use Rattle.laws_history.specs.HistoryFolds.{finalized_by_events}
 
@@ -31,7 +31,7 @@ module _ {K L D : Type 0} where
   with_events history new = record history { events = new ++ history.events }
 
   -- with the call, by what is open then, unless it is refused
-  abbrev pub with_call_events : History K L D → OutstandingWork K D → CallFacts D → Told K D → History K L D
+  abbrev pub with_call_events : History K L D → OutstandingWork K D → CallFacts D → ReplyFacts K D → History K L D
   with_call_events history o call (Refused _) = history
   with_call_events history o call NotAllowed = history
   with_call_events history o call _ = with_events history (events_of o call)
@@ -55,12 +55,12 @@ module _ {K L D : Type 0} where
 
 module _ {K L D : Type 0} (same : D → D → Bool) (elect : Elect L) where
   -- while the member lives, its state knows what the history says
-  abbrev pub ShowsMember : History K L D → MemberFacts K L D → Type 0
-  ShowsMember history m = MatchOption m.life (Unit {0}) (Shows same elect history)
+  abbrev pub DeterminesMember : History K L D → MemberFacts K L D → Type 0
+  DeterminesMember history m = MatchOption m.life (Unit {0}) (DeterminesState same elect history)
 
   -- how a member's run leads from one history to another: each call by what the member has open then; a pruning of its record
   -- says nothing of its state; a restart that is not refused takes again, in some order by view, what the cuts leave of its record
-  abbrev pub LeadsTo : MemberFacts K L D → History K L D → List (StepFacts K L D) → List (Told K D) → History K L D → MemberFacts K L D → Type 0
+  abbrev pub LeadsTo : MemberFacts K L D → History K L D → List (StepFacts K L D) → List (ReplyFacts K D) → History K L D → MemberFacts K L D → Type 0
   LeadsTo m history [] [] last end = (last ≡ history) × (m ≡ end)
   LeadsTo m history [] (told ∷ rest) last end = ⊥
   LeadsTo m history (step ∷ steps) [] last end = ⊥
@@ -82,42 +82,42 @@ module _ {K L D : Type 0} (same : D → D → Bool) (elect : Elect L) where
 module _ (K : Type 0) {L D : Type 0} (same : D → D → Bool) (elect : Elect L) where
   -- of a new state nothing was said
   abbrev pub NothingSaid : Type 0
-  NothingSaid = (setup : Setup K L) → Shows {D = D} same elect (record { fresh = new_state setup; events = [] }) (new_state setup)
+  NothingSaid = (setup : Setup K L) → DeterminesState {D = D} same elect (record { fresh = new_state setup; events = [] }) (new_state setup)
 
   -- an event that the state allows is the last of the history then
-  abbrev pub EventsAreShown : Type 0
-  EventsAreShown =
-      (history : History K L D) (x : StateFacts K L D) (e : Event K D) → Shows same elect history x → IsEvent x e
-      → Shows same elect (with_event history e) (after_event same elect x e)
+  abbrev pub EventsDetermineStates : Type 0
+  EventsDetermineStates =
+      (history : History K L D) (x : StateFacts K L D) (e : Event K D) → DeterminesState same elect history x → IsEvent x e
+      → DeterminesState same elect (with_event history e) (after_event same elect x e)
 
   -- a call makes of the history what it says
-  abbrev pub CallsAreShown : Type 0
-  CallsAreShown =
-      (history : History K L D) (m left : MemberFacts K L D) (call : CallFacts D) (told : Told K D)
-      → ShowsMember same elect history m
+  abbrev pub CallsDetermineStates : Type 0
+  CallsDetermineStates =
+      (history : History K L D) (m left : MemberFacts K L D) (call : CallFacts D) (told : ReplyFacts K D)
+      → DeterminesMember same elect history m
       → IsCall same elect m call told left
-      → ShowsMember same elect (with_call_events history m.outstanding_work call told) left
+      → DeterminesMember same elect (with_call_events history m.outstanding_work call told) left
 
   -- a recovery that is not refused is shown by the history that it begins
-  abbrev pub RecoveriesAreShown : Type 0
-  RecoveriesAreShown =
+  abbrev pub RecoveriesDetermineStates : Type 0
+  RecoveriesDetermineStates =
       (start : StartFacts K L D) (entries : List (ArtifactFacts D))
       → recover_error same (new_state start.setup) start.floor start.now entries ≡ None
-      → Shows same elect (recovery start entries) (recovered_state same elect (new_state start.setup) start.floor start.now entries)
+      → DeterminesState same elect (recovery start entries) (recovered_state same elect (new_state start.setup) start.floor start.now entries)
 
   -- of some order by view of what is left of the record
-  abbrev pub RestartsAreShown : Type 0
-  RestartsAreShown =
+  abbrev pub RestartsDetermineStates : Type 0
+  RestartsDetermineStates =
       (m left : MemberFacts K L D) (r : RestartFacts K L D)
       → IsRestart same elect m r (Ok tt) left
-      → (copy : List (ArtifactFacts D)) × IsByView (cut_member m r.drop r.prune).entries copy × ShowsMember same elect (recovery r.start copy) left
+      → (copy : List (ArtifactFacts D)) × IsByView (cut_member m r.drop r.prune).entries copy × DeterminesMember same elect (recovery r.start copy) left
 
   -- of the history that the run's steps lead to
-  abbrev pub RunsAreShown : Type 0
-  RunsAreShown =
-      (start : StartFacts K L D) (steps : List (StepFacts K L D)) (replies : List (Told K D)) (end : MemberFacts K L D)
+  abbrev pub RunsDetermineStates : Type 0
+  RunsDetermineStates =
+      (start : StartFacts K L D) (steps : List (StepFacts K L D)) (replies : List (ReplyFacts K D)) (end : MemberFacts K L D)
       → recover_error same (new_state start.setup) start.floor start.now [] ≡ None
       → IsRun same elect (new_member same elect start) steps replies end
       → (last : History K L D)
       × LeadsTo same elect (new_member same elect start) (recovery start []) steps replies last end
-      × ShowsMember same elect last end
+      × DeterminesMember same elect last end

@@ -32,7 +32,7 @@ comes_up same elect v x e = is_some (enters v x e) || comes_to_track same elect 
 
 -- what a state knows is what its history says: how it was set up, numbers, which views wait for certification, and of each
 -- view that no prune has dropped whether it is tracked and its whole round. A view that a prune dropped isn't known again.
-pub record Shows {K L D : Type 0} (same : D → D → Bool) (elect : Elect L) (history : History K L D) (x : StateFacts K L D) : Type 0 where
+pub record DeterminesState {K L D : Type 0} (same : D → D → Bool) (elect : Elect L) (history : History K L D) (x : StateFacts K L D) : Type 0 where
   pub facts : x ≡ facts_after same elect history.fresh history.events
   -- how it was set up stays, and no event fails it
   pub settings : x.settings ≡ history.fresh.settings

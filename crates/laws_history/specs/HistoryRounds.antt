@@ -5,7 +5,7 @@ use Rattle.simplex_round.specs.Round.{RoundFacts}
 use Rattle.simplex_voter.specs.Facts.{Elect, round_number}
 use Rattle.laws_history.specs.History.{History}
 use Rattle.laws_history.specs.LeaderHistory.{leader_by_event}
-use Rattle.laws_history.specs.OwnWork.{was_done, first_said, last_said, held_in, conflict_in, hands_out_notarization, hands_out_nullification, hands_out_finalization, decides_notarize}
+use Rattle.laws_history.specs.OwnWork.{was_done, first_said, last_said, held_in, conflict_in, returns_notarization, returns_nullification, returns_finalization, decides_notarize}
 use Rattle.laws_history.specs.WorkRequests.{sets_verified, asks_to_build, asks_to_verify, asks_for, binds, sets_certification}
 use Rattle.laws_history.specs.HistoryFolds.{notarization_in, nullification_in, finalization_in}
 use Rattle.laws_history.specs.Moments.{enters, proposes, decision_in}
@@ -35,11 +35,11 @@ module _ {K L D : Type 0} (same : D → D → Bool) (elect : Elect L) where
         stall_deadline = option_and_then (λ at. option_map (λ time. at + time) fresh.terms.stall_timeout) entry;
         notarize_decided = was_done same elect (decides_notarize same elect v) fresh events;
         notarization = notarization_in v events;
-        notarization_broadcast = was_done same elect (hands_out_notarization v) fresh events;
+        notarization_broadcast = was_done same elect (returns_notarization v) fresh events;
         nullification = nullification_in v events;
-        nullification_broadcast = was_done same elect (hands_out_nullification v) fresh events;
+        nullification_broadcast = was_done same elect (returns_nullification v) fresh events;
         finalization = finalization_in v events;
-        finalization_broadcast = was_done same elect (hands_out_finalization v) fresh events;
+        finalization_broadcast = was_done same elect (returns_finalization v) fresh events;
         certification = unwrap_or (last_said same elect (sets_certification v) fresh events) Ready;
         last_request = last_said same elect (asks_for same elect v) fresh events;
         binding = unwrap_or (last_said same elect (binds same elect v) fresh events) None;

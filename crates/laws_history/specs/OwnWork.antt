@@ -23,23 +23,23 @@ contradicts same held (Some p) = option_map_or (λ h. not (same_proposal same h 
 
 module _ {K L D : Type 0} where
   -- the notarization of a view is handed out, or was before it was replayed
-  abbrev pub hands_out_notarization : ℕ → StateFacts K L D → Event K D → Bool
-  hands_out_notarization v x (BroadcastNotarization w) = v == w && is_some (round_of x w).notarization
-  hands_out_notarization v x (Replay (Accepted (Notarized c))) = v == c.proposal.round.view
-  hands_out_notarization v x _ = false
+  abbrev pub returns_notarization : ℕ → StateFacts K L D → Event K D → Bool
+  returns_notarization v x (BroadcastNotarization w) = v == w && is_some (round_of x w).notarization
+  returns_notarization v x (Replay (Accepted (Notarized c))) = v == c.proposal.round.view
+  returns_notarization v x _ = false
 
   -- the nullification
-  abbrev pub hands_out_nullification : ℕ → StateFacts K L D → Event K D → Bool
-  hands_out_nullification v x (BroadcastNullification w) = v == w && is_some (round_of x w).nullification
-  hands_out_nullification v x (Replay (Accepted (Nullified c))) = v == c.round.view
-  hands_out_nullification v x _ = false
+  abbrev pub returns_nullification : ℕ → StateFacts K L D → Event K D → Bool
+  returns_nullification v x (BroadcastNullification w) = v == w && is_some (round_of x w).nullification
+  returns_nullification v x (Replay (Accepted (Nullified c))) = v == c.round.view
+  returns_nullification v x _ = false
 
   -- the finalization, which a floor hands out as well
-  abbrev pub hands_out_finalization : ℕ → StateFacts K L D → Event K D → Bool
-  hands_out_finalization v x (BroadcastFinalization w) = v == w && is_some (round_of x w).finalization
-  hands_out_finalization v x (SetFloor (FloorFinalized c) _) = v == c.proposal.round.view
-  hands_out_finalization v x (Replay (Accepted (Finalized c))) = v == c.proposal.round.view
-  hands_out_finalization v x _ = false
+  abbrev pub returns_finalization : ℕ → StateFacts K L D → Event K D → Bool
+  returns_finalization v x (BroadcastFinalization w) = v == w && is_some (round_of x w).finalization
+  returns_finalization v x (SetFloor (FloorFinalized c) _) = v == c.proposal.round.view
+  returns_finalization v x (Replay (Accepted (Finalized c))) = v == c.proposal.round.view
+  returns_finalization v x _ = false
 
   -- a vote to nullify the view is decided
   abbrev pub decides_nullify : ℕ → StateFacts K L D → Event K D → Bool

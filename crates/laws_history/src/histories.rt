@@ -1,10 +1,10 @@
 //! The law of histories. It does nothing: its contract is the law.
 
-ghost use Rattle.laws_history.specs.Histories.{NothingSaid, EventsAreShown, CallsAreShown, RecoveriesAreShown, RestartsAreShown, RunsAreShown};
+ghost use Rattle.laws_history.specs.Histories.{NothingSaid, EventsDetermineStates, CallsDetermineStates, RecoveriesDetermineStates, RestartsDetermineStates, RunsDetermineStates};
 
 use simplex_types::types::{Digest, Elector, Scheme};
 
-/// What a state knows is what the events of its life say, `Shows`. It does nothing: its contract is the law.
+/// What a state knows is what the events of its life say, `DeterminesState`. It does nothing: its contract is the law.
 ///
 /// - `begun`: of a new state nothing was said.
 /// - `kept`: each event that its state allows keeps it, with the event as the last of the history.
@@ -15,9 +15,9 @@ use simplex_types::types::{Digest, Elector, Scheme};
 ///   itself has open at each call, and at each restart by what is left of its own record.
 pub fn histories_are_shown<S: Scheme<D>, L: Elector<S>, D: Digest>()
     ensures begun { NothingSaid S.PublicKey D.eq L.elect }
-    ensures kept { EventsAreShown S.PublicKey D.eq L.elect }
-    ensures called { CallsAreShown S.PublicKey D.eq L.elect }
-    ensures recovered { RecoveriesAreShown S.PublicKey D.eq L.elect }
-    ensures restarted { RestartsAreShown S.PublicKey D.eq L.elect }
-    ensures ran { RunsAreShown S.PublicKey D.eq L.elect }
+    ensures kept { EventsDetermineStates S.PublicKey D.eq L.elect }
+    ensures called { CallsDetermineStates S.PublicKey D.eq L.elect }
+    ensures recovered { RecoveriesDetermineStates S.PublicKey D.eq L.elect }
+    ensures restarted { RestartsDetermineStates S.PublicKey D.eq L.elect }
+    ensures ran { RunsDetermineStates S.PublicKey D.eq L.elect }
 {}

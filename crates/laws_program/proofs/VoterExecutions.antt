@@ -11,7 +11,7 @@ use Rattle.simplex_member.specs.Calls.{told}
 use Rattle.simplex_record.specs.Check.{first_recover_error}
 use Rattle.simplex_record.specs.Recovery.{recover_error}
 use Rattle.simplex_member.specs.Restarts.{RestartFacts}
-use Rattle.simplex_member.specs.Runs.{Calls, Restarts, restart_told, IsStep, IsRun, IsRunFrom}
+use Rattle.simplex_member.specs.Runs.{Calls, Restarts, restart_reply, IsStep, IsRun, IsRunFrom}
 use Rattle.simplex_record.specs.Start.{StartFacts, new_state}
 use Rattle.laws_safety.specs.Lawful.{IsLawful}
 use Rattle.laws_safety.specs.Executions.{new_member, BeginsAs, IsExecution, trace_of}
@@ -28,12 +28,12 @@ use Rattle.simplex_program.specs.Plain.{PlainMember, PlainCall, same_payload, pl
 use Rattle.simplex_program.specs.Setup.{IsGenesis, IsGenesisStart, StartsAtGenesis, genesis_start}
 use Rattle.simplex_program.specs.Texts.{text_of}
 use Rattle.simplex_program.specs.Transcript.{Asked, Member, Resolver, Point, AreAnswered, Replies, reply_line}
-use Rattle.simplex_program.specs.Voter.{VoterAnswers, IsReplied, IsRestarted, IsDone, StandsFor, is_no_call}
+use Rattle.simplex_program.specs.Voter.{VoterAnswers, IsReplied, IsRestarted, IsDone, DenotesCall, is_no_call}
 use Rattle.simplex_program.specs.VoterLine.{voter_words}
 use Rattle.simplex_program.specs.VoterText.{voter_reply_words}
 use Rattle.simplex_program.specs.Words.{words_in}
 use Rattle.simplex_program.proofs.Serving.{nothing_appended, appended}
-use Rattle.laws_program.specs.VoterExecutions.{PlainStep, PlainTold, VoterTurn, IsStepOf, TellsAnswer, only_shows, AreSteps, AreVoterLines, voter_replies, IsTranscribed, IsLawfulOf, VoterTranscriptsAreLawful, restart_in}
+use Rattle.laws_program.specs.VoterExecutions.{PlainStep, PlainReplyFacts, VoterTurn, IsStepOf, TellsAnswer, only_shows, AreSteps, AreVoterLines, voter_replies, IsTranscribed, IsLawfulOf, VoterTranscriptsAreLawful, restart_in}
 
 false≢true : false ≡ true → ⊥
 false≢true e = absurd (cc)
@@ -44,10 +44,10 @@ false≢true e = absurd (cc)
 abbrev IsTurnOf : Network → PlainMember → VoterTurn → PlainMember → Type 0
 IsTurnOf n m turn left =
     ((only_shows turn.line ≡ true) × (left ≡ m))
-    ⊎ ((step : PlainStep) × (t : PlainTold) × IsStepOf n turn.line step × TellsAnswer turn.answer t × IsStep same_payload plain_leader m step t left)
+    ⊎ ((step : PlainStep) × (t : PlainReplyFacts) × IsStepOf n turn.line step × TellsAnswer turn.answer t × IsStep same_payload plain_leader m step t left)
 
 module _ (n : Network) (m left : PlainMember) where
-  called : (line : VoterLine) (call : PlainCall) (a : VoterAnswer) → StandsFor line call → IsReplied m call a left → IsTurnOf n m (record { line = line; answer = a }) left
+  called : (line : VoterLine) (call : PlainCall) (a : VoterAnswer) → DenotesCall line call → IsReplied m call a left → IsTurnOf n m (record { line = line; answer = a }) left
   called line call (answer.Reply reply) stands replied = inr (Calls call, told plain_bytes reply, stands, refl, replied)
   called line call (answer.Restarted result) stands replied = absurd replied
   called line call (answer.Entries count) stands replied = absurd replied
@@ -58,7 +58,7 @@ module _ (n : Network) (m left : PlainMember) where
   restarted line drop now prune (answer.Reply reply) asked done = absurd done
   restarted line drop now prune (answer.Restarted result) asked (start, is_start, restarts) =
       let r : RestartFacts PlainKey PlainElector PlainDigest = record { drop = drop; prune = prune; start = start } in
-      inr (Restarts r, restart_told result, subst (λ (o : Option (ℕ × ℕ × Bool)). MatchOption o ⊥ (λ given. IsGenesisStart n given.1 start × (drop ≡ given.0) × (prune ≡ given.2))) (sym asked) (is_start, refl, refl), refl, (result, restarts, refl))
+      inr (Restarts r, restart_reply result, subst (λ (o : Option (ℕ × ℕ × Bool)). MatchOption o ⊥ (λ given. IsGenesisStart n given.1 start × (drop ≡ given.0) × (prune ≡ given.2))) (sym asked) (is_start, refl, refl), refl, (result, restarts, refl))
   restarted line drop now prune (answer.Entries count) asked done = absurd done
   restarted line drop now prune (answer.Views current finalized lowest) asked done = absurd done
   restarted line drop now prune answer.Failed asked done = absurd done
@@ -102,7 +102,7 @@ module _ (n : Network) (m left : PlainMember) where
 record ExecutionFrom (n : Network) (m : PlainMember) (lines : List (List ℕ)) (p q : Point) : Type 0 where
   pub turns : List VoterTurn
   pub steps : List PlainStep
-  pub replies : List PlainTold
+  pub replies : List PlainReplyFacts
   pub end : PlainMember
   pub spelled : AreVoterLines lines turns
   pub written : Appends p.held q.held (voter_replies turns)
@@ -176,7 +176,7 @@ module _ (n : Network) (some : 0 < n.term_length) (i : ℕ) (signs : (n.me ≡ S
   restart_begins r None is = absurd is
   restart_begins r (Some asked) is = begins asked.1 r.start is.0
 
-  restarts_begin : (turns : List VoterTurn) (steps : List PlainStep) (replies : List PlainTold) → AreSteps n turns steps replies → (r : RestartFacts PlainKey PlainElector PlainDigest) → Contains steps (Restarts r) → BeginsAs n.term_length i r.start.setup
+  restarts_begin : (turns : List VoterTurn) (steps : List PlainStep) (replies : List PlainReplyFacts) → AreSteps n turns steps replies → (r : RestartFacts PlainKey PlainElector PlainDigest) → Contains steps (Restarts r) → BeginsAs n.term_length i r.start.setup
   restarts_begin [] steps replies (none, _) r h =
       let empty : Contains [] (Restarts r) = subst (λ (xs : List PlainStep). Contains xs (Restarts r)) none h in
       absurd (omega (arith, empty.1))
@@ -192,7 +192,7 @@ accepted : (n : Network) (e : PlainElector) (payload : PlainDigest) → IsGenesi
 unfolding first_recover_error
 accepted n e payload is = rw is.terms refl
 
-run_from : (n : Network) (m end : PlainMember) (start : StartFacts PlainKey PlainElector PlainDigest) (steps : List PlainStep) (replies : List PlainTold) → IsGenesisStart n 0 start → m ≡ new_member same_payload plain_leader start → IsRun same_payload plain_leader m steps replies end → IsRunFrom same_payload plain_leader start steps replies
+run_from : (n : Network) (m end : PlainMember) (start : StartFacts PlainKey PlainElector PlainDigest) (steps : List PlainStep) (replies : List PlainReplyFacts) → IsGenesisStart n 0 start → m ≡ new_member same_payload plain_leader start → IsRun same_payload plain_leader m steps replies end → IsRunFrom same_payload plain_leader start steps replies
 unfolding IsRunFrom
 run_from n m end start steps replies (e, payload, is, same) made run =
     (subst (λ (s : StartFacts PlainKey PlainElector PlainDigest). recover_error same_payload (new_state s.setup) s.floor s.now [] ≡ None) (sym same) (accepted n e payload is), end, subst (λ l. IsRun same_payload plain_leader l steps replies end) made run)

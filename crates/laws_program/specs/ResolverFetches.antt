@@ -2,7 +2,7 @@
 use Rattle.std.specs.Prelude.{◌≡◌, ◌⊎◌, ℕ, ◌+◌, ⊤, List, [], ◌∷◌, ◌++◌, length, Option, Result, Err}
 use Rattle.std.specs.Io.KnownBytes.{Keeps, Appends}
 use Rattle.simplex_resolver.specs.Steps.{Call, Replayed as EndOfReplay}
-use Rattle.simplex_resolver.specs.CallHistory.{LawfulResolverFacts, HasBeenTold, OpensTheWanted, OpensNone, OpensNoneAgain, AnswersTheTold}
+use Rattle.simplex_resolver.specs.CallHistory.{LawfulResolverFacts, HasReceivedCalls, OpensTheOutstanding, OpensNone, OpensNoneAgain, AnswersTheReceived}
 use Rattle.simplex_program.specs.declared.mode.Mode.TheVariants.{Resolver}
 use Rattle.simplex_program.specs.declared.serve_error.ServeError.{ServeError}
 use Rattle.simplex_program.specs.declared.serve_error.ServeError.TheVariants.{OutOfMemory}
@@ -59,17 +59,17 @@ resolver_replies (turn ∷ turns) = reply_line (resolver_reply_text turn.answer)
 
 -- the laws of all that a resolver was told
 pub record KeepsFetches (term_length : ℕ) (calls : List Call) (r : LawfulResolverFacts) : Type 0 where
-  pub wanted : OpensTheWanted r term_length calls
+  pub wanted : OpensTheOutstanding r term_length calls
   pub none : OpensNone r term_length calls
   pub again : OpensNoneAgain r term_length calls
-  pub answers : AnswersTheTold r term_length calls
+  pub answers : AnswersTheReceived r term_length calls
 
 -- the lines, and the replies that a writer holds besides, tell a resolver these calls, and leave it so
 pub record IsResolverTranscribed (term_length : ℕ) (lines : List (List ℕ)) (old new : Option (List ℕ)) (r : LawfulResolverFacts) : Type 0 where
   pub turns : List ResolverTurn
   pub spelled : AreResolverLines lines turns
   pub written : Appends old new (resolver_replies turns)
-  pub told : HasBeenTold term_length (made_by turns) r
+  pub told : HasReceivedCalls term_length (made_by turns) r
   pub laws : KeepsFetches term_length (made_by turns) r
 
 -- a resolver answered lines from its start on, and then serving ended; this is what is left of it

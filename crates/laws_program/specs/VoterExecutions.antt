@@ -4,9 +4,9 @@ use Rattle.std.specs.Io.KnownBytes.{Keeps, Appends}
 use Rattle.simplex_types.specs.declared.types.plain.PlainDigest.{PlainDigest}
 use Rattle.simplex_types.specs.declared.types.plain.PlainElector.{PlainElector}
 use Rattle.simplex_types.specs.declared.types.plain.PlainKey.{PlainKey}
-use Rattle.simplex_member.specs.Calls.{Told, told}
+use Rattle.simplex_member.specs.Calls.{ReplyFacts, told}
 use Rattle.simplex_member.specs.Restarts.{RestartFacts}
-use Rattle.simplex_member.specs.Runs.{StepFacts, Calls, Prunes, Restarts, restart_told}
+use Rattle.simplex_member.specs.Runs.{StepFacts, Calls, Prunes, Restarts, restart_reply}
 use Rattle.laws_safety.specs.Lawful.{IsLawful}
 use Rattle.laws_safety.specs.Executions.{trace_of, IsExecution}
 use Rattle.laws_safety.specs.PlainNetwork.{PlainExecution}
@@ -24,7 +24,7 @@ use Rattle.simplex_program.specs.Plain.{same_payload, plain_leader, plain_bytes}
 use Rattle.simplex_program.specs.Setup.{IsGenesisStart}
 use Rattle.simplex_program.specs.Texts.{text_of}
 use Rattle.simplex_program.specs.Transcript.{Point, EndsServing, IsNamed, Transcribes, reply_line}
-use Rattle.simplex_program.specs.Voter.{StandsFor}
+use Rattle.simplex_program.specs.Voter.{DenotesCall}
 use Rattle.simplex_program.specs.VoterLine.{voter_words}
 use Rattle.simplex_program.specs.VoterText.{voter_reply_words}
 use Rattle.simplex_program.specs.Words.{words_in}
@@ -36,8 +36,8 @@ abbrev pub PlainStep : Type 0
 PlainStep = StepFacts PlainKey PlainElector PlainDigest
 
 -- what it is told
-abbrev pub PlainTold : Type 0
-PlainTold = Told PlainKey PlainDigest
+abbrev pub PlainReplyFacts : Type 0
+PlainReplyFacts = ReplyFacts PlainKey PlainDigest
 
 -- a line with its answer
 pub record VoterTurn : Type 0 where
@@ -57,14 +57,14 @@ IsRestartAsked n line r =
 
 -- the step that a line stands for; no line prunes the record within a life
 abbrev pub IsStepOf : Network → VoterLine → PlainStep → Type 0
-IsStepOf n line (Calls call) = StandsFor line call
+IsStepOf n line (Calls call) = DenotesCall line call
 IsStepOf n line Prunes = ⊥
 IsStepOf n line (Restarts r) = IsRestartAsked n line r
 
 -- it is told what the line is answered
-abbrev pub TellsAnswer : VoterAnswer → PlainTold → Type 0
+abbrev pub TellsAnswer : VoterAnswer → PlainReplyFacts → Type 0
 TellsAnswer (answer.Reply reply) t = t ≡ told plain_bytes reply
-TellsAnswer (answer.Restarted result) t = t ≡ restart_told result
+TellsAnswer (answer.Restarted result) t = t ≡ restart_reply result
 TellsAnswer _ t = ⊥
 
 -- a line that only shows something is no step
@@ -74,11 +74,11 @@ only_shows Views = true
 only_shows _ = false
 
 -- the steps of the lines in order, and what they are told
-abbrev pub AreSteps : Network → List VoterTurn → List PlainStep → List PlainTold → Type 0
+abbrev pub AreSteps : Network → List VoterTurn → List PlainStep → List PlainReplyFacts → Type 0
 AreSteps n [] steps replies = (steps ≡ []) × (replies ≡ [])
 AreSteps n (turn ∷ turns) steps replies =
     ((only_shows turn.line ≡ true) × AreSteps n turns steps replies)
-    ⊎ ((step : PlainStep) × (t : PlainTold) × (rest : List PlainStep) × (others : List PlainTold)
+    ⊎ ((step : PlainStep) × (t : PlainReplyFacts) × (rest : List PlainStep) × (others : List PlainReplyFacts)
     × (steps ≡ step ∷ rest) × (replies ≡ t ∷ others)
     × IsStepOf n turn.line step × TellsAnswer turn.answer t × AreSteps n turns rest others)
 

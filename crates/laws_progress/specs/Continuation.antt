@@ -6,7 +6,7 @@ use Rattle.simplex_types.specs.declared.types.messages.Subject.TheVariants.{Nota
 use Rattle.simplex_voter.specs.Facts.{Elect}
 use Rattle.simplex_member.specs.Calls.{SetProposal, Proposed}
 use Rattle.simplex_member.specs.Runs.{Calls}
-use Rattle.laws_safety.specs.Continuations.{ReplicasGoOn, EachHonest, SomeHonest, HonestlyBacked, GoesOnToFinalize}
+use Rattle.laws_safety.specs.Continuations.{ReplicasContinue, EachHonest, SomeHonest, HonestlyBacked, ContinuesToFinalize}
 use Rattle.laws_safety.specs.Traces.{TraceEvent, Accepts, Signs}
 use Rattle.laws_safety.specs.Replicas.{Replica, Honest, faults, max_faults, Backed, IsNetworkOf}
 use Rattle.laws_safety.specs.Executions.{Execution, trace_of}
@@ -17,8 +17,8 @@ module _ {K L D : Type 0} where
   abbrev pub IsAccepted : Subject D → List (Replica K L D) → Type 0
   IsAccepted c network = SomeHonest network (λ i s. Contains (trace_of s) (Accepts c))
 
-  abbrev pub IsHeardOf : ℕ → Proposal D → List (Replica K L D) → Type 0
-  IsHeardOf v p network = SomeHonest network (λ i s. Contains s.steps (Calls (SetProposal v p)))
+  abbrev pub IsReceivedByOne : ℕ → Proposal D → List (Replica K L D) → Type 0
+  IsReceivedByOne v p network = SomeHonest network (λ i s. Contains s.steps (Calls (SetProposal v p)))
 
   abbrev pub IsGiven : Proposal D → List (Replica K L D) → Type 0
   IsGiven p network = SomeHonest network (λ i s. (now : ℕ) × Contains s.steps (Calls (Proposed p.round.view p.payload now)))
@@ -31,18 +31,18 @@ module _ {K L D : Type 0} where
   AcceptsNoForged before voting later = (c : Subject D) → (IsAccepted c before → ⊥) → (HonestlyBacked voting c → ⊥) → IsAccepted c later → ⊥
 
   -- what none had been handed before, and none of this network voted for, or none gave as built, none was handed later
-  abbrev pub HearsNoForged : (before building later : List (Replica K L D)) → Type 0
-  HearsNoForged before building later =
-      (v : ℕ) (p : Proposal D) → (IsHeardOf v p before → ⊥) → (IsVotedFor p building → ⊥) ⊎ (IsGiven p building → ⊥) → IsHeardOf v p later → ⊥
+  abbrev pub ReceivesNoForged : (before building later : List (Replica K L D)) → Type 0
+  ReceivesNoForged before building later =
+      (v : ℕ) (p : Proposal D) → (IsReceivedByOne v p before → ⊥) → (IsVotedFor p building → ⊥) ⊎ (IsGiven p building → ⊥) → IsReceivedByOne v p later → ⊥
 
 module _ (K : Type 0) {L D : Type 0} (same : D → D → Bool) (elect : Elect L) where
   -- where a network goes on to finalize, the later one keeps the premises of agreement, its members are the same ones, and the
   -- honest ones have done what they had done
-  abbrev pub MembersGoOn : Type 0
-  MembersGoOn =
+  abbrev pub MembersContinue : Type 0
+  MembersContinue =
       (term_length : ℕ) (network later : List (Replica K L D)) (final : Proposal D)
       → IsNetworkOf same elect term_length network
-      → GoesOnToFinalize same elect term_length network later final
+      → ContinuesToFinalize same elect term_length network later final
       → IsNetworkOf same elect term_length later × (length later ≡ length network) × (faults later ≡ faults network)
       × EachHonest network (λ i s. (t : Execution K L D) × (slice_get later i ≡ Some (Honest t)) × (t.start ≡ s.start)
       × ((d : TraceEvent D) → Contains (trace_of s) d → Contains (trace_of t) d))
@@ -53,7 +53,7 @@ module _ (K : Type 0) {L D : Type 0} (same : D → D → Bool) (elect : Elect L)
   FinalizationsAreNew =
       (term_length : ℕ) (network later : List (Replica K L D)) (final : Proposal D)
       → IsNetworkOf same elect term_length network
-      → GoesOnToFinalize same elect term_length network later final
+      → ContinuesToFinalize same elect term_length network later final
       → ((p : Proposal D) → final.round.view ≤ p.round.view → Backed network (Finalize p) → ⊥)
       × EachHonest later (λ i t. Contains (trace_of t) (Signs i (Finalize final)) × Contains (trace_of t) (Accepts (Finalize final))
       × HonestlyBacked later (Finalize final))
@@ -62,8 +62,8 @@ module _ (K : Type 0) {L D : Type 0} (same : D → D → Bool) (elect : Elect L)
   abbrev pub NothingIsForged : Type 0
   NothingIsForged =
       (term_length : ℕ) (network later : List (Replica K L D)) (final : Proposal D)
-      → GoesOnToFinalize same elect term_length network later final
-      → AcceptsNoForged network later later × HearsNoForged network later later
+      → ContinuesToFinalize same elect term_length network later final
+      → AcceptsNoForged network later later × ReceivesNoForged network later later
 
   -- so where more than f are faulty, and any member is honest, no network goes on to finalize
   abbrev pub TooManyAreFaulty : Type 0
@@ -71,20 +71,20 @@ module _ (K : Type 0) {L D : Type 0} (same : D → D → Bool) (elect : Elect L)
       (term_length : ℕ) (network later : List (Replica K L D)) (final : Proposal D)
       → IsNetworkOf same elect term_length network
       → max_faults (length network) < faults network
-      → EachHonest network (λ i s. GoesOnToFinalize same elect term_length network later final → ⊥)
+      → EachHonest network (λ i s. ContinuesToFinalize same elect term_length network later final → ⊥)
 
   -- by exchanges of messages a network goes on
-  abbrev pub ExchangesGoOn : Type 0
-  ExchangesGoOn = (count : ℕ) (network later : List (Replica K L D)) → Exchanges count network later → ReplicasGoOn network later
+  abbrev pub ExchangesContinue : Type 0
+  ExchangesContinue = (count : ℕ) (network later : List (Replica K L D)) → Exchanges count network later → ReplicasContinue network later
 
   -- one brings what had been signed or built before it
   abbrev pub ExchangesBringWhatWas : Type 0
   ExchangesBringWhatWas =
-      (network later : List (Replica K L D)) → Exchanges 1 network later → AcceptsNoForged network network later × HearsNoForged network network later
+      (network later : List (Replica K L D)) → Exchanges 1 network later → AcceptsNoForged network network later × ReceivesNoForged network network later
 
   -- so no view is finalized within one, where any member is honest
   abbrev pub OneExchangeIsTooFew : Type 0
   OneExchangeIsTooFew =
       (term_length : ℕ) (network later : List (Replica K L D)) (final : Proposal D)
       → IsNetworkOf same elect term_length network
-      → EachHonest later (λ i t. Exchanges 1 network later → GoesOnToFinalize same elect term_length network later final → ⊥)
+      → EachHonest later (λ i t. Exchanges 1 network later → ContinuesToFinalize same elect term_length network later final → ⊥)

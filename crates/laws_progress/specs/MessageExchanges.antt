@@ -5,10 +5,10 @@ use Rattle.simplex_types.specs.declared.types.messages.Proposal.{Proposal}
 use Rattle.simplex_types.specs.declared.types.messages.Subject.{Subject}
 use Rattle.simplex_voter.specs.Facts.{StateFacts, Elect, is_tracked}
 use Rattle.simplex_voter.specs.Refusals.{is_too_large}
-use Rattle.laws_safety.specs.Continuations.{ReplicasGoOn, EachHonest, SomeHonest, HasAccepted, HasHeard, HasBuilt, HonestlyBacked, GoesOnToFinalize}
+use Rattle.laws_safety.specs.Continuations.{ReplicasContinue, EachHonest, SomeHonest, HasAccepted, HasHeard, HasBuilt, HonestlyBacked, ContinuesToFinalize}
 use Rattle.laws_safety.specs.Replicas.{Replica, faults, max_faults, IsNetworkOf}
-use Rattle.laws_progress.specs.NotStuck.{AreConsistent, MayGoOn}
-use Rattle.laws_progress.specs.NetworkStates.{IsSetUpAs, LivesWith, EachLives}
+use Rattle.laws_progress.specs.NotStuck.{AreConsistent, MayContinue}
+use Rattle.laws_progress.specs.NetworkStates.{IsSetUpAs, RunsWith, EachRuns}
 use Rattle.laws_progress.specs.ViewPositions.{proposal_in}
 use Rattle.laws_progress.specs.SharedView.{terms_on}
 
@@ -16,7 +16,7 @@ module _ {K L D : Type 0} where
   -- one exchange of messages: what comes to an honest member was accepted, handed in or built by an honest one before, or is made
   -- of votes that honest ones had signed before
   pub record IsExchange (network later : List (Replica K L D)) : Type 0 where
-    pub goes_on : ReplicasGoOn network later
+    pub continues : ReplicasContinue network later
     pub certificates : EachHonest later (λ i s. (c : Subject D) → HasAccepted c i s → SomeHonest network (HasAccepted c) ⊎ HonestlyBacked network c)
     pub proposals : EachHonest later (λ i s. (v : ℕ) (p : Proposal D) → HasHeard v p s
         → SomeHonest network (λ j t. HasHeard v p t) ⊎ SomeHonest network (HasBuilt p))
@@ -32,11 +32,11 @@ module _ (K : Type 0) {L D : Type 0} (same : D → D → Bool) (elect : Elect L)
   IsFinalizedSoon =
       (term_length epoch leader start terms : ℕ) (elector : L) (network : List (Replica K L D)) (payload : D)
       → IsNetworkOf same elect term_length network
-      → MayGoOn same elect term_length network epoch elector leader start
-      → SomeHonest network (λ i s. (x : StateFacts K L D) → LivesWith same elect s x → term_index term_length start ≤ term_index term_length x.current + terms)
+      → MayContinue same elect term_length network epoch elector leader start
+      → SomeHonest network (λ i s. (x : StateFacts K L D) → RunsWith same elect s x → term_index term_length start ≤ term_index term_length x.current + terms)
       → (later : List (Replica K L D)) × (parent : ℕ)
       × Exchanges (terms + 4) network later
-      × GoesOnToFinalize same elect term_length network later (proposal_in epoch start parent payload)
+      × ContinuesToFinalize same elect term_length network later (proposal_in epoch start parent payload)
 
   -- with leaders in turn, where some terms are skipped, and of the f + 1 after these no start is known: one of them is finalized,
   -- and it takes one for each term that is skipped, and f + 5
@@ -46,12 +46,12 @@ module _ (K : Type 0) {L D : Type 0} (same : D → D → Bool) (elect : Elect L)
       → IsNetworkOf same elect term_length network
       → (0 < length network)
       → (faults network ≤ max_faults (length network))
-      → SomeHonest network (λ i s. (x : StateFacts K L D) → LivesWith same elect s x → view ≤ x.current)
-      → EachLives same elect network (λ i x. IsSetUpAs epoch (length network) elector i x × (x.current ≤ view)
+      → SomeHonest network (λ i s. (x : StateFacts K L D) → RunsWith same elect s x → view ≤ x.current)
+      → EachRuns same elect network (λ i x. IsSetUpAs epoch (length network) elector i x × (x.current ≤ view)
       × ((count : ℕ) → count ≤ max_faults (length network) → is_tracked x (terms_on term_length (suc (skipped + count)) view) ≡ false))
       → AreConsistent same elect epoch network
       → ((v : ℕ) (bytes : List ℕ) → elect elector (record { epoch = epoch; view = v }) (Some bytes) ≡ (term_index term_length v + turn) % length network)
       → is_too_large (terms_on term_length (suc (skipped + max_faults (length network))) view) ≡ false
       → (later : List (Replica K L D)) × (parent : ℕ) × (start : ℕ)
       × Exchanges (skipped + max_faults (length network) + 5) network later
-      × GoesOnToFinalize same elect term_length network later (proposal_in epoch start parent payload)
+      × ContinuesToFinalize same elect term_length network later (proposal_in epoch start parent payload)

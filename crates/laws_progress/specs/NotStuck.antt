@@ -4,10 +4,10 @@ use Rattle.simplex_types.specs.Terms.{term_start}
 use Rattle.simplex_round.specs.Round.{is_judged}
 use Rattle.simplex_voter.specs.Facts.{StateFacts, Elect, round_of, is_tracked}
 use Rattle.simplex_voter.specs.Refusals.{is_too_large}
-use Rattle.laws_safety.specs.Continuations.{EachHonest, GoesOnToFinalize}
+use Rattle.laws_safety.specs.Continuations.{EachHonest, ContinuesToFinalize}
 use Rattle.laws_safety.specs.Replicas.{Replica, Honest, faults, max_faults, IsNetworkOf}
 use Rattle.laws_safety.specs.Executions.{Execution}
-use Rattle.laws_progress.specs.NetworkStates.{IsSetUpAs, LivesWith, EachLives}
+use Rattle.laws_progress.specs.NetworkStates.{IsSetUpAs, RunsWith, EachRuns}
 use Rattle.laws_progress.specs.CommonViews.{Meets}
 use Rattle.laws_progress.specs.ViewCauses.{HasCertified, judged_of}
 use Rattle.laws_progress.specs.ViewPositions.{proposal_in}
@@ -17,14 +17,14 @@ module _ {K L D : Type 0} (same : D → D → Bool) (elect : Elect L) where
   abbrev pub AreConsistent : ℕ → List (Replica K L D) → Type 0
   AreConsistent epoch network =
       EachHonest network (λ i s. EachHonest network (λ j t.
-      (x : StateFacts K L D) (v : ℕ) → HasCertified epoch (judged_of s) v → LivesWith same elect t x
+      (x : StateFacts K L D) (v : ℕ) → HasCertified epoch (judged_of s) v → RunsWith same elect t x
       → x.finalized < v → is_judged false (round_of x v).certification ≡ false))
 
   -- what is asked of a network, and of a term start that is to be finalized
-  pub record MayGoOn (term_length : ℕ) (network : List (Replica K L D)) (epoch : ℕ) (elector : L) (leader start : ℕ) : Type 0 where
+  pub record MayContinue (term_length : ℕ) (network : List (Replica K L D)) (epoch : ℕ) (elector : L) (leader start : ℕ) : Type 0 where
     pub few_faulty : faults network ≤ max_faults (length network)
     -- each honest member lives, signs as itself, shares the epoch and the elector, stands below the start, and knows nothing of it
-    pub alive : EachLives same elect network (λ i x. IsSetUpAs epoch (length network) elector i x × (is_tracked x start ≡ false) × (x.current < start))
+    pub alive : EachRuns same elect network (λ i x. IsSetUpAs epoch (length network) elector i x × (is_tracked x start ≡ false) × (x.current < start))
     pub consistent : AreConsistent epoch network
     -- the start begins a term, and lies below 2^63
     pub is_term_start : start ≡ term_start term_length start
@@ -39,7 +39,7 @@ module _ (K : Type 0) {L D : Type 0} (same : D → D → Bool) (elect : Elect L)
   NetworksMeet =
       (term_length epoch leader start : ℕ) (elector : L) (network : List (Replica K L D))
       → IsNetworkOf same elect term_length network
-      → MayGoOn same elect term_length network epoch elector leader start
+      → MayContinue same elect term_length network epoch elector leader start
       → (later : List (Replica K L D)) × (parent : ℕ) × (view : ℕ) × (view < start) × Meets same elect term_length epoch elector network later parent view start
 
   -- the theorem: whatever the leader builds is finalized
@@ -47,5 +47,5 @@ module _ (K : Type 0) {L D : Type 0} (same : D → D → Bool) (elect : Elect L)
   NoNetworkIsStuck =
       (term_length epoch leader start : ℕ) (elector : L) (network : List (Replica K L D)) (payload : D)
       → IsNetworkOf same elect term_length network
-      → MayGoOn same elect term_length network epoch elector leader start
-      → (later : List (Replica K L D)) × (parent : ℕ) × GoesOnToFinalize same elect term_length network later (proposal_in epoch start parent payload)
+      → MayContinue same elect term_length network epoch elector leader start
+      → (later : List (Replica K L D)) × (parent : ℕ) × ContinuesToFinalize same elect term_length network later (proposal_in epoch start parent payload)

@@ -1,7 +1,7 @@
 -- Networks of four members in terms of one view, one of which is faulty, where the others have just started.
 use Rattle.std.specs.Prelude.{ℕ, List, [], ◌∷◌, nat_eq}
 use Rattle.simplex_voter.specs.Facts.{StateFacts}
-use Rattle.laws_safety.specs.Continuations.{GoesOnToFinalize}
+use Rattle.laws_safety.specs.Continuations.{ContinuesToFinalize}
 use Rattle.laws_safety.specs.Replicas.{Replica, Faulty, Honest}
 use Rattle.laws_safety.specs.Executions.{Execution}
 use Rattle.laws_safety.specs.ScenarioSteps.{in_turn, begins_with}
@@ -30,4 +30,4 @@ StandsBeforeSecond i x = IsSetUpAs 1 4 1 i x × StandsBefore 0 1 2 x
 
 -- the network goes on to finalize this view, on genesis
 abbrev pub Finalizes : List (Replica ℕ ℕ ℕ) → ℕ → Type 0
-Finalizes network view = (later : List (Replica ℕ ℕ ℕ)) × GoesOnToFinalize nat_eq in_turn 1 network later (proposal_in 1 view 0 7)
+Finalizes network view = (later : List (Replica ℕ ℕ ℕ)) × ContinuesToFinalize nat_eq in_turn 1 network later (proposal_in 1 view 0 7)

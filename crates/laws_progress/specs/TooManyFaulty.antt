@@ -4,12 +4,12 @@ use Rattle.simplex_types.specs.Terms.{term_start}
 use Rattle.simplex_types.specs.declared.types.messages.Proposal.{Proposal}
 use Rattle.simplex_voter.specs.Facts.{is_tracked}
 use Rattle.simplex_voter.specs.Refusals.{is_too_large}
-use Rattle.laws_safety.specs.Continuations.{GoesOnToFinalize}
+use Rattle.laws_safety.specs.Continuations.{ContinuesToFinalize}
 use Rattle.laws_safety.specs.Replicas.{Replica, Faulty, Honest}
 use Rattle.laws_safety.specs.Executions.{Execution}
 use Rattle.laws_safety.specs.ScenarioSteps.{in_turn, begin_at, execution_from}
 use Rattle.laws_progress.specs.NotStuck.{AreConsistent}
-use Rattle.laws_progress.specs.NetworkStates.{IsSetUpAs, EachLives}
+use Rattle.laws_progress.specs.NetworkStates.{IsSetUpAs, EachRuns}
 
 -- a member of five, in terms of one view, that did nothing yet
 abbrev pub idle_of_five : ℕ → Execution ℕ ℕ ℕ
@@ -20,9 +20,9 @@ abbrev pub with_two_faulty : List (Replica ℕ ℕ ℕ)
 with_two_faulty = Faulty ∷ Faulty ∷ Honest (idle_of_five 2) ∷ Honest (idle_of_five 3) ∷ Honest (idle_of_five 4) ∷ []
 
 -- all that is asked of it, where view 4 is to be finalized, but that at most f are faulty
-abbrev pub MayGoOnOtherwise : Type 0
-MayGoOnOtherwise =
-    EachLives nat_eq in_turn with_two_faulty (λ i x. IsSetUpAs 1 (length with_two_faulty) 1 i x × (is_tracked x 4 ≡ false) × (x.current < 4))
+abbrev pub MayContinueOtherwise : Type 0
+MayContinueOtherwise =
+    EachRuns nat_eq in_turn with_two_faulty (λ i x. IsSetUpAs 1 (length with_two_faulty) 1 i x × (is_tracked x 4 ≡ false) × (x.current < 4))
     × AreConsistent nat_eq in_turn 1 with_two_faulty
     × (4 ≡ term_start 1 4)
     × (is_too_large 4 ≡ false)
@@ -31,4 +31,4 @@ MayGoOnOtherwise =
 
 -- it goes on to finalize nothing
 abbrev pub IsStuck : Type 0
-IsStuck = (later : List (Replica ℕ ℕ ℕ)) (final : Proposal ℕ) → GoesOnToFinalize nat_eq in_turn 1 with_two_faulty later final → ⊥
+IsStuck = (later : List (Replica ℕ ℕ ℕ)) (final : Proposal ℕ) → ContinuesToFinalize nat_eq in_turn 1 with_two_faulty later final → ⊥

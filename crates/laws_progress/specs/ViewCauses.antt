@@ -7,20 +7,20 @@ use Rattle.simplex_types.specs.declared.types.numbers.Round.{Round}
 use Rattle.simplex_round.specs.Round.{is_judged}
 use Rattle.simplex_voter.specs.Facts.{StateFacts, Elect, round_of}
 use Rattle.simplex_voter.specs.Payloads.{explicit_ancestry_payload}
-use Rattle.simplex_member.specs.Calls.{Told, Judged}
-use Rattle.laws_safety.specs.Continuations.{ExecutionGoesOn}
+use Rattle.simplex_member.specs.Calls.{ReplyFacts, Judged}
+use Rattle.laws_safety.specs.Continuations.{ExecutionContinues}
 use Rattle.laws_safety.specs.Traces.{TraceEvent, Accepts}
 use Rattle.laws_safety.specs.Lawful.{HasSigned, SignsAfter}
 use Rattle.laws_safety.specs.Executions.{Execution, trace_of, OfEachMember}
-use Rattle.laws_progress.specs.NetworkStates.{LivesWith}
+use Rattle.laws_progress.specs.NetworkStates.{RunsWith}
 
 -- the verdict that a reply tells, with the proposal whose notarization was held
-abbrev pub judged_by : {K D : Type 0} → Told K D → List (Bool × Proposal D)
+abbrev pub judged_by : {K D : Type 0} → ReplyFacts K D → List (Bool × Proposal D)
 judged_by (Judged success (Some c)) = (success, c.proposal) ∷ []
 judged_by _ = []
 
 -- those of the replies in turn
-abbrev pub judged_in : {K D : Type 0} → List (Told K D) → List (Bool × Proposal D)
+abbrev pub judged_in : {K D : Type 0} → List (ReplyFacts K D) → List (Bool × Proposal D)
 judged_in [] = []
 judged_in (told ∷ replies) = judged_by told ++ judged_in replies
 
@@ -60,13 +60,13 @@ module _ (K : Type 0) {L D : Type 0} (same : D → D → Bool) (elect : Elect L)
   -- where a member lives, its current view was led to in its epoch
   abbrev pub CurrentViewsAreLedTo : Type 0
   CurrentViewsAreLedTo =
-      OfEachMember K same elect (λ term_length s. (x : StateFacts K L D) → LivesWith same elect s x
+      OfEachMember K same elect (λ term_length s. (x : StateFacts K L D) → RunsWith same elect s x
       → IsLedTo term_length x.settings.epoch (trace_of s) (judged_of s) x.current)
 
   -- where a member lives, each view that a proposal may be built on, but genesis, was finalized or certified
   abbrev pub ExplicitViewsAreAccepted : Type 0
   ExplicitViewsAreAccepted =
-      OfEachMember K same elect (λ term_length s. (x : StateFacts K L D) → LivesWith same elect s x
+      OfEachMember K same elect (λ term_length s. (x : StateFacts K L D) → RunsWith same elect s x
       → (v : ℕ) (payload : D) → 0 < v → explicit_ancestry_payload x v ≡ Some payload
       → HasFinalized x.settings.epoch (trace_of s) v ⊎ HasCertified x.settings.epoch (judged_of s) v)
 
@@ -80,13 +80,13 @@ module _ (K : Type 0) {L D : Type 0} (same : D → D → Bool) (elect : Elect L)
   abbrev pub NullifyVotesComeAfter : Type 0
   NullifyVotesComeAfter =
       OfEachMember K same elect (λ term_length s. (before : List (TraceEvent D)) (round : Round) → SignsAfter (trace_of s) before (subject.Nullify round)
-      → (earlier : Execution K L D) × ExecutionGoesOn earlier s × (trace_of earlier ≡ before)
+      → (earlier : Execution K L D) × ExecutionContinues earlier s × (trace_of earlier ≡ before)
       × IsLedTo term_length round.epoch before (judged_of earlier) round.view)
 
   -- where a member lives, each verdict that stands was told
-  abbrev pub VerdictsAreTold : Type 0
-  VerdictsAreTold =
-      OfEachMember K same elect (λ term_length s. (x : StateFacts K L D) → LivesWith same elect s x
+  abbrev pub VerdictsAreReported : Type 0
+  VerdictsAreReported =
+      OfEachMember K same elect (λ term_length s. (x : StateFacts K L D) → RunsWith same elect s x
       → (v : ℕ) (success : Bool) → is_judged success (round_of x v).certification ≡ true → HasJudged success x.settings.epoch (judged_of s) v)
 
   -- each proposal that was judged has a notarization that was accepted

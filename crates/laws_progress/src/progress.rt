@@ -10,7 +10,7 @@ mod starts;
 
 pub use continuations::continuations_are_honest;
 pub use not_stuck::no_network_is_stuck;
-pub use instances::{overrun_network_is_stuck, started_networks_go_on, worked_networks_may_go_on};
+pub use instances::{overrun_network_is_stuck, started_networks_continue, worked_networks_may_continue};
 pub use view_causes::views_are_led_to;
 pub use exchanges::starts_are_finalized_soon;
 pub use starts::{

@@ -136,9 +136,9 @@ module _ {D : Type 0} where
 
   -- replica `i` answers for both: nothing is known of it; or it signed both votes, and broke a rule by these or
   -- was misled by a third certificate
-  abbrev pub AnswersFor : ℕ → Subject D → Subject D → ℕ → Option (List (TraceEvent D)) → Type 0
-  AnswersFor term_length a b i None = ⊤
-  AnswersFor term_length a b i (Some trace) =
+  abbrev pub IsResponsibleFor : ℕ → Subject D → Subject D → ℕ → Option (List (TraceEvent D)) → Type 0
+  IsResponsibleFor term_length a b i None = ⊤
+  IsResponsibleFor term_length a b i (Some trace) =
       Contains trace (Signs i a)
       × Contains trace (Signs i b)
       × (BreaksBy term_length trace a b ⊎ HasAcceptedNearer term_length a b trace)
@@ -194,11 +194,11 @@ BrokenRulesAreRules D =
     → BreaksBy term_length trace a b → HasSigned trace a → HasSigned trace b → IsLawful term_length trace → ⊥
 
 -- n - 2f members answer for two certificates that contradict
-abbrev pub ContradictionsAreAnsweredFor : (D : Type 0) → Type 0
-ContradictionsAreAnsweredFor D =
+abbrev pub ContradictionsHaveFaultyMembers : (D : Type 0) → Type 0
+ContradictionsHaveFaultyMembers D =
     (term_length : ℕ) (members : List (Option (List (TraceEvent D)))) (a b : Subject D)
     → Contradicts term_length a b → MayBeCertified members a → MayBeCertified members b
-    → AtLeastFrom 0 (length members - 2 * max_faults (length members)) (AnswersFor term_length a b) members
+    → AtLeastFrom 0 (length members - 2 * max_faults (length members)) (IsResponsibleFor term_length a b) members
 
 -- and where each certificate that is known to be accepted may be there, broken rules are found
 abbrev pub ContradictionsAreTraced : (D : Type 0) → Type 0

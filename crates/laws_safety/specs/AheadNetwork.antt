@@ -5,7 +5,7 @@ use Rattle.simplex_types.specs.Config.{Finalized}
 use Rattle.simplex_types.specs.declared.types.messages.Proposal.{Proposal}
 use Rattle.simplex_voter.specs.declared.voter.propose.ProposalRequest.TheVariants.{Prepare}
 use Rattle.simplex_record.specs.Start.{StartFacts}
-use Rattle.simplex_member.specs.Calls.{TryPropose, Proposed, ConstructNotarize, Told, Requested, Answered}
+use Rattle.simplex_member.specs.Calls.{TryPropose, Proposed, ConstructNotarize, ReplyFacts, Requested, Answered}
 use Rattle.simplex_member.specs.Runs.{StepFacts, Calls}
 use Rattle.laws_safety.specs.Replicas.{Replica, Faulty, Honest}
 use Rattle.laws_safety.specs.Executions.{Execution}
@@ -22,12 +22,12 @@ abbrev pub three : Proposal ℕ
 three = proposal 3 2
 
 -- it votes for views 1 and 2 before it hears of any certificate; view 1 is certified then, and it votes to finalize it
-abbrev pub votes_ahead : ℕ → List (StepFacts ℕ ℕ ℕ × Told ℕ ℕ)
+abbrev pub votes_ahead : ℕ → List (StepFacts ℕ ℕ ℕ × ReplyFacts ℕ ℕ)
 votes_ahead me =
     hears one true ∷ verifies me 3 one ++ hears two true ∷ verifies me 3 two ++ certifies one ++ votes_for me one ∷ []
 
 -- before view 2 is certified the leader of view 3 builds on it, and votes for its own proposal
-abbrev pub takes_over_early : List (StepFacts ℕ ℕ ℕ × Told ℕ ℕ)
+abbrev pub takes_over_early : List (StepFacts ℕ ℕ ℕ × ReplyFacts ℕ ℕ)
 takes_over_early =
     (Calls TryPropose, Requested (Some (Prepare (context_of 0 three))))
     ∷ (Calls (Proposed 3 3 0), Answered true)
@@ -35,7 +35,7 @@ takes_over_early =
     ∷ []
 
 -- view 2 is certified, and it votes to finalize it
-abbrev pub ends_term : ℕ → List (StepFacts ℕ ℕ ℕ × Told ℕ ℕ)
+abbrev pub ends_term : ℕ → List (StepFacts ℕ ℕ ℕ × ReplyFacts ℕ ℕ)
 ends_term me = certifies two ++ votes_for me two ∷ []
 
 -- the next leader

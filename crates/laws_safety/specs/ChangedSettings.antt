@@ -7,7 +7,7 @@ use Rattle.simplex_voter.specs.declared.voter.verify.Verify.TheVariants.{Ready}
 use Rattle.simplex_record.specs.declared.record.error.RecoverError.{RecoverError}
 use Rattle.simplex_record.specs.declared.record.error.RecoverError.TheVariants as error
 use Rattle.simplex_record.specs.Start.{StartFacts}
-use Rattle.simplex_member.specs.Calls.{AddNotarization, AddNullification, AddFinalization, TryVerify, Verified, ConstructNotarize, Certified, ConstructNullify, Told, Standing, Answered, Judged, Notarize, Nullify, Refused, NotAllowed, NotRestarted}
+use Rattle.simplex_member.specs.Calls.{AddNotarization, AddNullification, AddFinalization, TryVerify, Verified, ConstructNotarize, Certified, ConstructNullify, ReplyFacts, Standing, Answered, Judged, Notarize, Nullify, Refused, NotAllowed, NotRestarted}
 use Rattle.simplex_member.specs.Runs.{StepFacts, Calls, Restarts}
 use Rattle.laws_safety.specs.Replicas.{Replica, Faulty, Honest}
 use Rattle.laws_safety.specs.Scripts.{start_at, restarts, votes_through, patient}
@@ -15,7 +15,7 @@ use Rattle.laws_safety.specs.Executions.{Execution}
 use Rattle.laws_safety.specs.ScenarioSteps.{settings, set_up_as, context_of, proposal, certificate, nullification, one, two, execution_from, hears, verifies, accepts_notarization, accepts, votes_for, may_not_finalize, accepts_finalization, votes_against, skips}
 
 -- a restart that is refused by this error
-abbrev pub not_restarted : StartFacts ℕ ℕ ℕ → RecoverError → StepFacts ℕ ℕ ℕ × Told ℕ ℕ
+abbrev pub not_restarted : StartFacts ℕ ℕ ℕ → RecoverError → StepFacts ℕ ℕ ℕ × ReplyFacts ℕ ℕ
 not_restarted start why = (Restarts (record { drop = 0; prune = false; start = start }), NotRestarted why)
 
 -- a start that keeps more views than the lives before
@@ -31,7 +31,7 @@ abbrev pub foreign : Proposal ℕ
 foreign = record { round = record { epoch = 2; view = 3 }; parent = 2; payload = 3 }
 
 -- certificates that are refused: two name views that are too large, one comes too late, and one is of another epoch
-abbrev pub refuses_certificates : List (StepFacts ℕ ℕ ℕ × Told ℕ ℕ)
+abbrev pub refuses_certificates : List (StepFacts ℕ ℕ ℕ × ReplyFacts ℕ ℕ)
 refuses_certificates =
     (Calls (AddNotarization (certificate (proposal (2 ^ 63) 2))), Refused ViewTooLarge)
     ∷ (Calls (AddNullification (nullification (2 ^ 63)) 0), Refused ViewTooLarge)
@@ -73,7 +73,7 @@ other_start = record {
 }
 
 -- without a key it verifies and certifies as ever, and is asked for votes in vain
-abbrev pub signs_nothing : List (StepFacts ℕ ℕ ℕ × Told ℕ ℕ)
+abbrev pub signs_nothing : List (StepFacts ℕ ℕ ℕ × ReplyFacts ℕ ℕ)
 signs_nothing =
     hears one true
     ∷ (Calls TryVerify, Standing (Ready (context_of 3 one) one))
@@ -106,9 +106,9 @@ abbrev pub with_refusing : List (Replica ℕ ℕ ℕ)
 with_refusing = Honest (patient 0) ∷ Honest refusing ∷ Honest (patient 2) ∷ Faulty ∷ []
 
 -- a member votes for views 1 and 2, and gives the second one up
-abbrev pub giving_up : Execution ℕ ℕ ℕ
-giving_up = execution_from (start_at 5 (Genesis 0) 0) (votes_through 0 one ++ hears two true ∷ verifies 0 3 two ++ votes_against 0 2 ∷ [])
+abbrev pub abandoning : Execution ℕ ℕ ℕ
+abandoning = execution_from (start_at 5 (Genesis 0) 0) (votes_through 0 one ++ hears two true ∷ verifies 0 3 two ++ votes_against 0 2 ∷ [])
 
 -- four members, of which the first leader is faulty; one gives view 2 up, and another one votes through both views
 abbrev pub with_changing : List (Replica ℕ ℕ ℕ)
-with_changing = Honest giving_up ∷ Honest changing ∷ Honest (patient 2) ∷ Faulty ∷ []
+with_changing = Honest abandoning ∷ Honest changing ∷ Honest (patient 2) ∷ Faulty ∷ []

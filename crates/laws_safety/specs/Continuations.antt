@@ -4,7 +4,7 @@ use Rattle.simplex_types.specs.declared.types.messages.Proposal.{Proposal}
 use Rattle.simplex_types.specs.declared.types.messages.Subject.{Subject}
 use Rattle.simplex_types.specs.declared.types.messages.Subject.TheVariants.{Notarize, Finalize}
 use Rattle.simplex_voter.specs.Facts.{Elect}
-use Rattle.simplex_member.specs.Calls.{SetProposal, Proposed, Told}
+use Rattle.simplex_member.specs.Calls.{SetProposal, Proposed, ReplyFacts}
 use Rattle.simplex_member.specs.Runs.{StepFacts, Calls}
 use Rattle.laws_safety.specs.Traces.{Accepts, Signs}
 use Rattle.laws_safety.specs.Replicas.{Replica, Faulty, Honest, AtLeastFrom, quorum, Backed, IsNetworkOf}
@@ -12,19 +12,19 @@ use Rattle.laws_safety.specs.Executions.{Execution, trace_of}
 
 module _ {K L D : Type 0} where
   -- an execution with more steps, each beside its reply
-  abbrev pub and_then : Execution K L D → List (StepFacts K L D × Told K D) → Execution K L D
+  abbrev pub and_then : Execution K L D → List (StepFacts K L D × ReplyFacts K D) → Execution K L D
   and_then s more = record s { steps = s.steps ++ map (λ e. e.0) more; replies = s.replies ++ map (λ e. e.1) more }
 
   -- the one execution goes on as the other
-  abbrev pub ExecutionGoesOn : Execution K L D → Execution K L D → Type 0
-  ExecutionGoesOn s later = (more : List (StepFacts K L D × Told K D)) × (later ≡ and_then s more)
+  abbrev pub ExecutionContinues : Execution K L D → Execution K L D → Type 0
+  ExecutionContinues s later = (more : List (StepFacts K L D × ReplyFacts K D)) × (later ≡ and_then s more)
 
   -- each replica stays the same member: a faulty one, or an honest one whose execution goes on
-  abbrev pub ReplicasGoOn : List (Replica K L D) → List (Replica K L D) → Type 0
-  ReplicasGoOn [] [] = ⊤
-  ReplicasGoOn (Faulty ∷ network) (Faulty ∷ later) = ReplicasGoOn network later
-  ReplicasGoOn (Honest s ∷ network) (Honest t ∷ later) = ExecutionGoesOn s t × ReplicasGoOn network later
-  ReplicasGoOn _ _ = ⊥
+  abbrev pub ReplicasContinue : List (Replica K L D) → List (Replica K L D) → Type 0
+  ReplicasContinue [] [] = ⊤
+  ReplicasContinue (Faulty ∷ network) (Faulty ∷ later) = ReplicasContinue network later
+  ReplicasContinue (Honest s ∷ network) (Honest t ∷ later) = ExecutionContinues s t × ReplicasContinue network later
+  ReplicasContinue _ _ = ⊥
 
   -- of each honest member
   abbrev pub EachHonest : List (Replica K L D) → (ℕ → Execution K L D → Type 0) → Type 0
@@ -61,8 +61,8 @@ module _ {K L D : Type 0} where
 
 module _ {K L D : Type 0} (same : D → D → Bool) (elect : Elect L) where
   -- the network may go on as this later one, where this proposal is finalized, by what its honest members do alone
-  pub record GoesOnToFinalize (term_length : ℕ) (network later : List (Replica K L D)) (final : Proposal D) : Type 0 where
-    pub goes_on : ReplicasGoOn network later
+  pub record ContinuesToFinalize (term_length : ℕ) (network later : List (Replica K L D)) (final : Proposal D) : Type 0 where
+    pub continues : ReplicasContinue network later
     -- each honest member runs, and each certificate that it accepts is backed
     pub runs : IsNetworkOf same elect term_length later
     -- a certificate that an honest member accepts was accepted by an honest one before, or honest ones alone make it

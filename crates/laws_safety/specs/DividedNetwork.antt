@@ -4,11 +4,11 @@ use Rattle.simplex_types.specs.declared.reasons.TimeoutReason.{TimeoutReason}
 use Rattle.simplex_types.specs.declared.reasons.TimeoutReason.TheVariants.{LeaderTimeout, CertificationTimeout}
 use Rattle.simplex_types.specs.declared.types.messages.Proposal.{Proposal}
 use Rattle.simplex_voter.specs.declared.voter.verify.Verify.TheVariants.{Ready}
-use Rattle.simplex_member.specs.Calls.{TryVerify, Verified, ConstructNotarize, Told, Notarize, Standing, Answered, Restarted}
+use Rattle.simplex_member.specs.Calls.{TryVerify, Verified, ConstructNotarize, ReplyFacts, Notarize, Standing, Answered, Restarted}
 use Rattle.simplex_member.specs.Runs.{StepFacts, Calls, Restarts}
 use Rattle.laws_safety.specs.Continuations.{and_then}
 use Rattle.laws_safety.specs.Replicas.{Replica, Faulty, Honest}
-use Rattle.laws_safety.specs.ScenarioSteps.{round, proposal, one, begin_at, begins_with, context_of, builds, hears, verifies, certifies, finalizes, gives_up, skips}
+use Rattle.laws_safety.specs.ScenarioSteps.{round, proposal, one, begin_at, begins_with, context_of, builds, hears, verifies, certifies, finalizes, abandons, skips}
 use Rattle.laws_safety.specs.Executions.{Execution}
 
 -- the leader's other proposal of view 1
@@ -16,7 +16,7 @@ abbrev pub rival : Proposal ℕ
 rival = record { round = round 1; parent = 0; payload = 9 }
 
 -- a restart that drops what it may and prunes the record
-abbrev pub restarts_pruned : ℕ → StepFacts ℕ ℕ ℕ × Told ℕ ℕ
+abbrev pub restarts_pruned : ℕ → StepFacts ℕ ℕ ℕ × ReplyFacts ℕ ℕ
 restarts_pruned me = (Restarts (record { drop = 3; prune = true; start = begin_at 1 me }), Restarted)
 
 -- a member votes for the proposal that it hears of first, and restarts_pruned after the other one
@@ -43,13 +43,13 @@ abbrev pub after_conflict : Proposal ℕ
 after_conflict = proposal 2 0
 
 -- the leader of view 2 gives view 1 up, by its deadline and why, and builds; it votes for view 2 to the end
-abbrev pub leads_past_conflict : ℕ → ℕ → TimeoutReason → List (StepFacts ℕ ℕ ℕ × Told ℕ ℕ)
-leads_past_conflict me at why = gives_up me 1 at why ++ skips 1 ∷ builds me after_conflict ++ certifies after_conflict ++ finalizes me after_conflict
+abbrev pub leads_past_conflict : ℕ → ℕ → TimeoutReason → List (StepFacts ℕ ℕ ℕ × ReplyFacts ℕ ℕ)
+leads_past_conflict me at why = abandons me 1 at why ++ skips 1 ∷ builds me after_conflict ++ certifies after_conflict ++ finalizes me after_conflict
 
 -- another member does so, and verifies
-abbrev pub follows_past_conflict : ℕ → ℕ → TimeoutReason → List (StepFacts ℕ ℕ ℕ × Told ℕ ℕ)
+abbrev pub follows_past_conflict : ℕ → ℕ → TimeoutReason → List (StepFacts ℕ ℕ ℕ × ReplyFacts ℕ ℕ)
 follows_past_conflict me at why =
-    gives_up me 1 at why
+    abandons me 1 at why
     ++ skips 1
     ∷ hears after_conflict true
     ∷ verifies me 0 after_conflict

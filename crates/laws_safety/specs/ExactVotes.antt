@@ -5,14 +5,14 @@ use Rattle.simplex_types.specs.declared.types.messages.Subject.{Subject}
 use Rattle.simplex_types.specs.declared.types.messages.Subject.TheVariants as subject
 use Rattle.simplex_voter.specs.Facts.{StateFacts, Elect, round_of, round_number}
 use Rattle.simplex_voter.specs.Rules.{NotarizeRule, NullifyRule, FinalizeRule}
-use Rattle.simplex_member.specs.Calls.{ConstructNotarize, ConstructNullify, ConstructFinalize, Told, Refused}
+use Rattle.simplex_member.specs.Calls.{ConstructNotarize, ConstructNullify, ConstructFinalize, ReplyFacts, Refused}
 use Rattle.simplex_member.specs.MemberFacts.{MemberFacts}
 use Rattle.simplex_member.specs.Runs.{StepFacts, Calls, IsStep}
 use Rattle.laws_safety.specs.Traces.{TraceEvent, Signs, signed_in}
 use Rattle.laws_safety.specs.Executions.{new_member, Execution}
 
 -- a call is refused for a fault
-abbrev pub ends_in_fault : {K D : Type 0} → Told K D → Bool
+abbrev pub ends_in_fault : {K D : Type 0} → ReplyFacts K D → Bool
 ends_in_fault (Refused fault) = true
 ends_in_fault _ = false
 
@@ -24,7 +24,7 @@ module _ {D : Type 0} where
 module _ {K D : Type 0} where
   -- a vote is told only where its rule holds, and so signed; and where the rule holds and there is a key it is told, unless
   -- the call is refused
-  pub record IsExact (Rule : Type 0) (me : Option ℕ) (about : Option (Subject D)) (told : Told K D) : Type 0 where
+  pub record IsExact (Rule : Type 0) (me : Option ℕ) (about : Option (Subject D)) (told : ReplyFacts K D) : Type 0 where
     pub only : (d : TraceEvent D) → Contains (signed_in told) d → Rule × IsSignedFor me about d
     pub due : (d : TraceEvent D) → ends_in_fault told ≡ false → Rule → IsSignedFor me about d → signed_in told ≡ d ∷ []
 
@@ -34,7 +34,7 @@ proposal_at x v = (round_of x v).slot.held
 
 module _ {K L D : Type 0} (same : D → D → Bool) (elect : Elect L) where
   -- of what the state knows before a step: each request for a vote is answered exactly by its rule, and nothing else by a vote
-  abbrev pub ExactAt : Option (StateFacts K L D) → StepFacts K L D → Told K D → Type 0
+  abbrev pub ExactAt : Option (StateFacts K L D) → StepFacts K L D → ReplyFacts K D → Type 0
   ExactAt None step told = signed_in told ≡ []
   ExactAt (Some x) (Calls (ConstructNullify v)) told = IsExact (NullifyRule x v) x.me (Some (subject.Nullify (round_number x v))) told
   ExactAt (Some x) (Calls (ConstructFinalize v)) told = IsExact (FinalizeRule elect x v) x.me (option_map subject.Finalize (proposal_at x v)) told
@@ -42,7 +42,7 @@ module _ {K L D : Type 0} (same : D → D → Bool) (elect : Elect L) where
   ExactAt (Some x) _ told = signed_in told ≡ []
 
   -- so it is at each step of a run, of the very member that the steps before it left
-  abbrev pub RunsExactly : MemberFacts K L D → List (StepFacts K L D) → List (Told K D) → Type 0
+  abbrev pub RunsExactly : MemberFacts K L D → List (StepFacts K L D) → List (ReplyFacts K D) → Type 0
   RunsExactly m [] [] = ⊤
   RunsExactly m [] (told ∷ replies) = ⊥
   RunsExactly m (step ∷ steps) [] = ⊥

@@ -2,7 +2,7 @@
 use Rattle.std.specs.Prelude.{◌≡◌, ◌⊎◌, ℕ, Bool, List, ◌++◌, Contains, Some, None}
 use Rattle.simplex_voter.specs.Facts.{Elect}
 use Rattle.simplex_record.specs.Start.{Setup, StartFacts, new_state}
-use Rattle.simplex_member.specs.Calls.{Told}
+use Rattle.simplex_member.specs.Calls.{ReplyFacts}
 use Rattle.simplex_member.specs.MemberFacts.{MemberFacts}
 use Rattle.simplex_member.specs.Runs.{StepFacts, Restarts, IsRunFrom}
 use Rattle.simplex_member.specs.Start.{started_member}
@@ -18,7 +18,7 @@ new_member same elect start = started_member same elect (new_state start.setup) 
 pub record Execution (K L D : Type 0) : Type 0 where
   pub start : StartFacts K L D
   pub steps : List (StepFacts K L D)
-  pub replies : List (Told K D)
+  pub replies : List (ReplyFacts K D)
 
 -- all that a member accepts and signs, oldest first
 abbrev pub trace_of : {K L D : Type 0} → Execution K L D → List (TraceEvent D)
@@ -31,14 +31,14 @@ pub record BeginsAs {K L : Type 0} (term_length i : ℕ) (setup : Setup K L) : T
 
 module _ {K L D : Type 0} where
   -- so does each life of a start and these steps
-  pub record LivesAs (term_length i : ℕ) (start : StartFacts K L D) (steps : List (StepFacts K L D)) : Type 0 where
+  pub record RunsAs (term_length i : ℕ) (start : StartFacts K L D) (steps : List (StepFacts K L D)) : Type 0 where
     pub first : BeginsAs term_length i start.setup
     pub later : (r : _) → Contains steps (Restarts r) → BeginsAs term_length i r.start.setup
 
 module _ {K L D : Type 0} (same : D → D → Bool) (elect : Elect L) where
   -- what member `i` of a network does, whatever comes to it
   pub record IsExecution (term_length i : ℕ) (s : Execution K L D) : Type 0 where
-    pub lives : LivesAs term_length i s.start s.steps
+    pub lives : RunsAs term_length i s.start s.steps
     pub run : IsRunFrom same elect s.start s.steps s.replies
 
 module _ (K : Type 0) {L D : Type 0} (same : D → D → Bool) (elect : Elect L) where

@@ -5,11 +5,11 @@ use Rattle.simplex_types.specs.declared.reasons.TimeoutReason.TheVariants.{Leade
 use Rattle.simplex_types.specs.declared.types.messages.Proposal.{Proposal}
 use Rattle.simplex_voter.specs.declared.voter.propose.ProposalRequest.TheVariants.{Prepare}
 use Rattle.simplex_voter.specs.declared.voter.verify.Verify.TheVariants.{Resolve}
-use Rattle.simplex_member.specs.Calls.{TryPropose, Proposed, ConstructNotarize, TryVerify, Told, Requested, Answered, Standing}
+use Rattle.simplex_member.specs.Calls.{TryPropose, Proposed, ConstructNotarize, TryVerify, ReplyFacts, Requested, Answered, Standing}
 use Rattle.simplex_member.specs.Runs.{StepFacts, Calls}
 use Rattle.laws_safety.specs.Continuations.{and_then}
 use Rattle.laws_safety.specs.Replicas.{Replica, Faulty, Honest}
-use Rattle.laws_safety.specs.ScenarioSteps.{proposal, notarize_reply, two, begins_with, first_view, context_of, builds, hears, verifies, certifies, finalizes, gives_up, skips}
+use Rattle.laws_safety.specs.ScenarioSteps.{proposal, notarize_reply, two, begins_with, first_view, context_of, builds, hears, verifies, certifies, finalizes, abandons, skips}
 use Rattle.laws_safety.specs.Executions.{Execution}
 
 -- view 3, which starts a term, is built on view 2 before that is certified
@@ -26,7 +26,7 @@ takes_over = begins_with 2 0 (
     ++ (Calls TryPropose, Requested (Some (Prepare (context_of 0 handed_over))))
     ∷ (Calls (Proposed 3 3 0), Answered true)
     ∷ (Calls (ConstructNotarize 3), notarize_reply 0 handed_over)
-    ∷ gives_up 0 2 2000 CertificationTimeout
+    ∷ abandons 0 2 2000 CertificationTimeout
     ++ skips 2
     ∷ [])
 
@@ -34,7 +34,7 @@ takes_over = begins_with 2 0 (
 abbrev pub can_not_verify : ℕ → Execution ℕ ℕ ℕ
 can_not_verify me = begins_with 2 me (
     first_view me
-    ++ gives_up me 2 1000 LeaderTimeout
+    ++ abandons me 2 1000 LeaderTimeout
     ++ skips 2
     ∷ hears handed_over true
     ∷ (Calls TryVerify, Standing (Resolve 3 2 Notarization 0))
@@ -49,15 +49,15 @@ abbrev pub after_handoff : Proposal ℕ
 after_handoff = proposal 5 1
 
 -- the current view 3 times out and is nullified, and so is the rest of its term
-abbrev pub leaves_term : ℕ → List (StepFacts ℕ ℕ ℕ × Told ℕ ℕ)
-leaves_term me = gives_up me 3 2000 CertificationTimeout ++ skips 3 ∷ []
+abbrev pub leaves_term : ℕ → List (StepFacts ℕ ℕ ℕ × ReplyFacts ℕ ℕ)
+leaves_term me = abandons me 3 2000 CertificationTimeout ++ skips 3 ∷ []
 
 -- the leader of view 5 builds, and votes for it to the end
-abbrev pub leads_past_handoff : ℕ → List (StepFacts ℕ ℕ ℕ × Told ℕ ℕ)
+abbrev pub leads_past_handoff : ℕ → List (StepFacts ℕ ℕ ℕ × ReplyFacts ℕ ℕ)
 leads_past_handoff me = leaves_term me ++ builds me after_handoff ++ certifies after_handoff ++ finalizes me after_handoff
 
 -- another member verifies, and does so too
-abbrev pub follows_past_handoff : ℕ → List (StepFacts ℕ ℕ ℕ × Told ℕ ℕ)
+abbrev pub follows_past_handoff : ℕ → List (StepFacts ℕ ℕ ℕ × ReplyFacts ℕ ℕ)
 follows_past_handoff me = leaves_term me ++ hears after_handoff true ∷ verifies me 1 after_handoff ++ certifies after_handoff ++ finalizes me after_handoff
 
 -- all three finalize view 5

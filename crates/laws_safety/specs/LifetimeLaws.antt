@@ -10,7 +10,7 @@ use Rattle.simplex_voter.specs.Gaps.{IsGapless}
 use Rattle.simplex_voter.specs.Rules.{NotarizeRule}
 use Rattle.simplex_voter.specs.Timeouts.{has_timeout}
 use Rattle.simplex_voter.specs.Windows.{min_active}
-use Rattle.simplex_member.specs.Calls.{CallFacts, BroadcastNotarization, BroadcastNullification, BroadcastFinalization, NextTimeout, Told, Handed, Dropped, TimesOut, Refused}
+use Rattle.simplex_member.specs.Calls.{CallFacts, BroadcastNotarization, BroadcastNullification, BroadcastFinalization, NextTimeout, ReplyFacts, Returned, Dropped, TimesOut, Refused}
 use Rattle.simplex_record.specs.Entries.{certificate_round}
 use Rattle.simplex_member.specs.MemberFacts.{MemberFacts}
 use Rattle.simplex_record.specs.Recovery.{recover_error}
@@ -22,15 +22,15 @@ use Rattle.laws_safety.specs.TermLengths.{HasTerms, KeepTerms}
 
 module _ {K L D : Type 0} (same : D → D → Bool) (elect : Elect L) where
   -- calls within one life, one reply a call: a run without a restart
-  abbrev pub IsLife : MemberFacts K L D → List (CallFacts D) → List (Told K D) → MemberFacts K L D → Type 0
-  IsLife m calls replies end = IsRun same elect m (map Calls calls) replies end
+  abbrev pub IsLifetime : MemberFacts K L D → List (CallFacts D) → List (ReplyFacts K D) → MemberFacts K L D → Type 0
+  IsLifetime m calls replies end = IsRun same elect m (map Calls calls) replies end
 
   -- a run from a start leads to a member, and these calls go on from there within its life
-  pub record IsLifeOfRun (start : StartFacts K L D) (steps : List (StepFacts K L D)) (told : List (Told K D))
-      (m : MemberFacts K L D) (calls : List (CallFacts D)) (replies : List (Told K D)) (end : MemberFacts K L D) : Type 0 where
+  pub record IsLifetimeOfRun (start : StartFacts K L D) (steps : List (StepFacts K L D)) (told : List (ReplyFacts K D))
+      (m : MemberFacts K L D) (calls : List (CallFacts D)) (replies : List (ReplyFacts K D)) (end : MemberFacts K L D) : Type 0 where
     pub accepted : recover_error same (new_state start.setup) start.floor start.now [] ≡ None
     pub reached : IsRun same elect (new_member same elect start) steps told m
-    pub life : IsLife m calls replies end
+    pub life : IsLifetime m calls replies end
 
 -- this holds of the first state and the last one, unless the member has failed by then; no state comes after a failure
 abbrev pub WhileAlive : {K L D : Type 0} → (StateFacts K L D → StateFacts K L D → Type 0) → Option (StateFacts K L D) → Option (StateFacts K L D) → Type 0
@@ -56,7 +56,7 @@ NotarizesGapless same elect x =
 
 module _ {K L D : Type 0} where
   -- a poll is told a moment to wait for and why; or its member has failed, or its next retry passes the numbers of 64 bits
-  abbrev pub PollIsAnswered : StepFacts K L D → Told K D → Type 0
+  abbrev pub PollIsAnswered : StepFacts K L D → ReplyFacts K D → Type 0
   PollIsAnswered (Calls (NextTimeout _)) told =
       ((moment : ℕ × TimeoutReason) × (told ≡ TimesOut (Some moment)))
       ⊎ (told ≡ Refused Failed)
@@ -64,7 +64,7 @@ module _ {K L D : Type 0} where
   PollIsAnswered _ told = Unit {0}
 
   -- so is each poll among these steps
-  abbrev pub PollsAreAnswered : List (StepFacts K L D) → List (Told K D) → Type 0
+  abbrev pub PollsAreAnswered : List (StepFacts K L D) → List (ReplyFacts K D) → Type 0
   PollsAreAnswered (step ∷ steps) (told ∷ replies) = PollIsAnswered step told × PollsAreAnswered steps replies
   PollsAreAnswered _ _ = Unit {0}
 
@@ -73,20 +73,20 @@ abbrev pub has_conflict : {K L D : Type 0} → StateFacts K L D → ℕ → Bool
 has_conflict x v = (round_of x v).slot.conflict
 
 -- a call was told that it dropped the view
-abbrev pub WasDropped : {K D : Type 0} → List (Told K D) → ℕ → Type 0
+abbrev pub WasDropped : {K D : Type 0} → List (ReplyFacts K D) → ℕ → Type 0
 WasDropped replies v = (views : List ℕ) × Contains replies (Dropped views) × Contains views v
 
 -- the view was dropped, and lies below what is kept
-pub record WasPruned {K L D : Type 0} (replies : List (Told K D)) (last : StateFacts K L D) (v : ℕ) : Type 0 where
+pub record WasPruned {K L D : Type 0} (replies : List (ReplyFacts K D)) (last : StateFacts K L D) (v : ℕ) : Type 0 where
   pub dropped : WasDropped replies v
   pub below : v < min_active last
 
 -- a conflict of a view stays until the view is pruned
-abbrev pub ConflictsStay : {K L D : Type 0} → List (Told K D) → StateFacts K L D → StateFacts K L D → Type 0
+abbrev pub ConflictsStay : {K L D : Type 0} → List (ReplyFacts K D) → StateFacts K L D → StateFacts K L D → Type 0
 ConflictsStay replies first last = (v : ℕ) → has_conflict first v ≡ true → (has_conflict last v ≡ true) ⊎ WasPruned replies last v
 
 -- what was dropped isn't tracked again
-abbrev pub DroppedForGood : {K L D : Type 0} → List (Told K D) → StateFacts K L D → StateFacts K L D → Type 0
+abbrev pub DroppedForGood : {K L D : Type 0} → List (ReplyFacts K D) → StateFacts K L D → StateFacts K L D → Type 0
 DroppedForGood replies first last = (v : ℕ) → WasDropped replies v → is_tracked last v ≡ false
 
 -- the kinds of certificates
@@ -105,18 +105,18 @@ module _ {D : Type 0} where
 
 module _ {K D : Type 0} where
   -- that view, where the call is told a certificate
-  abbrev pub handed_out_by : KindOfCertificate → CallFacts D → Told K D → List ℕ
-  handed_out_by kind call (Handed (Some _)) = asked_by kind call
-  handed_out_by kind call _ = []
+  abbrev pub returned_by_call : KindOfCertificate → CallFacts D → ReplyFacts K D → List ℕ
+  returned_by_call kind call (Returned (Some _)) = asked_by kind call
+  returned_by_call kind call _ = []
 
   -- the views whose certificates of this kind are handed out to broadcast, in turn
-  abbrev pub handed_out_in : KindOfCertificate → List (CallFacts D) → List (Told K D) → List ℕ
-  handed_out_in kind (call ∷ calls) (told ∷ replies) = handed_out_by kind call told ++ handed_out_in kind calls replies
-  handed_out_in kind _ _ = []
+  abbrev pub returned_in : KindOfCertificate → List (CallFacts D) → List (ReplyFacts K D) → List ℕ
+  returned_in kind (call ∷ calls) (told ∷ replies) = returned_by_call kind call told ++ returned_in kind calls replies
+  returned_in kind _ _ = []
 
   -- none is handed out twice
-  abbrev pub HandedOnce : List (CallFacts D) → List (Told K D) → Type 0
-  HandedOnce calls replies = (kind : KindOfCertificate) → IsDistinct nat_eq (handed_out_in kind calls replies)
+  abbrev pub ReturnedOnce : List (CallFacts D) → List (ReplyFacts K D) → Type 0
+  ReturnedOnce calls replies = (kind : KindOfCertificate) → IsDistinct nat_eq (returned_in kind calls replies)
 
 module _ {D : Type 0} where
   -- which kind of certificate it is
@@ -127,55 +127,55 @@ module _ {D : Type 0} where
 
 module _ {K D : Type 0} where
   -- the certificate that a call is told is of the kind and the view that it asks for
-  abbrev pub IsAsAsked : CallFacts D → Told K D → Type 0
+  abbrev pub IsAsAsked : CallFacts D → ReplyFacts K D → Type 0
   IsAsAsked call told =
-      (kind : KindOfCertificate) (v : ℕ) (c : CertificateFacts D) → asked_by kind call ≡ v ∷ [] → told ≡ Handed (Some c)
+      (kind : KindOfCertificate) (v : ℕ) (c : CertificateFacts D) → asked_by kind call ≡ v ∷ [] → told ≡ Returned (Some c)
       → (kind_of_certificate c ≡ kind) × ((certificate_round c).view ≡ v)
 
   -- so it is of each call
-  abbrev pub HandedAsAsked : List (CallFacts D) → List (Told K D) → Type 0
-  HandedAsAsked (call ∷ calls) (told ∷ replies) = IsAsAsked call told × HandedAsAsked calls replies
-  HandedAsAsked _ _ = Unit {0}
+  abbrev pub ReturnedAsRequested : List (CallFacts D) → List (ReplyFacts K D) → Type 0
+  ReturnedAsRequested (call ∷ calls) (told ∷ replies) = IsAsAsked call told × ReturnedAsRequested calls replies
+  ReturnedAsRequested _ _ = Unit {0}
 
 module _ (K : Type 0) {L D : Type 0} (same : D → D → Bool) (elect : Elect L) where
   -- of each life, of whatever member
-  abbrev pub OfEachLife : (MemberFacts K L D → List (CallFacts D) → List (Told K D) → MemberFacts K L D → Type 0) → Type 0
-  OfEachLife Holds =
-      (m end : MemberFacts K L D) (calls : List (CallFacts D)) (replies : List (Told K D)) → IsLife same elect m calls replies end → Holds m calls replies end
+  abbrev pub OfEachLifetime : (MemberFacts K L D → List (CallFacts D) → List (ReplyFacts K D) → MemberFacts K L D → Type 0) → Type 0
+  OfEachLifetime Holds =
+      (m end : MemberFacts K L D) (calls : List (CallFacts D)) (replies : List (ReplyFacts K D)) → IsLifetime same elect m calls replies end → Holds m calls replies end
 
   -- of each stretch of a life that a run leads to, whose lives share a length of terms
-  abbrev pub OfEachStretch : (MemberFacts K L D → List (CallFacts D) → List (Told K D) → MemberFacts K L D → Type 0) → Type 0
+  abbrev pub OfEachStretch : (MemberFacts K L D → List (CallFacts D) → List (ReplyFacts K D) → MemberFacts K L D → Type 0) → Type 0
   OfEachStretch Holds =
-      (term_length : ℕ) (start : StartFacts K L D) (before : List (StepFacts K L D)) (told : List (Told K D))
-      (m end : MemberFacts K L D) (calls : List (CallFacts D)) (replies : List (Told K D))
+      (term_length : ℕ) (start : StartFacts K L D) (before : List (StepFacts K L D)) (told : List (ReplyFacts K D))
+      (m end : MemberFacts K L D) (calls : List (CallFacts D)) (replies : List (ReplyFacts K D))
       → HasTerms term_length start.setup
       → KeepTerms term_length before
-      → IsLifeOfRun same elect start before told m calls replies end
+      → IsLifetimeOfRun same elect start before told m calls replies end
       → Holds m calls replies end
 
   -- of the state that a run leads to, while the member lives, whose lives share a length of terms
   abbrev pub OfEachState : (StateFacts K L D → Type 0) → Type 0
   OfEachState Holds =
-      (term_length : ℕ) (start : StartFacts K L D) (steps : List (StepFacts K L D)) (replies : List (Told K D)) (end : MemberFacts K L D)
+      (term_length : ℕ) (start : StartFacts K L D) (steps : List (StepFacts K L D)) (replies : List (ReplyFacts K D)) (end : MemberFacts K L D)
       → HasTerms term_length start.setup
       → KeepTerms term_length steps
       → IsRun same elect (new_member same elect start) steps replies end
       → MatchOption end.life (Unit {0}) Holds
 
   -- of the steps of each run and their replies, whose lives share a length of terms
-  abbrev pub OfEachRun : (List (StepFacts K L D) → List (Told K D) → Type 0) → Type 0
+  abbrev pub OfEachRun : (List (StepFacts K L D) → List (ReplyFacts K D) → Type 0) → Type 0
   OfEachRun Holds =
-      (term_length : ℕ) (start : StartFacts K L D) (steps : List (StepFacts K L D)) (replies : List (Told K D)) (end : MemberFacts K L D)
+      (term_length : ℕ) (start : StartFacts K L D) (steps : List (StepFacts K L D)) (replies : List (ReplyFacts K D)) (end : MemberFacts K L D)
       → HasTerms term_length start.setup
       → KeepTerms term_length steps
       → IsRun same elect (new_member same elect start) steps replies end
       → Holds steps replies
 
   -- calls of a run with no restart among them are such a stretch
-  abbrev pub StretchesAreLives : Type 0
-  StretchesAreLives =
-      (start : StartFacts K L D) (before after : List (StepFacts K L D)) (calls : List (CallFacts D)) (told replies rest : List (Told K D))
+  abbrev pub StretchesAreLifetimes : Type 0
+  StretchesAreLifetimes =
+      (start : StartFacts K L D) (before after : List (StepFacts K L D)) (calls : List (CallFacts D)) (told replies rest : List (ReplyFacts K D))
       → length before ≡ length told
       → length calls ≡ length replies
       → IsRunFrom same elect start (before ++ (map Calls calls ++ after)) (told ++ (replies ++ rest))
-      → (m end : MemberFacts K L D) × IsLifeOfRun same elect start before told m calls replies end
+      → (m end : MemberFacts K L D) × IsLifetimeOfRun same elect start before told m calls replies end

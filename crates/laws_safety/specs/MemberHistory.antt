@@ -8,7 +8,7 @@ use Rattle.simplex_member.specs.declared.member.journal.Stored.{Stored}
 use Rattle.simplex_member.specs.declared.member.calls.Reply.{Reply}
 use Rattle.simplex_member.specs.declared.member.runs.Step.{Step}
 use Rattle.simplex_record.specs.declared.record.start.Start.{Start}
-use Rattle.simplex_member.specs.Calls.{Told, told}
+use Rattle.simplex_member.specs.Calls.{ReplyFacts, told}
 use Rattle.simplex_member.specs.Journal.{stored_of}
 use Rattle.simplex_member.specs.MemberFacts.{MemberFacts}
 use Rattle.simplex_record.specs.Recovery.{recover_error}
@@ -16,7 +16,7 @@ use Rattle.simplex_member.specs.Runs.{StepFacts, steps_of, IsRun}
 use Rattle.simplex_record.specs.Start.{StartFacts, start_facts, new_state}
 use Rattle.laws_safety.specs.Traces.{TraceEvent}
 use Rattle.laws_safety.specs.ObservedTraces.{floor_in, begun_by, StartsAs}
-use Rattle.laws_safety.specs.Executions.{new_member, Execution, trace_of, LivesAs, IsExecution}
+use Rattle.laws_safety.specs.Executions.{new_member, Execution, trace_of, RunsAs, IsExecution}
 
 -- what came to a member of the code and what it answered, as an execution
 abbrev pub execution_of : {S L D K G C : Type 0} → (S → Option ℕ) → (S → List K) → (L → Terms) → (L → Bool) → (C → List ℕ) → Start S L D K G C
@@ -33,53 +33,53 @@ module _ {K L D : Type 0} where
   new_execution start = record { start = start; steps = []; replies = [] }
 
   -- one step more
-  abbrev pub with_step : Execution K L D → StepFacts K L D → Told K D → Execution K L D
+  abbrev pub with_step : Execution K L D → StepFacts K L D → ReplyFacts K D → Execution K L D
   with_step s step told = record s { steps = s.steps ++ step ∷ []; replies = s.replies ++ told ∷ [] }
 
 module _ {K L D : Type 0} (same : D → D → Bool) (elect : Elect L) where
   -- this is the execution of the member so far, as member `i` of a network
   pub record HasExecution (term_length i : ℕ) (s : Execution K L D) (m : MemberFacts K L D) : Type 0 where
-    pub lives : LivesAs term_length i s.start s.steps
+    pub lives : RunsAs term_length i s.start s.steps
     pub accepted : recover_error same (new_state s.start.setup) s.start.floor s.start.now [] ≡ None
     pub run : IsRun same elect (new_member same elect s.start) s.steps s.replies m
 
   -- this is all that the member accepted and signed so far, as member `i` of a network
-  pub record HasDone (term_length i : ℕ) (all : List (TraceEvent D)) (m : MemberFacts K L D) : Type 0 where
+  pub record HasHistory (term_length i : ℕ) (all : List (TraceEvent D)) (m : MemberFacts K L D) : Type 0 where
     pub execution : Execution K L D
     pub told : HasExecution term_length i execution m
     pub same_trace : trace_of execution ≡ all
 
   -- this trace is done besides
-  abbrev pub DoesMore : MemberFacts K L D → List (TraceEvent D) → MemberFacts K L D → Type 0
-  DoesMore m more next = (term_length i : ℕ) (all : List (TraceEvent D)) → HasDone term_length i all m → HasDone term_length i (all ++ more) next
+  abbrev pub ExtendsHistory : MemberFacts K L D → List (TraceEvent D) → MemberFacts K L D → Type 0
+  ExtendsHistory m more next = (term_length i : ℕ) (all : List (TraceEvent D)) → HasHistory term_length i all m → HasHistory term_length i (all ++ more) next
 
   -- of whatever it has done so far, as whichever member
-  abbrev pub OfAllDone : MemberFacts K L D → (ℕ → ℕ → List (TraceEvent D) → Type 0) → Type 0
-  OfAllDone m Holds = (term_length i : ℕ) (all : List (TraceEvent D)) → HasDone term_length i all m → Holds term_length i all
+  abbrev pub OfEachHistory : MemberFacts K L D → (ℕ → ℕ → List (TraceEvent D) → Type 0) → Type 0
+  OfEachHistory m Holds = (term_length i : ℕ) (all : List (TraceEvent D)) → HasHistory term_length i all m → Holds term_length i all
 
 module _ (K : Type 0) {L D : Type 0} (same : D → D → Bool) (elect : Elect L) where
   -- a network may have a member `i` with this trace
-  abbrev pub MayBeDoneBy : ℕ → ℕ → List (TraceEvent D) → Type 0
-  MayBeDoneBy term_length i all = (s : Execution K L D) × IsExecution same elect term_length i s × (trace_of s ≡ all)
+  abbrev pub MayBeHistoryOf : ℕ → ℕ → List (TraceEvent D) → Type 0
+  MayBeHistoryOf term_length i all = (s : Execution K L D) × IsExecution same elect term_length i s × (trace_of s ≡ all)
 
 module _ {S L D K G C : Type 0} (same : D → D → Bool) (elect : Elect L) (me : S → Option ℕ) (terms : L → Terms) where
   -- a member that begins with this start has accepted the floor's finalization
-  abbrev pub HasBegun : Start S L D K G C → MemberFacts K L D → Type 0
-  HasBegun start m = (term_length i : ℕ) → StartsAs me terms term_length i start → HasDone same elect term_length i (floor_in start.floor) m
+  abbrev pub HasStarted : Start S L D K G C → MemberFacts K L D → Type 0
+  HasStarted start m = (term_length i : ℕ) → StartsAs me terms term_length i start → HasHistory same elect term_length i (floor_in start.floor) m
 
   -- one that begins again with this start has, where it succeeds, accepted the floor's finalization besides
-  abbrev pub HasBegunAgain : {E : Type 0} → MemberFacts K L D → Start S L D K G C → Result (Unit {0}) E → MemberFacts K L D → Type 0
-  HasBegunAgain m start result next =
+  abbrev pub HasRestarted : {E : Type 0} → MemberFacts K L D → Start S L D K G C → Result (Unit {0}) E → MemberFacts K L D → Type 0
+  HasRestarted m start result next =
       (term_length i : ℕ) (all : List (TraceEvent D))
       → StartsAs me terms term_length i start
-      → HasDone same elect term_length i all m
-      → HasDone same elect term_length i (all ++ begun_by start result) next
+      → HasHistory same elect term_length i all m
+      → HasHistory same elect term_length i (all ++ begun_by start result) next
 
   -- one that goes on with this start from what a journal holds has done all that the member did which it was stored of, and
   -- has accepted the floor's finalization besides
-  abbrev pub HasGoneOn : Stored → List (ArtifactFacts D) → Start S L D K G C → MemberFacts K L D → Type 0
-  HasGoneOn stored entries start next =
+  abbrev pub HasContinued : Stored → List (ArtifactFacts D) → Start S L D K G C → MemberFacts K L D → Type 0
+  HasContinued stored entries start next =
       (m : MemberFacts K L D)
       → stored_of m ≡ stored
       → m.entries ≡ entries
-      → HasBegunAgain {E = RecoverError} m start (Ok tt) next
+      → HasRestarted {E = RecoverError} m start (Ok tt) next

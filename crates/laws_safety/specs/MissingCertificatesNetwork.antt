@@ -4,11 +4,11 @@ use Rattle.simplex_types.specs.declared.reasons.Kind.TheVariants.{Nullification,
 use Rattle.simplex_types.specs.declared.reasons.TimeoutReason.TheVariants.{CertificationTimeout}
 use Rattle.simplex_types.specs.declared.types.messages.Proposal.{Proposal}
 use Rattle.simplex_voter.specs.declared.voter.verify.Verify.TheVariants.{Resolve}
-use Rattle.simplex_member.specs.Calls.{AddNotarization, CertifyCandidates, TryVerify, Told, Added, Candidates, Standing}
+use Rattle.simplex_member.specs.Calls.{AddNotarization, CertifyCandidates, TryVerify, ReplyFacts, Added, Candidates, Standing}
 use Rattle.simplex_member.specs.Runs.{StepFacts, Calls}
 use Rattle.laws_safety.specs.Continuations.{and_then}
 use Rattle.laws_safety.specs.Replicas.{Replica, Faulty, Honest}
-use Rattle.laws_safety.specs.ScenarioSteps.{proposal, certificate, one, two, begins_with, first_view, builds, hears, verifies, certifies, finalizes, gives_up, skips}
+use Rattle.laws_safety.specs.ScenarioSteps.{proposal, certificate, one, two, begins_with, first_view, builds, hears, verifies, certifies, finalizes, abandons, skips}
 use Rattle.laws_safety.specs.Executions.{Execution}
 
 -- view 3 is built on view 1
@@ -16,11 +16,11 @@ abbrev pub over_two : Proposal ℕ
 over_two = proposal 3 1
 
 -- the second one is notarized; no verdict comes, and it times out
-abbrev pub second_view : ℕ → List (StepFacts ℕ ℕ ℕ × Told ℕ ℕ)
+abbrev pub second_view : ℕ → List (StepFacts ℕ ℕ ℕ × ReplyFacts ℕ ℕ)
 second_view me =
     (Calls (AddNotarization (certificate two)), Added true None)
     ∷ (Calls CertifyCandidates, Candidates (two ∷ []) [])
-    ∷ gives_up me 2 2000 CertificationTimeout
+    ∷ abandons me 2 2000 CertificationTimeout
 
 -- member 0 leads view 2, and lacks the nullification of it when it is to verify the next proposal
 abbrev pub lacks_nullification : Execution ℕ ℕ ℕ
@@ -47,19 +47,19 @@ member_without_notarization = begins_with 1 2 (
     ∷ [])
 
 -- four members, of which the first leader is faulty
-abbrev pub lacking_certificates : List (Replica ℕ ℕ ℕ)
-lacking_certificates = Honest lacks_nullification ∷ Honest skips_two ∷ Honest member_without_notarization ∷ Faulty ∷ []
+abbrev pub missing_certificates : List (Replica ℕ ℕ ℕ)
+missing_certificates = Honest lacks_nullification ∷ Honest skips_two ∷ Honest member_without_notarization ∷ Faulty ∷ []
 
 -- a member certifies view 3 and finalizes it
-abbrev pub finishes : ℕ → List (StepFacts ℕ ℕ ℕ × Told ℕ ℕ)
+abbrev pub finishes : ℕ → List (StepFacts ℕ ℕ ℕ × ReplyFacts ℕ ℕ)
 finishes me = certifies over_two ++ finalizes me over_two
 
 -- it does so after it heard of the nullification that it lacked
-abbrev pub has_nullification : List (StepFacts ℕ ℕ ℕ × Told ℕ ℕ)
+abbrev pub has_nullification : List (StepFacts ℕ ℕ ℕ × ReplyFacts ℕ ℕ)
 has_nullification = skips 2 ∷ verifies 0 1 over_two ++ finishes 0
 
 -- or of the notarization
-abbrev pub has_notarization : List (StepFacts ℕ ℕ ℕ × Told ℕ ℕ)
+abbrev pub has_notarization : List (StepFacts ℕ ℕ ℕ × ReplyFacts ℕ ℕ)
 has_notarization = certifies one ++ verifies 2 1 over_two ++ finishes 2
 
 -- all three finalize view 3

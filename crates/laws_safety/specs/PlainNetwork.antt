@@ -11,7 +11,7 @@ use Rattle.simplex_types.specs.declared.types.plain.PlainKey.{PlainKey}
 use Rattle.simplex_voter.specs.declared.voter.propose.ProposalRequest.TheVariants.{Propose}
 use Rattle.simplex_voter.specs.declared.voter.verify.Verify.TheVariants.{Ready}
 use Rattle.simplex_record.specs.Start.{StartFacts}
-use Rattle.simplex_member.specs.Calls.{AddNotarization, AddFinalization, SetProposal, TryPropose, Proposed, TryVerify, Verified, ConstructNotarize, Certified, ConstructFinalize, Told, Added, Judged, Finalize, Notarize, Standing, Answered, Requested}
+use Rattle.simplex_member.specs.Calls.{AddNotarization, AddFinalization, SetProposal, TryPropose, Proposed, TryVerify, Verified, ConstructNotarize, Certified, ConstructFinalize, ReplyFacts, Added, Judged, Finalize, Notarize, Standing, Answered, Requested}
 use Rattle.simplex_member.specs.Runs.{StepFacts, Calls}
 use Rattle.laws_safety.specs.Replicas.{Replica, Faulty, Honest}
 use Rattle.laws_safety.specs.Executions.{Execution}
@@ -23,7 +23,7 @@ PlainExecution = Execution PlainKey PlainElector PlainDigest
 
 -- a step of it, with its reply
 abbrev pub PlainTurn : Type 0
-PlainTurn = StepFacts PlainKey PlainElector PlainDigest × Told PlainKey PlainDigest
+PlainTurn = StepFacts PlainKey PlainElector PlainDigest × ReplyFacts PlainKey PlainDigest
 
 -- a member's start at genesis, among four
 abbrev pub plain_genesis_start : PlainElector → PlainDigest → ℕ → StartFacts PlainKey PlainElector PlainDigest

@@ -9,7 +9,7 @@ use Rattle.simplex_voter.specs.Facts.{Elect}
 use Rattle.simplex_voter.specs.Refusals.{names_too_large}
 use Rattle.simplex_record.specs.declared.record.error.RecoverError.{RecoverError}
 use Rattle.simplex_record.specs.declared.record.error.RecoverError.TheVariants as error
-use Rattle.simplex_member.specs.Calls.{Proposed, Told}
+use Rattle.simplex_member.specs.Calls.{Proposed, ReplyFacts}
 use Rattle.simplex_member.specs.MemberFacts.{MemberFacts}
 use Rattle.simplex_record.specs.Recovery.{recover_error}
 use Rattle.simplex_member.specs.Restarts.{RestartFacts, IsByView, cut_member, IsRestart}
@@ -65,7 +65,7 @@ module _ (K : Type 0) {L D : Type 0} (same : D → D → Bool) (elect : Elect L)
   -- of each member that a run leads to, whose lives share a length of terms
   abbrev pub OfEachEnd : (MemberFacts K L D → Type 0) → Type 0
   OfEachEnd Holds =
-      (term_length : ℕ) (start : StartFacts K L D) (steps : List (StepFacts K L D)) (replies : List (Told K D)) (end : MemberFacts K L D)
+      (term_length : ℕ) (start : StartFacts K L D) (steps : List (StepFacts K L D)) (replies : List (ReplyFacts K D)) (end : MemberFacts K L D)
       → HasTerms term_length start.setup
       → KeepTerms term_length steps
       → IsRun same elect (new_member same elect start) steps replies end
@@ -87,7 +87,7 @@ module _ (K : Type 0) {L D : Type 0} (same : D → D → Bool) (elect : Elect L)
   -- it is refused for a parent only where a notarization with such a parent was accepted
   abbrev pub ParentsAreAccepted : Type 0
   ParentsAreAccepted =
-      (term_length : ℕ) (start : StartFacts K L D) (steps : List (StepFacts K L D)) (replies : List (Told K D)) (end : MemberFacts K L D)
+      (term_length : ℕ) (start : StartFacts K L D) (steps : List (StepFacts K L D)) (replies : List (ReplyFacts K D)) (end : MemberFacts K L D)
       → HasTerms term_length start.setup
       → KeepTerms term_length steps
       → IsRun same elect (new_member same elect start) steps replies end
@@ -100,7 +100,7 @@ module _ (K : Type 0) {L D : Type 0} (same : D → D → Bool) (elect : Elect L)
   -- member voted in one
   abbrev pub HighViewsAreVotedFor : Type 0
   HighViewsAreVotedFor =
-      (term_length : ℕ) (start : StartFacts K L D) (steps : List (StepFacts K L D)) (replies : List (Told K D)) (end : MemberFacts K L D)
+      (term_length : ℕ) (start : StartFacts K L D) (steps : List (StepFacts K L D)) (replies : List (ReplyFacts K D)) (end : MemberFacts K L D)
       → HasTerms term_length start.setup
       → KeepTerms term_length steps
       → recover_error same (new_state start.setup) start.floor start.now [] ≡ None

@@ -3,7 +3,7 @@ use Rattle.std.specs.Prelude.{◌≡◌, ◌↔◌, Bool, true, false, List}
 use Rattle.simplex_voter.specs.Facts.{Elect}
 use Rattle.simplex_record.specs.declared.record.error.RecoverError.{RecoverError}
 use Rattle.simplex_member.specs.declared.member.resume.ResumeError.TheVariants.{Recover}
-use Rattle.simplex_member.specs.Calls.{Told, Restarted}
+use Rattle.simplex_member.specs.Calls.{ReplyFacts, Restarted}
 use Rattle.simplex_member.specs.Journal.{stored_of, whole_restart, has_lost, IsResumed, IsNotResumed}
 use Rattle.simplex_member.specs.MemberFacts.{MemberFacts}
 use Rattle.simplex_member.specs.Pruning.{pruned_member}
@@ -31,7 +31,7 @@ module _ (K : Type 0) {L D : Type 0} (same : D → D → Bool) (elect : Elect L)
   -- of each member that a run leads to, whatever the run
   abbrev pub OfEachLeft : (MemberFacts K L D → Type 0) → Type 0
   OfEachLeft Holds =
-      (start : StartFacts K L D) (steps : List (StepFacts K L D)) (replies : List (Told K D)) (m : MemberFacts K L D)
+      (start : StartFacts K L D) (steps : List (StepFacts K L D)) (replies : List (ReplyFacts K D)) (m : MemberFacts K L D)
       → IsRun same elect (new_member same elect start) steps replies m
       → Holds m
 

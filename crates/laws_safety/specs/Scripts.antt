@@ -4,7 +4,7 @@ use Rattle.simplex_types.specs.Config.{FloorFacts, Genesis, Finalized}
 use Rattle.simplex_types.specs.declared.types.messages.Proposal.{Proposal}
 use Rattle.simplex_types.specs.declared.types.messages.Subject.TheVariants as subject
 use Rattle.simplex_voter.specs.Facts.{Elect}
-use Rattle.simplex_member.specs.Calls.{Prune, Told, Dropped, Done, Restarted}
+use Rattle.simplex_member.specs.Calls.{Prune, ReplyFacts, Dropped, Done, Restarted}
 use Rattle.simplex_member.specs.Runs.{StepFacts, Calls, Prunes, Restarts}
 use Rattle.simplex_record.specs.Start.{StartFacts}
 use Rattle.laws_safety.specs.Traces.{TraceEvent, Signs}
@@ -21,11 +21,11 @@ abbrev pub start_at : ℕ → FloorFacts ℕ → ℕ → StartFacts ℕ ℕ ℕ
 start_at term_length floor me = record { setup = set_up_as term_length me; floor = floor; now = 0 }
 
 -- a member verifies a proposal and votes for it to the end
-abbrev pub votes_through : ℕ → Proposal ℕ → List (StepFacts ℕ ℕ ℕ × Told ℕ ℕ)
+abbrev pub votes_through : ℕ → Proposal ℕ → List (StepFacts ℕ ℕ ℕ × ReplyFacts ℕ ℕ)
 votes_through me p = hears p true ∷ verifies me 3 p ++ accepts p ++ votes_for me p ∷ []
 
 -- it restarts: so much of its record is dropped, and the record is pruned or not
-abbrev pub restarts : ℕ → Bool → StartFacts ℕ ℕ ℕ → StepFacts ℕ ℕ ℕ × Told ℕ ℕ
+abbrev pub restarts : ℕ → Bool → StartFacts ℕ ℕ ℕ → StepFacts ℕ ℕ ℕ × ReplyFacts ℕ ℕ
 restarts drop prune start = (Restarts (record { drop = drop; prune = prune; start = start }), Restarted)
 
 -- a term of five views: a member votes to nullify view 1 and may finalize neither it nor the next one, until it accepts the

@@ -4,7 +4,7 @@ use Rattle.simplex_types.specs.Certificates.{ArtifactFacts, NotarizeVote, Nullif
 use Rattle.simplex_types.specs.Config.{FloorFacts, Genesis, Finalized}
 use Rattle.simplex_types.specs.declared.types.messages.Subject.{Subject}
 use Rattle.simplex_types.specs.declared.types.messages.Subject.TheVariants as subject
-use Rattle.simplex_member.specs.Calls.{CallFacts, AddNotarization, AddNullification, AddFinalization, Told, Added, AddedNullification, Nullify, Finalize, Notarize, Restarted}
+use Rattle.simplex_member.specs.Calls.{CallFacts, AddNotarization, AddNullification, AddFinalization, ReplyFacts, Added, AddedNullification, Nullify, Finalize, Notarize, Restarted}
 use Rattle.simplex_member.specs.Runs.{StepFacts, Calls, Prunes, Restarts}
 
 -- a certificate was accepted, or a vote was signed by this member of the network; each is named by what it is about
@@ -14,11 +14,11 @@ pub data TraceEvent (D : Type 0) : Type 0 where
 
 module _ {D : Type 0} where
   -- the certificate that a call hands in
-  abbrev pub handed_in : CallFacts D → List (TraceEvent D)
-  handed_in (AddNotarization c) = Accepts (subject.Notarize c.proposal) ∷ []
-  handed_in (AddNullification c _) = Accepts (subject.Nullify c.round) ∷ []
-  handed_in (AddFinalization c _) = Accepts (subject.Finalize c.proposal) ∷ []
-  handed_in _ = []
+  abbrev pub passed_certificates : CallFacts D → List (TraceEvent D)
+  passed_certificates (AddNotarization c) = Accepts (subject.Notarize c.proposal) ∷ []
+  passed_certificates (AddNullification c _) = Accepts (subject.Nullify c.round) ∷ []
+  passed_certificates (AddFinalization c _) = Accepts (subject.Finalize c.proposal) ∷ []
+  passed_certificates _ = []
 
   -- the finalization of a floor
   abbrev pub of_floor : FloorFacts D → List (TraceEvent D)
@@ -34,35 +34,35 @@ module _ {D : Type 0} where
 
 module _ {K D : Type 0} where
   -- the vote that a reply has
-  abbrev pub signed_in : Told K D → List (TraceEvent D)
+  abbrev pub signed_in : ReplyFacts K D → List (TraceEvent D)
   signed_in (Nullify (Some (_, vote))) = of_vote vote
   signed_in (Finalize (Some vote)) = of_vote vote
   signed_in (Notarize (Some vote)) = of_vote vote
   signed_in _ = []
 
   -- a certificate is accepted by a call that is told whether it is new
-  abbrev pub accepted_by : CallFacts D → Told K D → List (TraceEvent D)
-  accepted_by call (Added _ _) = handed_in call
-  accepted_by call (AddedNullification _) = handed_in call
+  abbrev pub accepted_by : CallFacts D → ReplyFacts K D → List (TraceEvent D)
+  accepted_by call (Added _ _) = passed_certificates call
+  accepted_by call (AddedNullification _) = passed_certificates call
   accepted_by call _ = []
 
   -- what a call does that others can learn of, by what it was told
-  abbrev pub trace_of_call : CallFacts D → Told K D → List (TraceEvent D)
+  abbrev pub trace_of_call : CallFacts D → ReplyFacts K D → List (TraceEvent D)
   trace_of_call call told = accepted_by call told ++ signed_in told
 
 module _ {K L D : Type 0} where
   -- a restart that succeeds accepts its floor's finalization
-  abbrev pub accepted_at : StepFacts K L D → Told K D → List (TraceEvent D)
+  abbrev pub accepted_at : StepFacts K L D → ReplyFacts K D → List (TraceEvent D)
   accepted_at (Calls call) told = accepted_by call told
   accepted_at Prunes told = []
   accepted_at (Restarts r) Restarted = of_floor r.start.floor
   accepted_at (Restarts r) _ = []
 
   -- what a step does, by its reply
-  abbrev pub trace_at : StepFacts K L D → Told K D → List (TraceEvent D)
+  abbrev pub trace_at : StepFacts K L D → ReplyFacts K D → List (TraceEvent D)
   trace_at step told = accepted_at step told ++ signed_in told
 
   -- of the steps in turn, each with its reply
-  abbrev pub trace_of_steps : List (StepFacts K L D) → List (Told K D) → List (TraceEvent D)
+  abbrev pub trace_of_steps : List (StepFacts K L D) → List (ReplyFacts K D) → List (TraceEvent D)
   trace_of_steps (step ∷ steps) (told ∷ replies) = trace_at step told ++ trace_of_steps steps replies
   trace_of_steps _ _ = []

@@ -17,16 +17,16 @@ use Rattle.simplex_voter.specs.declared.voter.verify.Verify.{Verify}
 use Rattle.simplex_voter.specs.declared.voter.verify.Verify.TheVariants as verify
 use Rattle.simplex_member.specs.CallConditions.{is_allowed, fault_of}
 use Rattle.simplex_member.specs.Calls as call
-use Rattle.simplex_member.specs.Calls.{CallFacts, Told}
+use Rattle.simplex_member.specs.Calls.{CallFacts, ReplyFacts}
 use Rattle.simplex_member.specs.CallSemantics.{answer, outstanding_work_after}
-use Rattle.simplex_member.specs.MemberFacts.{MemberFacts, SignedMember, AnswersAlive, IsCall, unless_refused, unless_kept, with_call}
+use Rattle.simplex_member.specs.MemberFacts.{MemberFacts, SignedMember, AnswersAlive, IsCall, unless_refused, unless_retained, with_call}
 use Rattle.simplex_member.specs.OutstandingWork.{OutstandingWork, no_outstanding_work, context_at, is_among, is_offered, is_verifying, with_offers, with_open_request, with_verification, without_context, without_offer, without_verification}
 use Rattle.laws_safety.proofs.votes.OutstandingWork.{among_others, now_among}
 use Rattle.engine_outbox.specs.declared.output.Work.{Work}
 use Rattle.engine_outbox.specs.declared.output.Work.TheVariants as work
 use Rattle.simplex_engine.specs.declared.engine.Engine.{Engine}
 use Rattle.simplex_engine.specs.BuildBounds.{BuildsAhead}
-use Rattle.simplex_engine.specs.ApplicationWork.{is_verify_of, is_certify_of, IsToldIn}
+use Rattle.simplex_engine.specs.ApplicationWork.{is_verify_of, is_certify_of, IsReportedIn}
 use Rattle.engine_planner.specs.Blocks.{builds_from}
 use Rattle.engine_planner.specs.declared.plan.builds.Building.{Building}
 use Rattle.engine_planner.specs.declared.plan.Options.{Options}
@@ -66,16 +66,16 @@ module _ {S D K G C : Type 0} where
 
   -- what is told stays told, with what is planned
   pub told_by : {works planned those : List (Work S D K G C)} {was is : Beside K D} {waiting : OutstandingWork K D} → AreAmong works those → AreAmong planned those
-      → ((view : ℕ) → awaits was view ≡ true → has_block planned is view ≡ true) → IsToldIn works was waiting → IsToldIn those is waiting
+      → ((view : ℕ) → awaits was view ≡ true → has_block planned is view ≡ true) → IsReportedIn works was waiting → IsReportedIn those is waiting
   told_by {was = was} {is = is} {waiting = waiting} among behind building told =
       let more = work_among waiting among (told.verified, told.certified) in
       record { verified = more.0; certified = more.1; built = λ view waits. block_further was is view among behind (building view) (told.built view waits) }
 
   -- among more
-  pub told_among : {these those : List (Work S D K G C)} {beside : Beside K D} {waiting : OutstandingWork K D} → AreAmong these those → IsToldIn these beside waiting → IsToldIn those beside waiting
+  pub told_among : {these those : List (Work S D K G C)} {beside : Beside K D} {waiting : OutstandingWork K D} → AreAmong these those → IsReportedIn these beside waiting → IsReportedIn those beside waiting
   told_among {these = these} {beside = beside} among told = told_by among among (λ view. or_right (list_any (is_build_of view) these) (awaits beside view)) told
 
-  pub told_none : (works : List (Work S D K G C)) (beside : Beside K D) → IsToldIn works beside no_outstanding_work
+  pub told_none : (works : List (Work S D K G C)) (beside : Beside K D) → IsReportedIn works beside no_outstanding_work
   told_none works beside = record { verified = λ view waits. cc; certified = λ view waits. cc; built = λ view waits. cc }
 
 -- an answer and what it opens
@@ -95,10 +95,10 @@ module _ (S K G C : Type 0) {D : Type 0} where
   ]
 
 module _ {S L D K G C : Type 0} (same : D → D → Bool) (elect : Elect L) (works : List (Work S D K G C)) where
-  abbrev HasWorkOf : Told K D → OutstandingWork K D → Type 0
+  abbrev HasWorkOf : ReplyFacts K D → OutstandingWork K D → Type 0
   HasWorkOf told waiting = IsWorkIn (works ++ work_of {S = S} {D = D} {K = K} {G = G} {C = C} told) waiting
 
-  work_anyway : (told : Told K D) (waiting : OutstandingWork K D) → IsWorkIn works waiting → HasWorkOf told waiting
+  work_anyway : (told : ReplyFacts K D) (waiting : OutstandingWork K D) → IsWorkIn works waiting → HasWorkOf told waiting
   work_anyway told waiting is = work_among waiting (among_more works (work_of told)) is
 
   work_verify : (waiting : OutstandingWork K D) (answer : Verify D K) → IsWorkIn works waiting → HasWorkOf (call.Standing answer) (with_verification waiting answer)
@@ -171,7 +171,7 @@ module _ {S L D K G C : Type 0} (same : D → D → Bool) (elect : Elect L) (wor
   work_by_answer x o call.Prune is = work_anyway (answer same elect x o call.Prune) o is
 
   -- a call of the member
-  pub work_by_call : (m left : MemberFacts K L D) (asked : CallFacts D) (told : Told K D) → IsCall same elect m asked told left → IsWorkIn works m.outstanding_work → HasWorkOf told left.outstanding_work
+  pub work_by_call : (m left : MemberFacts K L D) (asked : CallFacts D) (told : ReplyFacts K D) → IsCall same elect m asked told left → IsWorkIn works m.outstanding_work → HasWorkOf told left.outstanding_work
   unfolding IsCall
   work_by_call m left asked told is_call is = by_life m.life is_call
     where
@@ -179,7 +179,7 @@ module _ {S L D K G C : Type 0} (same : D → D → Bool) (elect : Elect L) (wor
       unchanged leaves = work_anyway told left.outstanding_work (subst (λ (n : MemberFacts K L D). IsWorkIn works n.outstanding_work) (sym leaves) is)
 
       by_test : (x : StateFacts K L D) (b : Bool) (due : Option Fault) → told ≡ cond b (unless_refused due (answer same elect x m.outstanding_work asked)) call.NotAllowed
-          → left ≡ cond b (unless_kept due m (with_call same elect x m asked)) m → HasWorkOf told left.outstanding_work
+          → left ≡ cond b (unless_retained due m (with_call same elect x m asked)) m → HasWorkOf told left.outstanding_work
       by_test x false due tells leaves = unchanged leaves
       by_test x true (Some due) tells leaves = unchanged leaves
       by_test x true None tells leaves =
@@ -195,7 +195,7 @@ module _ {S L D K G C : Type 0} (same : D → D → Bool) (elect : Elect L) (wor
 
 module _ {L D K : Type 0} (same : D → D → Bool) (elect : Elect L) where
   -- a call that opens nothing and closes nothing leaves what is open, or nothing once the member has failed
-  pub waits_as_before : (m left : MemberFacts K L D) (asked : CallFacts D) (told : Told K D) → ((x : StateFacts K L D) (o : OutstandingWork K D) → outstanding_work_after same elect x o asked ≡ o)
+  pub waits_as_before : (m left : MemberFacts K L D) (asked : CallFacts D) (told : ReplyFacts K D) → ((x : StateFacts K L D) (o : OutstandingWork K D) → outstanding_work_after same elect x o asked ≡ o)
       → IsCall same elect m asked told left → (left.outstanding_work ≡ m.outstanding_work) ⊎ (left.outstanding_work ≡ no_outstanding_work)
   unfolding IsCall
   waits_as_before m left asked told plain is_call = by_life m.life is_call
@@ -203,7 +203,7 @@ module _ {L D K : Type 0} (same : D → D → Bool) (elect : Elect L) where
       open_in : MemberFacts K L D → OutstandingWork K D
       open_in n = n.outstanding_work
 
-      by_test : (x : StateFacts K L D) (b : Bool) (due : Option Fault) → left ≡ cond b (unless_kept due m (with_call same elect x m asked)) m → left.outstanding_work ≡ m.outstanding_work
+      by_test : (x : StateFacts K L D) (b : Bool) (due : Option Fault) → left ≡ cond b (unless_retained due m (with_call same elect x m asked)) m → left.outstanding_work ≡ m.outstanding_work
       by_test x false due leaves = ap open_in leaves
       by_test x true (Some due) leaves = ap open_in leaves
       by_test x true None leaves = ap open_in leaves ∙ plain x m.outstanding_work

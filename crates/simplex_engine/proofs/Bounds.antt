@@ -19,7 +19,7 @@ use Rattle.engine_votes.specs.Subjects.{subject_round}
 use Rattle.engine_votes.specs.StoredVotes.{held, AreGiven, EachVote, HoldsUpTo, HoldsFrom}
 use Rattle.simplex_engine.specs.CertificateVotes.{TakesNone}
 use Rattle.simplex_engine.specs.Bounds.{HoldsFromKept, HoldsNoneAhead, StaysBounded, HoldsAdmitted}
-use Rattle.engine_outbox.specs.Continuity.{GoesOn, HasRisen}
+use Rattle.engine_outbox.specs.Continuity.{Continues, HasRisen}
 
 module _ {L S D K G C : Type 0} where
   -- where none is below the lowest view that is kept
@@ -83,7 +83,7 @@ module _ {S L D K G C : Type 0} (keys_of : S → List K) where
 
   -- where no vote is taken
   pub bounded_still : {same : D → D → Bool} {elect : Elect L} {bytes_of : C → List ℕ} {is_signature : K → Subject D → G → Type 0} {taken : Option (Subject D)} {a b : Journaled S L D K G C} {c d : Batcher S D K G C}
-      → GoesOn same elect bytes_of is_signature taken a b → TakesNone c d → StaysBounded keys_of a c b d
+      → Continues same elect bytes_of is_signature taken a b → TakesNone c d → StaysBounded keys_of a c b d
   bounded_still {a = a} {b = b} {c = c} {d = d} went none = record { stays = within_still a.member.facts.life b.member.facts.life went.risen c d none }
 
   -- one behind the other

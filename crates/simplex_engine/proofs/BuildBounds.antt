@@ -19,7 +19,7 @@ use Rattle.engine_planner.specs.PlannedWork.{AreAmong, is_early}
 use Rattle.engine_planner.proofs.PlannedWork.{among_all, among_further, among_kept, any_either, kept_further}
 use Rattle.simplex_engine.specs.declared.engine.Engine.{Engine}
 use Rattle.simplex_engine.specs.BuildBounds.{BuildsNear}
-use Rattle.simplex_engine.specs.MemberViews.{HasComeTo, StaysEarly}
+use Rattle.simplex_engine.specs.MemberViews.{TracksViews, StaysStoredEarly}
 use Rattle.simplex_engine.proofs.Bounds.{next_rises}
 
 -- what is above a view is above each below it
@@ -63,18 +63,18 @@ module _ {S L D K G C : Type 0} (a b : Engine S L D K G C) where
 
   -- an engine whose member and plan are of the same views has come to them as before
   pub come_same : b.core.member.facts.life ≡ a.core.member.facts.life → b.plan.views ≡ a.plan.views
-      → HasComeTo a.core.member.facts a.plan → HasComeTo b.core.member.facts b.plan
+      → TracksViews a.core.member.facts a.plan → TracksViews b.core.member.facts b.plan
   come_same life views come =
       subst (λ (it : Option (StateFacts K L D)). IfSome it (λ x. (b.plan.views.current ≡ x.current) × (b.plan.views.last_finalized ≡ x.finalized))) (sym life)
       (subst (λ (v : Views). IfSome a.core.member.facts.life (λ x. (v.current ≡ x.current) × (v.last_finalized ≡ x.finalized))) (sym views) come)
 
-  pub come_beside : b.core.member ≡ a.core.member → b.plan ≡ a.plan → HasComeTo a.core.member.facts a.plan → HasComeTo b.core.member.facts b.plan
+  pub come_beside : b.core.member ≡ a.core.member → b.plan ≡ a.plan → TracksViews a.core.member.facts a.plan → TracksViews b.core.member.facts b.plan
   come_beside member plan =
       come_same (ap (λ (m : SignedMember K L D G). m.facts.life) member) (ap (λ (p : Plan S D K G C). p.views) plan)
 
   -- the proposals that are early by the plan's views are by the member's
-  pub early_planned : HasComeTo b.core.member.facts b.plan → AreAmong (filter (is_early b.plan.views.current) a.plan.early.proposals.items) b.plan.early.proposals.items
-      → StaysEarly a.plan b.core.member.facts b.plan
+  pub early_planned : TracksViews b.core.member.facts b.plan → AreAmong (filter (is_early b.plan.views.current) a.plan.early.proposals.items) b.plan.early.proposals.items
+      → StaysStoredEarly a.plan b.core.member.facts b.plan
   early_planned come among = by_life b.core.member.facts.life come
     where
       by_life : (life : Option (StateFacts K L D)) → IfSome life (λ x. (b.plan.views.current ≡ x.current) × (b.plan.views.last_finalized ≡ x.finalized))
@@ -83,7 +83,7 @@ module _ {S L D K G C : Type 0} (a b : Engine S L D K G C) where
       by_life (Some x) come = subst (λ v. AreAmong (filter (is_early v) a.plan.early.proposals.items) b.plan.early.proposals.items) come.0 among
 
   -- and where each is kept, whatever the view
-  pub early_anyway : AreAmong a.plan.early.proposals.items b.plan.early.proposals.items → StaysEarly a.plan b.core.member.facts b.plan
+  pub early_anyway : AreAmong a.plan.early.proposals.items b.plan.early.proposals.items → StaysStoredEarly a.plan b.core.member.facts b.plan
   early_anyway among = by_life b.core.member.facts.life
     where
       by_life : (life : Option (StateFacts K L D)) → IfSome life (λ x. AreAmong (filter (is_early x.current) a.plan.early.proposals.items) b.plan.early.proposals.items)

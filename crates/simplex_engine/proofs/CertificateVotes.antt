@@ -17,7 +17,7 @@ use Rattle.engine_votes.specs.StoredVotes.{kind_of, held, AreGiven, IsCounted}
 use Rattle.simplex_engine.specs.CertificateVotes.{HasQuorum, TakesVotes, TakesNone, IsBacked, IsBackedInput}
 use Rattle.simplex_engine.specs.declared.input.Input.{Input}
 use Rattle.simplex_engine.specs.declared.input.Input.TheVariants as input
-use Rattle.engine_outbox.specs.Continuity.{GoesOn}
+use Rattle.engine_outbox.specs.Continuity.{Continues}
 use Rattle.engine_votes.proofs.Contains.{contains_left}
 use Rattle.engine_outbox.proofs.Continuity.{goes_further}
 use Rattle.engine_votes.proofs.Good.{same_subject-true}
@@ -51,12 +51,12 @@ module _ {S D K G C : Type 0} where
 
 module _ {S L D K G C : Type 0} {same : D → D → Bool} {elect : Elect L} {bytes_of : C → List ℕ} {is_signature : K → Subject D → G → Type 0} (members : ℕ) where
   pub backed_by_none : {more : List (Vote D G)} {subject : Subject D} {batcher : Batcher S D K G C} {old new : Journaled S L D K G C}
-      → GoesOn same elect bytes_of is_signature None old new → IsBacked same elect bytes_of is_signature members more subject batcher old new
+      → Continues same elect bytes_of is_signature None old new → IsBacked same elect bytes_of is_signature members more subject batcher old new
   backed_by_none went = record { backed = λ given are. inl went }
 
   -- whatever came in
   pub input_backed_by_none : (what : Input S D K G C) (batcher : Batcher S D K G C) (old new : Journaled S L D K G C)
-      → GoesOn same elect bytes_of is_signature None old new → IsBackedInput same elect bytes_of is_signature members what batcher old new
+      → Continues same elect bytes_of is_signature None old new → IsBackedInput same elect bytes_of is_signature members what batcher old new
   input_backed_by_none (input.Vote vote) batcher old new went = backed_by_none went
   input_backed_by_none (input.Proposal _ _) batcher old new went = tt
   input_backed_by_none (input.Certificate _) batcher old new went = tt
@@ -67,11 +67,11 @@ module _ {S L D K G C : Type 0} {same : D → D → Bool} {elect : Elect L} {byt
 
   -- and then no certificate is accepted
   pub input_backed_then : (what : Input S D K G C) (batcher : Batcher S D K G C) (old mid new : Journaled S L D K G C)
-      → IsBackedInput same elect bytes_of is_signature members what batcher old mid → GoesOn same elect bytes_of is_signature None mid new
+      → IsBackedInput same elect bytes_of is_signature members what batcher old mid → Continues same elect bytes_of is_signature None mid new
       → IsBackedInput same elect bytes_of is_signature members what batcher old new
   input_backed_then (input.Vote vote) batcher old mid new backed went =
       record {
-        backed = λ given are. elim (backed.backed given are) as (λ _. GoesOn same elect bytes_of is_signature None old new ⊎ HasQuorum members (given ++ vote ∷ []) vote.subject)
+        backed = λ given are. elim (backed.backed given are) as (λ _. Continues same elect bytes_of is_signature None old new ⊎ HasQuorum members (given ++ vote ∷ []) vote.subject)
             [ inl first ↦ inl (goes_further first went) | inr quorum ↦ inr quorum ];
       }
   input_backed_then (input.Proposal _ _) batcher old mid new backed went = tt

@@ -4,7 +4,7 @@ use Rattle.std.specs.Prelude.{IfErr}
 use Rattle.simplex_types.specs.Certificates.{ArtifactFacts}
 use Rattle.simplex_resolver.specs.RecordCalls.{calls_of}
 use Rattle.simplex_resolver.specs.Steps.{Replayed}
-use Rattle.simplex_resolver.specs.CallHistory.{HasBeenTold, LawfulResolverFacts}
+use Rattle.simplex_resolver.specs.CallHistory.{HasReceivedCalls, LawfulResolverFacts}
 use Rattle.simplex_member.specs.MemberFacts.{MemberFacts}
 use Rattle.simplex_member.specs.declared.member.resume.ResumeError.{ResumeError}
 use Rattle.engine_votes.specs.StoredVotes.{AreGiven}
@@ -16,16 +16,16 @@ use Rattle.simplex_engine.specs.declared.engine.Engine.{Engine}
 use Rattle.simplex_engine.specs.declared.engine.begin.Company.{Company}
 use Rattle.simplex_engine.specs.declared.engine.begin.StartError.{StartError}
 use Rattle.simplex_engine.specs.declared.engine.begin.StartError.TheVariants.{RetryZero, Resume, Replay}
-use Rattle.simplex_engine.specs.EngineStart.{others_of, IsRepairOf, IsPlanOf, IsCompanyOf, HasBegunWith, IsNotReplayed, IsNotBegun}
+use Rattle.simplex_engine.specs.EngineStart.{others_of, IsRepairOf, IsPlanOf, IsCompanyOf, HasStartedWith, IsNotReplayed, IsStartRefusal}
 
 -- the resolver and its fetches, once it was told of the record
 pub is_repair_of : {D : Type 0} (bytes : D → List ℕ) (term_length : ℕ) (entries : List (ArtifactFacts D)) (peers : Peers) (retry : ℕ) (resolver : LawfulResolverFacts)
-    (made repair : Repair) → repair ≡ made → HasBeenTold term_length (Replayed ∷ calls_of bytes (reverse entries)) resolver → made.resolver ≡ resolver
+    (made repair : Repair) → repair ≡ made → HasReceivedCalls term_length (Replayed ∷ calls_of bytes (reverse entries)) resolver → made.resolver ≡ resolver
     → made.fetches.wanted.items ≡ wanting resolver.open_fetches [] → made.fetches.peers ≡ peers → made.fetches.retry ≡ retry → made.is_behind ≡ false
     → IsRepairOf bytes term_length entries peers retry repair
 is_repair_of bytes term_length entries peers retry resolver made repair same told is fetched by after behind =
     subst (IsRepairOf bytes term_length entries peers retry) (sym same) (record {
-      told = subst (HasBeenTold term_length (Replayed ∷ calls_of bytes (reverse entries))) (sym is) told;
+      told = subst (HasReceivedCalls term_length (Replayed ∷ calls_of bytes (reverse entries))) (sym is) told;
       fetched = fetched ∙ ap (λ (r : LawfulResolverFacts). wanting r.open_fetches []) (sym is);
       peers_now = by;
       retry_now = after;
@@ -38,7 +38,7 @@ pub begun_with : {S L D K G C : Type 0} (bytes : D → List ℕ) (keys_of : S �
     → engine.batcher ≡ company.batcher
     → IsPlanOf bytes company.term_length company.peers company.is_alone options member engine.plan
     → engine.core.member.facts ≡ member → engine.forgotten ≡ 0
-    → HasBegunWith bytes keys_of keys me term_length options engine
+    → HasStartedWith bytes keys_of keys me term_length options engine
 begun_with bytes keys_of keys me term_length options company member engine is batcher plan of forgotten = record {
   votes = subst (AreGiven []) (sym batcher) is.votes;
   keys_now = ap (λ b. keys_of b.scheme) batcher ∙ is.keys_now;
@@ -50,12 +50,12 @@ begun_with bytes keys_of keys me term_length options company member engine is ba
 }
 
 -- none begins where the resolver refuses the record of a member that does, or memory is lacking
-pub not_begun : {K L D X : Type 0} (result : Result X StartError) (timeout_retry : ℕ) (IsRefused : ResumeError → Type 0) (Begins : MemberFacts K L D → Type 0)
-    (m : MemberFacts K L D) → Begins m → IfErr result (IsNotReplayed m.entries) → IfErr result (IsNotBegun timeout_retry IsRefused Begins)
-not_begun (Ok x) timeout_retry IsRefused Begins m begins refused = tt
-not_begun (Err RetryZero) timeout_retry IsRefused Begins m begins refused = absurd refused
-not_begun (Err (Resume e)) timeout_retry IsRefused Begins m begins refused = inl refused
-not_begun (Err (Replay e)) timeout_retry IsRefused Begins m begins refused = (m, begins, refused)
+pub engine_not_started : {K L D X : Type 0} (result : Result X StartError) (timeout_retry : ℕ) (IsRefused : ResumeError → Type 0) (Begins : MemberFacts K L D → Type 0)
+    (m : MemberFacts K L D) → Begins m → IfErr result (IsNotReplayed m.entries) → IfErr result (IsStartRefusal timeout_retry IsRefused Begins)
+engine_not_started (Ok x) timeout_retry IsRefused Begins m begins refused = tt
+engine_not_started (Err RetryZero) timeout_retry IsRefused Begins m begins refused = absurd refused
+engine_not_started (Err (Resume e)) timeout_retry IsRefused Begins m begins refused = inl refused
+engine_not_started (Err (Replay e)) timeout_retry IsRefused Begins m begins refused = (m, begins, refused)
 
 -- where a vote to nullify is repeated later, nothing is said of one that is repeated at once
 pub has_retry : {X : Type 0} (result : Result X StartError) (timeout_retry : ℕ) → (timeout_retry == 0) ≡ false → timeout_retry ≡ 0 → result ≡ Err RetryZero

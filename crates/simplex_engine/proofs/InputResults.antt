@@ -23,8 +23,8 @@ use Rattle.simplex_engine.specs.declared.input.Input.{Input}
 use Rattle.simplex_engine.specs.declared.input.Input.TheVariants as input
 use Rattle.engine_outbox.specs.declared.journaled.Journaled.{Journaled}
 use Rattle.engine_votes.specs.declared.votes.Vote.{Vote}
-use Rattle.simplex_engine.specs.InputEffects.{verification_of, HasDoneTask, IsBlockTaken, IsHandedIn, IsCountFollowed, IsActedOn}
-use Rattle.engine_outbox.specs.CertificateCalls.{hands_in}
+use Rattle.simplex_engine.specs.InputEffects.{verification_of, HasDoneTask, IsBlockTaken, IsSubmitted, IsCountFollowed, IsActedOn}
+use Rattle.engine_outbox.specs.CertificateCalls.{certificate_call}
 use Rattle.simplex_engine.specs.Admission.{admits_votes, is_so, is_input_admitted, one_more, IsTurnedAway, ignoring}
 use Rattle.simplex_engine.specs.CertificateVotes.{votes_of_input, TakesVotes, IsBacked, IsBackedInput, KeepsVotes}
 use Rattle.engine_votes.specs.StoredVotes.{AreGiven, HoldsAllTheSame, HoldsUpTo, held, IsCounted}
@@ -32,13 +32,13 @@ use Rattle.simplex_engine.specs.Bounds.{StaysBounded}
 use Rattle.engine_planner.specs.Blocks.{is_asked_in}
 use Rattle.simplex_engine.specs.DroppedInputs.{IsLeftByInput}
 use Rattle.engine_outbox.specs.Refusals.{is_refused, says_nothing, IsLeftByCall}
-use Rattle.simplex_engine.specs.ApplicationWork.{KeepsDuties}
-use Rattle.engine_outbox.specs.Continuity.{GoesOn}
+use Rattle.simplex_engine.specs.ApplicationWork.{KeepsApplicationWork}
+use Rattle.engine_outbox.specs.Continuity.{Continues}
 use Rattle.simplex_engine.specs.Inputs.{subject_in, subject_made}
 use Rattle.engine_votes.specs.Polls.{ballot_of}
 use Rattle.engine_votes.specs.Subjects.{subject_round}
 use Rattle.simplex_engine.specs.InputResults.{IsInputTaken}
-use Rattle.simplex_engine.specs.Provenance.{came_in, ComesWith}
+use Rattle.simplex_engine.specs.Provenance.{input_causes, IsCausedWith}
 use Rattle.simplex_engine.proofs.Provenance.{both_ok}
 use Rattle.engine_planner.specs.Tasks.{call_of}
 use Rattle.engine_planner.proofs.PlanStates.{on_ok}
@@ -72,9 +72,9 @@ module _ {K L D : Type 0} (same : D → D → Bool) (elect : Elect L) (now : ℕ
 
 module _ {S L D K G C : Type 0} (same : D → D → Bool) (elect : Elect L) (bytes_of : C → List ℕ) (now : ℕ) where
   -- a certificate of no use
-  handed_left : (certificate : Certificate S D K G C) (m left : MemberFacts K L D) (is_of_use : Bool) → IsHandedIn same elect bytes_of now certificate m left is_of_use → IsFalse is_of_use → left ≡ m
+  handed_left : (certificate : Certificate S D K G C) (m left : MemberFacts K L D) (is_of_use : Bool) → IsSubmitted same elect bytes_of now certificate m left is_of_use → IsFalse is_of_use → left ≡ m
   handed_left certificate m left is_of_use handed vain =
-      refused_left same elect m left (hands_in (certificate_facts bytes_of certificate) now) handed.answer handed.answered
+      refused_left same elect m left (certificate_call (certificate_facts bytes_of certificate) now) handed.answer handed.answered
       (not-false (is_refused handed.answer) (sym handed.told ∙ vain))
 
   -- a vote of no use
@@ -101,11 +101,11 @@ module _ {S L D K G C : Type 0} (same : D → D → Bool) (elect : Elect L) (byt
 module _ {S L D K G C : Type 0} {same : D → D → Bool} {elect : Elect L} {bytes_of : C → List ℕ} {is_signature : K → Subject D → G → Type 0} (IsMadeOf : Subject D → List (ℕ × G) → C → Type 0) (members : ℕ)
     (old new : Batcher S D K G C) (vote : Vote D G) (a b : Journaled S L D K G C) where
   -- a certificate is made on its subject
-  goes_counted : (counted : Counted S D K G C) → IsCounted same IsMadeOf members true old vote new counted → GoesOn same elect bytes_of is_signature (subject_made bytes_of counted) a b
-      → GoesOn same elect bytes_of is_signature (Some vote.subject) a b
+  goes_counted : (counted : Counted S D K G C) → IsCounted same IsMadeOf members true old vote new counted → Continues same elect bytes_of is_signature (subject_made bytes_of counted) a b
+      → Continues same elect bytes_of is_signature (Some vote.subject) a b
   goes_counted (Certified made) counts went =
       let certificate = counts.counted.2 in
-      subst (λ on. GoesOn same elect bytes_of is_signature (Some on) a b)
+      subst (λ on. Continues same elect bytes_of is_signature (Some on) a b)
       (ap (λ (m : Certificate S D K G C). certificate_subject (certificate_facts bytes_of m)) certificate.1 ∙ made_on S K G bytes_of vote.subject certificate.0) went
   goes_counted (Equivocated first second) counts went = goes_on_anyway went
   goes_counted Taken counts went = goes_on_anyway went
@@ -114,14 +114,14 @@ module _ {S L D K G C : Type 0} {same : D → D → Bool} {elect : Elect L} {byt
 
   -- by a quorum
   backed_counted : (law : (d e : D) → same d e ≡ true → d ≡ e) → ((given : List (Vote D G)) → AreGiven given old → AreGiven (given ++ vote ∷ []) new)
-      → (counted : Counted S D K G C) → IsCounted same IsMadeOf members true old vote new counted → GoesOn same elect bytes_of is_signature (subject_made bytes_of counted) a b
+      → (counted : Counted S D K G C) → IsCounted same IsMadeOf members true old vote new counted → Continues same elect bytes_of is_signature (subject_made bytes_of counted) a b
       → IsBacked same elect bytes_of is_signature members (vote ∷ []) vote.subject old a b
-  backed_counted law given_by (Certified made) counts went =
-      record { backed = λ given are. inr (certified_given same law IsMadeOf members true old new vote (given ++ vote ∷ []) (given_by given are) made counts) }
-  backed_counted law given_by (Equivocated first second) counts went = backed_by_none members went
-  backed_counted law given_by Taken counts went = backed_by_none members went
-  backed_counted law given_by Known counts went = backed_by_none members went
-  backed_counted law given_by Refused counts went = backed_by_none members went
+  backed_counted law reply_causes (Certified made) counts went =
+      record { backed = λ given are. inr (certified_given same law IsMadeOf members true old new vote (given ++ vote ∷ []) (reply_causes given are) made counts) }
+  backed_counted law reply_causes (Equivocated first second) counts went = backed_by_none members went
+  backed_counted law reply_causes Taken counts went = backed_by_none members went
+  backed_counted law reply_causes Known counts went = backed_by_none members went
+  backed_counted law reply_causes Refused counts went = backed_by_none members went
 
 -- all inputs
 
@@ -171,17 +171,17 @@ module _ {S L D K G C : Type 0} (same : D → D → Bool) (elect : Elect L) (byt
 
   -- what it leaves follows from how it was acted on
   taken : {E : Type 0} {is_signature : K → Subject D → G → Type 0} (what : Input S D K G C) (old new : Engine S L D K G C) (answer : Result Bool E)
-      → GoesOn same elect bytes_of is_signature (subject_in bytes_of what) old.core new.core → TakesVotes (votes_of_input what) old.batcher new.batcher → KeepsVotes what old.batcher new.batcher
+      → Continues same elect bytes_of is_signature (subject_in bytes_of what) old.core new.core → TakesVotes (votes_of_input what) old.batcher new.batcher → KeepsVotes what old.batcher new.batcher
       → IsBackedInput same elect bytes_of is_signature (length (keys_of old.batcher.scheme)) what old.batcher old.core new.core
       → StaysBounded keys_of old.core old.batcher new.core new.batcher
-      → IfOk answer (λ is_of_use. IsFalse is_of_use → HoldsAllTheSame old.batcher new.batcher) → OnOk answer (KeepsDuties old new)
-      → OnOk answer (ComesWith same elect bytes bytes_of now (came_in bytes_of old.batcher what) old new)
+      → IfOk answer (λ is_of_use. IsFalse is_of_use → HoldsAllTheSame old.batcher new.batcher) → OnOk answer (KeepsApplicationWork old new)
+      → OnOk answer (IsCausedWith same elect bytes bytes_of now (input_causes bytes_of old.batcher what) old new)
       → (IsFalse (is_input_admitted bytes_of (facts_of old) what) → IfOk answer (λ is_of_use. IsFalse is_of_use × IsTurnedAway what old new))
       → (IsTrue (is_input_admitted bytes_of (facts_of old) what)
       → IfOk answer (IsActedOn same elect bytes_of IsMadeOf keys_of now what old (facts_of new) new.batcher new.plan.steps.items))
       → IsInputTaken same elect bytes bytes_of is_signature IsMadeOf keys_of now what old old new answer
-  taken what old new answer went votes held backed bounded kept duties comes unadmitted acted = record {
-    goes_on = went;
+  taken what old new answer went votes held backed bounded kept due_work provenance unadmitted acted = record {
+    continues = went;
     votes = votes;
     held = held;
     backed = backed;
@@ -189,12 +189,12 @@ module _ {S L D K G C : Type 0} (same : D → D → Bool) (elect : Elect L) (byt
     unadmitted = unadmitted;
     bounded = bounded;
     acted = acted;
-    duties = on_ok answer duties (λ keeps. record { stays = keeps.stays; works = keeps.works; near = keeps.near; seen = keeps.seen; early = keeps.early; constants = keeps.constants });
-    ignored = not_counted answer duties;
-    comes = comes;
+    due_work = on_ok answer due_work (λ keeps. record { stays = keeps.stays; works = keeps.works; near = keeps.near; seen = keeps.seen; early = keeps.early; constants = keeps.constants });
+    ignored = not_counted answer due_work;
+    provenance = provenance;
   }
     where
-      not_counted : {E : Type 0} (r : Result Bool E) → OnOk r (KeepsDuties old new) → IfOk r (λ is_of_use. new.plan.ignored ≡ cond is_of_use old.plan.ignored old.plan.ignored)
+      not_counted : {E : Type 0} (r : Result Bool E) → OnOk r (KeepsApplicationWork old new) → IfOk r (λ is_of_use. new.plan.ignored ≡ cond is_of_use old.plan.ignored old.plan.ignored)
       not_counted (Ok true) keeps = keeps.ignored
       not_counted (Ok false) keeps = keeps.ignored
       not_counted (Err e) keeps = tt
@@ -205,17 +205,17 @@ module _ {S L D K G C : Type 0} (same : D → D → Bool) (elect : Elect L) (byt
 
   -- an input of which no vote is taken
   pub taken_alone : {E : Type 0} {is_signature : K → Subject D → G → Type 0} (told what : Input S D K G C) (old new : Engine S L D K G C) (answer : Result Bool E) → told ≡ what
-      → GoesOn same elect bytes_of is_signature (subject_in bytes_of what) old.core new.core → new.batcher ≡ old.batcher
-      → IsBackedInput same elect bytes_of is_signature (length (keys_of old.batcher.scheme)) what old.batcher old.core new.core → OnOk answer (KeepsDuties old new)
-      → OnOk answer (ComesWith same elect bytes bytes_of now (came_in bytes_of old.batcher what) old new)
+      → Continues same elect bytes_of is_signature (subject_in bytes_of what) old.core new.core → new.batcher ≡ old.batcher
+      → IsBackedInput same elect bytes_of is_signature (length (keys_of old.batcher.scheme)) what old.batcher old.core new.core → OnOk answer (KeepsApplicationWork old new)
+      → OnOk answer (IsCausedWith same elect bytes bytes_of now (input_causes bytes_of old.batcher what) old new)
       → (IsFalse (is_input_admitted bytes_of (facts_of old) what) → IfOk answer (λ is_of_use. IsFalse is_of_use × IsTurnedAway what old new))
       → (IsTrue (is_input_admitted bytes_of (facts_of old) what)
       → IfOk answer (IsActedOn same elect bytes_of IsMadeOf keys_of now what old (facts_of new) new.batcher new.plan.steps.items))
       → IsInputTaken same elect bytes bytes_of is_signature IsMadeOf keys_of now told old old new answer
-  taken_alone {is_signature = is_signature} told what old new answer is went kept backed duties comes unadmitted acted =
+  taken_alone {is_signature = is_signature} told what old new answer is went kept backed due_work provenance unadmitted acted =
       subst (λ input. IsInputTaken same elect bytes bytes_of is_signature IsMadeOf keys_of now input old old new answer) (sym is)
       (taken what old new answer went (takes_anyway (takes_same kept)) (keeps_votes what old.batcher new.batcher kept) backed (bounded_still keys_of went (takes_same kept))
-      (always_ok answer (λ is_of_use vain. held_same old.batcher new.batcher kept)) duties comes unadmitted acted)
+      (always_ok answer (λ is_of_use vain. held_same old.batcher new.batcher kept)) due_work provenance unadmitted acted)
 
   -- a vote that is counted
   pub taken_counted : {E : Type 0} {is_signature : K → Subject D → G → Type 0} (law : (d e : D) → same d e ≡ true → d ≡ e) (vote : Vote D G) (old new : Engine S L D K G C) (answer : Result Bool E)
@@ -226,20 +226,20 @@ module _ {S L D K G C : Type 0} (same : D → D → Bool) (elect : Elect L) (byt
       → HoldsUpTo (length (keys_of old.batcher.scheme)) highest old.batcher → HoldsUpTo (length (keys_of old.batcher.scheme)) highest batcher)
       → batcher.scheme ≡ old.batcher.scheme
       → IsCounted same (IsMadeOf old.batcher.scheme) (length (keys_of old.batcher.scheme)) true old.batcher vote batcher counted
-      → GoesOn same elect bytes_of is_signature (subject_made bytes_of counted) old.core new.core → new.batcher ≡ batcher
+      → Continues same elect bytes_of is_signature (subject_made bytes_of counted) old.core new.core → new.batcher ≡ batcher
       → IfOk answer (IsCountFollowed same elect bytes_of now counted old.plan.steps.items (facts_of old) new.plan.steps.items (facts_of new))
-      → OnOk answer (KeepsDuties old new)
-      → OnOk answer (ComesWith same elect bytes bytes_of now (came_in bytes_of old.batcher (input.Vote vote)) old new)
+      → OnOk answer (KeepsApplicationWork old new)
+      → OnOk answer (IsCausedWith same elect bytes bytes_of now (input_causes bytes_of old.batcher (input.Vote vote)) old new)
       → IsInputTaken same elect bytes bytes_of is_signature IsMadeOf keys_of now (input.Vote vote) old old new answer
-  taken_counted law vote old new answer batcher counted admits given_by within scheme counts went kept followed duties comes =
+  taken_counted law vote old new answer batcher counted admits reply_causes within scheme counts went kept followed due_work provenance =
       let made = IsMadeOf old.batcher.scheme in
       let members = length (keys_of old.batcher.scheme) in
       taken (input.Vote vote) old new answer (goes_counted made members old.batcher batcher vote old.core new.core counted counts went)
-      (takes_then (record { are_given = given_by; scheme = scheme }) (takes_same kept)) tt
-      (backed_counted made members old.batcher batcher vote old.core new.core law given_by counted counts went)
+      (takes_then (record { are_given = reply_causes; scheme = scheme }) (takes_same kept)) tt
+      (backed_counted made members old.batcher batcher vote old.core new.core law reply_causes counted counts went)
       (bounded_further keys_of (bounded_counted keys_of old.core old.batcher batcher vote.subject within scheme admits) (bounded_still keys_of went (takes_same kept)))
       (IfOk-weaker answer _ _ (λ is_of_use follows vain. subst (HoldsAllTheSame old.batcher) (sym kept)
-      (counted_same same elect bytes_of now made members old.batcher batcher vote counted old.plan.steps.items (facts_of old) new.plan.steps.items (facts_of new) is_of_use counts follows vain)) followed) duties comes
+      (counted_same same elect bytes_of now made members old.batcher batcher vote counted old.plan.steps.items (facts_of old) new.plan.steps.items (facts_of new) is_of_use counts follows vain)) followed) due_work provenance
       (λ vain. absurd (false≢true (sym vain ∙ admits)))
       (λ _. IfOk-weaker answer _ _ (λ is_of_use follows. record {
         counted = counted;
@@ -251,7 +251,7 @@ module _ {S L D K G C : Type 0} (same : D → D → Bool) (elect : Elect L) (byt
   pub taken_otherwise : {E : Type 0} {is_signature : K → Subject D → G → Type 0} (what : Input S D K G C) (old passed new : Engine S L D K G C) (answer : Result Bool E) → answer ≢ Ok false
       → IsInputTaken same elect bytes bytes_of is_signature IsMadeOf keys_of now what old old new answer → IsInputTaken same elect bytes bytes_of is_signature IsMadeOf keys_of now what old passed new answer
   taken_otherwise what old passed new answer otherwise turns = record {
-    goes_on = turns.goes_on;
+    continues = turns.continues;
     votes = turns.votes;
     held = turns.held;
     backed = turns.backed;
@@ -259,9 +259,9 @@ module _ {S L D K G C : Type 0} (same : D → D → Bool) (elect : Elect L) (byt
     unadmitted = λ vain. never _ _ answer otherwise (turns.unadmitted vain);
     bounded = turns.bounded;
     acted = turns.acted;
-    duties = turns.duties;
+    due_work = turns.due_work;
     ignored = as_counted answer otherwise turns.ignored;
-    comes = turns.comes;
+    provenance = turns.provenance;
   }
     where
       as_counted : {E : Type 0} (r : Result Bool E) → r ≢ Ok false → IfOk r (λ is_of_use. new.plan.ignored ≡ cond is_of_use old.plan.ignored old.plan.ignored)
@@ -291,7 +291,7 @@ module _ {S L D K G C : Type 0} (same : D → D → Bool) (elect : Elect L) (byt
       let taken = subst (IsInputTaken same elect bytes bytes_of is_signature IsMadeOf keys_of now what old old mid) is was in
       subst (λ engine. IsInputTaken {E = E} same elect bytes bytes_of is_signature IsMadeOf keys_of now what old (ignoring old) engine (Ok false)) (sym ignored)
       (record {
-        goes_on = taken.goes_on;
+        continues = taken.continues;
         votes = taken.votes;
         held = taken.held;
         backed = taken.backed;
@@ -299,7 +299,7 @@ module _ {S L D K G C : Type 0} (same : D → D → Bool) (elect : Elect L) (byt
         unadmitted = λ vain. (refl, turned_ignored what old mid (taken.unadmitted vain).1);
         bounded = taken.bounded;
         acted = taken.acted;
-        duties = record { stays = λ work told. (let is = taken.duties.stays work told in record { verified = is.verified; certified = is.certified; built = is.built }); works = taken.duties.works; near = taken.duties.near; seen = taken.duties.seen; early = taken.duties.early; constants = taken.duties.constants };
+        due_work = record { stays = λ work told. (let is = taken.due_work.stays work told in record { verified = is.verified; certified = is.certified; built = is.built }); works = taken.due_work.works; near = taken.due_work.near; seen = taken.due_work.seen; early = taken.due_work.early; constants = taken.due_work.constants };
         ignored = ap one_more taken.ignored;
-        comes = record { steps = taken.comes.steps; heard = taken.comes.heard; by_steps = taken.comes.by_steps };
+        provenance = record { steps = taken.provenance.steps; heard = taken.provenance.heard; by_steps = taken.provenance.by_steps };
       })

@@ -9,4 +9,4 @@ mod Provenance
 mod Tells
 mod InputResults
 mod EngineStart
-mod heights
+mod fetch_heights

@@ -9,9 +9,9 @@ use Rattle.simplex_member.specs.MemberFacts.{SignedMember}
 use Rattle.engine_votes.specs.declared.batcher.Batcher.{Batcher}
 use Rattle.engine_votes.specs.StoredVotes.{IsForgotten}
 use Rattle.simplex_engine.specs.declared.engine.Engine.{Engine}
-use Rattle.simplex_engine.specs.OwnSteps.{ForgetsNoOther, GoesOnAlone, GoesOnForgetting}
+use Rattle.simplex_engine.specs.OwnSteps.{ForgetsNoOther, ContinuesWithoutInput, ContinuesWithPruning}
 use Rattle.engine_outbox.specs.declared.journaled.Journaled.{Journaled}
-use Rattle.engine_outbox.specs.Continuity.{GoesOn}
+use Rattle.engine_outbox.specs.Continuity.{Continues}
 use Rattle.simplex_engine.proofs.CertificateVotes.{takes_no_more, takes_same}
 use Rattle.engine_outbox.proofs.Continuity.{stays, goes_further}
 
@@ -37,37 +37,37 @@ module _ {S L D K G C : Type 0} where
 
 module _ {S L D K G C : Type 0} {same : D → D → Bool} {elect : Elect L} {bytes_of : C → List ℕ} {is_signature : K → Subject D → G → Type 0} where
   -- nothing has changed
-  pub alone_still : (a : Engine S L D K G C) → GoesOnAlone same elect bytes_of is_signature a a
-  alone_still a = record { goes_on = stays a.core; batcher = refl }
+  pub alone_still : (a : Engine S L D K G C) → ContinuesWithoutInput same elect bytes_of is_signature a a
+  alone_still a = record { continues = stays a.core; batcher = refl }
 
   -- the same votes are held
-  pub alone_with : (a b : Engine S L D K G C) → GoesOn same elect bytes_of is_signature None a.core b.core → b.batcher ≡ a.batcher → GoesOnAlone same elect bytes_of is_signature a b
-  alone_with a b went held = record { goes_on = went; batcher = held }
+  pub alone_with : (a b : Engine S L D K G C) → Continues same elect bytes_of is_signature None a.core b.core → b.batcher ≡ a.batcher → ContinuesWithoutInput same elect bytes_of is_signature a b
+  alone_with a b went held = record { continues = went; batcher = held }
 
   -- from one moment to a later one, and on to one later still
-  pub alone_further : {a b c : Engine S L D K G C} → GoesOnAlone same elect bytes_of is_signature a b → GoesOnAlone same elect bytes_of is_signature b c → GoesOnAlone same elect bytes_of is_signature a c
-  alone_further first second = record { goes_on = goes_further first.goes_on second.goes_on; batcher = second.batcher ∙ first.batcher }
+  pub alone_further : {a b c : Engine S L D K G C} → ContinuesWithoutInput same elect bytes_of is_signature a b → ContinuesWithoutInput same elect bytes_of is_signature b c → ContinuesWithoutInput same elect bytes_of is_signature a c
+  alone_further first second = record { continues = goes_further first.continues second.continues; batcher = second.batcher ∙ first.batcher }
 
   -- some are forgotten behind that, or none is
-  pub forgets_further : {a b c : Engine S L D K G C} → GoesOnAlone same elect bytes_of is_signature a b → GoesOnForgetting same elect bytes_of is_signature b c → GoesOnForgetting same elect bytes_of is_signature a c
+  pub forgets_further : {a b c : Engine S L D K G C} → ContinuesWithoutInput same elect bytes_of is_signature a b → ContinuesWithPruning same elect bytes_of is_signature b c → ContinuesWithPruning same elect bytes_of is_signature a c
   forgets_further {a = a} {b = b} {c = c} first second = record {
-    goes_on = goes_further first.goes_on second.goes_on;
+    continues = goes_further first.continues second.continues;
     votes = takes_no_more (takes_same first.batcher) second.votes;
     forgets = subst (λ held. ForgetsNoOther c.core held c.batcher) first.batcher second.forgets;
   }
 
-  pub forgets_none : {a b : Engine S L D K G C} → GoesOnAlone same elect bytes_of is_signature a b → GoesOnForgetting same elect bytes_of is_signature a b
+  pub forgets_none : {a b : Engine S L D K G C} → ContinuesWithoutInput same elect bytes_of is_signature a b → ContinuesWithPruning same elect bytes_of is_signature a b
   forgets_none {a = a} {b = b} alone = record {
-    goes_on = alone.goes_on;
+    continues = alone.continues;
     votes = takes_same alone.batcher;
     forgets = forgets_nothing b.core a.batcher b.batcher alone.batcher;
   }
 
   -- and what the record has grown by is queued behind that
-  pub forgets_then : {a b c : Engine S L D K G C} → GoesOnForgetting same elect bytes_of is_signature a b → GoesOn same elect bytes_of is_signature None b.core c.core → c.core.member ≡ b.core.member
-      → c.batcher ≡ b.batcher → GoesOnForgetting same elect bytes_of is_signature a c
+  pub forgets_then : {a b c : Engine S L D K G C} → ContinuesWithPruning same elect bytes_of is_signature a b → Continues same elect bytes_of is_signature None b.core c.core → c.core.member ≡ b.core.member
+      → c.batcher ≡ b.batcher → ContinuesWithPruning same elect bytes_of is_signature a c
   forgets_then {a = a} {b = b} {c = c} first went member held = record {
-    goes_on = goes_further first.goes_on went;
+    continues = goes_further first.continues went;
     votes = takes_no_more first.votes (takes_same held);
     forgets = subst (λ left. ForgetsNoOther c.core a.batcher left) (sym held) (forgets_as b.core c.core a.batcher b.batcher member first.forgets);
   }

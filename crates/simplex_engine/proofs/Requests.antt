@@ -19,9 +19,9 @@ use Rattle.simplex_voter.specs.declared.voter.verify.Verify.TheVariants as verif
 use Rattle.simplex_voter.proofs.Found.{find-filtered}
 use Rattle.simplex_member.specs.CallConditions.{is_allowed, fault_of}
 use Rattle.simplex_member.specs.Calls as call
-use Rattle.simplex_member.specs.Calls.{Told}
+use Rattle.simplex_member.specs.Calls.{ReplyFacts}
 use Rattle.simplex_member.specs.CallSemantics.{answer, outstanding_work_after}
-use Rattle.simplex_member.specs.MemberFacts.{MemberFacts, AnswersAlive, IsCall, unless_refused, unless_kept, with_call}
+use Rattle.simplex_member.specs.MemberFacts.{MemberFacts, AnswersAlive, IsCall, unless_refused, unless_retained, with_call}
 use Rattle.simplex_member.specs.OutstandingWork.{OutstandingWork, context_at, with_open_request, with_verification, without_context}
 use Rattle.laws_safety.proofs.votes.OutstandingWork.{now_open, still_open}
 use Rattle.laws_safety.proofs.votes.Requests.{requested_ahead}
@@ -41,7 +41,7 @@ module _ {K D : Type 0} where
   is_open waiting view = is_some (context_at waiting view)
 
   -- each request that is open in the end is answered or was open, and is not ended
-  abbrev pub AreOpen : Task D → Told K D → OutstandingWork K D → OutstandingWork K D → Type 0
+  abbrev pub AreOpen : Task D → ReplyFacts K D → OutstandingWork K D → OutstandingWork K D → Type 0
   AreOpen asked told before left =
       (view : ℕ) → is_open left view ≡ true
       → ((list_any (λ v. v == view) (views_requested told) ≡ true) ⊎ (is_open before view ≡ true)) × (ends asked told view ≡ false)
@@ -99,7 +99,7 @@ module _ {K L D : Type 0} (same : D → D → Bool) (elect : Elect L) (x : State
   not_open : (v view : ℕ) → is_open o v ≡ false → is_open o view ≡ true → (v == view) ≡ false
   not_open v view none is = false_from_ne_true (v == view) (λ at. false≢true (sym none ∙ subst (λ w. is_open o w ≡ true) (sym (eqb-true v view at)) is))
 
-  abbrev refusal : Told K D
+  abbrev refusal : ReplyFacts K D
   refusal = call.NotAllowed
 
   open_by_refusal : (asked : Task D) (now view : ℕ) → is_allowed x o (call_of asked now) ≡ false → is_open o view ≡ true → ends asked refusal view ≡ false
@@ -158,13 +158,13 @@ module _ {K L D : Type 0} (same : D → D → Bool) (elect : Elect L) (x : State
   near_by_answer w up task.Timeout now = refl
   near_by_answer w up task.Prune now = refl
 
-module _ {K L D : Type 0} (same : D → D → Bool) (elect : Elect L) (m left : MemberFacts K L D) (asked : Task D) (now : ℕ) (told : Told K D) where
+module _ {K L D : Type 0} (same : D → D → Bool) (elect : Elect L) (m left : MemberFacts K L D) (asked : Task D) (now : ℕ) (told : ReplyFacts K D) where
   -- a call of the member
   pub open_by_call : IsCall same elect m (call_of asked now) told left → AreOpen asked told m.outstanding_work left.outstanding_work
   unfolding IsCall
   open_by_call is_call = by_life m.life is_call
     where
-      Leaves : Told K D → MemberFacts K L D → Type 0
+      Leaves : ReplyFacts K D → MemberFacts K L D → Type 0
       Leaves t n = AreOpen asked t m.outstanding_work n.outstanding_work
 
       refused : (fault : Fault) → told ≡ call.Refused fault → left ≡ m → Leaves told left
@@ -172,7 +172,7 @@ module _ {K L D : Type 0} (same : D → D → Bool) (elect : Elect L) (m left : 
 
       by_test : (x : StateFacts K L D) (b : Bool) (due : Option Fault) → is_allowed x m.outstanding_work (call_of asked now) ≡ b
           → told ≡ cond b (unless_refused due (answer same elect x m.outstanding_work (call_of asked now))) call.NotAllowed
-          → left ≡ cond b (unless_kept due m (with_call same elect x m (call_of asked now))) m → Leaves told left
+          → left ≡ cond b (unless_retained due m (with_call same elect x m (call_of asked now))) m → Leaves told left
       by_test x false due allowed tells leaves =
           subst (λ t. Leaves t left) (sym tells) (subst (Leaves call.NotAllowed) (sym leaves)
           (λ view is. (inr is, open_by_refusal same elect x m.outstanding_work asked now view allowed is)))
@@ -193,7 +193,7 @@ module _ {K L D : Type 0} (same : D → D → Bool) (elect : Elect L) (m left : 
   unfolding IsCall
   near_by_call is_call x lives w up = by_answer (subst (λ life. AnswersAlive same elect life m (call_of asked now) told left) lives is_call)
     where
-      IsNear : Told K D → Type 0
+      IsNear : ReplyFacts K D → Type 0
       IsNear t = list_any (nat_lt w) (views_requested t) ≡ false
 
       by_test : (b : Bool) (due : Option Fault) → told ≡ cond b (unless_refused due (answer same elect x m.outstanding_work (call_of asked now))) call.NotAllowed → IsNear told

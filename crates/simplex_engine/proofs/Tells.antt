@@ -10,10 +10,10 @@ use Rattle.simplex_voter.specs.Facts.{StateFacts, Elect}
 use Rattle.simplex_record.specs.declared.record.error.RecoverError.{RecoverError}
 use Rattle.simplex_record.specs.Recovery.{recover_error}
 use Rattle.simplex_record.specs.Start.{new_state}
-use Rattle.simplex_member.specs.Calls.{Told}
+use Rattle.simplex_member.specs.Calls.{ReplyFacts}
 use Rattle.simplex_member.specs.CallSemantics.{outstanding_work_after}
-use Rattle.simplex_member.specs.MemberFacts.{MemberFacts, IsCall, SignedMember, without_life}
-use Rattle.simplex_member.specs.Restarts.{RestartFacts, cut_member, new_life, retention_grows, RecoversByView, IsRestart, IsRestartWhere}
+use Rattle.simplex_member.specs.MemberFacts.{MemberFacts, IsCall, SignedMember, without_lifetime}
+use Rattle.simplex_member.specs.Restarts.{RestartFacts, cut_member, new_lifetime, retention_grows, RecoversByView, IsRestart, IsRestartWhere}
 use Rattle.simplex_member.specs.OutstandingWork.{OutstandingWork, no_outstanding_work}
 use Rattle.simplex_member.specs.declared.member.journal.Stored.{Stored}
 use Rattle.simplex_engine.specs.declared.engine.Engine.{Engine}
@@ -23,14 +23,14 @@ use Rattle.engine_outbox.specs.declared.journaled.Journaled.{Journaled}
 use Rattle.engine_outbox.specs.declared.output.Output.{Output}
 use Rattle.engine_outbox.specs.declared.output.Output.TheVariants as output
 use Rattle.engine_outbox.specs.declared.output.Work.{Work}
-use Rattle.engine_outbox.specs.CertificateCalls.{hands_in}
-use Rattle.engine_outbox.specs.Continuity.{GoesOn, HasRisen}
+use Rattle.engine_outbox.specs.CertificateCalls.{certificate_call}
+use Rattle.engine_outbox.specs.Continuity.{Continues, HasRisen}
 use Rattle.engine_outbox.proofs.Continuity.{risen_not}
 use Rattle.laws_safety.specs.LifetimeLaws.{WhileAlive}
-use Rattle.simplex_engine.specs.MemberViews.{HasComeTo}
+use Rattle.simplex_engine.specs.MemberViews.{TracksViews}
 use Rattle.engine_outbox.specs.Outputs.{work_in}
 use Rattle.engine_outbox.proofs.Working.{work_in-append}
-use Rattle.simplex_engine.specs.ApplicationWork.{work_ahead, IsToldIn, KeepsDuties, KeepsTaken, HasToldAll, AllIsGivenOut}
+use Rattle.simplex_engine.specs.ApplicationWork.{work_ahead, IsReportedIn, KeepsApplicationWork, KeepsTaken, HasReportedAll, AllIsReturned}
 use Rattle.engine_planner.specs.declared.task.Task.{Task}
 use Rattle.engine_planner.specs.Tasks.{call_of}
 use Rattle.engine_planner.specs.PlannedWork.{AreAmong, awaits, beside_of, constants_of, is_build_of, views_requested, work_planned, work_of, IsPlanned, KeepsPlanned, KeepsPlannedThen, PlansAnswerThen}
@@ -54,10 +54,10 @@ module _ {S D K G C : Type 0} where
       (among_all (sym (append_assoc a b (c ++ d))))
 
 module _ {S L D K G C : Type 0} where
-  pub tells_still : (a : Engine S L D K G C) → KeepsDuties a a
+  pub tells_still : (a : Engine S L D K G C) → KeepsApplicationWork a a
   tells_still a = record { stays = λ work told. told; works = among_still (work_ahead a); near = λ near. near; seen = λ come. come; early = λ come. early_anyway a a (among_still a.plan.early.proposals.items); constants = refl; risen = risen_not a.core.member.facts; ignored = refl }
 
-  pub tells_further : {a b c : Engine S L D K G C} → KeepsDuties a b → KeepsDuties b c → KeepsDuties a c
+  pub tells_further : {a b c : Engine S L D K G C} → KeepsApplicationWork a b → KeepsApplicationWork b c → KeepsApplicationWork a c
   tells_further {a = a} {b = b} {c = c} first second = record {
     early = λ come. early_further a.plan.early.proposals.items b.plan.early.proposals.items c.plan.early.proposals.items b.core.member.facts.life c.core.member.facts.life second.risen
         (first.early come) (second.early (first.seen come));
@@ -83,11 +83,11 @@ module _ {S L D K G C : Type 0} where
 
   -- the member waits for the same
   pub tells_same : {same : D → D → Bool} {elect : Elect L} {bytes_of : C → List ℕ} {is_signature : K → Subject D → G → Type 0} {taken : Option (Subject D)} (a b : Engine S L D K G C)
-      → b.core.member.facts.outstanding_work ≡ a.core.member.facts.outstanding_work → GoesOn same elect bytes_of is_signature taken a.core b.core
-      → (HasComeTo a.core.member.facts a.plan → HasComeTo b.core.member.facts b.plan) → KeepsPlannedThen a.plan b.plan → KeepsDuties a b
+      → b.core.member.facts.outstanding_work ≡ a.core.member.facts.outstanding_work → Continues same elect bytes_of is_signature taken a.core b.core
+      → (TracksViews a.core.member.facts a.plan → TracksViews b.core.member.facts b.plan) → KeepsPlannedThen a.plan b.plan → KeepsApplicationWork a b
   tells_same a b waits goes come plans = record {
     stays = λ work told.
-        subst (IsToldIn (work ++ work_ahead b) (beside_of b.plan)) (sym waits)
+        subst (IsReportedIn (work ++ work_ahead b) (beside_of b.plan)) (sym waits)
         (told_by (among_both (among_still work) (among_both (queued_still a b goes.queued) plans.found)) (planned_last work b) (λ view left. plans.building view left refl) told);
     works = among_both (queued_still a b goes.queued) plans.found;
     near = near_kept a b goes.risen plans.views;
@@ -101,15 +101,15 @@ module _ {S L D K G C : Type 0} where
   -- besides, its state and the plan are the same
   pub tells_beside : {same : D → D → Bool} {elect : Elect L} {bytes_of : C → List ℕ} {is_signature : K → Subject D → G → Type 0} {taken : Option (Subject D)} (a b : Engine S L D K G C)
       → b.core.member.facts.outstanding_work ≡ a.core.member.facts.outstanding_work → b.core.member.facts.life ≡ a.core.member.facts.life
-      → GoesOn same elect bytes_of is_signature taken a.core b.core → b.plan ≡ a.plan → KeepsDuties a b
+      → Continues same elect bytes_of is_signature taken a.core b.core → b.plan ≡ a.plan → KeepsApplicationWork a b
   tells_beside a b waits life goes plan =
       tells_same a b waits goes (come_same a b life (ap (λ (p : Plan S D K G C). p.views) plan)) (keeps_own a.plan b.plan (plans_same a.plan b.plan plan))
 
   -- nothing of the member or of the outbox has changed
-  pub tells_planned : (a b : Engine S L D K G C) → b.core ≡ a.core → KeepsPlanned a.plan b.plan → KeepsDuties a b
+  pub tells_planned : (a b : Engine S L D K G C) → b.core ≡ a.core → KeepsPlanned a.plan b.plan → KeepsApplicationWork a b
   tells_planned a b is plans = record {
     stays = λ work told.
-        subst (λ (core : Journaled S L D K G C). IsToldIn (work ++ (work_in core.outbox.queue.items ++ work_planned b.plan.steps.items)) (beside_of b.plan) core.member.facts.outstanding_work) (sym is)
+        subst (λ (core : Journaled S L D K G C). IsReportedIn (work ++ (work_in core.outbox.queue.items ++ work_planned b.plan.steps.items)) (beside_of b.plan) core.member.facts.outstanding_work) (sym is)
         (told_by (among_both (among_still work) (among_both (among_still queue) plans.found))
         (among_further (among_behind queue (work_planned b.plan.steps.items)) (among_behind work (queue ++ work_planned b.plan.steps.items))) (λ view left. plans.building view left refl) told);
     works = subst (λ (core : Journaled S L D K G C). AreAmong (work_ahead a) (work_in core.outbox.queue.items ++ work_planned b.plan.steps.items)) (sym is) (among_both (among_still queue) plans.found);
@@ -125,8 +125,8 @@ module _ {S L D K G C : Type 0} where
       queue = work_in a.core.outbox.queue.items
 
   -- a task was asked of the member, and what its answer asks of the application is planned
-  pub tells_called : {same : D → D → Bool} {elect : Elect L} {bytes_of : C → List ℕ} {is_signature : K → Subject D → G → Type 0} {taken : Option (Subject D)} (a b : Engine S L D K G C) (asked : Task D) (now : ℕ) (told : Told K D)
-      → IsCall same elect a.core.member.facts (call_of asked now) told b.core.member.facts → GoesOn same elect bytes_of is_signature taken a.core b.core → HasComeTo b.core.member.facts b.plan → PlansAnswerThen asked told a.plan b.plan → KeepsDuties a b
+  pub tells_called : {same : D → D → Bool} {elect : Elect L} {bytes_of : C → List ℕ} {is_signature : K → Subject D → G → Type 0} {taken : Option (Subject D)} (a b : Engine S L D K G C) (asked : Task D) (now : ℕ) (told : ReplyFacts K D)
+      → IsCall same elect a.core.member.facts (call_of asked now) told b.core.member.facts → Continues same elect bytes_of is_signature taken a.core b.core → TracksViews b.core.member.facts b.plan → PlansAnswerThen asked told a.plan b.plan → KeepsApplicationWork a b
   tells_called {same = same} {elect = elect} a b asked now told called goes come plans = record {
     stays = λ work is.
         let ahead = work_ahead a in
@@ -159,13 +159,13 @@ module _ {S L D K G C : Type 0} where
   }
 
   -- a certificate was handed in
-  pub tells_handed : {same : D → D → Bool} {elect : Elect L} {bytes_of : C → List ℕ} {is_signature : K → Subject D → G → Type 0} {taken : Option (Subject D)} (a b : Engine S L D K G C) (certificate : CertificateFacts D) (now : ℕ) (told : Told K D)
-      → IsCall same elect a.core.member.facts (hands_in certificate now) told b.core.member.facts → GoesOn same elect bytes_of is_signature taken a.core b.core → HasComeTo b.core.member.facts b.plan → KeepsPlannedThen a.plan b.plan → KeepsDuties a b
+  pub tells_handed : {same : D → D → Bool} {elect : Elect L} {bytes_of : C → List ℕ} {is_signature : K → Subject D → G → Type 0} {taken : Option (Subject D)} (a b : Engine S L D K G C) (certificate : CertificateFacts D) (now : ℕ) (told : ReplyFacts K D)
+      → IsCall same elect a.core.member.facts (certificate_call certificate now) told b.core.member.facts → Continues same elect bytes_of is_signature taken a.core b.core → TracksViews b.core.member.facts b.plan → KeepsPlannedThen a.plan b.plan → KeepsApplicationWork a b
   tells_handed {same = same} {elect = elect} a b certificate now told called goes come plans =
-      elim (waits_as_before same elect a.core.member.facts b.core.member.facts (hands_in certificate now) told (plain certificate) called) [
+      elim (waits_as_before same elect a.core.member.facts b.core.member.facts (certificate_call certificate now) told (plain certificate) called) [
         | inl waits ↦ tells_same a b waits goes (λ before. come) plans
         | inr none ↦ record {
-          stays = λ work is. subst (IsToldIn (work ++ work_ahead b) (beside_of b.plan)) (sym none) (told_none (work ++ work_ahead b) (beside_of b.plan));
+          stays = λ work is. subst (IsReportedIn (work ++ work_ahead b) (beside_of b.plan)) (sym none) (told_none (work ++ work_ahead b) (beside_of b.plan));
           works = among_both (queued_still a b goes.queued) plans.found;
           near = near_kept a b goes.risen plans.views;
           seen = λ before. come;
@@ -176,20 +176,20 @@ module _ {S L D K G C : Type 0} where
         }
       ]
     where
-      plain : (c : CertificateFacts D) (x : StateFacts K L D) (o : OutstandingWork K D) → outstanding_work_after same elect x o (hands_in c now) ≡ o
+      plain : (c : CertificateFacts D) (x : StateFacts K L D) (o : OutstandingWork K D) → outstanding_work_after same elect x o (certificate_call c now) ≡ o
       plain (Notarized _) x o = refl
       plain (Nullified _) x o = refl
       plain (Finalized _) x o = refl
 
   -- a copy of it was handed in, and nothing of the member has changed since
-  pub handed_as : (same : D → D → Bool) (elect : Elect L) (m : MemberFacts K L D) (told : Told K D) (now : ℕ) {copy certificate : CertificateFacts D} {left core : Journaled S L D K G C}
-      → copy ≡ certificate → core ≡ left → IsCall same elect m (hands_in copy now) told left.member.facts → IsCall same elect m (hands_in certificate now) told core.member.facts
+  pub handed_as : (same : D → D → Bool) (elect : Elect L) (m : MemberFacts K L D) (told : ReplyFacts K D) (now : ℕ) {copy certificate : CertificateFacts D} {left core : Journaled S L D K G C}
+      → copy ≡ certificate → core ≡ left → IsCall same elect m (certificate_call copy now) told left.member.facts → IsCall same elect m (certificate_call certificate now) told core.member.facts
   handed_as same elect m told now {copy} {certificate} {left} {core} is_copy stays called =
-      subst (λ facts. IsCall same elect m (hands_in facts now) told core.member.facts) is_copy
-      (subst (λ (it : Journaled S L D K G C). IsCall same elect m (hands_in copy now) told it.member.facts) (sym stays) called)
+      subst (λ facts. IsCall same elect m (certificate_call facts now) told core.member.facts) is_copy
+      (subst (λ (it : Journaled S L D K G C). IsCall same elect m (certificate_call copy now) told it.member.facts) (sym stays) called)
 
   -- a step that queues no work
-  pub tells_other : (a b : Engine S L D K G C) (step this : Step S D K G C) → step ≡ this → work_planned (this ∷ []) ≡ [] → KeepsDuties a b → KeepsTaken (work_planned (step ∷ [])) a b
+  pub tells_other : (a b : Engine S L D K G C) (step this : Step S D K G C) → step ≡ this → work_planned (this ∷ []) ≡ [] → KeepsApplicationWork a b → KeepsTaken (work_planned (step ∷ [])) a b
   tells_other a b step this is none keeps = subst (λ taken. KeepsTaken taken a b) (sym (ap (λ s. work_planned (s ∷ [])) is ∙ none)) keeps
 
   -- work is queued
@@ -197,8 +197,8 @@ module _ {S L D K G C : Type 0} where
       → b.core.outbox.queue.items ≡ a.core.outbox.queue.items ++ output.Work it ∷ [] → KeepsTaken (it ∷ []) a b
   tells_pushed a b it same_member same_plan queued = record {
     stays = λ work told.
-        subst (λ (m : SignedMember K L D G). IsToldIn (work ++ work_ahead b) (beside_of b.plan) m.facts.outstanding_work) (sym same_member)
-        (subst (λ (plan : Plan S D K G C). IsToldIn (work ++ work_ahead b) (beside_of plan) a.core.member.facts.outstanding_work) (sym same_plan)
+        subst (λ (m : SignedMember K L D G). IsReportedIn (work ++ work_ahead b) (beside_of b.plan) m.facts.outstanding_work) (sym same_member)
+        (subst (λ (plan : Plan S D K G C). IsReportedIn (work ++ work_ahead b) (beside_of plan) a.core.member.facts.outstanding_work) (sym same_plan)
         (told_among (among_further (among_both (among_swapped (it ∷ []) work) (among_still (queue ++ planned)))
         (among_further (among_moved work (it ∷ []) queue planned) (among_all (ap (λ ahead. work ++ ahead) (sym now))))) told));
     works = among_further (among_moved [] (it ∷ []) queue planned) (among_all (sym now));
@@ -224,12 +224,12 @@ module _ {S L D K G C : Type 0} where
   -- the step in front is taken
   pub tells_taken : {X E : Type 0} (r : Result X E) (step : Step S D K G C) (a mid b : Engine S L D K G C) → mid.core ≡ a.core
       → IsPlanned [] (λ view. false) (work_planned a.plan.steps.items) (beside_of a.plan) (work_planned (step ∷ mid.plan.steps.items)) (beside_of mid.plan)
-      → OnOk r (KeepsTaken (work_planned (step ∷ [])) mid b) → OnOk r (KeepsDuties a b)
+      → OnOk r (KeepsTaken (work_planned (step ∷ [])) mid b) → OnOk r (KeepsApplicationWork a b)
   tells_taken (Err e) step a mid b same plans takes = tt
   tells_taken (Ok x) step a mid b same plans takes = record {
     stays = λ work told.
         takes.stays work
-        (subst (λ (core : Journaled S L D K G C). IsToldIn ((taken ++ work) ++ (work_in core.outbox.queue.items ++ left)) (beside_of mid.plan) core.member.facts.outstanding_work) (sym same)
+        (subst (λ (core : Journaled S L D K G C). IsReportedIn ((taken ++ work) ++ (work_in core.outbox.queue.items ++ left)) (beside_of mid.plan) core.member.facts.outstanding_work) (sym same)
         (told_by (among_further (among_further (among_both (among_still work) (among_both (among_still queue) split)) (among_back work taken queue left))
         (among_both (among_swapped work taken) (among_still (queue ++ left))))
         (among_further (among_all front) (among_both (among_more taken work) (among_behind queue left)))
@@ -266,7 +266,7 @@ module _ {S L D K G C : Type 0} where
 
   -- what is given out
   pub tells_given : (a b : Engine S L D K G C) (out : List (Output S D Stored K G C)) → b.core.member ≡ a.core.member → b.plan ≡ a.plan
-      → a.core.outbox.queue.items ≡ out ++ b.core.outbox.queue.items → (given : List (Output S D Stored K G C)) → HasToldAll given a → HasToldAll (given ++ out) b
+      → a.core.outbox.queue.items ≡ out ++ b.core.outbox.queue.items → (given : List (Output S D Stored K G C)) → HasReportedAll given a → HasReportedAll (given ++ out) b
   tells_given a b out same_member same_plan front given told =
       let left = work_in b.core.outbox.queue.items in
       let planned = work_planned a.plan.steps.items in
@@ -276,9 +276,9 @@ module _ {S L D K G C : Type 0} where
       ∙ append_assoc (work_in given) (work_in out) (left ++ planned)
       ∙ ap (λ items. work_in given ++ items) (sym (append_assoc (work_in out) left planned))
       ∙ ap (λ items. work_in given ++ (items ++ planned)) (sym (ap work_in front ∙ work_in-append out b.core.outbox.queue.items)) in
-      subst (λ (plan : Plan S D K G C). IsToldIn (work_in (given ++ out) ++ work_ahead b) (beside_of plan) b.core.member.facts.outstanding_work) (sym same_plan)
-      (subst (λ (m : SignedMember K L D G). IsToldIn (work_in (given ++ out) ++ work_ahead b) (beside_of a.plan) m.facts.outstanding_work) (sym same_member)
-      (subst (λ items. IsToldIn items (beside_of a.plan) a.core.member.facts.outstanding_work) (sym now) told))
+      subst (λ (plan : Plan S D K G C). IsReportedIn (work_in (given ++ out) ++ work_ahead b) (beside_of plan) b.core.member.facts.outstanding_work) (sym same_plan)
+      (subst (λ (m : SignedMember K L D G). IsReportedIn (work_in (given ++ out) ++ work_ahead b) (beside_of a.plan) m.facts.outstanding_work) (sym same_member)
+      (subst (λ items. IsReportedIn items (beside_of a.plan) a.core.member.facts.outstanding_work) (sym now) told))
 
   -- and the work in it is no longer ahead
   pub works_given : (a b : Engine S L D K G C) (out : List (Output S D Stored K G C)) → b.plan ≡ a.plan → a.core.outbox.queue.items ≡ out ++ b.core.outbox.queue.items
@@ -291,25 +291,25 @@ module _ {S L D K G C : Type 0} where
 
   -- nothing was
   pub still_told : (a : Engine S L D K G C) (core : Journaled S L D K G C) → core.member ≡ a.core.member → a.core.outbox.queue.items ≡ core.outbox.queue.items
-      → (given : List (Output S D Stored K G C)) → HasToldAll given a → HasToldAll given (record a { core = core })
+      → (given : List (Output S D Stored K G C)) → HasReportedAll given a → HasReportedAll given (record a { core = core })
   still_told a core same_member front given told =
-      subst (λ outs. HasToldAll outs (record a { core = core })) (append-nil given) (tells_given a (record a { core = core }) [] same_member refl front given told)
+      subst (λ outs. HasReportedAll outs (record a { core = core })) (append-nil given) (tells_given a (record a { core = core }) [] same_member refl front given told)
 
   -- where nothing is queued and nothing planned, all was
-  pub all_given : (a : Engine S L D K G C) → a.core.outbox.queue.items ≡ [] → a.plan.steps.items ≡ [] → (given : List (Output S D Stored K G C)) → HasToldAll given a → AllIsGivenOut given a
+  pub all_given : (a : Engine S L D K G C) → a.core.outbox.queue.items ≡ [] → a.plan.steps.items ≡ [] → (given : List (Output S D Stored K G C)) → HasReportedAll given a → AllIsReturned given a
   all_given a queue steps given told =
-      subst (λ items. IsToldIn items (beside_of a.plan) a.core.member.facts.outstanding_work) (append-nil (work_in given))
-      (subst (λ ahead. IsToldIn (work_in given ++ ahead) (beside_of a.plan) a.core.member.facts.outstanding_work) (ap (λ items. work_in items ++ work_planned a.plan.steps.items) queue ∙ ap work_planned steps) told)
+      subst (λ items. IsReportedIn items (beside_of a.plan) a.core.member.facts.outstanding_work) (append-nil (work_in given))
+      (subst (λ ahead. IsReportedIn (work_in given ++ ahead) (beside_of a.plan) a.core.member.facts.outstanding_work) (ap (λ items. work_in items ++ work_planned a.plan.steps.items) queue ∙ ap work_planned steps) told)
 
   pub all_left : (a b : Engine S L D K G C) (out : Option (Output S D Stored K G C)) → IsNone out → b.core.member ≡ a.core.member → b.core.outbox.queue.items ≡ [] → b.plan.steps.items ≡ []
-      → b.plan ≡ a.plan → a.core.outbox.queue.items ≡ option_to_list out ++ b.core.outbox.queue.items → (given : List (Output S D Stored K G C)) → HasToldAll given a → AllIsGivenOut given b
+      → b.plan ≡ a.plan → a.core.outbox.queue.items ≡ option_to_list out ++ b.core.outbox.queue.items → (given : List (Output S D Stored K G C)) → HasReportedAll given a → AllIsReturned given b
   all_left a b (Some out) none same_member queue steps same_plan front given told = absurd (false≢true (sym none))
   all_left a b None none same_member queue steps same_plan front given told =
-      all_given b queue steps given (subst (λ outs. HasToldAll outs b) (append-nil given) (tells_given a b [] same_member same_plan front given told))
+      all_given b queue steps given (subst (λ outs. HasReportedAll outs b) (append-nil given) (tells_given a b [] same_member same_plan front given told))
 
   -- a member that waits for nothing
-  pub tells_none : (a : Engine S L D K G C) → a.core.member.facts.outstanding_work ≡ no_outstanding_work → HasToldAll [] a
-  tells_none a none = subst (IsToldIn (work_ahead a) (beside_of a.plan)) (sym none) (told_none (work_ahead a) (beside_of a.plan))
+  pub tells_none : (a : Engine S L D K G C) → a.core.member.facts.outstanding_work ≡ no_outstanding_work → HasReportedAll [] a
+  tells_none a none = subst (IsReportedIn (work_ahead a) (beside_of a.plan)) (sym none) (told_none (work_ahead a) (beside_of a.plan))
 
 pub restart_waits : {K L D : Type 0} (same : D → D → Bool) (elect : Elect L) (m : MemberFacts K L D) (r : RestartFacts K L D) (result : Result (Unit {0}) RecoverError) (left : MemberFacts K L D)
     → result ≡ Ok tt → IsRestart same elect m r result left → left.outstanding_work ≡ no_outstanding_work
@@ -323,17 +323,17 @@ restart_waits {K} {L} {D} same elect m r result left goes is_restart = by_test (
     waits next none leaves = ap (λ (n : MemberFacts K L D). n.outstanding_work) leaves ∙ none
 
     by_error : (copy : List (ArtifactFacts D)) (due : Option RecoverError)
-        → MatchOption due ((result ≡ Ok tt) × (left ≡ new_life same elect cut r.start copy)) (λ e. (result ≡ Err e) × (left ≡ without_life cut)) → left.outstanding_work ≡ no_outstanding_work
-    by_error copy None (_, leaves) = waits (new_life same elect cut r.start copy) refl leaves
-    by_error copy (Some e) (_, leaves) = waits (without_life cut) refl leaves
+        → MatchOption due ((result ≡ Ok tt) × (left ≡ new_lifetime same elect cut r.start copy)) (λ e. (result ≡ Err e) × (left ≡ without_lifetime cut)) → left.outstanding_work ≡ no_outstanding_work
+    by_error copy None (_, leaves) = waits (new_lifetime same elect cut r.start copy) refl leaves
+    by_error copy (Some e) (_, leaves) = waits (without_lifetime cut) refl leaves
 
     by_view : RecoversByView same elect cut r.start result left → left.outstanding_work ≡ no_outstanding_work
-    by_view (inl (_, leaves)) = waits (without_life cut) refl leaves
+    by_view (inl (_, leaves)) = waits (without_lifetime cut) refl leaves
     by_view (inr (copy, _, recovers)) = by_error copy (recover_error same (new_state r.start.setup) r.start.floor r.start.now copy) recovers
 
     by_test : (b : Bool) → IsRestartWhere same elect b m r result left → left.outstanding_work ≡ no_outstanding_work
     by_test true (refused, _) = cc
-    by_test false goes_on = by_view goes_on
+    by_test false continues = by_view continues
 
 -- what is so anyway, whatever the answer
 pub on_any : {X E : Type 0} (r : Result X E) {P : Type 0} → P → OnOk r P

@@ -59,18 +59,18 @@ module _ {S L D K G C : Type 0} where
 
   -- a proposal that is not admitted is kept where it is of this epoch, and of one of the eight views after the current one, while fewer
   -- than eight are kept
-  abbrev pub keeps_early : Engine S L D K G C → Proposal D → Bool
-  keeps_early engine proposal =
+  abbrev pub stores_early : Engine S L D K G C → Proposal D → Bool
+  stores_early engine proposal =
       is_so (λ x. is_of_epoch x proposal.round) engine.core.member.facts
       && may_keep engine.plan.views.current proposal.round.view (length engine.plan.early.proposals.items)
 
   -- so it is kept behind the others, or none is; and nothing else changes
-  pub record IsKeptEarly (from : ℕ) (proposal : Proposal D) (old new : Engine S L D K G C) : Type 0 where
+  pub record IsStoredEarly (from : ℕ) (proposal : Proposal D) (old new : Engine S L D K G C) : Type 0 where
     pub kept : let early = old.plan.early.proposals.items in new.plan.early.proposals.items
-        ≡ (if keeps_early old proposal then early ++ record { from = from; view = proposal.round.view; proposal = proposal } ∷ [] else early)
+        ≡ (if stores_early old proposal then early ++ record { from = from; view = proposal.round.view; proposal = proposal } ∷ [] else early)
     pub same : new ≡ record old { plan = record (old.plan) { early = new.plan.early } }
 
   -- an input that is not admitted changes nothing; but a proposal that comes early is kept
   abbrev pub IsTurnedAway : Input S D K G C → Engine S L D K G C → Engine S L D K G C → Type 0
-  IsTurnedAway (input.Proposal from proposal) old new = IsKeptEarly from proposal old new
+  IsTurnedAway (input.Proposal from proposal) old new = IsStoredEarly from proposal old new
   IsTurnedAway _ old new = new ≡ old

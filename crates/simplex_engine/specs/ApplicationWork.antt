@@ -7,7 +7,7 @@ use Rattle.simplex_member.specs.OutstandingWork.{OutstandingWork, context_at, is
 use Rattle.simplex_engine.specs.declared.engine.Engine.{Engine}
 use Rattle.engine_planner.specs.PlannedWork.{AreAmong, Beside, beside_of, constants_of, has_block, work_planned}
 use Rattle.simplex_engine.specs.BuildBounds.{BuildsNear}
-use Rattle.simplex_engine.specs.MemberViews.{HasComeTo, StaysEarly}
+use Rattle.simplex_engine.specs.MemberViews.{TracksViews, StaysStoredEarly}
 use Rattle.laws_safety.specs.LifetimeLaws.{WhileAlive}
 use Rattle.engine_outbox.specs.Continuity.{HasRisen}
 use Rattle.engine_outbox.specs.Outputs.{work_in}
@@ -28,7 +28,7 @@ module _ {S D K G C : Type 0} where
 
   -- among this work is each proposal that is being verified; each that was offered for certification and has no verdict; and the block
   -- of each view whose request to build is open, but where a member alone waits until it enters the view
-  pub record IsToldIn (work : List (Work S D K G C)) (beside : Beside K D) (waiting : OutstandingWork K D) : Type 0 where
+  pub record IsReportedIn (work : List (Work S D K G C)) (beside : Beside K D) (waiting : OutstandingWork K D) : Type 0 where
     pub verified : (view : ℕ) → is_verifying waiting view ≡ true → list_any (is_verify_of view) work ≡ true
     pub certified : (view : ℕ) → is_offered waiting view ≡ true → list_any (is_certify_of view) work ≡ true
     pub built : (view : ℕ) → is_some (context_at waiting view) ≡ true → has_block work beside view ≡ true
@@ -39,38 +39,38 @@ module _ {S L D K G C : Type 0} where
   work_ahead engine = work_in engine.core.outbox.queue.items ++ work_planned engine.plan.steps.items
 
   -- where this work was given out, each proposal and block that the application is to be told of was, is queued to be, or is planned
-  abbrev pub TellsBehind : List (Work S D K G C) → Engine S L D K G C → Type 0
-  TellsBehind work engine = IsToldIn (work ++ work_ahead engine) (beside_of engine.plan) engine.core.member.facts.outstanding_work
+  abbrev pub ReportsAfter : List (Work S D K G C) → Engine S L D K G C → Type 0
+  ReportsAfter work engine = IsReportedIn (work ++ work_ahead engine) (beside_of engine.plan) engine.core.member.facts.outstanding_work
 
   -- behind whatever work, so it stays; no work that is ahead is lost; no block comes to be built above the first view of the next term;
   -- its views stay the member's, and no proposal is lost that is early by them; and the options stay, and whether there are other members
-  pub record KeepsTelling (old new : Engine S L D K G C) : Type 0 where
-    pub stays : (work : List (Work S D K G C)) → TellsBehind work old → TellsBehind work new
+  pub record KeepsReports (old new : Engine S L D K G C) : Type 0 where
+    pub stays : (work : List (Work S D K G C)) → ReportsAfter work old → ReportsAfter work new
     pub works : AreAmong (work_ahead old) (work_ahead new)
     pub near : BuildsNear old.core old.plan → BuildsNear new.core new.plan
-    pub seen : HasComeTo old.core.member.facts old.plan → HasComeTo new.core.member.facts new.plan
-    pub early : HasComeTo old.core.member.facts old.plan → StaysEarly old.plan new.core.member.facts new.plan
+    pub seen : TracksViews old.core.member.facts old.plan → TracksViews new.core.member.facts new.plan
+    pub early : TracksViews old.core.member.facts old.plan → StaysStoredEarly old.plan new.core.member.facts new.plan
     pub constants : constants_of new.plan ≡ constants_of old.plan
 
   -- so it does where this work was taken from what was planned; the member's views do not fall, and no input is counted as of no use
   pub record KeepsTaken (taken : List (Work S D K G C)) (old new : Engine S L D K G C) : Type 0 where
-    pub stays : (work : List (Work S D K G C)) → TellsBehind (taken ++ work) old → TellsBehind work new
+    pub stays : (work : List (Work S D K G C)) → ReportsAfter (taken ++ work) old → ReportsAfter work new
     pub works : AreAmong (taken ++ work_ahead old) (work_ahead new)
     pub near : BuildsNear old.core old.plan → BuildsNear new.core new.plan
-    pub seen : HasComeTo old.core.member.facts old.plan → HasComeTo new.core.member.facts new.plan
-    pub early : HasComeTo old.core.member.facts old.plan → StaysEarly old.plan new.core.member.facts new.plan
+    pub seen : TracksViews old.core.member.facts old.plan → TracksViews new.core.member.facts new.plan
+    pub early : TracksViews old.core.member.facts old.plan → StaysStoredEarly old.plan new.core.member.facts new.plan
     pub constants : constants_of new.plan ≡ constants_of old.plan
     pub risen : WhileAlive HasRisen old.core.member.facts.life new.core.member.facts.life
     pub ignored : new.plan.ignored ≡ old.plan.ignored
 
   -- where none was taken
-  abbrev pub KeepsDuties : Engine S L D K G C → Engine S L D K G C → Type 0
-  KeepsDuties old new = KeepsTaken [] old new
+  abbrev pub KeepsApplicationWork : Engine S L D K G C → Engine S L D K G C → Type 0
+  KeepsApplicationWork old new = KeepsTaken [] old new
 
   -- where these outputs were given out
-  abbrev pub HasToldAll : List (Output S D Stored K G C) → Engine S L D K G C → Type 0
-  HasToldAll given engine = TellsBehind (work_in given) engine
+  abbrev pub HasReportedAll : List (Output S D Stored K G C) → Engine S L D K G C → Type 0
+  HasReportedAll given engine = ReportsAfter (work_in given) engine
 
   -- each of them is among these outputs
-  abbrev pub AllIsGivenOut : List (Output S D Stored K G C) → Engine S L D K G C → Type 0
-  AllIsGivenOut given engine = IsToldIn (work_in given) (beside_of engine.plan) engine.core.member.facts.outstanding_work
+  abbrev pub AllIsReturned : List (Output S D Stored K G C) → Engine S L D K G C → Type 0
+  AllIsReturned given engine = IsReportedIn (work_in given) (beside_of engine.plan) engine.core.member.facts.outstanding_work

@@ -9,7 +9,7 @@ use Rattle.engine_outbox.specs.Continuity.{IsWhole}
 use Rattle.simplex_engine.specs.NothingDue.{HasNothingNew}
 
 -- nothing is queued, all of the record was given out to be stored, and the member has nothing new
-pub record IsSettled {S L D K G C : Type 0} (same : D → D → Bool) (elect : Elect L) (bytes_of : C → List ℕ) (member : Journaled S L D K G C) : Type 0 where
+pub record IsEngineAtRest {S L D K G C : Type 0} (same : D → D → Bool) (elect : Elect L) (bytes_of : C → List ℕ) (member : Journaled S L D K G C) : Type 0 where
   pub idle : member.outbox.queue.items ≡ []
   pub whole : IsWhole bytes_of member
   pub quiet : HasNothingNew same elect member.member.facts

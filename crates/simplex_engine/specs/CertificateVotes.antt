@@ -9,7 +9,7 @@ use Rattle.engine_outbox.specs.declared.journaled.Journaled.{Journaled}
 use Rattle.engine_votes.specs.declared.votes.Vote.{Vote}
 use Rattle.engine_votes.specs.StoredVotes.{AreGiven, HoldsNoOther}
 use Rattle.simplex_types.specs.Quorums.{quorum_of, AreRising}
-use Rattle.engine_outbox.specs.Continuity.{GoesOn}
+use Rattle.engine_outbox.specs.Continuity.{Continues}
 
 -- the votes that an input hands in
 abbrev pub votes_of_input : {S D K G C : Type 0} → Input S D K G C → List (Vote D G)
@@ -45,7 +45,7 @@ module _ {S L D K G C : Type 0} (same : D → D → Bool) (elect : Elect L) (byt
   -- no certificate is accepted, or it is backed: votes of a quorum on this subject were handed in, these among them
   pub record IsBacked (more : List (Vote D G)) (subject : Subject D) (batcher : Batcher S D K G C) (old new : Journaled S L D K G C) : Type 0 where
     pub backed : (given : List (Vote D G)) → AreGiven given batcher
-        → GoesOn same elect bytes_of is_signature None old new ⊎ HasQuorum members (given ++ more) subject
+        → Continues same elect bytes_of is_signature None old new ⊎ HasQuorum members (given ++ more) subject
 
   -- where a vote is handed in
   abbrev pub IsBackedInput : Input S D K G C → Batcher S D K G C → Journaled S L D K G C → Journaled S L D K G C → Type 0

@@ -5,7 +5,7 @@ use Rattle.simplex_resolver.specs.RecordCalls.{calls_of}
 use Rattle.simplex_resolver.specs.RecordRules.{record_error}
 use Rattle.simplex_resolver.specs.ReplayErrors.{IsDue}
 use Rattle.simplex_resolver.specs.Steps.{Replayed}
-use Rattle.simplex_resolver.specs.CallHistory.{HasBeenTold}
+use Rattle.simplex_resolver.specs.CallHistory.{HasReceivedCalls}
 use Rattle.simplex_record.specs.Start.{IsErrorDue}
 use Rattle.simplex_record.specs.declared.record.error.RecoverError.{RecoverError}
 use Rattle.simplex_record.specs.declared.record.error.RecoverError.TheVariants.{OutOfMemory}
@@ -20,7 +20,7 @@ use Rattle.engine_fetches.specs.OutstandingFetches.{wanting}
 use Rattle.engine_planner.specs.declared.plan.Options.{Options}
 use Rattle.engine_planner.specs.declared.plan.Plan.{Plan}
 use Rattle.simplex_engine.specs.declared.engine.Engine.{Engine}
-use Rattle.simplex_engine.specs.MemberViews.{HasComeTo}
+use Rattle.simplex_engine.specs.MemberViews.{TracksViews}
 use Rattle.simplex_engine.specs.declared.engine.begin.Company.{Company}
 use Rattle.simplex_engine.specs.declared.engine.begin.StartError.{StartError}
 use Rattle.simplex_engine.specs.declared.engine.begin.StartError.TheVariants.{RetryZero, Resume, Replay}
@@ -38,7 +38,7 @@ others_of keys me = peers_of (min (length keys) (2 ^ 32 - 1)) me
 -- the resolver was told of the entries of a record, oldest first, and what it has open is asked for at once, of these peers
 pub record IsRepairOf {D : Type 0} (bytes : D → List ℕ) (term_length : ℕ) (entries : List (ArtifactFacts D)) (peers : Peers) (retry : ℕ) (repair : Repair)
     : Type 0 where
-  pub told : HasBeenTold term_length (Replayed ∷ calls_of bytes (reverse entries)) repair.resolver
+  pub told : HasReceivedCalls term_length (Replayed ∷ calls_of bytes (reverse entries)) repair.resolver
   pub fetched : repair.fetches.wanted.items ≡ wanting repair.resolver.open_fetches []
   pub peers_now : repair.fetches.peers ≡ peers
   pub retry_now : repair.fetches.retry ≡ retry
@@ -50,7 +50,7 @@ pub record IsPlanOf {S L D K G C : Type 0} (bytes : D → List ℕ) (term_length
     (member : MemberFacts K L D) (plan : Plan S D K G C) : Type 0 where
   pub options_now : plan.options ≡ options
   pub alone : plan.is_alone ≡ is_alone
-  pub views : HasComeTo member plan
+  pub views : TracksViews member plan
   pub repair : IsRepairOf bytes term_length member.entries peers options.retry plan.repair
   pub nothing : (plan.steps.items ≡ []) × (plan.builds.buildings.items ≡ []) × (plan.early.proposals.items ≡ []) × (plan.ignored ≡ 0)
   pub due : (plan.is_watch_due ≡ true) × (plan.is_timeout_due ≡ true) × (plan.is_prune_due ≡ true) × (plan.timeout ≡ 0)
@@ -66,7 +66,7 @@ pub record IsCompanyOf {S D K G C : Type 0} (keys_of : S → List K) (keys : Lis
 
 -- an engine begins with these options, of a member among others with these keys: its batcher makes certificates by their number, and no
 -- view was forgotten in this life
-pub record HasBegunWith {S L D K G C : Type 0} (bytes : D → List ℕ) (keys_of : S → List K) (keys : List K) (me : Option ℕ) (term_length : ℕ)
+pub record HasStartedWith {S L D K G C : Type 0} (bytes : D → List ℕ) (keys_of : S → List K) (keys : List K) (me : Option ℕ) (term_length : ℕ)
     (options : Options) (engine : Engine S L D K G C) : Type 0 where
   pub votes : AreGiven [] engine.batcher
   pub keys_now : keys_of engine.batcher.scheme ≡ keys
@@ -88,7 +88,7 @@ IsNotReplayed entries (Resume e) = e ≡ Recover OutOfMemory
 module _ {K L D : Type 0} where
   -- a vote to nullify would be sent again after no time, or memory is lacking, or the member is refused, or the resolver refuses the record
   -- of the member that begins
-  abbrev pub IsNotBegun : ℕ → (ResumeError → Type 0) → (MemberFacts K L D → Type 0) → StartError → Type 0
-  IsNotBegun timeout_retry IsRefused Begins RetryZero = timeout_retry ≡ 0
-  IsNotBegun timeout_retry IsRefused Begins (Resume e) = (e ≡ Recover OutOfMemory) ⊎ IsRefused e
-  IsNotBegun timeout_retry IsRefused Begins (Replay e) = (m : MemberFacts K L D) × Begins m × IsNotReplayed m.entries (Replay e)
+  abbrev pub IsStartRefusal : ℕ → (ResumeError → Type 0) → (MemberFacts K L D → Type 0) → StartError → Type 0
+  IsStartRefusal timeout_retry IsRefused Begins RetryZero = timeout_retry ≡ 0
+  IsStartRefusal timeout_retry IsRefused Begins (Resume e) = (e ≡ Recover OutOfMemory) ⊎ IsRefused e
+  IsStartRefusal timeout_retry IsRefused Begins (Replay e) = (m : MemberFacts K L D) × Begins m × IsNotReplayed m.entries (Replay e)

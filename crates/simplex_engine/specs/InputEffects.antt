@@ -5,7 +5,7 @@ use Rattle.simplex_types.specs.Certificates.{certificate_facts}
 use Rattle.simplex_types.specs.declared.types.messages.Certificate.{Certificate}
 use Rattle.simplex_types.specs.declared.types.messages.Subject.{Subject}
 use Rattle.simplex_voter.specs.Facts.{Elect}
-use Rattle.simplex_member.specs.Calls.{CallFacts, Told}
+use Rattle.simplex_member.specs.Calls.{CallFacts, ReplyFacts}
 use Rattle.simplex_member.specs.MemberFacts.{MemberFacts, IsCall}
 use Rattle.engine_votes.specs.declared.batcher.Batcher.{Batcher}
 use Rattle.engine_votes.specs.declared.batcher.Counted.{Counted}
@@ -22,7 +22,7 @@ use Rattle.engine_votes.specs.declared.votes.Vote.{Vote}
 use Rattle.simplex_engine.specs.Admission.{admits, is_so}
 use Rattle.engine_votes.specs.StoredVotes.{IsCounted}
 use Rattle.engine_planner.specs.Blocks.{is_asked_in}
-use Rattle.engine_outbox.specs.CertificateCalls.{hands_in}
+use Rattle.engine_outbox.specs.CertificateCalls.{certificate_call}
 use Rattle.engine_outbox.specs.Refusals.{is_refused, says_nothing}
 use Rattle.engine_planner.specs.Tasks.{call_of}
 
@@ -33,8 +33,8 @@ verification_of false view = task.VerificationFailed view
 
 module _ {K L D : Type 0} (same : D → D → Bool) (elect : Elect L) where
   -- the member was asked this, which was of use unless its answer has nothing
-  pub record HasAsked (has_nothing : Told K D → Bool) (call : CallFacts D) (m left : MemberFacts K L D) (is_of_use : Bool) : Type 0 where
-    pub answer : Told K D
+  pub record HasAsked (has_nothing : ReplyFacts K D → Bool) (call : CallFacts D) (m left : MemberFacts K L D) (is_of_use : Bool) : Type 0 where
+    pub answer : ReplyFacts K D
     pub answered : IsCall same elect m call answer left
     pub told : is_of_use ≡ not (has_nothing answer)
 
@@ -49,8 +49,8 @@ module _ {K L D : Type 0} (same : D → D → Bool) (elect : Elect L) where
 
 module _ {S L D K G C : Type 0} (same : D → D → Bool) (elect : Elect L) (bytes_of : C → List ℕ) (now : ℕ) where
   -- a certificate is handed in
-  abbrev pub IsHandedIn : Certificate S D K G C → MemberFacts K L D → MemberFacts K L D → Bool → Type 0
-  IsHandedIn certificate = HasAsked same elect is_refused (hands_in (certificate_facts bytes_of certificate) now)
+  abbrev pub IsSubmitted : Certificate S D K G C → MemberFacts K L D → MemberFacts K L D → Bool → Type 0
+  IsSubmitted certificate = HasAsked same elect is_refused (certificate_call (certificate_facts bytes_of certificate) now)
 
   -- what a vote comes to: the certificate that it completes is handed in, if it is admitted; a vote that excludes one before is told
   -- beside that; and of no use is one that is counted already, or that may not count
@@ -58,7 +58,7 @@ module _ {S L D K G C : Type 0} (same : D → D → Bool) (elect : Elect L) (byt
       → Bool → Type 0
   IsCountFollowed (Certified made) queued m steps left is_of_use =
       (is_of_use ≡ true)
-      × (is_so (λ x. admits x (certificate_facts bytes_of made)) m ≡ true → (is_taken : Bool) × IsHandedIn made m left is_taken)
+      × (is_so (λ x. admits x (certificate_facts bytes_of made)) m ≡ true → (is_taken : Bool) × IsSubmitted made m left is_taken)
   IsCountFollowed (Equivocated first second) queued m steps left is_of_use =
       (is_of_use ≡ true) × (left ≡ m) × (steps ≡ queued ++ Push (work.Equivocated first second) ∷ [])
   IsCountFollowed Taken queued m steps left is_of_use = (is_of_use ≡ true) × (left ≡ m)
@@ -79,7 +79,7 @@ module _ {S L D K G C : Type 0} (same : D → D → Bool) (elect : Elect L) (byt
   IsActedOn (input.Proposal from proposal) old left held steps =
       HasDoneTask same elect (task.SetProposal proposal.round.view proposal) now old.core.member.facts left
   IsActedOn (input.Vote vote) old left held steps = IsVoteCounted vote old left held steps
-  IsActedOn (input.Certificate certificate) old left held steps = IsHandedIn same elect bytes_of now certificate old.core.member.facts left
+  IsActedOn (input.Certificate certificate) old left held steps = IsSubmitted same elect bytes_of now certificate old.core.member.facts left
   IsActedOn (input.Verified view is_valid) old left held steps = HasDoneTask same elect (verification_of is_valid view) now old.core.member.facts left
   IsActedOn (input.Built context payload) old left held steps =
       IsBlockTaken same elect (list_any (is_asked_in same context) old.plan.builds.buildings.items) context.round.view payload now old.core.member.facts left

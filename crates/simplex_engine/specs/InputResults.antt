@@ -8,17 +8,17 @@ use Rattle.simplex_engine.specs.InputEffects.{IsActedOn}
 use Rattle.simplex_engine.specs.Admission.{is_input_admitted, IsTurnedAway}
 use Rattle.simplex_engine.specs.CertificateVotes.{votes_of_input, KeepsVotes, TakesVotes, IsBackedInput}
 use Rattle.simplex_engine.specs.Bounds.{StaysBounded}
-use Rattle.simplex_engine.specs.Provenance.{came_in, ComesWith}
+use Rattle.simplex_engine.specs.Provenance.{input_causes, IsCausedWith}
 use Rattle.simplex_engine.specs.DroppedInputs.{IsDropped}
-use Rattle.simplex_engine.specs.ApplicationWork.{KeepsTelling}
-use Rattle.engine_outbox.specs.Continuity.{GoesOn}
+use Rattle.simplex_engine.specs.ApplicationWork.{KeepsReports}
+use Rattle.engine_outbox.specs.Continuity.{Continues}
 use Rattle.simplex_engine.specs.Inputs.{subject_in}
 
 -- what `Engine::handle` says of an engine before and after, by its answer; an input that is turned away leaves it as it passed
 pub record IsInputTaken {S L D K G C E : Type 0} (same : D → D → Bool) (elect : Elect L) (bytes : D → List ℕ) (bytes_of : C → List ℕ)
     (is_signature : K → Subject D → G → Type 0) (IsMadeOf : S → Subject D → List (ℕ × G) → C → Type 0) (keys_of : S → List K) (now : ℕ) (what : Input S D K G C)
     (old passed new : Engine S L D K G C) (answer : Result Bool E) : Type 0 where
-  pub goes_on : GoesOn same elect bytes_of is_signature (subject_in bytes_of what) old.core new.core
+  pub continues : Continues same elect bytes_of is_signature (subject_in bytes_of what) old.core new.core
   pub votes : TakesVotes (votes_of_input what) old.batcher new.batcher
   pub held : KeepsVotes what old.batcher new.batcher
   pub backed : IsBackedInput same elect bytes_of is_signature (length (keys_of old.batcher.scheme)) what old.batcher old.core new.core
@@ -27,6 +27,6 @@ pub record IsInputTaken {S L D K G C E : Type 0} (same : D → D → Bool) (elec
   pub bounded : StaysBounded keys_of old.core old.batcher new.core new.batcher
   pub acted : IsTrue (is_input_admitted bytes_of old.core.member.facts what)
       → IfOk answer (IsActedOn same elect bytes_of IsMadeOf keys_of now what old new.core.member.facts new.batcher new.plan.steps.items)
-  pub duties : OnOk answer (KeepsTelling old new)
+  pub due_work : OnOk answer (KeepsReports old new)
   pub ignored : IfOk answer (λ is_of_use. new.plan.ignored ≡ (if is_of_use then old.plan.ignored else passed.plan.ignored))
-  pub comes : OnOk answer (ComesWith same elect bytes bytes_of now (came_in bytes_of old.batcher what) old new)
+  pub provenance : OnOk answer (IsCausedWith same elect bytes bytes_of now (input_causes bytes_of old.batcher what) old new)

@@ -20,6 +20,6 @@ subject_made bytes_of (Certified made) = Some (certificate_subject (certificate_
 subject_made bytes_of _ = None
 
 -- what a poll gives out
-abbrev pub given_out : {A E : Type 0} → Result (Option A) E → List A
-given_out (Ok out) = option_to_list out
-given_out (Err _) = []
+abbrev pub returned_outputs : {A E : Type 0} → Result (Option A) E → List A
+returned_outputs (Ok out) = option_to_list out
+returned_outputs (Err _) = []

@@ -5,10 +5,10 @@ use Rattle.engine_planner.specs.declared.plan.Plan.{Plan}
 use Rattle.engine_planner.specs.PlannedWork.{AreAmong, is_early}
 
 -- its plan is of the member's current view and last finalized one: by these it keeps what comes early, and lets go what is over
-abbrev pub HasComeTo : {S L D K G C : Type 0} → MemberFacts K L D → Plan S D K G C → Type 0
-HasComeTo member plan = IfSome member.life (λ x. (plan.views.current ≡ x.current) × (plan.views.last_finalized ≡ x.finalized))
+abbrev pub TracksViews : {S L D K G C : Type 0} → MemberFacts K L D → Plan S D K G C → Type 0
+TracksViews member plan = IfSome member.life (λ x. (plan.views.current ≡ x.current) × (plan.views.last_finalized ≡ x.finalized))
 
 -- each proposal that was kept early, of a view above the member's current one, is kept
-abbrev pub StaysEarly : {S L D K G C : Type 0} → Plan S D K G C → MemberFacts K L D → Plan S D K G C → Type 0
-StaysEarly old member new =
+abbrev pub StaysStoredEarly : {S L D K G C : Type 0} → Plan S D K G C → MemberFacts K L D → Plan S D K G C → Type 0
+StaysStoredEarly old member new =
     IfSome member.life (λ x. AreAmong (filter (is_early x.current) old.early.proposals.items) new.early.proposals.items)

@@ -3,11 +3,11 @@ use Rattle.std.specs.Prelude.{◌≡◌, ◌≤◌, ℕ, Bool, true, false, List
 use Rattle.simplex_voter.specs.Facts.{StateFacts, Elect}
 use Rattle.simplex_voter.specs.DueVotes.{is_due}
 use Rattle.simplex_voter.specs.declared.voter.verify.Verify.TheVariants.{Wait, Resolve}
-use Rattle.simplex_member.specs.Calls.{CallFacts, TryVerify, TryPropose, CertifyCandidates, Told, Standing, Requested, Candidates}
+use Rattle.simplex_member.specs.Calls.{CallFacts, TryVerify, TryPropose, CertifyCandidates, ReplyFacts, Standing, Requested, Candidates}
 use Rattle.simplex_member.specs.MemberFacts.{MemberFacts, IsCall}
 
 -- an answer with no proposal to verify, no block to build and no proposal to certify; a certificate may be lacking for one
-abbrev pub is_nothing : {K D : Type 0} → Told K D → Bool
+abbrev pub is_nothing : {K D : Type 0} → ReplyFacts K D → Bool
 is_nothing (Standing Wait) = true
 is_nothing (Standing (Resolve _ _ _ _)) = true
 is_nothing (Requested None) = true
@@ -20,15 +20,15 @@ for_work = TryVerify ∷ TryPropose ∷ CertifyCandidates ∷ []
 
 module _ {K L D : Type 0} (same : D → D → Bool) (elect : Elect L) where
   -- a call has such an answer
-  pub record AnswersNothing (before : MemberFacts K L D) (call : CallFacts D) (after : MemberFacts K L D) : Type 0 where
-    pub answer : Told K D
+  pub record ReturnsNothing (before : MemberFacts K L D) (call : CallFacts D) (after : MemberFacts K L D) : Type 0 where
+    pub answer : ReplyFacts K D
     pub nothing : is_nothing answer ≡ true
     pub answered : IsCall same elect before call answer after
 
   -- each of these calls has, one behind the other
-  abbrev pub AnswerNothing : MemberFacts K L D → List (CallFacts D) → MemberFacts K L D → Type 0
-  AnswerNothing before [] after = after ≡ before
-  AnswerNothing before (call ∷ rest) after = (between : MemberFacts K L D) × AnswersNothing before call between × AnswerNothing between rest after
+  abbrev pub ReturnNothing : MemberFacts K L D → List (CallFacts D) → MemberFacts K L D → Type 0
+  ReturnNothing before [] after = after ≡ before
+  ReturnNothing before (call ∷ rest) after = (between : MemberFacts K L D) × ReturnsNothing before call between × ReturnNothing between rest after
 
   -- a living member has cast each vote that its rule allows in a view from the last finalized one on, and has handed out each
   -- certificate of these views
@@ -40,5 +40,5 @@ module _ {K L D : Type 0} (same : D → D → Bool) (elect : Elect L) where
   -- so it has; and its last calls were those for work of the application, and none had anything new
   pub record HasNothingNew (now : MemberFacts K L D) : Type 0 where
     pub before : MemberFacts K L D
-    pub asked : AnswerNothing before for_work now
+    pub asked : ReturnNothing before for_work now
     pub own : HasNothingDue now

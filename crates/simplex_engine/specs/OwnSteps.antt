@@ -8,7 +8,7 @@ use Rattle.engine_votes.specs.StoredVotes.{IsForgotten}
 use Rattle.simplex_engine.specs.declared.engine.Engine.{Engine}
 use Rattle.simplex_engine.specs.CertificateVotes.{TakesNone}
 use Rattle.engine_outbox.specs.declared.journaled.Journaled.{Journaled}
-use Rattle.engine_outbox.specs.Continuity.{GoesOn}
+use Rattle.engine_outbox.specs.Continuity.{Continues}
 
 -- the same votes are held, or those of the views below the lowest one that the member's state keeps are forgotten, and no others
 abbrev pub ForgetsNoOther : {S L D K G C : Type 0} → Journaled S L D K G C → Batcher S D K G C → Batcher S D K G C → Type 0
@@ -16,12 +16,12 @@ ForgetsNoOther core old new = IfSome core.member.facts.life (λ x. (new ≡ old)
 
 module _ {S L D K G C : Type 0} (same : D → D → Bool) (elect : Elect L) (bytes_of : C → List ℕ) (is_signature : K → Subject D → G → Type 0) where
   -- it goes on, accepts no certificate, and holds the same votes
-  pub record GoesOnAlone (old new : Engine S L D K G C) : Type 0 where
-    pub goes_on : GoesOn same elect bytes_of is_signature None old.core new.core
+  pub record ContinuesWithoutInput (old new : Engine S L D K G C) : Type 0 where
+    pub continues : Continues same elect bytes_of is_signature None old.core new.core
     pub batcher : new.batcher ≡ old.batcher
 
   -- or forgets those that are of no use any more
-  pub record GoesOnForgetting (old new : Engine S L D K G C) : Type 0 where
-    pub goes_on : GoesOn same elect bytes_of is_signature None old.core new.core
+  pub record ContinuesWithPruning (old new : Engine S L D K G C) : Type 0 where
+    pub continues : Continues same elect bytes_of is_signature None old.core new.core
     pub votes : TakesNone old.batcher new.batcher
     pub forgets : ForgetsNoOther new.core old.batcher new.batcher

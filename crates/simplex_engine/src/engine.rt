@@ -31,7 +31,7 @@ use std::alloc::Global;
 
 /// A member, the batcher of its votes, its resolver and outstanding fetches, and what the host is to carry out.
 ///
-/// `IsKept` of `core` says which outputs were returned so far: `start` and `resume` begin the list, `poll` appends what it returns, and
+/// `IsJournaled` of `core` says which outputs were returned so far: `start` and `resume` begin the list, `poll` appends what it returns, and
 /// `keeps_the_laws` says what holds of the whole list. After an error the engine has failed and returns no further output; resume another
 /// one from what was stored.
 #[derive(Drop)]
@@ -49,34 +49,34 @@ impl<S: Assembly<D>, L: Elector<S>, D: Digest> Engine<S, L, D> {
     ghost use Rattle.simplex_record.specs.Entries.{entries_of};
     ghost use Rattle.simplex_record.specs.Votes.{votes_of};
     ghost use Rattle.laws_safety.specs.Lawful.{IsLawful};
-    ghost use Rattle.laws_safety.specs.MemberHistory.{OfAllDone, MayBeDoneBy};
+    ghost use Rattle.laws_safety.specs.MemberHistory.{OfEachHistory, MayBeHistoryOf};
     ghost use Rattle.laws_safety.specs.RecordsOnce.{HoldsEachEntryOnce};
     ghost use Rattle.engine_outbox.specs.Outputs.{AreBehind};
-    ghost use Rattle.engine_outbox.specs.Finalizations.{finals_in, RiseByView, EndsAt, TellsNoMore, WereAccepted};
+    ghost use Rattle.engine_outbox.specs.Finalizations.{finals_in, RiseByView, EndsAt, ReportsNoMore, WereAccepted};
     ghost use Rattle.engine_outbox.specs.Journals.{journal_of, IsRecordOf};
-    ghost use Rattle.engine_outbox.specs.EmittedVotes.{AllLeave};
+    ghost use Rattle.engine_outbox.specs.EmittedVotes.{AllAreReturned};
     ghost use Rattle.engine_outbox.specs.RecordReach.{IsShort};
-    ghost use Rattle.engine_outbox.specs.Continuity.{IsKept, IsTraced, IsWhole, GoesOn, EmitsOn, DoesMoreOn, HasGivenOut, has_failed};
+    ghost use Rattle.engine_outbox.specs.Continuity.{IsJournaled, IsTraced, IsWhole, Continues, EmitsOn, ExtendsHistoryOn, HasReturned, has_failed};
     ghost use Rattle.engine_outbox.specs.Signatures.{IsSignedBy};
     ghost use Rattle.engine_outbox.specs.HostStops.{EachStopIsLawful};
     ghost use Rattle.engine_outbox.specs.declared.output.Output.TheVariants as output;
-    ghost use Rattle.simplex_engine.specs.AtRest.{IsSettled, ReturnsFirst};
+    ghost use Rattle.simplex_engine.specs.AtRest.{IsEngineAtRest, ReturnsFirst};
     ghost use Rattle.engine_planner.specs.PlannedWork.{constants_of, AreAmong};
     ghost use Rattle.engine_planner.specs.PlanStates.{IsIdle, IsWake};
-    ghost use Rattle.simplex_engine.specs.Inputs.{subject_in, given_out};
+    ghost use Rattle.simplex_engine.specs.Inputs.{subject_in, returned_outputs};
     ghost use Rattle.simplex_engine.specs.OwnSteps.{ForgetsNoOther};
     ghost use Rattle.simplex_engine.specs.CertificateVotes.{votes_of_input, KeepsVotes, TakesVotes, TakesNone, IsBackedInput};
     ghost use Rattle.simplex_engine.specs.Bounds.{HoldsFromKept, HoldsNoneAhead, StaysBounded, HoldsAdmitted};
     ghost use Rattle.simplex_engine.specs.BuildBounds.{BuildsAhead, BuildsNear};
-    ghost use Rattle.simplex_engine.specs.MissingCertificates.{AsksForItsLacking};
-    ghost use Rattle.simplex_engine.specs.FetchHeights.{AsksNoHigher};
-    ghost use Rattle.simplex_engine.specs.MemberViews.{HasComeTo, StaysEarly};
+    ghost use Rattle.simplex_engine.specs.MissingCertificates.{FetchesItsMissing};
+    ghost use Rattle.simplex_engine.specs.FetchHeights.{FetchesNoHigher};
+    ghost use Rattle.simplex_engine.specs.MemberViews.{TracksViews, StaysStoredEarly};
     ghost use Rattle.simplex_engine.specs.DroppedInputs.{IsDropped};
     ghost use Rattle.simplex_engine.specs.Admission.{is_input_admitted, one_more, IsTurnedAway, ignoring};
     ghost use Rattle.simplex_engine.specs.InputEffects.{IsActedOn};
-    ghost use Rattle.simplex_engine.specs.Provenance.{came_in, forgettable, held_by, Comes, ComesWith};
+    ghost use Rattle.simplex_engine.specs.Provenance.{input_causes, forgettable, held_by, IsCaused, IsCausedWith};
     ghost use Rattle.engine_outbox.specs.Outputs.{work_in};
-    ghost use Rattle.simplex_engine.specs.ApplicationWork.{work_ahead, KeepsTelling, HasToldAll, AllIsGivenOut};
+    ghost use Rattle.simplex_engine.specs.ApplicationWork.{work_ahead, KeepsReports, HasReportedAll, AllIsReturned};
 
     /// Takes an input at a moment in milliseconds, and returns whether it was of use. One that was not is ignored and counted.
     ///
@@ -85,7 +85,7 @@ impl<S: Assembly<D>, L: Elector<S>, D: Digest> Engine<S, L, D> {
     /// kind and view; a certificate of a kind and view that has one; a verification or a block that was not asked for; a verdict on a
     /// proposal that was not offered, or that has its verdict.
     ///
-    /// - `goes_on`: the member accepts no certificate but the one that is passed, or one on what the passed vote is on; votes that are
+    /// - `continues`: the member accepts no certificate but the one that is passed, or one on what the passed vote is on; votes that are
     ///   stored stay signed under its key. A finalization
     ///   that it accepts is queued to be reported where its view is above all that were reported.
     /// - `votes`, `held`: the votes that are held were all passed in; an input that is no vote changes none of them.
@@ -95,13 +95,13 @@ impl<S: Assembly<D>, L: Elector<S>, D: Digest> Engine<S, L, D> {
     /// - `unadmitted`: an input that is not admitted (`is_input_admitted`) is ignored, and changes only how many inputs were; an early
     ///   proposal is stored while fewer than eight are.
     /// - `acted`: of an admitted input the member receives the call that it stands for, or the vote is counted.
-    /// - `duties`: work for the application is not lost: a proposal to verify or certify, and the block of an open request, was returned,
+    /// - `due_work`: work for the application is not lost: a proposal to verify or certify, and the block of an open request, was returned,
     ///   is queued or is planned, but for a block that a lone member builds once it enters the view. No early proposal is lost before its
     ///   view is entered. The options and the other members stay.
-    /// - `comes`: every call of the member, every piece of work, every fetch that the resolver does not want and every early proposal is
+    /// - `provenance`: every call of the member, every piece of work, every fetch that the resolver does not want and every early proposal is
     ///   caused by this input, by what was there before, or by a reply of the member. A certificate that a reply named as missing stays
     ///   asked for, until its view is final or the resolver ends it.
-    /// - `heights`: no fetch appears of a view above both the next term's first and those of all entries of the record.
+    /// - `fetch_heights`: no fetch appears of a view above both the next term's first and those of all entries of the record.
     /// - `ignored`: exactly the ignored inputs are counted.
     /// - `bounded`: the votes that are held stay those of members, and of no view above those whose votes are taken.
     /// - `failed`, `error`, `refused`: after an error the engine has failed; an engine that had failed returns `Failed` and is unchanged.
@@ -112,7 +112,7 @@ impl<S: Assembly<D>, L: Elector<S>, D: Digest> Engine<S, L, D> {
     ///   accepted.
     /// - `Failed`: it had failed before.
     pub fn handle(&mut self, input: Input<S, D>, now: u64) -> Result<bool, Fault>
-        ensures goes_on { GoesOn D.eq L.elect S.certificate_bytes S.IsSignature (subject_in S.certificate_bytes input) self.old.core self.new.core }
+        ensures continues { Continues D.eq L.elect S.certificate_bytes S.IsSignature (subject_in S.certificate_bytes input) self.old.core self.new.core }
         ensures votes { TakesVotes (votes_of_input input) self.old.batcher self.new.batcher }
         ensures held { KeepsVotes input self.old.batcher self.new.batcher }
         ensures backed { IsBackedInput D.eq L.elect S.certificate_bytes S.IsSignature (length (S.participants self.old.batcher.scheme))
@@ -124,15 +124,15 @@ impl<S: Assembly<D>, L: Elector<S>, D: Digest> Engine<S, L, D> {
         ensures acted { IsTrue (is_input_admitted S.certificate_bytes self.old.core.member.facts input)
             → IfOk result (IsActedOn D.eq L.elect S.certificate_bytes S.IsMadeOf S.participants now input self.old self.new.core.member.facts
             self.new.batcher self.new.plan.steps.items) }
-        ensures duties { OnOk result (KeepsTelling self.old self.new) }
+        ensures due_work { OnOk result (KeepsReports self.old self.new) }
         ensures ignored { IfOk result (λ is_of_use. self.new.plan.ignored
             ≡ (if is_of_use then self.old.plan.ignored else one_more self.old.plan.ignored)) }
         ensures failed { OnErr result (has_failed self.new.core ≡ true) }
         ensures error { IfErr result (IsFailure (has_failed self.old.core)) }
         ensures refused { has_failed self.old.core ≡ true → (result ≡ Err Failed) × (self.new ≡ self.old) }
-        ensures comes { OnOk result (ComesWith D.eq L.elect D.bytes S.certificate_bytes now (came_in S.certificate_bytes self.old.batcher input)
+        ensures provenance { OnOk result (IsCausedWith D.eq L.elect D.bytes S.certificate_bytes now (input_causes S.certificate_bytes self.old.batcher input)
             self.old self.new) }
-        ensures heights { OnOk result (AsksNoHigher D.eq L.elect self.old self.new) }
+        ensures fetch_heights { OnOk result (FetchesNoHigher D.eq L.elect self.old self.new) }
     {
         if self.core.has_failed() {
             return Err(Fault::Failed);
@@ -156,10 +156,10 @@ impl<S: Assembly<D>, L: Elector<S>, D: Digest> Engine<S, L, D> {
     /// - `does`, `told`: the member accepts no certificate, and nothing more is queued to be reported as final.
     /// - `held`, `lowest`: only votes of views below the lowest retained one are forgotten; after `None` none of those is left.
     /// - `votes`, `bounded`, `failed`, `error`, `refused`, `ignored`, `constants`: as of `handle`; no input is counted.
-    /// - `duties`, `works`: as of `handle`; work that was queued or planned was returned, or is still queued or planned.
-    /// - `comes`: as of `handle`, without an input. The member votes to nullify only after its timeout, and receives early proposals of
+    /// - `due_work`, `works`: as of `handle`; work that was queued or planned was returned, or is still queued or planned.
+    /// - `provenance`: as of `handle`, without an input. The member votes to nullify only after its timeout, and receives early proposals of
     ///   their views' leaders.
-    /// - `heights`: as of `handle`.
+    /// - `fetch_heights`: as of `handle`.
     /// - `near`, `seen`, `early`: no block is asked for above the next term's first view; the views that the plan knows stay the member's;
     ///   no early proposal is lost before its view is entered.
     ///
@@ -181,37 +181,37 @@ impl<S: Assembly<D>, L: Elector<S>, D: Digest> Engine<S, L, D> {
     pub fn poll(&mut self, now: u64) -> Result<Option<Output<S, D, Stored>>, Fault>
         ensures front { has_failed self.old.core ≡ false
             → ReturnsFirst self.old.core.outbox.queue.items result self.old self.new }
-        ensures given { HasGivenOut S.certificate_bytes (given_out result) self.old.core self.new.core }
-        ensures does { DoesMoreOn D.eq L.elect None self.old.core.member.facts self.new.core.member.facts }
-        ensures traced { EmitsOn D.eq L.elect S.certificate_bytes S.IsSignature None (given_out result) self.old.core self.new.core }
-        ensures told { TellsNoMore (given_out result) self.old.core.outbox self.new.core.outbox }
-        ensures none { IfOk result (λ out. IsNone out → IsSettled D.eq L.elect S.certificate_bytes self.new.core) }
+        ensures given { HasReturned S.certificate_bytes (returned_outputs result) self.old.core self.new.core }
+        ensures does { ExtendsHistoryOn D.eq L.elect None self.old.core.member.facts self.new.core.member.facts }
+        ensures traced { EmitsOn D.eq L.elect S.certificate_bytes S.IsSignature None (returned_outputs result) self.old.core self.new.core }
+        ensures told { ReportsNoMore (returned_outputs result) self.old.core.outbox self.new.core.outbox }
+        ensures none { IfOk result (λ out. IsNone out → IsEngineAtRest D.eq L.elect S.certificate_bytes self.new.core) }
         ensures idle { IfOk result (λ out. IsNone out → IsIdle now self.new.plan) }
         ensures ahead { IfOk result (λ out. IsNone out → BuildsAhead self.new.core self.new.plan) }
-        ensures short { (given : _) → IsKept S.certificate_bytes given self.old.core
+        ensures short { (given : _) → IsJournaled S.certificate_bytes given self.old.core
             → IfOk result (λ out. IsNone out → IsShort self.new.plan.options.long_record self.new.core.member.facts) }
         ensures lowest { IfOk result (λ out. IsNone out → HoldsFromKept self.new.core self.new.batcher) }
-        ensures lacking { IfOk result (λ out. IsNone out → AsksForItsLacking self.new.core self.new.plan.repair) }
+        ensures lacking { IfOk result (λ out. IsNone out → FetchesItsMissing self.new.core self.new.plan.repair) }
         ensures admitted { HoldsNoneAhead S.participants self.old.core self.old.batcher
             → IfOk result (λ out. IsNone out → HoldsAdmitted S.participants self.new.core self.new.batcher) }
         ensures votes { TakesNone self.old.batcher self.new.batcher }
         ensures held { ForgetsNoOther self.new.core self.old.batcher self.new.batcher }
         ensures bounded { StaysBounded S.participants self.old.core self.old.batcher self.new.core self.new.batcher }
-        ensures duties { OnOk result ((given : _) → HasToldAll given self.old → HasToldAll (given ++ given_out result) self.new) }
-        ensures waiting { IfOk result (λ out. IsNone out → (given : _) → HasToldAll given self.old → AllIsGivenOut given self.new) }
-        ensures works { OnOk result (AreAmong (work_ahead self.old) (work_in (given_out result) ++ work_ahead self.new)) }
+        ensures due_work { OnOk result ((given : _) → HasReportedAll given self.old → HasReportedAll (given ++ returned_outputs result) self.new) }
+        ensures waiting { IfOk result (λ out. IsNone out → (given : _) → HasReportedAll given self.old → AllIsReturned given self.new) }
+        ensures works { OnOk result (AreAmong (work_ahead self.old) (work_in (returned_outputs result) ++ work_ahead self.new)) }
         ensures near { OnOk result (BuildsNear self.old.core self.old.plan → BuildsNear self.new.core self.new.plan) }
-        ensures seen { OnOk result (HasComeTo self.old.core.member.facts self.old.plan → HasComeTo self.new.core.member.facts self.new.plan) }
-        ensures early { OnOk result (HasComeTo self.old.core.member.facts self.old.plan
-            → StaysEarly self.old.plan self.new.core.member.facts self.new.plan) }
+        ensures seen { OnOk result (TracksViews self.old.core.member.facts self.old.plan → TracksViews self.new.core.member.facts self.new.plan) }
+        ensures early { OnOk result (TracksViews self.old.core.member.facts self.old.plan
+            → StaysStoredEarly self.old.plan self.new.core.member.facts self.new.plan) }
         ensures ignored { OnOk result (self.new.plan.ignored ≡ self.old.plan.ignored) }
         ensures constants { OnOk result (constants_of self.new.plan ≡ constants_of self.old.plan) }
         ensures failed { OnErr result (has_failed self.new.core ≡ true) }
         ensures error { IfErr result (IsFailure (has_failed self.old.core)) }
         ensures refused { has_failed self.old.core ≡ true → (result ≡ Err Failed) × (self.new ≡ self.old) }
-        ensures comes { OnOk result (Comes D.eq L.elect D.bytes S.certificate_bytes now (forgettable self.new.core.member.facts)
-            (work_in (given_out result)) (held_by self.new) self.old self.new) }
-        ensures heights { OnOk result (AsksNoHigher D.eq L.elect self.old self.new) }
+        ensures provenance { OnOk result (IsCaused D.eq L.elect D.bytes S.certificate_bytes now (forgettable self.new.core.member.facts)
+            (work_in (returned_outputs result)) (held_by self.new) self.old self.new) }
+        ensures fetch_heights { OnOk result (FetchesNoHigher D.eq L.elect self.old self.new) }
     {
         if self.core.has_failed() {
             return Err(Fault::Failed);
@@ -224,33 +224,33 @@ impl<S: Assembly<D>, L: Elector<S>, D: Digest> Engine<S, L, D> {
 
     /// Returns the next output once all steps are taken.
     fn poll_after_work(&mut self, now: u64) -> Result<Option<Output<S, D, Stored>>, Fault>
-        ensures given { HasGivenOut S.certificate_bytes (given_out result) self.old.core self.new.core }
-        ensures does { DoesMoreOn D.eq L.elect None self.old.core.member.facts self.new.core.member.facts }
-        ensures traced { EmitsOn D.eq L.elect S.certificate_bytes S.IsSignature None (given_out result) self.old.core self.new.core }
-        ensures told { TellsNoMore (given_out result) self.old.core.outbox self.new.core.outbox }
-        ensures none { IfOk result (λ out. IsNone out → IsSettled D.eq L.elect S.certificate_bytes self.new.core) }
+        ensures given { HasReturned S.certificate_bytes (returned_outputs result) self.old.core self.new.core }
+        ensures does { ExtendsHistoryOn D.eq L.elect None self.old.core.member.facts self.new.core.member.facts }
+        ensures traced { EmitsOn D.eq L.elect S.certificate_bytes S.IsSignature None (returned_outputs result) self.old.core self.new.core }
+        ensures told { ReportsNoMore (returned_outputs result) self.old.core.outbox self.new.core.outbox }
+        ensures none { IfOk result (λ out. IsNone out → IsEngineAtRest D.eq L.elect S.certificate_bytes self.new.core) }
         ensures idle { IfOk result (λ out. IsNone out → IsIdle now self.new.plan) }
         ensures ahead { IfOk result (λ out. IsNone out → BuildsAhead self.new.core self.new.plan) }
-        ensures short { (given : _) → IsKept S.certificate_bytes given self.old.core
+        ensures short { (given : _) → IsJournaled S.certificate_bytes given self.old.core
             → IfOk result (λ out. IsNone out → IsShort self.new.plan.options.long_record self.new.core.member.facts) }
         ensures lowest { IfOk result (λ out. IsNone out → HoldsFromKept self.new.core self.new.batcher) }
-        ensures lacking { IfOk result (λ out. IsNone out → AsksForItsLacking self.new.core self.new.plan.repair) }
+        ensures lacking { IfOk result (λ out. IsNone out → FetchesItsMissing self.new.core self.new.plan.repair) }
         ensures votes { TakesNone self.old.batcher self.new.batcher }
         ensures held { ForgetsNoOther self.new.core self.old.batcher self.new.batcher }
         ensures bounded { StaysBounded S.participants self.old.core self.old.batcher self.new.core self.new.batcher }
-        ensures duties { OnOk result ((given : _) → HasToldAll given self.old → HasToldAll (given ++ given_out result) self.new) }
-        ensures waiting { IfOk result (λ out. IsNone out → (given : _) → HasToldAll given self.old → AllIsGivenOut given self.new) }
-        ensures works { OnOk result (AreAmong (work_ahead self.old) (work_in (given_out result) ++ work_ahead self.new)) }
+        ensures due_work { OnOk result ((given : _) → HasReportedAll given self.old → HasReportedAll (given ++ returned_outputs result) self.new) }
+        ensures waiting { IfOk result (λ out. IsNone out → (given : _) → HasReportedAll given self.old → AllIsReturned given self.new) }
+        ensures works { OnOk result (AreAmong (work_ahead self.old) (work_in (returned_outputs result) ++ work_ahead self.new)) }
         ensures near { OnOk result (BuildsNear self.old.core self.old.plan → BuildsNear self.new.core self.new.plan) }
-        ensures seen { OnOk result (HasComeTo self.old.core.member.facts self.old.plan → HasComeTo self.new.core.member.facts self.new.plan) }
-        ensures early { OnOk result (HasComeTo self.old.core.member.facts self.old.plan
-            → StaysEarly self.old.plan self.new.core.member.facts self.new.plan) }
+        ensures seen { OnOk result (TracksViews self.old.core.member.facts self.old.plan → TracksViews self.new.core.member.facts self.new.plan) }
+        ensures early { OnOk result (TracksViews self.old.core.member.facts self.old.plan
+            → StaysStoredEarly self.old.plan self.new.core.member.facts self.new.plan) }
         ensures ignored { OnOk result (self.new.plan.ignored ≡ self.old.plan.ignored) }
         ensures constants { OnOk result (constants_of self.new.plan ≡ constants_of self.old.plan) }
         ensures failed { OnErr result (has_failed self.new.core ≡ true) }
         ensures error { IfErr result (λ fault. fault ≡ OutOfMemory) }
-        ensures comes { OnOk result (Comes D.eq L.elect D.bytes S.certificate_bytes now (forgettable self.new.core.member.facts)
-            (work_in (given_out result)) (held_by self.new) self.old self.new) }
+        ensures provenance { OnOk result (IsCaused D.eq L.elect D.bytes S.certificate_bytes now (forgettable self.new.core.member.facts)
+            (work_in (returned_outputs result)) (held_by self.new) self.old self.new) }
     {
         match self.work(now) {
             Ok(()) => Ok(self.core.next()),
@@ -317,7 +317,7 @@ impl<S: Assembly<D>, L: Elector<S>, D: Digest> Engine<S, L, D> {
     /// - `behind`: a vote comes after an output that stores it, with that signature.
     /// - `stored`: until the engine fails, a journal that carries out what was returned and what is queued holds the record, and what a
     ///   journal stores beside it.
-    /// - `leaving`: until it fails, each vote in that journal was returned or is queued, but for those of the record that the lifetime
+    /// - `emitted`: until it fails, each vote in that journal was returned or is queued, but for those of the record that the lifetime
     ///   began with, which the first output stores.
     /// - `stops`: until it fails, a host may stop after any output. Its journal is then the record of a member that the engine's member
     ///   was, and that member had signed each vote among these outputs (`stops_are_resumed`).
@@ -329,12 +329,12 @@ impl<S: Assembly<D>, L: Elector<S>, D: Digest> Engine<S, L, D> {
     /// - `ran`: a network of `agreement` may have it as member `i`.
     /// - `once`: the record holds each entry once: at most seven of a view.
     pub fn keeps_the_laws(&self)
-        ensures behind { (given : _) → IsKept S.certificate_bytes given self.now.core → AreBehind [] given }
-        ensures stored { (given : _) → IsKept S.certificate_bytes given self.now.core → self.now.core.failed ≡ false
+        ensures behind { (given : _) → IsJournaled S.certificate_bytes given self.now.core → AreBehind [] given }
+        ensures stored { (given : _) → IsJournaled S.certificate_bytes given self.now.core → self.now.core.failed ≡ false
             → IsWhole S.certificate_bytes self.now.core
             → IsRecordOf S.certificate_bytes self.now.core.member (journal_of (given ++ self.now.core.outbox.queue.items)) }
-        ensures leaving { (given : _) → IsKept S.certificate_bytes given self.now.core → self.now.core.failed ≡ false
-            → AllLeave (given ++ self.now.core.outbox.queue.items) }
+        ensures emitted { (given : _) → IsJournaled S.certificate_bytes given self.now.core → self.now.core.failed ≡ false
+            → AllAreReturned (given ++ self.now.core.outbox.queue.items) }
         ensures stops { (term_length i : _) (earlier given all : _)
             → IsTraced D.eq L.elect S.certificate_bytes term_length i earlier given all self.now.core
             → self.now.core.failed ≡ false
@@ -343,12 +343,12 @@ impl<S: Assembly<D>, L: Elector<S>, D: Digest> Engine<S, L, D> {
             → IsTraced D.eq L.elect S.certificate_bytes term_length i earlier given all self.now.core → WereAccepted all (finals_in given) }
         ensures signed { (i key given vote : _) → IsSignedBy S.IsSignature i key given self.now.core → AreBehind [] given
             → Contains given (output.Vote vote) → (vote.signer ≡ i) × S.IsSignature key vote.subject vote.signature }
-        ensures rising { (given : _) → IsKept S.certificate_bytes given self.now.core → RiseByView (finals_in given) }
-        ensures last { (given : _) → IsKept S.certificate_bytes given self.now.core → IfSome self.now.core.member.facts.life (λ x.
+        ensures rising { (given : _) → IsJournaled S.certificate_bytes given self.now.core → RiseByView (finals_in given) }
+        ensures last { (given : _) → IsJournaled S.certificate_bytes given self.now.core → IfSome self.now.core.member.facts.life (λ x.
             EndsAt x.finalized (finals_in (given ++ self.now.core.outbox.queue.items))) }
-        ensures lawful { OfAllDone D.eq L.elect self.now.core.member.facts (λ term_length i all. IsLawful term_length all) }
-        ensures ran { OfAllDone D.eq L.elect self.now.core.member.facts (MayBeDoneBy S.PublicKey D.eq L.elect) }
-        ensures once { OfAllDone D.eq L.elect self.now.core.member.facts (λ term_length i all. HoldsEachEntryOnce self.now.core.member.facts) }
+        ensures lawful { OfEachHistory D.eq L.elect self.now.core.member.facts (λ term_length i all. IsLawful term_length all) }
+        ensures ran { OfEachHistory D.eq L.elect self.now.core.member.facts (MayBeHistoryOf S.PublicKey D.eq L.elect) }
+        ensures once { OfEachHistory D.eq L.elect self.now.core.member.facts (λ term_length i all. HoldsEachEntryOnce self.now.core.member.facts) }
     {
         self.core.keeps_the_laws();
     }

@@ -8,8 +8,8 @@ use Rattle.simplex_types.specs.declared.types.fault.Fault.TheVariants as fault
 use Rattle.simplex_voter.specs.Facts.{StateFacts, Elect}
 use Rattle.simplex_voter.specs.Refusals.{is_started}
 use Rattle.simplex_member.specs.CallConditions.{is_allowed, fault_of, needs_room, may_fall}
-use Rattle.simplex_member.specs.Calls.{CallFacts, Told, Refused, NotAllowed}
-use Rattle.simplex_member.specs.MemberFacts.{MemberFacts, without_life, with_call, IsCall}
+use Rattle.simplex_member.specs.Calls.{CallFacts, ReplyFacts, Refused, NotAllowed}
+use Rattle.simplex_member.specs.MemberFacts.{MemberFacts, without_lifetime, with_call, IsCall}
 use Rattle.simplex_member.specs.CallSemantics.{answer, after_call, outstanding_work_after, recorded_by}
 use Rattle.simplex_member.specs.OutstandingWork.{OutstandingWork}
 use Rattle.simplex_member.specs.PartialFailures.{IsLoss}
@@ -51,7 +51,7 @@ module _ {K L D : Type 0} (same : D → D → Bool) (elect : Elect L) (m : Membe
     forbidden_call not_allowed = rw (alive, not_allowed) (inl (refl, refl))
 
     -- an answer, with what is left
-    pub answered_call : (told : Told K D) (y : StateFacts K L D) (p : OutstandingWork K D) (entries : List (ArtifactFacts D)) → is_allowed x m.outstanding_work call ≡ true → fault_of x call ≡ None
+    pub answered_call : (told : ReplyFacts K D) (y : StateFacts K L D) (p : OutstandingWork K D) (entries : List (ArtifactFacts D)) → is_allowed x m.outstanding_work call ≡ true → fault_of x call ≡ None
         → told ≡ answer same elect x m.outstanding_work call → y ≡ after_call same elect x m.outstanding_work call → p ≡ outstanding_work_after same elect x m.outstanding_work call → entries ≡ m.entries ++ recorded_by same elect x call
         → IsCall same elect m call told (record m { life = Some y; outstanding_work = p; entries = entries })
     unfolding IsCall
@@ -68,22 +68,22 @@ module _ {K L D : Type 0} (same : D → D → Bool) (elect : Elect L) (m : Membe
     wanting_call allowed needs = rw alive (inr (allowed, refl, inl (needs, refl)))
 
     -- the state is lost for want of memory
-    pub lost_call : is_allowed x m.outstanding_work call ≡ true → fault_of x call ≡ None → may_fall x call ≡ true → IsCall same elect m call (Refused fault.OutOfMemory) (without_life m)
+    pub lost_call : is_allowed x m.outstanding_work call ≡ true → fault_of x call ≡ None → may_fall x call ≡ true → IsCall same elect m call (Refused fault.OutOfMemory) (without_lifetime m)
     unfolding IsCall
     lost_call allowed no_fault falls = rw alive (inr (allowed, refl, inr (no_fault, falls, refl)))
 
     -- an answer, as a caller reads it
-    pub answered_so : (told : Told K D) (left : MemberFacts K L D) → is_allowed x m.outstanding_work call ≡ true → fault_of x call ≡ None
+    pub answered_so : (told : ReplyFacts K D) (left : MemberFacts K L D) → is_allowed x m.outstanding_work call ≡ true → fault_of x call ≡ None
         → told ≡ answer same elect x m.outstanding_work call → left ≡ with_call same elect x m call → IsAnswered same elect m call told left
     answered_so told left allowed no_fault is left_so = record { state = x; alive = alive; allowed = allowed; not_due = no_fault; told_so = is; left_so = left_so }
 
     -- where such a call records nothing
-    pub answered_unrecorded : (told : Told K D) (y : StateFacts K L D) (o : OutstandingWork K D) → is_allowed x m.outstanding_work call ≡ true → fault_of x call ≡ None
+    pub answered_unrecorded : (told : ReplyFacts K D) (y : StateFacts K L D) (o : OutstandingWork K D) → is_allowed x m.outstanding_work call ≡ true → fault_of x call ≡ None
         → told ≡ answer same elect x m.outstanding_work call → y ≡ after_call same elect x m.outstanding_work call → o ≡ outstanding_work_after same elect x m.outstanding_work call → recorded_by same elect x call ≡ []
         → IsAnswered same elect m call told (record m { life = Some y; outstanding_work = o })
     answered_unrecorded told y o allowed no_fault is after opened none = answered_so told _ allowed no_fault is (rw (after, opened, none, append-nil m.entries) refl)
 
   -- what is answered so is a call
-  pub call_of_answer : (told : Told K D) (left : MemberFacts K L D) → IsAnswered same elect m call told left → IsCall same elect m call told left
+  pub call_of_answer : (told : ReplyFacts K D) (left : MemberFacts K L D) → IsAnswered same elect m call told left → IsCall same elect m call told left
   unfolding IsCall
   call_of_answer told left a = rw (a.alive, a.allowed, a.not_due, a.told_so, a.left_so) (inl (refl, refl))

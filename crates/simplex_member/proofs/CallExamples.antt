@@ -15,7 +15,7 @@ use Rattle.simplex_voter.specs.ProposalRequests.{propose_answer, proposed_answer
 use Rattle.simplex_voter.specs.Rules.{may_notarize, may_nullify, may_finalize, has_conflicting_nullify, required_certification_parent}
 use Rattle.simplex_voter.specs.Verification.{standing}
 use Rattle.simplex_voter.specs.Windows.{is_admitted, in_issuance_window}
-use Rattle.simplex_member.specs.Calls.{CallFacts, AddNotarization, SetProposal, TryPropose, Proposed, TryVerify, Verified, CertifyCandidates, SetCertifyHandle, ConstructNullify, Told, Added, Requested, Answered, Standing, Candidates, Nullify, Done, Refused, NotAllowed}
+use Rattle.simplex_member.specs.Calls.{CallFacts, AddNotarization, SetProposal, TryPropose, Proposed, TryVerify, Verified, CertifyCandidates, SetCertifyHandle, ConstructNullify, ReplyFacts, Added, Requested, Answered, Standing, Candidates, Nullify, Done, Refused, NotAllowed}
 use Rattle.simplex_member.specs.MemberFacts.{MemberFacts, reply_of, left_of}
 use Rattle.simplex_member.specs.Start.{started_member}
 use Rattle.simplex_record.proofs.Examples.{Entry, proposal, round, floor_at, finalization}
@@ -39,7 +39,7 @@ abbrev started : ℕ → Member
 started me = started_at (Genesis 0) me
 
 -- what a call is told, and what it leaves; nothing is told in these of a member that has failed
-abbrev told : Option State → Member → CallFacts ℕ → Told ℕ ℕ
+abbrev told : Option State → Member → CallFacts ℕ → ReplyFacts ℕ ℕ
 told None m call = NotAllowed
 told (Some x) m call = reply_of nat_eq in_turn x m.outstanding_work call
 
@@ -48,7 +48,7 @@ next None m call = m
 next (Some x) m call = left_of nat_eq in_turn x m call
 
 -- what some calls are told, one after another
-unfoldable replies_of : Member → List (CallFacts ℕ) → List (Told ℕ ℕ)
+unfoldable replies_of : Member → List (CallFacts ℕ) → List (ReplyFacts ℕ ℕ)
 unfolding standing propose_answer proposed_answer find_parent captured_parent_valid has_valid_parent_span ancestry_payload_for_child first_unnullified_view explicit_ancestry_payload optimistic_ancestry_payload is_handoff_parent is_voted_ancestor can_chain_on in_issuance_window is_admitted verification_matches parent_payload_for may_notarize may_nullify may_finalize has_conflicting_nullify required_certification_parent
 replies_of m [] = []
 replies_of m (call ∷ calls) = told m.life m call ∷ replies_of (next m.life m call) calls

@@ -9,13 +9,13 @@ use Rattle.simplex_view_maps.proofs.Maps.{is_eq-nat_cmp}
 use Rattle.simplex_round.specs.Round.{RoundFacts, once}
 use Rattle.simplex_voter.specs.Facts.{StateFacts, Elect, round_at, round_of, with_round, with_tracked}
 use Rattle.simplex_voter.specs.StateAnswers.{broadcast_notarization_answer, after_broadcast_notarization, broadcast_nullification_answer, after_broadcast_nullification, broadcast_finalization_answer, after_broadcast_finalization}
-use Rattle.simplex_member.specs.Calls.{BroadcastNotarization, BroadcastNullification, BroadcastFinalization, Told, Handed}
+use Rattle.simplex_member.specs.Calls.{BroadcastNotarization, BroadcastNullification, BroadcastFinalization, ReplyFacts, Returned}
 use Rattle.simplex_member.specs.MemberFacts.{MemberFacts}
 use Rattle.simplex_member.specs.MethodContracts.{IsAnswered, HasNoneLeft}
 use Rattle.simplex_member.proofs.Voted.{at_life, from_life}
 
-abbrev handed_told : {K D : Type 0} → Option (CertificateFacts D) → Told K D
-handed_told handed = Handed handed
+abbrev handed_told : {K D : Type 0} → Option (CertificateFacts D) → ReplyFacts K D
+handed_told handed = Returned handed
 
 once_sent : {C : Type 0} (sent : Bool) (certificate : Option C) → once (sent || is_some certificate) certificate ≡ None
 once_sent true certificate = refl
@@ -51,13 +51,13 @@ module _ {K L D : Type 0} (x : StateFacts K L D) (v : ℕ) where
       (λ r. once_sent r.finalization_broadcast r.finalization)
 
 module _ {K L D : Type 0} (same : D → D → Bool) (elect : Elect L) (m left : MemberFacts K L D) (v : ℕ) (handed : Option (CertificateFacts D)) where
-  pub notarization_none_left : IsAnswered same elect m (BroadcastNotarization v) (Handed handed) left → HasNoneLeft broadcast_notarization_answer left v
+  pub notarization_none_left : IsAnswered same elect m (BroadcastNotarization v) (Returned handed) left → HasNoneLeft broadcast_notarization_answer left v
   notarization_none_left is = at_life (λ (x : StateFacts K L D). broadcast_notarization_answer x v ≡ None) left.life (after_broadcast_notarization is.state v) (ap (λ (l : MemberFacts K L D). l.life) is.left_so) (notarization_once is.state v)
 
-  pub nullification_none_left : IsAnswered same elect m (BroadcastNullification v) (Handed handed) left → HasNoneLeft broadcast_nullification_answer left v
+  pub nullification_none_left : IsAnswered same elect m (BroadcastNullification v) (Returned handed) left → HasNoneLeft broadcast_nullification_answer left v
   nullification_none_left is = at_life (λ (x : StateFacts K L D). broadcast_nullification_answer x v ≡ None) left.life (after_broadcast_nullification is.state v) (ap (λ (l : MemberFacts K L D). l.life) is.left_so) (nullification_once is.state v)
 
-  pub finalization_none_left : IsAnswered same elect m (BroadcastFinalization v) (Handed handed) left → HasNoneLeft broadcast_finalization_answer left v
+  pub finalization_none_left : IsAnswered same elect m (BroadcastFinalization v) (Returned handed) left → HasNoneLeft broadcast_finalization_answer left v
   finalization_none_left is = at_life (λ (x : StateFacts K L D). broadcast_finalization_answer x v ≡ None) left.life (after_broadcast_finalization is.state v) (ap (λ (l : MemberFacts K L D). l.life) is.left_so) (finalization_once is.state v)
 
 -- where nothing of the view is left, nothing is handed out
@@ -68,11 +68,11 @@ none_handed {K = K} facts wrap (Some c) found none is =
     absurd (let no : ⊥ = cc in no)
 
 module _ {K L D C : Type 0} (same : D → D → Bool) (elect : Elect L) (m left : MemberFacts K L D) (v : ℕ) (facts : C → CertificateFacts D) (certificate : Option C) where
-  pub notarization_handed_once : HasNoneLeft broadcast_notarization_answer m v → IsAnswered same elect m (BroadcastNotarization v) (Handed (option_map facts certificate)) left → IsNone certificate
+  pub notarization_handed_once : HasNoneLeft broadcast_notarization_answer m v → IsAnswered same elect m (BroadcastNotarization v) (Returned (option_map facts certificate)) left → IsNone certificate
   notarization_handed_once was is = none_handed facts Notarized certificate (broadcast_notarization_answer is.state v) (from_life (λ (x : StateFacts K L D). broadcast_notarization_answer x v ≡ None) m.life is.state is.alive was) is.told_so
 
-  pub nullification_handed_once : HasNoneLeft broadcast_nullification_answer m v → IsAnswered same elect m (BroadcastNullification v) (Handed (option_map facts certificate)) left → IsNone certificate
+  pub nullification_handed_once : HasNoneLeft broadcast_nullification_answer m v → IsAnswered same elect m (BroadcastNullification v) (Returned (option_map facts certificate)) left → IsNone certificate
   nullification_handed_once was is = none_handed facts Nullified certificate (broadcast_nullification_answer is.state v) (from_life (λ (x : StateFacts K L D). broadcast_nullification_answer x v ≡ None) m.life is.state is.alive was) is.told_so
 
-  pub finalization_handed_once : HasNoneLeft broadcast_finalization_answer m v → IsAnswered same elect m (BroadcastFinalization v) (Handed (option_map facts certificate)) left → IsNone certificate
+  pub finalization_handed_once : HasNoneLeft broadcast_finalization_answer m v → IsAnswered same elect m (BroadcastFinalization v) (Returned (option_map facts certificate)) left → IsNone certificate
   finalization_handed_once was is = none_handed facts Finalized certificate (broadcast_finalization_answer is.state v) (from_life (λ (x : StateFacts K L D). broadcast_finalization_answer x v ≡ None) m.life is.state is.alive was) is.told_so

@@ -13,10 +13,10 @@ use Rattle.simplex_voter.specs.Facts.{StateFacts, Elect}
 use Rattle.simplex_voter.specs.Refusals.{is_started, first_fault, HasFailed}
 use Rattle.simplex_voter.specs.Votes.{notarize_answer, nullify_answer, finalize_answer, IsSignedNotarize, IsSignedNullify, IsSignedFinalize}
 use Rattle.simplex_member.specs.CallConditions.{is_allowed, fault_of, may_fall}
-use Rattle.simplex_member.specs.Calls.{CallFacts, Told, Refused, NotAllowed, told_notarize, told_nullify, told_finalize}
+use Rattle.simplex_member.specs.Calls.{CallFacts, ReplyFacts, Refused, NotAllowed, reply_notarize, reply_nullify, reply_finalize}
 use Rattle.simplex_member.specs.CallSemantics.{answer, after_call, outstanding_work_after, recorded_by, if_new, notarize_vote, nullify_vote, finalize_vote}
 use Rattle.simplex_member.specs.MemberFacts.{MemberFacts, living, open_while, IsCall}
-use Rattle.simplex_member.specs.MethodContracts.{told_of, IfAnswered, UnchangedButLife, IsAnswered}
+use Rattle.simplex_member.specs.MethodContracts.{told_of, IfAnswered, UnchangedButLifetime, IsAnswered}
 use Rattle.simplex_member.specs.OutstandingWork.{OutstandingWork}
 use Rattle.simplex_member.specs.PartialFailures.{Ends, is_lost, is_new, UnchangedUnlessLost}
 use Rattle.simplex_member.specs.ReplySignatures.{IsSignedReply}
@@ -47,19 +47,19 @@ module _ {S L D K G C : Type 0} (is_signature : K → Subject D → G → Type 0
 
   -- and what the state answers is the vote of its definition
   pub finalize_made : (elect : Elect L) (view : ℕ) (r : Result (Option (final.Finalize S D K G C)) Fault) → IfOk r (λ vote. option_map (λ v. v.proposal) vote ≡ finalize_answer elect x view)
-      → IfOk r (λ vote. IfSome vote (IsSignedFinalize is_signature x)) → IfOk r (λ vote. told_finalize vote ≡ finalize_vote elect x view)
+      → IfOk r (λ vote. IfSome vote (IsSignedFinalize is_signature x)) → IfOk r (λ vote. reply_finalize vote ≡ finalize_vote elect x view)
   finalize_made elect view (Ok None) is signed = rw (← is) (no_vote x.me)
   finalize_made elect view (Ok (Some v)) is signed = rw (← is, signed.signer) refl
   finalize_made elect view (Err found) is signed = tt
 
   pub notarize_made : (same : D → D → Bool) (elect : Elect L) (view : ℕ) (r : Result (Option (first.Notarize S D K G C)) Fault) → IfOk r (λ vote. option_map (λ v. v.proposal) vote ≡ notarize_answer same elect x view)
-      → IfOk r (λ vote. IfSome vote (IsSignedNotarize is_signature x)) → IfOk r (λ vote. told_notarize vote ≡ notarize_vote same elect x view)
+      → IfOk r (λ vote. IfSome vote (IsSignedNotarize is_signature x)) → IfOk r (λ vote. reply_notarize vote ≡ notarize_vote same elect x view)
   notarize_made same elect view (Ok None) is signed = rw (← is) (no_vote x.me)
   notarize_made same elect view (Ok (Some v)) is signed = rw (← is, signed.signer) refl
   notarize_made same elect view (Err found) is signed = tt
 
   pub nullify_made : (view : ℕ) (r : Result (Option (Bool × other.Nullify S K G C)) Fault) → IfOk r (λ vote. option_map (λ v. v.0) vote ≡ nullify_answer x view)
-      → IfOk r (λ vote. IfSome vote (λ v. IsSignedNullify is_signature x view v.1)) → IfOk r (λ vote. told_nullify vote ≡ nullify_vote x view)
+      → IfOk r (λ vote. IfSome vote (λ v. IsSignedNullify is_signature x view v.1)) → IfOk r (λ vote. reply_nullify vote ≡ nullify_vote x view)
   nullify_made view (Ok None) is signed = rw (← is) (no_vote x.me)
   nullify_made view (Ok (Some v)) is signed = rw (← is, signed.signer, signed.round) refl
   nullify_made view (Err found) is signed = tt
@@ -152,7 +152,7 @@ module _ {K L D T : Type 0} (same : D → D → Bool) (elect : Elect L) (x : Sta
   part_goes_on (Err fault.ViewTooLarge) y after refused going started kept = rw refused.1 (going, started)
   part_goes_on (Err fault.TimeOverflow) y after refused going started kept = rw refused.1 (going, started)
 
-module _ {K L D T : Type 0} (same : D → D → Bool) (elect : Elect L) (m : MemberFacts K L D) (call : CallFacts D) (tell : T → Told K D) where
+module _ {K L D T : Type 0} (same : D → D → Bool) (elect : Elect L) (m : MemberFacts K L D) (call : CallFacts D) (tell : T → ReplyFacts K D) where
   -- what a part ensures of a call, and what the state is after it, what is open and what is recorded
   module _ (x : StateFacts K L D) where
     pub record Part (r : Result T Fault) (y : StateFacts K L D) (o : OutstandingWork K D) (entries : List (ArtifactFacts D)) : Type 0 where
@@ -214,7 +214,7 @@ module _ {K L D T : Type 0} (same : D → D → Bool) (elect : Elect L) (m : Mem
         on_both (Err found) so was = tt
 
   -- what is told of a call says what its result is
-  pub told_kept : (r : Result T Refusal) (left : MemberFacts K L D) → IsCall same elect m call (told_of tell r) left → IfErr r (λ refusal. UnchangedButLife m refusal left)
+  pub told_kept : (r : Result T Refusal) (left : MemberFacts K L D) → IsCall same elect m call (told_of tell r) left → IfErr r (λ refusal. UnchangedButLifetime m refusal left)
   told_kept (Ok t) left made = tt
   told_kept (Err (refusal.Fault due)) left made = (typed same elect m call (Refused due) left made).kept
   told_kept (Err refusal.NotAllowed) left made = (typed same elect m call NotAllowed left made).kept

@@ -16,7 +16,7 @@ use Rattle.simplex_record.specs.Check.{stands}
 use Rattle.simplex_record.specs.Entries.{entries_of, entry_view}
 use Rattle.simplex_voter.specs.Facts.{StateFacts, Elect}
 use Rattle.simplex_member.specs.OutstandingWork.{no_outstanding_work}
-use Rattle.simplex_member.specs.MemberFacts.{MemberFacts, without_life}
+use Rattle.simplex_member.specs.MemberFacts.{MemberFacts, without_lifetime}
 use Rattle.simplex_member.specs.RestartedStates.{IsRefusedBy, IsRemadeBy}
 use Rattle.simplex_record.specs.Recovery.{recover_error, is_finalization_entry, with_finalization_entry, with_floor}
 use Rattle.simplex_member.specs.Restarts.{IsByView, RecoversByView}
@@ -83,7 +83,7 @@ refused_by same start entries copy found by_view due = told (recover_error same 
 
 module _ {K L D : Type 0} (same : D → D → Bool) (elect : Elect L) (m : MemberFacts K L D) (start : StartFacts K L D) where
   -- a member whose new state is refused
-  pub not_gone_on : (found : RecoverError) → (found ≡ error.OutOfMemory) ⊎ IsRefusedBy same start m.entries found → RecoversByView same elect m start (Err found) (without_life m)
+  pub not_gone_on : (found : RecoverError) → (found ≡ error.OutOfMemory) ⊎ IsRefusedBy same start m.entries found → RecoversByView same elect m start (Err found) (without_lifetime m)
   not_gone_on found (inl memory) = inl (ap Err memory, refl)
   not_gone_on found (inr (copy, by_view, due)) = inr (copy, by_view, rw due (refl, refl))
 

@@ -7,7 +7,7 @@ use Rattle.simplex_record.specs.declared.record.error.RecoverError.TheVariants a
 use Rattle.simplex_member.specs.declared.member.runs.Step.{Step}
 use Rattle.simplex_member.specs.declared.member.calls.Reply.{Reply}
 use Rattle.simplex_member.specs.declared.member.calls.Reply.TheVariants as reply
-use Rattle.simplex_member.specs.Calls.{Told, told}
+use Rattle.simplex_member.specs.Calls.{ReplyFacts, told}
 use Rattle.simplex_member.specs.MemberFacts.{MemberFacts}
 use Rattle.simplex_record.specs.Recovery.{recover_error}
 use Rattle.simplex_record.specs.Start.{StartFacts, IsErrorDue, new_state}
@@ -39,7 +39,7 @@ replies_answer bytes_of reply.NotAllowed = refl
 
 module _ {K L D : Type 0} (same : D → D → Bool) (elect : Elect L) where
   -- one more step
-  pub run_extends : (m : MemberFacts K L D) (steps : List (StepFacts K L D)) (replies : List (Told K D)) (e : MemberFacts K L D) (step : StepFacts K L D) (told : Told K D) (next : MemberFacts K L D)
+  pub run_extends : (m : MemberFacts K L D) (steps : List (StepFacts K L D)) (replies : List (ReplyFacts K D)) (e : MemberFacts K L D) (step : StepFacts K L D) (told : ReplyFacts K D) (next : MemberFacts K L D)
       → IsRun same elect m steps replies e → IsStep same elect e step told next → IsRun same elect m (steps ++ step ∷ []) (replies ++ told ∷ []) next
   run_extends m [] [] e step told next is taken = (next, rw is taken, refl)
   run_extends m [] (r ∷ replies) e step told next is taken = absurd is
@@ -47,7 +47,7 @@ module _ {K L D : Type 0} (same : D → D → Bool) (elect : Elect L) where
   run_extends m (s ∷ steps) (r ∷ replies) e step told next is taken = (is.0, is.1, run_extends is.0 steps replies e step told next is.2 taken)
 
   -- a step that is refused behind those that were answered, whatever comes after it
-  pub run_ends : {R : Type 0} (told_of : R → Told K D) (m : MemberFacts K L D) (steps : List (StepFacts K L D)) (replies : List R) (e : MemberFacts K L D) (step : StepFacts K L D) (rest : List (StepFacts K L D)) (found : RecoverError)
+  pub run_ends : {R : Type 0} (told_of : R → ReplyFacts K D) (m : MemberFacts K L D) (steps : List (StepFacts K L D)) (replies : List R) (e : MemberFacts K L D) (step : StepFacts K L D) (rest : List (StepFacts K L D)) (found : RecoverError)
       → ((r : R) → is_refusal (told_of r) ≡ false) → IsRun same elect m steps (map told_of replies) e → IsRefused same elect e step found → EndsRun same elect m (steps ++ step ∷ rest) found
   run_ends told_of m [] [] e step rest found answers is refused = inl (rw is refused)
   run_ends told_of m [] (r ∷ replies) e step rest found answers is refused = absurd is
@@ -56,7 +56,7 @@ module _ {K L D : Type 0} (same : D → D → Bool) (elect : Elect L) where
 
   module _ (start : StartFacts K L D) (steps : List (StepFacts K L D)) where
     -- a member that started, and took all steps
-    pub run_from : (m : MemberFacts K L D) (replies : List (Told K D)) (e : MemberFacts K L D) → m ≡ started_member same elect (new_state start.setup) start.floor start.now → recover_error same (new_state start.setup) start.floor start.now [] ≡ None
+    pub run_from : (m : MemberFacts K L D) (replies : List (ReplyFacts K D)) (e : MemberFacts K L D) → m ≡ started_member same elect (new_state start.setup) start.floor start.now → recover_error same (new_state start.setup) start.floor start.now [] ≡ None
         → IsRun same elect m steps replies e → IsRunFrom same elect start steps replies
     unfolding IsRunFrom
     run_from m replies e begun accepted is = (accepted, e, rw begun at is)

@@ -12,7 +12,7 @@ use Rattle.simplex_voter.specs.Rules.{may_notarize, may_nullify, may_finalize}
 use Rattle.simplex_voter.specs.Votes.{nullify_cast, notarize_cast, after_construct_nullify, after_construct_notarize, after_construct_finalize}
 use Rattle.simplex_voter.proofs.Rules.{nullify_parts, notarize_round, finalize_parts}
 use Rattle.simplex_voter.proofs.Proposals.{round_of-prepared}
-use Rattle.simplex_member.specs.Calls.{ConstructNotarize, ConstructNullify, ConstructFinalize, Told, Notarize, Nullify, Finalize}
+use Rattle.simplex_member.specs.Calls.{ConstructNotarize, ConstructNullify, ConstructFinalize, ReplyFacts, Notarize, Nullify, Finalize}
 use Rattle.simplex_member.specs.MemberFacts.{MemberFacts}
 use Rattle.simplex_member.specs.CallSemantics.{nullify_vote, notarize_vote, finalize_vote}
 use Rattle.simplex_member.specs.MethodContracts.{IsAnswered, HasNotarizeVote, HasNullifyVote, HasFinalizeVote}
@@ -20,13 +20,13 @@ use Rattle.simplex_record.proofs.Growing.{round_of-same}
 
 -- what is told alike is the same
 module _ {K D : Type 0} where
-  abbrev notarize_told : Option (ArtifactFacts D) → Told K D
+  abbrev notarize_told : Option (ArtifactFacts D) → ReplyFacts K D
   notarize_told vote = Notarize vote
 
-  abbrev nullify_told : Option (Bool × ArtifactFacts D) → Told K D
+  abbrev nullify_told : Option (Bool × ArtifactFacts D) → ReplyFacts K D
   nullify_told vote = Nullify vote
 
-  abbrev finalize_told : Option (ArtifactFacts D) → Told K D
+  abbrev finalize_told : Option (ArtifactFacts D) → ReplyFacts K D
   finalize_told vote = Finalize vote
 
   notarize_same : (a b : Option (ArtifactFacts D)) → notarize_told a ≡ notarize_told b → a ≡ b

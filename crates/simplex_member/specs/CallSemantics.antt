@@ -10,7 +10,7 @@ use Rattle.simplex_voter.specs.StateAnswers.{broadcast_notarization_answer, afte
 use Rattle.simplex_voter.specs.Timeouts.{trigger_answer, after_trigger_timeout, next_timeout_answer, after_next_timeout}
 use Rattle.simplex_voter.specs.Verification.{set_proposal_answer, after_set_proposal, verify_answer, after_try_verify, verified_answer, after_verified, after_verification_failed}
 use Rattle.simplex_voter.specs.Votes.{notarize_answer, after_construct_notarize, nullify_answer, after_construct_nullify, finalize_answer, after_construct_finalize}
-use Rattle.simplex_member.specs.Calls.{CallFacts, AddNotarization, AddNullification, AddFinalization, SetProposal, TryPropose, Proposed, SupersedeProposalRequest, PendingHandoffAbandonment, ReleaseProposalRequest, TryVerify, Verified, VerificationFailed, ConstructNotarize, CertifyCandidates, SetCertifyHandle, Certified, ConstructNullify, ConstructFinalize, BroadcastNotarization, BroadcastNullification, BroadcastFinalization, GetBestCertificate, TriggerTimeout, NextTimeout, Prune, Told, Added, AddedNullification, Judged, Nullify, Finalize, Notarize, Handed, Dropped, Requested, Standing, Answered, Abandoned, Candidates, Released, Triggered, TimesOut, Done}
+use Rattle.simplex_member.specs.Calls.{CallFacts, AddNotarization, AddNullification, AddFinalization, SetProposal, TryPropose, Proposed, SupersedeProposalRequest, PendingHandoffAbandonment, ReleaseProposalRequest, TryVerify, Verified, VerificationFailed, ConstructNotarize, CertifyCandidates, SetCertifyHandle, Certified, ConstructNullify, ConstructFinalize, BroadcastNotarization, BroadcastNullification, BroadcastFinalization, GetBestCertificate, TriggerTimeout, NextTimeout, Prune, ReplyFacts, Added, AddedNullification, Judged, Nullify, Finalize, Notarize, Returned, Dropped, Requested, Standing, Answered, Abandoned, Candidates, Released, Triggered, TimesOut, Done}
 use Rattle.simplex_member.specs.OutstandingWork.{OutstandingWork, context_at, without_context, with_open_request, without_verification, with_verification, without_offer, with_offers}
 
 module _ {K L D : Type 0} where
@@ -55,7 +55,7 @@ vote_entry (Some vote) = vote ∷ []
 
 module _ {K L D : Type 0} (same : D → D → Bool) (elect : Elect L) where
   -- what a call is told
-  abbrev pub answer : StateFacts K L D → OutstandingWork K D → CallFacts D → Told K D
+  abbrev pub answer : StateFacts K L D → OutstandingWork K D → CallFacts D → ReplyFacts K D
   answer x o (AddNotarization c) = Added (notarization_added same elect x c).0 (notarization_added same elect x c).1
   answer x o (AddNullification c _) = AddedNullification (nullification_added x c)
   answer x o (AddFinalization c _) = Added (finalization_added same elect x c).0 (finalization_added same elect x c).1
@@ -74,10 +74,10 @@ module _ {K L D : Type 0} (same : D → D → Bool) (elect : Elect L) where
   answer x o (Certified v success _) = Judged success (certified_answer x v)
   answer x o (ConstructNullify v) = Nullify (nullify_vote x v)
   answer x o (ConstructFinalize v) = Finalize (finalize_vote elect x v)
-  answer x o (BroadcastNotarization v) = Handed (option_map Notarized (broadcast_notarization_answer x v))
-  answer x o (BroadcastNullification v) = Handed (option_map Nullified (broadcast_nullification_answer x v))
-  answer x o (BroadcastFinalization v) = Handed (option_map Finalized (broadcast_finalization_answer x v))
-  answer x o GetBestCertificate = Handed (best_certificate x)
+  answer x o (BroadcastNotarization v) = Returned (option_map Notarized (broadcast_notarization_answer x v))
+  answer x o (BroadcastNullification v) = Returned (option_map Nullified (broadcast_nullification_answer x v))
+  answer x o (BroadcastFinalization v) = Returned (option_map Finalized (broadcast_finalization_answer x v))
+  answer x o GetBestCertificate = Returned (best_certificate x)
   answer x o (TriggerTimeout v reason _) = Triggered (trigger_answer x v reason)
   answer x o (NextTimeout now) = TimesOut (next_timeout_answer x now)
   answer x o Prune = Dropped (prune_answer x)

@@ -75,47 +75,47 @@ asked bytes_of (call.NextTimeout now) = NextTimeout now
 asked bytes_of call.Prune = Prune
 
 -- what a reply tells, with votes as the entries that they are recorded as; and why a restart was refused, which no reply tells
-pub data Told (K D : Type 0) : Type 0 where
-  Added : Bool → Option K → Told K D
-  AddedNullification : Bool → Told K D
-  Judged : Bool → Option (ProposalFacts D) → Told K D
-  Nullify : Option (Bool × ArtifactFacts D) → Told K D
-  Finalize : Option (ArtifactFacts D) → Told K D
-  Notarize : Option (ArtifactFacts D) → Told K D
-  Handed : Option (CertificateFacts D) → Told K D
-  Dropped : List ℕ → Told K D
-  Requested : Option (ProposalRequest D K) → Told K D
-  Standing : Verify D K → Told K D
-  Answered : Bool → Told K D
-  Abandoned : Option HandoffAbandonedReason → Told K D
-  Candidates : List (Proposal D) → List CertificateFetch → Told K D
-  Released : Bool → Told K D
-  Triggered : Bool → Told K D
-  TimesOut : Option (ℕ × TimeoutReason) → Told K D
-  Done : Told K D
-  Restarted : Told K D
-  NotRestarted : RecoverError → Told K D
-  Refused : Fault → Told K D
-  NotAllowed : Told K D
+pub data ReplyFacts (K D : Type 0) : Type 0 where
+  Added : Bool → Option K → ReplyFacts K D
+  AddedNullification : Bool → ReplyFacts K D
+  Judged : Bool → Option (ProposalFacts D) → ReplyFacts K D
+  Nullify : Option (Bool × ArtifactFacts D) → ReplyFacts K D
+  Finalize : Option (ArtifactFacts D) → ReplyFacts K D
+  Notarize : Option (ArtifactFacts D) → ReplyFacts K D
+  Returned : Option (CertificateFacts D) → ReplyFacts K D
+  Dropped : List ℕ → ReplyFacts K D
+  Requested : Option (ProposalRequest D K) → ReplyFacts K D
+  Standing : Verify D K → ReplyFacts K D
+  Answered : Bool → ReplyFacts K D
+  Abandoned : Option HandoffAbandonedReason → ReplyFacts K D
+  Candidates : List (Proposal D) → List CertificateFetch → ReplyFacts K D
+  Released : Bool → ReplyFacts K D
+  Triggered : Bool → ReplyFacts K D
+  TimesOut : Option (ℕ × TimeoutReason) → ReplyFacts K D
+  Done : ReplyFacts K D
+  Restarted : ReplyFacts K D
+  NotRestarted : RecoverError → ReplyFacts K D
+  Refused : Fault → ReplyFacts K D
+  NotAllowed : ReplyFacts K D
 
 module _ {S D K G C : Type 0} where
   -- a vote as the entry that it is recorded as
 
   -- a vote to nullify that is answered, with whether it was sent before
-  abbrev pub told_nullify : Option (Bool × vote.Nullify S K G C) → Option (Bool × ArtifactFacts D)
-  told_nullify vote = option_map (λ v. (v.0, NullifyVote v.1.round v.1.signer)) vote
+  abbrev pub reply_nullify : Option (Bool × vote.Nullify S K G C) → Option (Bool × ArtifactFacts D)
+  reply_nullify vote = option_map (λ v. (v.0, NullifyVote v.1.round v.1.signer)) vote
 
   -- a vote to finalize that is answered
-  abbrev pub told_finalize : Option (final.Finalize S D K G C) → Option (ArtifactFacts D)
-  told_finalize vote = option_map (λ v. FinalizeVote v.proposal v.signer) vote
+  abbrev pub reply_finalize : Option (final.Finalize S D K G C) → Option (ArtifactFacts D)
+  reply_finalize vote = option_map (λ v. FinalizeVote v.proposal v.signer) vote
 
   -- a vote to notarize
-  abbrev pub told_notarize : Option (first.Notarize S D K G C) → Option (ArtifactFacts D)
-  told_notarize vote = option_map (λ v. NotarizeVote v.proposal v.signer) vote
+  abbrev pub reply_notarize : Option (first.Notarize S D K G C) → Option (ArtifactFacts D)
+  reply_notarize vote = option_map (λ v. NotarizeVote v.proposal v.signer) vote
 
 module _ {S D K G C : Type 0} (bytes_of : C → List ℕ) where
   -- a reply, as plain data
-  abbrev pub told : Reply S D K G C → Told K D
+  abbrev pub told : Reply S D K G C → ReplyFacts K D
   told reply.Unit = Done
   told (reply.Flag taken) = Answered taken
   told (reply.Added newly leader) = Added newly leader
@@ -124,10 +124,10 @@ module _ {S D K G C : Type 0} (bytes_of : C → List ℕ) where
   told (reply.Work verify) = Standing verify
   told (reply.Candidates proposals fetches) = Candidates proposals.items fetches.items
   told (reply.Certified success notarization) = Judged success (option_map (notarization_facts bytes_of) notarization)
-  told (reply.Notarize vote) = Notarize (told_notarize vote)
-  told (reply.Nullify vote) = Nullify (told_nullify vote)
-  told (reply.Finalize vote) = Finalize (told_finalize vote)
-  told (reply.Certificate certificate) = Handed (option_map (certificate_facts bytes_of) certificate)
+  told (reply.Notarize vote) = Notarize (reply_notarize vote)
+  told (reply.Nullify vote) = Nullify (reply_nullify vote)
+  told (reply.Finalize vote) = Finalize (reply_finalize vote)
+  told (reply.Certificate certificate) = Returned (option_map (certificate_facts bytes_of) certificate)
   told (reply.Timeout at reason) = TimesOut (Some (at, reason))
   told (reply.Views views) = Dropped views.items
   told (reply.Released was_open) = Released was_open

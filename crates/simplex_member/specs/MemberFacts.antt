@@ -6,7 +6,7 @@ use Rattle.simplex_types.specs.declared.types.fault.Fault.TheVariants as fault
 use Rattle.simplex_voter.specs.Facts.{StateFacts, Elect}
 use Rattle.simplex_record.specs.Votes.{SignedVote}
 use Rattle.simplex_member.specs.CallConditions.{is_allowed, fault_of, needs_room, may_fall}
-use Rattle.simplex_member.specs.Calls.{CallFacts, Told, Refused, NotAllowed}
+use Rattle.simplex_member.specs.Calls.{CallFacts, ReplyFacts, Refused, NotAllowed}
 use Rattle.simplex_member.specs.CallSemantics.{answer, after_call, outstanding_work_after, recorded_by}
 use Rattle.simplex_member.specs.OutstandingWork.{OutstandingWork, no_outstanding_work}
 
@@ -42,27 +42,27 @@ open_while failed o = if failed then no_outstanding_work else o
 
 module _ {K D : Type 0} where
   -- told, unless a fault is due
-  abbrev pub unless_refused : Option Fault → Told K D → Told K D
+  abbrev pub unless_refused : Option Fault → ReplyFacts K D → ReplyFacts K D
   unless_refused None told = told
   unless_refused (Some fault) told = Refused fault
 
 module _ {K L D : Type 0} where
   -- the record stays, and what is known of it
-  abbrev pub without_life : MemberFacts K L D → MemberFacts K L D
-  without_life m = record m { life = None; outstanding_work = no_outstanding_work }
+  abbrev pub without_lifetime : MemberFacts K L D → MemberFacts K L D
+  without_lifetime m = record m { life = None; outstanding_work = no_outstanding_work }
 
   -- its record is as it was, with more behind it
   abbrev pub HasGrown : MemberFacts K L D → MemberFacts K L D → Type 0
   HasGrown m left = (more : List (ArtifactFacts D)) × (left.entries ≡ m.entries ++ more)
 
   -- left, unless a fault is due
-  abbrev pub unless_kept : Option Fault → MemberFacts K L D → MemberFacts K L D → MemberFacts K L D
-  unless_kept None m next = next
-  unless_kept (Some fault) m next = m
+  abbrev pub unless_retained : Option Fault → MemberFacts K L D → MemberFacts K L D → MemberFacts K L D
+  unless_retained None m next = next
+  unless_retained (Some fault) m next = m
 
 module _ {K L D : Type 0} (same : D → D → Bool) (elect : Elect L) where
   -- what a living member tells
-  abbrev pub reply_of : StateFacts K L D → OutstandingWork K D → CallFacts D → Told K D
+  abbrev pub reply_of : StateFacts K L D → OutstandingWork K D → CallFacts D → ReplyFacts K D
   reply_of x o call = if is_allowed x o call then unless_refused (fault_of x call) (answer same elect x o call) else NotAllowed
 
   -- with what a call makes of the state and of what is open, and with what the record grows by
@@ -75,26 +75,26 @@ module _ {K L D : Type 0} (same : D → D → Bool) (elect : Elect L) where
 
   -- what is left of a living member
   abbrev pub left_of : StateFacts K L D → MemberFacts K L D → CallFacts D → MemberFacts K L D
-  left_of x m call = if is_allowed x m.outstanding_work call then unless_kept (fault_of x call) m (with_call x m call) else m
+  left_of x m call = if is_allowed x m.outstanding_work call then unless_retained (fault_of x call) m (with_call x m call) else m
 
   -- what want of memory leaves: there was no room before the state was called, and nothing has changed; or no fault was due,
   -- and the member has failed
-  abbrev pub IsLeftWanting : StateFacts K L D → MemberFacts K L D → CallFacts D → MemberFacts K L D → Type 0
-  IsLeftWanting x m call left =
+  abbrev pub IsLeftOutOfMemory : StateFacts K L D → MemberFacts K L D → CallFacts D → MemberFacts K L D → Type 0
+  IsLeftOutOfMemory x m call left =
       ((needs_room x call ≡ true) × (left ≡ m))
-      ⊎ ((fault_of x call ≡ None) × (may_fall x call ≡ true) × (left ≡ without_life m))
+      ⊎ ((fault_of x call ≡ None) × (may_fall x call ≡ true) × (left ≡ without_lifetime m))
 
   -- a living member answers by the definitions, or memory was wanting of a call that is allowed
-  abbrev pub Answers : StateFacts K L D → MemberFacts K L D → CallFacts D → Told K D → MemberFacts K L D → Type 0
+  abbrev pub Answers : StateFacts K L D → MemberFacts K L D → CallFacts D → ReplyFacts K D → MemberFacts K L D → Type 0
   Answers x m call told left =
       ((told ≡ reply_of x m.outstanding_work call) × (left ≡ left_of x m call))
-      ⊎ ((is_allowed x m.outstanding_work call ≡ true) × (told ≡ Refused fault.OutOfMemory) × IsLeftWanting x m call left)
+      ⊎ ((is_allowed x m.outstanding_work call ≡ true) × (told ≡ Refused fault.OutOfMemory) × IsLeftOutOfMemory x m call left)
 
   -- a member that has failed refuses each call, and stays as it was
-  abbrev pub AnswersAlive : Option (StateFacts K L D) → MemberFacts K L D → CallFacts D → Told K D → MemberFacts K L D → Type 0
+  abbrev pub AnswersAlive : Option (StateFacts K L D) → MemberFacts K L D → CallFacts D → ReplyFacts K D → MemberFacts K L D → Type 0
   AnswersAlive None m call told left = (told ≡ Refused fault.Failed) × (left ≡ m)
   AnswersAlive (Some x) m call told left = Answers x m call told left
 
   -- a call of a member, what it tells and what is left of the member
-  unfoldable pub IsCall : MemberFacts K L D → CallFacts D → Told K D → MemberFacts K L D → Type 0
+  unfoldable pub IsCall : MemberFacts K L D → CallFacts D → ReplyFacts K D → MemberFacts K L D → Type 0
   IsCall m call told left = AnswersAlive m.life m call told left

@@ -4,25 +4,25 @@ use Rattle.simplex_types.specs.declared.types.fault.Fault.TheVariants as fault
 use Rattle.simplex_round.specs.Round.{is_nullify, is_finalize}
 use Rattle.simplex_voter.specs.Facts.{StateFacts, Elect, round_of}
 use Rattle.simplex_member.specs.CallConditions.{is_allowed, fault_of}
-use Rattle.simplex_member.specs.Calls.{CallFacts, AddNotarization, AddNullification, AddFinalization, SetProposal, TryPropose, Proposed, SupersedeProposalRequest, PendingHandoffAbandonment, ReleaseProposalRequest, TryVerify, Verified, VerificationFailed, ConstructNotarize, CertifyCandidates, SetCertifyHandle, Certified, ConstructNullify, ConstructFinalize, BroadcastNotarization, BroadcastNullification, BroadcastFinalization, GetBestCertificate, TriggerTimeout, NextTimeout, Prune, Told, Added, AddedNullification, Judged, Nullify, Finalize, Notarize, Handed, Dropped, Requested, Standing, Answered, Abandoned, Candidates, Released, Triggered, TimesOut, Done, Refused, NotAllowed}
-use Rattle.simplex_member.specs.MemberFacts.{MemberFacts, without_life, with_call}
+use Rattle.simplex_member.specs.Calls.{CallFacts, AddNotarization, AddNullification, AddFinalization, SetProposal, TryPropose, Proposed, SupersedeProposalRequest, PendingHandoffAbandonment, ReleaseProposalRequest, TryVerify, Verified, VerificationFailed, ConstructNotarize, CertifyCandidates, SetCertifyHandle, Certified, ConstructNullify, ConstructFinalize, BroadcastNotarization, BroadcastNullification, BroadcastFinalization, GetBestCertificate, TriggerTimeout, NextTimeout, Prune, ReplyFacts, Added, AddedNullification, Judged, Nullify, Finalize, Notarize, Returned, Dropped, Requested, Standing, Answered, Abandoned, Candidates, Released, Triggered, TimesOut, Done, Refused, NotAllowed}
+use Rattle.simplex_member.specs.MemberFacts.{MemberFacts, without_lifetime, with_call}
 use Rattle.simplex_member.specs.CallSemantics.{answer}
 use Rattle.simplex_member.specs.declared.member.refusal.Refusal.{Refusal}
 use Rattle.simplex_member.specs.declared.member.refusal.Refusal.TheVariants as refusal
 
 module _ {K D : Type 0} where
   -- what is told of a refusal
-  abbrev pub told_refused : Refusal → Told K D
+  abbrev pub told_refused : Refusal → ReplyFacts K D
   told_refused (refusal.Fault due) = Refused due
   told_refused refusal.NotAllowed = NotAllowed
 
   -- what is told of a result: its answer, or why there is none
-  abbrev pub told_of : {T : Type 0} → (T → Told K D) → Result T Refusal → Told K D
+  abbrev pub told_of : {T : Type 0} → (T → ReplyFacts K D) → Result T Refusal → ReplyFacts K D
   told_of tell (Ok answered) = tell answered
   told_of tell (Err refused) = told_refused refused
 
   -- whether a call may be told so: an answer of its kind, or refused
-  abbrev pub is_reply_to : Told K D → CallFacts D → Bool
+  abbrev pub is_reply_to : ReplyFacts K D → CallFacts D → Bool
   is_reply_to (Refused due) call = true
   is_reply_to NotAllowed call = true
   is_reply_to (Added _ _) (AddNotarization _) = true
@@ -43,37 +43,37 @@ module _ {K D : Type 0} where
   is_reply_to (Judged _ _) (Certified _ _ _) = true
   is_reply_to (Nullify _) (ConstructNullify _) = true
   is_reply_to (Finalize _) (ConstructFinalize _) = true
-  is_reply_to (Handed _) (BroadcastNotarization _) = true
-  is_reply_to (Handed _) (BroadcastNullification _) = true
-  is_reply_to (Handed _) (BroadcastFinalization _) = true
-  is_reply_to (Handed _) GetBestCertificate = true
+  is_reply_to (Returned _) (BroadcastNotarization _) = true
+  is_reply_to (Returned _) (BroadcastNullification _) = true
+  is_reply_to (Returned _) (BroadcastFinalization _) = true
+  is_reply_to (Returned _) GetBestCertificate = true
   is_reply_to (Triggered _) (TriggerTimeout _ _ _) = true
   is_reply_to (TimesOut _) (NextTimeout _) = true
   is_reply_to (Dropped _) Prune = true
   is_reply_to _ _ = false
 
   -- a claim of an answer, and one of a refusal
-  abbrev pub IfAnswered : Told K D → Type 0 → Type 0
+  abbrev pub IfAnswered : ReplyFacts K D → Type 0 → Type 0
   IfAnswered (Refused due) claim = Unit {0}
   IfAnswered NotAllowed claim = Unit {0}
   IfAnswered _ claim = claim
 
   -- this holds of the refusal, where it is one
-  abbrev pub IfRefused : Told K D → (Refusal → Type 0) → Type 0
+  abbrev pub IfRefused : ReplyFacts K D → (Refusal → Type 0) → Type 0
   IfRefused (Refused due) claim = claim (refusal.Fault due)
   IfRefused NotAllowed claim = claim refusal.NotAllowed
   IfRefused _ claim = Unit {0}
 
 module _ {K L D : Type 0} where
   -- a refusal changes nothing; but after want of memory the member may have failed
-  abbrev pub UnchangedButLife : MemberFacts K L D → Refusal → MemberFacts K L D → Type 0
-  UnchangedButLife m (refusal.Fault fault.OutOfMemory) left = (left ≡ m) ⊎ (left ≡ without_life m)
-  UnchangedButLife m _ left = left ≡ m
+  abbrev pub UnchangedButLifetime : MemberFacts K L D → Refusal → MemberFacts K L D → Type 0
+  UnchangedButLifetime m (refusal.Fault fault.OutOfMemory) left = (left ≡ m) ⊎ (left ≡ without_lifetime m)
+  UnchangedButLifetime m _ left = left ≡ m
 
 module _ {K L D : Type 0} (same : D → D → Bool) (elect : Elect L) where
   -- a call that is answered: the member lives, what the call asks is so, and no fault is due; it is told by its definition, and
   -- leaves what its definition makes of the state, of what is open and of the record
-  pub record IsAnswered (m : MemberFacts K L D) (call : CallFacts D) (told : Told K D) (left : MemberFacts K L D) : Type 0 where
+  pub record IsAnswered (m : MemberFacts K L D) (call : CallFacts D) (told : ReplyFacts K D) (left : MemberFacts K L D) : Type 0 where
     pub state : StateFacts K L D
     pub alive : m.life ≡ Some state
     pub allowed : is_allowed state m.outstanding_work call ≡ true

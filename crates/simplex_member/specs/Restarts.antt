@@ -10,7 +10,7 @@ use Rattle.simplex_record.specs.declared.record.error.RecoverError.TheVariants a
 use Rattle.simplex_record.specs.Entries.{entry_view}
 use Rattle.simplex_record.specs.Cuts.{without_last, pruned_entries}
 use Rattle.simplex_member.specs.OutstandingWork.{no_outstanding_work}
-use Rattle.simplex_member.specs.MemberFacts.{MemberFacts, without_life}
+use Rattle.simplex_member.specs.MemberFacts.{MemberFacts, without_lifetime}
 use Rattle.simplex_record.specs.Votes.{SignedVote, pruned_votes}
 use Rattle.simplex_record.specs.Recovery.{recovered_state, recover_error, with_floor}
 use Rattle.simplex_record.specs.Start.{StartFacts, start_facts, new_state}
@@ -62,8 +62,8 @@ module _ {K L D : Type 0} where
 
 module _ {K L D : Type 0} (same : D → D → Bool) (elect : Elect L) where
   -- a new life from a copy of the record, with the floor's finalization in the record
-  abbrev pub new_life : MemberFacts K L D → StartFacts K L D → List (ArtifactFacts D) → MemberFacts K L D
-  new_life m start copy = record m {
+  abbrev pub new_lifetime : MemberFacts K L D → StartFacts K L D → List (ArtifactFacts D) → MemberFacts K L D
+  new_lifetime m start copy = record m {
     life = Some (recovered_state same elect (new_state start.setup) start.floor start.now copy);
     outstanding_work = no_outstanding_work;
     entries = with_floor m.entries start.floor;
@@ -76,13 +76,13 @@ module _ {K L D : Type 0} (same : D → D → Bool) (elect : Elect L) where
   RecoversFrom m start copy result left =
       MatchOption
       (recover_error same (new_state start.setup) start.floor start.now copy)
-      ((result ≡ Ok tt) × (left ≡ new_life m start copy))
-      (λ e. (result ≡ Err e) × (left ≡ without_life m))
+      ((result ≡ Ok tt) × (left ≡ new_lifetime m start copy))
+      (λ e. (result ≡ Err e) × (left ≡ without_lifetime m))
 
   -- how it goes on from its record by view; or a growth was refused
   abbrev pub RecoversByView : MemberFacts K L D → StartFacts K L D → Result (Unit {0}) RecoverError → MemberFacts K L D → Type 0
   RecoversByView m start result left =
-      ((result ≡ Err error.OutOfMemory) × (left ≡ without_life m))
+      ((result ≡ Err error.OutOfMemory) × (left ≡ without_lifetime m))
       ⊎ ((copy : List (ArtifactFacts D)) × IsByView m.entries copy × RecoversFrom m start copy result left)
 
   -- refused at once, with nothing changed, where more views are to be kept of a pruned record; else it goes on from what

@@ -6,7 +6,7 @@ use Rattle.simplex_record.specs.declared.record.error.RecoverError.{RecoverError
 use Rattle.simplex_record.specs.declared.record.error.RecoverError.TheVariants as error
 use Rattle.simplex_member.specs.declared.member.runs.Step.{Step}
 use Rattle.simplex_member.specs.declared.member.runs.Step.TheVariants as step
-use Rattle.simplex_member.specs.Calls.{CallFacts, Told, Done, Restarted, NotRestarted, asked}
+use Rattle.simplex_member.specs.Calls.{CallFacts, ReplyFacts, Done, Restarted, NotRestarted, asked}
 use Rattle.simplex_member.specs.MemberFacts.{MemberFacts, IsCall}
 use Rattle.simplex_record.specs.Recovery.{recover_error}
 use Rattle.simplex_member.specs.Restarts.{RestartFacts, restart_facts, IsRestart}
@@ -44,25 +44,25 @@ AreSetUp participants members (step ∷ steps) = IsSetUp participants members st
 
 module _ {K D : Type 0} where
   -- what a restart is told
-  abbrev pub restart_told : Result (Unit {0}) RecoverError → Told K D
-  restart_told (Ok _) = Restarted
-  restart_told (Err e) = NotRestarted e
+  abbrev pub restart_reply : Result (Unit {0}) RecoverError → ReplyFacts K D
+  restart_reply (Ok _) = Restarted
+  restart_reply (Err e) = NotRestarted e
 
   -- a restart is told that it was refused
-  abbrev pub is_refusal : Told K D → Bool
+  abbrev pub is_refusal : ReplyFacts K D → Bool
   is_refusal (NotRestarted _) = true
   is_refusal _ = false
 
 module _ {K L D : Type 0} (same : D → D → Bool) (elect : Elect L) where
   -- a call is answered, a pruning is done, and a restart succeeds or is refused
-  abbrev pub IsStep : MemberFacts K L D → StepFacts K L D → Told K D → MemberFacts K L D → Type 0
+  abbrev pub IsStep : MemberFacts K L D → StepFacts K L D → ReplyFacts K D → MemberFacts K L D → Type 0
   IsStep m (Calls call) told next = IsCall same elect m call told next
   IsStep m Prunes told next = (told ≡ Done) × (next ≡ pruned_member m)
   IsStep m (Restarts r) told next =
-      (result : Result (Unit {0}) RecoverError) × IsRestart same elect m r result next × (told ≡ restart_told result)
+      (result : Result (Unit {0}) RecoverError) × IsRestart same elect m r result next × (told ≡ restart_reply result)
 
   -- each step is told something, by what the steps before it left
-  abbrev pub IsRun : MemberFacts K L D → List (StepFacts K L D) → List (Told K D) → MemberFacts K L D → Type 0
+  abbrev pub IsRun : MemberFacts K L D → List (StepFacts K L D) → List (ReplyFacts K D) → MemberFacts K L D → Type 0
   IsRun m [] [] end = m ≡ end
   IsRun m [] (told ∷ rest) end = ⊥
   IsRun m (step ∷ steps) [] end = ⊥
@@ -80,14 +80,14 @@ module _ {K L D : Type 0} (same : D → D → Bool) (elect : Elect L) where
   EndsRun m [] found = ⊥
   EndsRun m (step ∷ steps) found =
       IsRefused m step found
-      ⊎ ((told : Told K D)
+      ⊎ ((told : ReplyFacts K D)
       × (next : MemberFacts K L D)
       × IsStep m step told next
       × (is_refusal told ≡ false)
       × EndsRun next steps found)
 
   -- a member starts, and takes the steps
-  unfoldable pub IsRunFrom : StartFacts K L D → List (StepFacts K L D) → List (Told K D) → Type 0
+  unfoldable pub IsRunFrom : StartFacts K L D → List (StepFacts K L D) → List (ReplyFacts K D) → Type 0
   IsRunFrom start steps replies =
       (recover_error same (new_state start.setup) start.floor start.now [] ≡ None)
       × (end : MemberFacts K L D)

@@ -9,22 +9,22 @@ use Rattle.simplex_program.specs.Line.{IsFirstLine, IsNextLine, ReadsNextLine, G
 
 -- no feed stands among the bytes: a line goes on behind them
 pub record IsPassed (bs : List ℕ) : Type 0 where
-  pub goes_on : (others : List ℕ) → take_through 10 (bs ++ others) ≡ bs ++ take_through 10 others
+  pub continues : (others : List ℕ) → take_through 10 (bs ++ others) ≡ bs ++ take_through 10 others
 
 pub passed_none : (bs : List ℕ) → bs ≡ [] → IsPassed bs
-passed_none bs empty = rw empty (record { goes_on = λ others. refl })
+passed_none bs empty = rw empty (record { continues = λ others. refl })
 
 pub passed_more : (bs more : List ℕ) (b : ℕ) → IsPassed bs → b ≢ 10 → more ≡ bs ++ b ∷ [] → IsPassed more
 passed_more bs more b passed other is = rw is (record {
-  goes_on = λ others.
+  continues = λ others.
       let step : take_through 10 (b ∷ others) ≡ b ∷ take_through 10 others = rw (ne_eqb b 10 other) refl in
-      ap (take_through 10) (append_assoc bs (b ∷ []) others) ∙ (passed.goes_on (b ∷ others)
+      ap (take_through 10) (append_assoc bs (b ∷ []) others) ∙ (passed.continues (b ∷ others)
       ∙ (ap (λ (rest : List ℕ). bs ++ rest) step ∙ sym (append_assoc bs (b ∷ []) (take_through 10 others))));
 })
 
 -- what is read of at most m bytes
 cut : (bs others : List ℕ) (n m : ℕ) → IsPassed bs → m ≡ length bs + n → take_through 10 (take m (bs ++ others)) ≡ bs ++ take_through 10 (take n others)
-cut bs others n m passed is = rw (is, take-append-add bs others n) (passed.goes_on (take n others))
+cut bs others n m passed is = rw (is, take-append-add bs others n) (passed.continues (take n others))
 
 -- what is taken twice is taken together
 pub taken : (a b c : Option (List ℕ)) (xs ys : List ℕ) → Consumes a b xs → Consumes b c ys → Consumes a c (xs ++ ys)

@@ -21,14 +21,14 @@ passed_all (x ∷ bs) none = by_test (passed_all bs) (x == 10) refl
   where
     by_test : (HasNoFeed bs → IsPassed bs) → (b : Bool) → (x == 10) ≡ b → IsPassed (x ∷ bs)
     by_test rest true feed = absurd (let first = rw feed at none in omega (arith, first))
-    by_test rest false other = let more = rw other at none in record { goes_on = λ others. rw other (ap (λ (ys : List ℕ). x ∷ ys) ((rest (omega (arith, more))).goes_on others)) }
+    by_test rest false other = let more = rw other at none in record { continues = λ others. rw other (ap (λ (ys : List ℕ). x ∷ ys) ((rest (omega (arith, more))).continues others)) }
 
 pub passed_both : (bs more : List ℕ) → IsPassed bs → IsPassed more → IsPassed (bs ++ more)
 passed_both bs more first second = record {
-  goes_on = λ others.
+  continues = λ others.
       ap (take_through 10) (append_assoc bs more others)
-      ∙ (first.goes_on (more ++ others)
-      ∙ (ap (λ (rest : List ℕ). bs ++ rest) (second.goes_on others) ∙ sym (append_assoc bs more (take_through 10 others))));
+      ∙ (first.continues (more ++ others)
+      ∙ (ap (λ (rest : List ℕ). bs ++ rest) (second.continues others) ∙ sym (append_assoc bs more (take_through 10 others))));
 }
 
 -- a line that goes on with a part

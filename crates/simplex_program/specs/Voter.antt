@@ -36,33 +36,33 @@ pub record IsProposal (v p d : ℕ) (q : Proposal PlainDigest) : Type 0 where
 
 -- the call that a line stands for; its certificate is good, its proposal is of the view that it is handed in for, and a
 -- proposal that is rejected is invalid
-abbrev pub StandsFor : VoterLine → PlainCall → Type 0
-StandsFor (Notarization v p d) (AddNotarization c) = IsProposal v p d c.proposal × (c.bytes ≡ 1 ∷ [])
-StandsFor (Nullification v now) (AddNullification c moment) = (c.round ≡ round_in_epoch v) × (c.bytes ≡ 1 ∷ []) × (moment ≡ now)
-StandsFor (Finalization v p d now) (AddFinalization c moment) = IsProposal v p d c.proposal × (c.bytes ≡ 1 ∷ []) × (moment ≡ now)
-StandsFor (Verdict v success now) call = call ≡ Certified v success now
-StandsFor (ProposalOf v p d) (SetProposal w q) = (w ≡ v) × IsProposal v p d q
-StandsFor Propose call = call ≡ TryPropose
-StandsFor (Built v d now) (Proposed w payload moment) = (w ≡ v) × IsPayload d payload × (moment ≡ now)
-StandsFor (Supersede v) call = call ≡ SupersedeProposalRequest v
-StandsFor (Abandon v) call = call ≡ PendingHandoffAbandonment v
-StandsFor (Release v) call = call ≡ ReleaseProposalRequest v
-StandsFor Verify call = call ≡ TryVerify
-StandsFor (FoundValid v) call = call ≡ Verified v
-StandsFor (Rejected v now) call = call ≡ VerificationFailed v InvalidProposal now
-StandsFor Candidates call = call ≡ CertifyCandidates
-StandsFor (Token v token) call = call ≡ SetCertifyHandle v token
-StandsFor (Notarize v) call = call ≡ ConstructNotarize v
-StandsFor (Nullify v) call = call ≡ ConstructNullify v
-StandsFor (Finalize v) call = call ≡ ConstructFinalize v
-StandsFor (Broadcast kind.Notarization v) call = call ≡ BroadcastNotarization v
-StandsFor (Broadcast kind.Nullification v) call = call ≡ BroadcastNullification v
-StandsFor (Broadcast kind.Finalization v) call = call ≡ BroadcastFinalization v
-StandsFor Best call = call ≡ GetBestCertificate
-StandsFor (Trigger v reason now) call = call ≡ TriggerTimeout v reason now
-StandsFor (Timeout now) call = call ≡ NextTimeout now
-StandsFor Prune call = call ≡ PruneCall
-StandsFor _ _ = ⊥
+abbrev pub DenotesCall : VoterLine → PlainCall → Type 0
+DenotesCall (Notarization v p d) (AddNotarization c) = IsProposal v p d c.proposal × (c.bytes ≡ 1 ∷ [])
+DenotesCall (Nullification v now) (AddNullification c moment) = (c.round ≡ round_in_epoch v) × (c.bytes ≡ 1 ∷ []) × (moment ≡ now)
+DenotesCall (Finalization v p d now) (AddFinalization c moment) = IsProposal v p d c.proposal × (c.bytes ≡ 1 ∷ []) × (moment ≡ now)
+DenotesCall (Verdict v success now) call = call ≡ Certified v success now
+DenotesCall (ProposalOf v p d) (SetProposal w q) = (w ≡ v) × IsProposal v p d q
+DenotesCall Propose call = call ≡ TryPropose
+DenotesCall (Built v d now) (Proposed w payload moment) = (w ≡ v) × IsPayload d payload × (moment ≡ now)
+DenotesCall (Supersede v) call = call ≡ SupersedeProposalRequest v
+DenotesCall (Abandon v) call = call ≡ PendingHandoffAbandonment v
+DenotesCall (Release v) call = call ≡ ReleaseProposalRequest v
+DenotesCall Verify call = call ≡ TryVerify
+DenotesCall (FoundValid v) call = call ≡ Verified v
+DenotesCall (Rejected v now) call = call ≡ VerificationFailed v InvalidProposal now
+DenotesCall Candidates call = call ≡ CertifyCandidates
+DenotesCall (Token v token) call = call ≡ SetCertifyHandle v token
+DenotesCall (Notarize v) call = call ≡ ConstructNotarize v
+DenotesCall (Nullify v) call = call ≡ ConstructNullify v
+DenotesCall (Finalize v) call = call ≡ ConstructFinalize v
+DenotesCall (Broadcast kind.Notarization v) call = call ≡ BroadcastNotarization v
+DenotesCall (Broadcast kind.Nullification v) call = call ≡ BroadcastNullification v
+DenotesCall (Broadcast kind.Finalization v) call = call ≡ BroadcastFinalization v
+DenotesCall Best call = call ≡ GetBestCertificate
+DenotesCall (Trigger v reason now) call = call ≡ TriggerTimeout v reason now
+DenotesCall (Timeout now) call = call ≡ NextTimeout now
+DenotesCall Prune call = call ≡ PruneCall
+DenotesCall _ _ = ⊥
 
 -- the lines that stand for calls: a certificate or a verdict is brought
 abbrev pub brings : VoterLine → Bool
@@ -140,4 +140,4 @@ IsDone n m _ a left = (a ≡ shown_views m.life) × (left ≡ m)
 abbrev pub VoterAnswers : Network → PlainMember → VoterLine → VoterAnswer → PlainMember → Type 0
 VoterAnswers n m line a left =
     ((is_no_call line ≡ true) × IsDone n m line a left)
-    ⊎ ((call : PlainCall) × StandsFor line call × IsReplied m call a left)
+    ⊎ ((call : PlainCall) × DenotesCall line call × IsReplied m call a left)

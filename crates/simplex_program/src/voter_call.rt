@@ -5,7 +5,7 @@ ghost use Rattle.simplex_types.specs.Plain.{digest_bytes};
 ghost use Rattle.simplex_member.specs.Calls.{asked};
 ghost use Rattle.simplex_program.specs.declared.voter_line.VoterLine.TheVariants.{Broadcast};
 ghost use Rattle.simplex_program.specs.Plain.{plain_bytes};
-ghost use Rattle.simplex_program.specs.Voter.{StandsFor, IsProposal, is_no_call, brings, builds_proposals, is_about_proposals, asks};
+ghost use Rattle.simplex_program.specs.Voter.{DenotesCall, IsProposal, is_no_call, brings, builds_proposals, is_about_proposals, asks};
 
 use crate::rounds::{nullification_of, round_of};
 use crate::voter_line::{CertificateKind, VoterLine};
@@ -16,7 +16,7 @@ use simplex_types::types::{Finalization, Notarization, Proposal, View};
 
 /// The call that a line stands for, if it stands for one.
 pub(crate) fn call_of(line: &VoterLine) -> Option<Call<PlainScheme, PlainDigest>>
-    ensures { MatchOption result (is_no_call line.now ≡ true) (λ call. StandsFor line.now (asked plain_bytes call)) }
+    ensures { MatchOption result (is_no_call line.now ≡ true) (λ call. DenotesCall line.now (asked plain_bytes call)) }
 {
     if let Some(call) = certificate_call(line) {
         return Some(call);
@@ -32,7 +32,7 @@ pub(crate) fn call_of(line: &VoterLine) -> Option<Call<PlainScheme, PlainDigest>
 
 /// The call of a line that brings a certificate or a verdict.
 fn certificate_call(line: &VoterLine) -> Option<Call<PlainScheme, PlainDigest>>
-    ensures { MatchOption result (brings line.now ≡ false) (λ call. StandsFor line.now (asked plain_bytes call)) }
+    ensures { MatchOption result (brings line.now ≡ false) (λ call. DenotesCall line.now (asked plain_bytes call)) }
 {
     match *line {
         VoterLine::Notarization {
@@ -59,7 +59,7 @@ fn certificate_call(line: &VoterLine) -> Option<Call<PlainScheme, PlainDigest>>
 
 /// The call of a line on what this member builds_proposals.
 fn building_call(line: &VoterLine) -> Option<Call<PlainScheme, PlainDigest>>
-    ensures { MatchOption result (builds_proposals line.now ≡ false) (λ call. StandsFor line.now (asked plain_bytes call)) }
+    ensures { MatchOption result (builds_proposals line.now ≡ false) (λ call. DenotesCall line.now (asked plain_bytes call)) }
 {
     match *line {
         VoterLine::Propose => Some(Call::TryPropose),
@@ -75,7 +75,7 @@ fn building_call(line: &VoterLine) -> Option<Call<PlainScheme, PlainDigest>>
 
 /// The call of a line on the proposals of leaders, and on how they are judged.
 fn judging_call(line: &VoterLine) -> Option<Call<PlainScheme, PlainDigest>>
-    ensures { MatchOption result (is_about_proposals line.now ≡ false) (λ call. StandsFor line.now (asked plain_bytes call)) }
+    ensures { MatchOption result (is_about_proposals line.now ≡ false) (λ call. DenotesCall line.now (asked plain_bytes call)) }
 {
     match *line {
         VoterLine::Proposal {
@@ -97,7 +97,7 @@ fn judging_call(line: &VoterLine) -> Option<Call<PlainScheme, PlainDigest>>
 
 /// The call of a line that asks for a vote, a certificate, the next timeout or a pruning, or brings a timeout.
 fn asking_call(line: &VoterLine) -> Option<Call<PlainScheme, PlainDigest>>
-    ensures { MatchOption result (asks line.now ≡ false) (λ call. StandsFor line.now (asked plain_bytes call)) }
+    ensures { MatchOption result (asks line.now ≡ false) (λ call. DenotesCall line.now (asked plain_bytes call)) }
 {
     match *line {
         VoterLine::Notarize(view) => Some(Call::ConstructNotarize(view)),
@@ -113,7 +113,7 @@ fn asking_call(line: &VoterLine) -> Option<Call<PlainScheme, PlainDigest>>
 }
 
 fn broadcast_of(kind: CertificateKind, view: View) -> Call<PlainScheme, PlainDigest>
-    ensures { StandsFor (Broadcast kind view) (asked plain_bytes result) }
+    ensures { DenotesCall (Broadcast kind view) (asked plain_bytes result) }
 {
     match kind {
         CertificateKind::Notarization => Call::BroadcastNotarization(view),

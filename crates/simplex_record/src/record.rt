@@ -10,7 +10,7 @@ mod settings;
 mod start;
 
 pub use check::check_record;
-pub use cuts::{drop_last, keep_from, lowest_kept, prune_record};
+pub use cuts::{drop_last, keep_from, lowest_retained, prune_record};
 pub use error::RecoverError;
 pub use recovery::{recover, remake};
 pub use settings::StartError;

@@ -10,7 +10,7 @@ use Rattle.simplex_types.specs.declared.reasons.Kind.TheVariants.{Nullification 
 use Rattle.simplex_resolver.specs.declared.resolver.effect.Effect.{Effect}
 use Rattle.simplex_resolver.specs.declared.resolver.effect.Effect.TheVariants.{Settled, Raised}
 use Rattle.simplex_resolver.specs.Facts.{ResolverFacts, term_length, last_finalized, starts_term}
-use Rattle.simplex_resolver.specs.Steps.{Call, Nullification, Notarization, Finalization, Verdict, Replayed, scan_start, scan_end, scan_fetches, missing_fetches, missing, without_finalized, with_kept_finalization, before_scan, settle_effects, after, effects}
+use Rattle.simplex_resolver.specs.Steps.{Call, Nullification, Notarization, Finalization, Verdict, Replayed, scan_start, scan_end, scan_fetches, missing_fetches, missing, without_finalized, with_stored_finalization, before_scan, settle_effects, after, effects}
 use Rattle.simplex_resolver.specs.ReceivedFacts.{NamesAView, greatest, floor_raised_to, current_view, are_alike}
 use Rattle.simplex_resolver.specs.Repair.{fetches, facts_of, RecordedAgainFetchesNothing}
 use Rattle.simplex_resolver.proofs.Terms.{AreTerms, terms}
@@ -149,7 +149,7 @@ same_scan x (Notarization u) is low under =
     let s : SameScan x (record x { current = max x.current u }) = record { current = upto x u low; floor = refl; scanned = refl; replaying = refl } in
     same_if (nat_lt (last_finalized x) u) x _ _ (record { current = upto x u low; floor = refl; scanned = refl; replaying = refl }) s
 same_scan x (Finalization u e) is low under =
-    let y = without_finalized (with_kept_finalization x u e) (max (last_finalized x) u) in
+    let y = without_finalized (with_stored_finalization x u e) (max (last_finalized x) u) in
     same_raise (nat_lt y.floor u) x y u (cond (starts_term (term_length y) (u + 1)) y.scanned (min y.scanned (u + 1))) refl under
     (record { current = upto x u low; floor = refl; scanned = refl; replaying = refl })
 same_scan x (Verdict u e success) is low under = absurd (cc)

@@ -9,13 +9,13 @@ use Rattle.simplex_types.specs.declared.types.messages.Certificate.TheVariants.{
 use Rattle.simplex_resolver.specs.declared.resolver.effect.Effect.{Effect}
 use Rattle.simplex_resolver.specs.Answers.{AnswersFit}
 use Rattle.simplex_resolver.specs.Steps.{Call, update, after, effects}
-use Rattle.simplex_resolver.specs.ReceivedFacts.{NamesAView, is_replayed, is_wanted}
+use Rattle.simplex_resolver.specs.ReceivedFacts.{NamesAView, is_replayed, is_needed}
 use Rattle.simplex_resolver.specs.Repair.{has, fetches, is_outstanding, facts_of, effects_of, IsApplied}
 use Rattle.simplex_resolver.proofs.Again.{recorded_again}
 use Rattle.simplex_resolver.proofs.AnswersLaw.{answers_are_of_the_received}
 use Rattle.simplex_resolver.proofs.RepairLaw.{all_fetched, stands, outstanding_is_wanted}
 use Rattle.simplex_resolver.proofs.Views.{keeps_outstanding}
-use Rattle.simplex_resolver.specs.CallHistory.{LawfulResolverFacts, HasBeenTold, IsMade, OpensTheWanted, OpensNone, OpensNoneAgain, AnswersTheTold}
+use Rattle.simplex_resolver.specs.CallHistory.{LawfulResolverFacts, HasReceivedCalls, IsMade, OpensTheOutstanding, OpensNone, OpensNoneAgain, AnswersTheReceived}
 
 -- a certificate of a view above genesis is handed in by a call that names a view
 pub update_names : {S D K G C : Type 0} (payload_bytes : D → List ℕ) (bytes_of : C → List ℕ) (certificate : Certificate S D K G C)
@@ -29,8 +29,8 @@ update_names payload_bytes bytes_of (Finalization f) h = h
 -- a record, whose last effects open the wanted fetches
 pub told_by_record : (t : ℕ) (calls : List Call) (r : LawfulResolverFacts) (es : List Effect)
     → 0 < t → AllByRecursion NamesAView calls → list_any is_replayed calls ≡ true → r.state ≡ facts_of t calls
-    → ((v : ℕ) → is_outstanding es v ≡ is_wanted t calls v) → IsApplied [] es r.open_fetches
-    → HasBeenTold t calls r
+    → ((v : ℕ) → is_outstanding es v ≡ is_needed t calls v) → IsApplied [] es r.open_fetches
+    → HasReceivedCalls t calls r
 told_by_record t calls r es long named replayed state wanted applied = record {
   long = long;
   named = named;
@@ -40,7 +40,7 @@ told_by_record t calls r es long named replayed state wanted applied = record {
 
 -- one more call
 pub still_told : (t : ℕ) (calls : List Call) (call : Call) (old new : LawfulResolverFacts) (es : List Effect)
-    → HasBeenTold t calls old → NamesAView call → IsMade call old es new → HasBeenTold t (call ∷ calls) new
+    → HasReceivedCalls t calls old → NamesAView call → IsMade call old es new → HasReceivedCalls t (call ∷ calls) new
 still_told t calls call old new es told names made = record {
   long = told.long;
   named = (names, told.named);
@@ -52,22 +52,22 @@ still_told t calls call old new es told names made = record {
 
 -- ---- the laws
 
-pub opens_the_wanted : (r : LawfulResolverFacts) (t : ℕ) (calls : List Call) → HasBeenTold t calls r → OpensTheWanted r t calls
+pub opens_the_wanted : (r : LawfulResolverFacts) (t : ℕ) (calls : List Call) → HasReceivedCalls t calls r → OpensTheOutstanding r t calls
 opens_the_wanted r t calls told replayed v = told.open_fetches v ∙ outstanding_is_wanted t calls told.long told.named replayed v
 
 none_there : (vs : List ℕ) → ((v : ℕ) → has vs v ≡ false) → vs ≡ []
 none_there [] none = refl
 none_there (u ∷ us) none = absurd (let here : (u == u || has us u) ≡ false = none u in grind (arith, nat_tests, here))
 
-pub opens_none : (r : LawfulResolverFacts) (t : ℕ) (calls : List Call) → HasBeenTold t calls r → OpensNone r t calls
+pub opens_none : (r : LawfulResolverFacts) (t : ℕ) (calls : List Call) → HasReceivedCalls t calls r → OpensNone r t calls
 opens_none r t calls told none =
     let replaying : (facts_of t calls).replaying ≡ true = (stands t calls told.long told.named).replaying ∙ ap not none in
     none_there r.open_fetches (λ v. told.open_fetches v ∙ ((all_fetched t calls told.long told.named).at_rest replaying).1 v)
 
-pub opens_none_again : (r : LawfulResolverFacts) (t : ℕ) (calls : List Call) → HasBeenTold t calls r → OpensNoneAgain r t calls
+pub opens_none_again : (r : LawfulResolverFacts) (t : ℕ) (calls : List Call) → HasReceivedCalls t calls r → OpensNoneAgain r t calls
 opens_none_again r t calls told call before v =
     ap (λ x. list_any (fetches v) (effects x call)) told.state ∙ recorded_again t calls call told.long told.named before v
 
-pub answers_the_told : (r : LawfulResolverFacts) (t : ℕ) (calls : List Call) → HasBeenTold t calls r → AnswersTheTold r t calls
+pub answers_the_told : (r : LawfulResolverFacts) (t : ℕ) (calls : List Call) → HasReceivedCalls t calls r → AnswersTheReceived r t calls
 answers_the_told r t calls told =
     subst (AnswersFit t calls) (sym told.state) (answers_are_of_the_received t calls told.long told.named)

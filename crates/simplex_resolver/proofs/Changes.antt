@@ -10,7 +10,7 @@ use Rattle.simplex_types.specs.declared.reasons.Kind.TheVariants.{Nullification 
 use Rattle.simplex_resolver.specs.declared.resolver.effect.Effect.{Effect}
 use Rattle.simplex_resolver.specs.declared.resolver.effect.Effect.TheVariants.{Settled, Finalized, Raised}
 use Rattle.simplex_resolver.specs.Facts.{ResolverFacts, term_length, last_finalized, starts_term}
-use Rattle.simplex_resolver.specs.Steps.{Call, Nullification, Notarization, Finalization, Verdict, Replayed, insert_new, with_kept_nullification, with_kept_finalization, without_finalized, after_raise, raise_effects, before_scan, settle_effects}
+use Rattle.simplex_resolver.specs.Steps.{Call, Nullification, Notarization, Finalization, Verdict, Replayed, insert_new, with_stored_nullification, with_stored_finalization, without_finalized, after_raise, raise_effects, before_scan, settle_effects}
 use Rattle.simplex_resolver.specs.ReceivedFacts.{finalized_view, floor_raised_to, current_view, is_covering, is_false_verdict, is_notarizing, is_replayed, NamesAView}
 use Rattle.simplex_resolver.specs.Repair.{fetches, settles, is_outstanding}
 use Rattle.simplex_resolver.proofs.Terms.{covers_upto}
@@ -47,7 +47,7 @@ within u v end covered is = grind (arith, is)
 by_nullification : (kept : Bool) (x : ResolverFacts) (u : ℕ) (b : List ℕ) → 0 < term_length x → 1 ≤ u → last_finalized x ≤ x.floor
     → kept ≡ nat_lt (last_finalized x) (term_end (term_length x) u)
     → Changed x (Nullification u b)
-    (cond kept (record (with_kept_nullification x u b) { current = max x.current u }) (record x { current = max x.current u }))
+    (cond kept (record (with_stored_nullification x u b) { current = max x.current u }) (record x { current = max x.current u }))
     (cond kept (Settled OfNullification u (term_end (term_length x) u) ∷ []) [])
 by_nullification true x u b long named final is = record {
   length = refl;
@@ -199,7 +199,7 @@ last-put true x u b is = grind (arith, nat_tests, is)
 last-put false x u b is = grind (arith, nat_tests, is)
 
 lifted_finalization : (x : ResolverFacts) (u : ℕ) (b : List ℕ) → 0 < term_length x → last_finalized x ≤ x.floor
-    → Lifts x (without_finalized (with_kept_finalization x u b) (max (last_finalized x) u)) u (Finalization u b) (Finalized (max (last_finalized x) u))
+    → Lifts x (without_finalized (with_stored_finalization x u b) (max (last_finalized x) u)) u (Finalization u b) (Finalized (max (last_finalized x) u))
 lifted_finalization x u b long low =
     let last = last-put (nat_lt (last_finalized x) u) x u b refl in
     let finalized = max (last_finalized x) u in record {
@@ -308,7 +308,7 @@ changed x (Nullification u b) long named final = by_nullification (nat_lt (last_
 changed x (Notarization u) long named final =
     by_notarization (nat_lt (last_finalized x) u) (nat_lt (last_finalized x) u && not (finmap.contains_key x.uncertifiable u)) x u final refl
 changed x (Finalization u b) long named final =
-    by_raise (nat_lt x.floor u) x (without_finalized (with_kept_finalization x u b) (max (last_finalized x) u)) u (Finalization u b) (Finalized (max (last_finalized x) u)) refl
+    by_raise (nat_lt x.floor u) x (without_finalized (with_stored_finalization x u b) (max (last_finalized x) u)) u (Finalization u b) (Finalized (max (last_finalized x) u)) refl
     (lifted_finalization x u b long final)
 changed x (Verdict u b true) long named final =
     by_success (nat_lt (last_finalized x) u) x u b refl

@@ -7,7 +7,7 @@ use Rattle.simplex_resolver.specs.declared.replay.error.ReplayError.TheVariants 
 use Rattle.simplex_types.specs.declared.reasons.Kind.TheVariants.{Notarization as OfNotarization}
 use Rattle.simplex_resolver.specs.Facts.{empty}
 use Rattle.simplex_resolver.specs.Answers.{OfFinalization, OfCertified, OfNullified, source}
-use Rattle.simplex_resolver.specs.ReceivedFacts.{is_wanted}
+use Rattle.simplex_resolver.specs.ReceivedFacts.{is_needed}
 use Rattle.simplex_resolver.specs.RecordCalls.{newest_notarization}
 use Rattle.simplex_resolver.specs.RecordRules.{record_error}
 use Rattle.simplex_resolver.specs.Repair.{facts_of}
@@ -50,11 +50,11 @@ notarized_again = rw (contains-empty (Unit {0}) 3) refl
 abbrev certified_two : List Call
 certified_two = Notarization 17 ∷ Nullification 13 (9 ∷ []) ∷ Nullification 6 (9 ∷ []) ∷ Verdict 2 (8 ∷ []) true ∷ []
 
-wanted : filter (is_wanted 5 certified_two) (1 ∷ 2 ∷ 3 ∷ 4 ∷ 6 ∷ 7 ∷ 11 ∷ 12 ∷ 16 ∷ 17 ∷ 21 ∷ []) ≡ 3 ∷ 11 ∷ 16 ∷ []
+wanted : filter (is_needed 5 certified_two) (1 ∷ 2 ∷ 3 ∷ 4 ∷ 6 ∷ 7 ∷ 11 ∷ 12 ∷ 16 ∷ 17 ∷ 21 ∷ []) ≡ 3 ∷ 11 ∷ 16 ∷ []
 wanted = refl
 
 -- so are views that a verdict failed, unless they are covered or at the floor
-wanted_by_failure : filter (is_wanted 5 (Verdict 14 (8 ∷ []) false ∷ Verdict 8 (8 ∷ []) false ∷ Verdict 4 (8 ∷ []) false ∷ certified_two)) (4 ∷ 8 ∷ 14 ∷ []) ≡ 4 ∷ []
+wanted_by_failure : filter (is_needed 5 (Verdict 14 (8 ∷ []) false ∷ Verdict 8 (8 ∷ []) false ∷ Verdict 4 (8 ∷ []) false ∷ certified_two)) (4 ∷ 8 ∷ 14 ∷ []) ≡ 4 ∷ []
 wanted_by_failure = refl
 
 -- a verdict of a record is on the newest notarization of its view

@@ -10,7 +10,7 @@ use Rattle.simplex_types.specs.Terms.{term_end}
 use Rattle.simplex_view_maps.specs.Tracked.{at_or_above}
 use Rattle.simplex_view_maps.proofs.Maps.{get-insert, get-kept}
 use Rattle.simplex_resolver.specs.Facts.{ResolverFacts, term_length, last_finalized, certified_encoding, starts_term}
-use Rattle.simplex_resolver.specs.Steps.{Call, Nullification, Notarization, Finalization, Verdict, Replayed, insert_new, with_kept_nullification, with_kept_finalization, without_finalized, before_scan}
+use Rattle.simplex_resolver.specs.Steps.{Call, Nullification, Notarization, Finalization, Verdict, Replayed, insert_new, with_stored_nullification, with_stored_finalization, without_finalized, before_scan}
 use Rattle.simplex_resolver.specs.ReceivedFacts.{is_true_verdict, is_false_verdict}
 use Rattle.simplex_resolver.proofs.Maps.{contains-insert, contains-insert_new, contains-kept}
 use Rattle.simplex_resolver.proofs.Changes.{last-put}
@@ -113,7 +113,7 @@ too_low f u v end_u end_v there is high same = elim (cases_eq v u) [
 ]
 
 kept_nullification : (kept : Bool) (x : ResolverFacts) (u : ℕ) (b : List ℕ) → kept ≡ nat_lt (last_finalized x) (term_end (term_length x) u)
-    → Kept x (Nullification u b) (cond kept (record (with_kept_nullification x u b) { current = max x.current u }) (record x { current = max x.current u }))
+    → Kept x (Nullification u b) (cond kept (record (with_stored_nullification x u b) { current = max x.current u }) (record x { current = max x.current u }))
 kept_nullification true x u b is = record {
   final = λ f e at. inl at;
   nullified = λ v e at. elim (from_insert_new x.nullifications.by_view u b v e at) [
@@ -177,7 +177,7 @@ final-put : (new : Bool) (old : Option (ℕ × List ℕ)) (u : ℕ) (b : List �
 final-put true old u b f e is = inr (let at : (u, b) ≡ (f, e) = ap (λ o. unwrap_or o (u, b)) is in sym (ap (λ (p : ℕ × List ℕ). Finalization p.0 p.1) at))
 final-put false old u b f e is = inl is
 
-kept_finalization : (x : ResolverFacts) (u : ℕ) (b : List ℕ) → Kept x (Finalization u b) (without_finalized (with_kept_finalization x u b) (max (last_finalized x) u))
+kept_finalization : (x : ResolverFacts) (u : ℕ) (b : List ℕ) → Kept x (Finalization u b) (without_finalized (with_stored_finalization x u b) (max (last_finalized x) u))
 kept_finalization x u b =
     let last = last-put (nat_lt (last_finalized x) u) x u b refl in
     let finalized = max (last_finalized x) u in record {
@@ -261,7 +261,7 @@ pub kept : (x : ResolverFacts) (c : Call) → Kept x c (before_scan x c)
 kept x (Nullification u b) = kept_nullification (nat_lt (last_finalized x) (term_end (term_length x) u)) x u b refl
 kept x (Notarization u) = kept_notarization (nat_lt (last_finalized x) u) x u refl
 kept x (Finalization u b) =
-    let y = without_finalized (with_kept_finalization x u b) (max (last_finalized x) u) in
+    let y = without_finalized (with_stored_finalization x u b) (max (last_finalized x) u) in
     kept_raise (nat_lt y.floor u) x (Finalization u b) y u (cond (starts_term (term_length y) (u + 1)) y.scanned (min y.scanned (u + 1))) (kept_finalization x u b)
 kept x (Verdict u b true) =
     let y = cond (nat_lt (last_finalized x) u) (record x { notarizations = finmap.insert x.notarizations u (Some b) }) x in

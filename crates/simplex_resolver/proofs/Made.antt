@@ -7,7 +7,7 @@ use Rattle.simplex_resolver.specs.Facts.{ResolverFacts, term_length}
 use Rattle.simplex_resolver.specs.Steps.{Call, after, effects}
 use Rattle.simplex_resolver.specs.ReceivedFacts.{NamesAView}
 use Rattle.simplex_resolver.specs.Repair.{IsApplied}
-use Rattle.simplex_resolver.specs.CallHistory.{LawfulResolverFacts, IsMade, IsToldMore, IsBegun, IsLeftBy}
+use Rattle.simplex_resolver.specs.CallHistory.{LawfulResolverFacts, IsMade, ReceivesMore, IsBegun, IsLeftBy}
 use Rattle.simplex_resolver.proofs.CallLists.{same_terms}
 use Rattle.simplex_resolver.proofs.CallHistory.{still_told}
 
@@ -24,7 +24,7 @@ made_of (Ok answer) es call old new middle made effects_are kept same applied = 
 }
 
 pub told_of : (r : Result (Vec Effect Global) Fault) (call : Call) (old new : LawfulResolverFacts) → NamesAView call
-    → IfOk r (λ answer. IsMade call old answer.items new) → OnOk r (IsToldMore old call new)
+    → IfOk r (λ answer. IsMade call old answer.items new) → OnOk r (ReceivesMore old call new)
 told_of (Err fault) call old new names made = tt
 told_of (Ok answer) call old new names made = λ t calls told. still_told t calls call old new answer.items told names made
 

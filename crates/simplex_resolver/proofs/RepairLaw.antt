@@ -13,7 +13,7 @@ use Rattle.simplex_view_maps.specs.ByTerm.{has_covering}
 use Rattle.simplex_resolver.specs.Facts.{ResolverFacts, term_length, last_finalized, empty, anchors, starts_term}
 use Rattle.simplex_resolver.specs.Steps.{Call, Nullification, Notarization, Finalization, Verdict, Replayed, before_scan, settle_effects, after, effects, scan_start, scan_end, missing, needs_nullification, failing, failure_fetches}
 use Rattle.simplex_resolver.specs.ReceivedFacts.{finalized_view, current_view, floor_raised_to, finalized_of, current_of, floor_of, is_covering, is_false_verdict, is_notarizing, is_replayed, NamesAView}
-use Rattle.simplex_resolver.specs.Repair.{has, settles, is_outstanding, facts_of, effects_of, OutstandingIsWanted}
+use Rattle.simplex_resolver.specs.Repair.{has, settles, is_outstanding, facts_of, effects_of, OutstandingIsNeeded}
 use Rattle.simplex_resolver.proofs.Terms.{AreTerms, terms}
 use Rattle.simplex_resolver.proofs.Scan.{IsBetweenCallsAt, ReadyAt, ChangesAt, EndsAt, is_found_by, is_wanted_by, ready_after_change, failed_after_change, quiet_after_scan, quiet_after_failure}
 use Rattle.simplex_resolver.proofs.Views.{has-filter, has-range, fetches-map, settles-map, is_outstanding-append}
@@ -406,7 +406,7 @@ by_tests : (floor floor' current current' v : ℕ) (starts covered covered' fail
     → out ≡ is_wanted_by floor' current' v starts covered' failed'
 by_tests floor floor' current current' v starts covered covered' failed failed' out f c cs fs is = grind (arith, nat_tests, cs, fs, is)
 
-pub outstanding_is_wanted : OutstandingIsWanted
+pub outstanding_is_wanted : OutstandingIsNeeded
 outstanding_is_wanted t calls long named replayed v =
     let st = stands t calls long named in
     let x = facts_of t calls in

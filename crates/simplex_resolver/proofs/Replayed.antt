@@ -4,7 +4,7 @@ use Rattle.std.specs.List.{list_any, AllByRecursion}
 use Rattle.std.proofs.lemmas.List.Folds.{list_any-append}
 use Rattle.simplex_types.specs.Certificates.{ProposalFacts, Notarized, Nullified, Finalized, ArtifactFacts, NotarizeVote, NullifyVote, FinalizeVote, Verdict, Accepted}
 use Rattle.simplex_resolver.specs.Steps.{Call, Replayed, effects, highest_named}
-use Rattle.simplex_resolver.specs.ReceivedFacts.{NamesAView, is_replayed, is_wanted}
+use Rattle.simplex_resolver.specs.ReceivedFacts.{NamesAView, is_replayed, is_needed}
 use Rattle.simplex_resolver.specs.Repair.{settles, is_outstanding, facts_of, effects_of}
 use Rattle.simplex_resolver.proofs.RepairLaw.{all_fetched, stands, outstanding_is_wanted}
 use Rattle.simplex_resolver.proofs.Views.{is_outstanding-append}
@@ -67,7 +67,7 @@ only_last all before settled last is none = grind (arith, is, none)
 
 -- nothing is outstanding before the end of the replay, so all that is wanted is fetched by it
 pub end_fetches_wanted : (t : ℕ) (calls : List Call) → 0 < t → AllByRecursion NamesAView calls → list_any is_replayed calls ≡ false
-    → (v : ℕ) → is_outstanding (effects (facts_of t calls) Replayed) v ≡ is_wanted t (Replayed ∷ calls) v
+    → (v : ℕ) → is_outstanding (effects (facts_of t calls) Replayed) v ≡ is_needed t (Replayed ∷ calls) v
 end_fetches_wanted t calls long named none v =
     let x = facts_of t calls in
     let replaying : x.replaying ≡ true = (stands t calls long named).replaying ∙ ap not none in

@@ -7,7 +7,7 @@ use Rattle.simplex_types.specs.declared.types.fault.Fault.TheVariants.{OutOfMemo
 use Rattle.simplex_resolver.specs.declared.resolver.effect.Effect.{Effect}
 use Rattle.simplex_resolver.specs.Facts.{ResolverFacts, facts_code}
 use Rattle.simplex_resolver.specs.Steps.{Call, after, effects, Refused}
-use Rattle.simplex_resolver.specs.ReceivedFacts.{NamesAView, are_alike, is_replayed, is_wanted}
+use Rattle.simplex_resolver.specs.ReceivedFacts.{NamesAView, are_alike, is_replayed, is_needed}
 use Rattle.simplex_resolver.specs.Answers.{AnswersFit}
 use Rattle.simplex_resolver.specs.Repair.{fetches, has, facts_of, effects_of, IsApplied, IsOutstandingSet}
 
@@ -23,7 +23,7 @@ resolver_facts_code =
     (λ p. record { state = p.0; open_fetches = p.1 }) (λ _. refl)
 
 -- it was told just these calls, the last one first, and its open fetches are those that their effects leave outstanding
-pub record HasBeenTold (term_length : ℕ) (calls : List Call) (r : LawfulResolverFacts) : Type 0 where
+pub record HasReceivedCalls (term_length : ℕ) (calls : List Call) (r : LawfulResolverFacts) : Type 0 where
   pub long : 0 < term_length
   pub named : AllByRecursion NamesAView calls
   pub state : r.state ≡ facts_of term_length calls
@@ -38,9 +38,9 @@ pub record IsMade (call : Call) (old : LawfulResolverFacts) (es : List Effect) (
   pub applied : IsApplied old.open_fetches es new.open_fetches
 
 -- whatever it was told before, it was told this call besides
-abbrev pub IsToldMore : LawfulResolverFacts → Call → LawfulResolverFacts → Type 0
-IsToldMore old call new =
-    (term_length : ℕ) (calls : List Call) → HasBeenTold term_length calls old → HasBeenTold term_length (call ∷ calls) new
+abbrev pub ReceivesMore : LawfulResolverFacts → Call → LawfulResolverFacts → Type 0
+ReceivesMore old call new =
+    (term_length : ℕ) (calls : List Call) → HasReceivedCalls term_length calls old → HasReceivedCalls term_length (call ∷ calls) new
 
 -- a beginning of the effects is applied
 abbrev pub IsBegun : List ℕ → List Effect → List ℕ → Type 0
@@ -56,13 +56,13 @@ IsLeftBy old v call fault new = Refused old.state v fault new.state × (new ≡ 
 -- ---- the laws
 
 -- whatever it was told so far
-abbrev pub OfAllTold : LawfulResolverFacts → (ℕ → List Call → Type 0) → Type 0
-OfAllTold r Holds = (term_length : ℕ) (calls : List Call) → HasBeenTold term_length calls r → Holds term_length calls
+abbrev pub OfEachCallHistory : LawfulResolverFacts → (ℕ → List Call → Type 0) → Type 0
+OfEachCallHistory r Holds = (term_length : ℕ) (calls : List Call) → HasReceivedCalls term_length calls r → Holds term_length calls
 
 -- once its replay has ended its open fetches are exactly the wanted views
-abbrev pub OpensTheWanted : LawfulResolverFacts → ℕ → List Call → Type 0
-OpensTheWanted r term_length calls =
-    list_any is_replayed calls ≡ true → (v : ℕ) → has r.open_fetches v ≡ is_wanted term_length calls v
+abbrev pub OpensTheOutstanding : LawfulResolverFacts → ℕ → List Call → Type 0
+OpensTheOutstanding r term_length calls =
+    list_any is_replayed calls ≡ true → (v : ℕ) → has r.open_fetches v ≡ is_needed term_length calls v
 
 -- before that none is open
 abbrev pub OpensNone : LawfulResolverFacts → ℕ → List Call → Type 0
@@ -74,5 +74,5 @@ OpensNoneAgain r term_length calls =
     (call : Call) → list_any (are_alike call) calls ≡ true → (v : ℕ) → list_any (fetches v) (effects r.state call) ≡ false
 
 -- what it answers follows from what it was told
-abbrev pub AnswersTheTold : LawfulResolverFacts → ℕ → List Call → Type 0
-AnswersTheTold r term_length calls = AnswersFit term_length calls r.state
+abbrev pub AnswersTheReceived : LawfulResolverFacts → ℕ → List Call → Type 0
+AnswersTheReceived r term_length calls = AnswersFit term_length calls r.state

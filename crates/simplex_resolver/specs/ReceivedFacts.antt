@@ -94,8 +94,8 @@ is_covering t v call = false
 
 -- the uncovered views among each term's lowest above the floor, where it is below the current view,
 -- and those of false verdicts above the floor
-abbrev pub is_wanted : ℕ → List Call → ℕ → Bool
-is_wanted t calls v =
+abbrev pub is_needed : ℕ → List Call → ℕ → Bool
+is_needed t calls v =
     not (list_any (is_covering t v) calls)
     && ((is_anchor t (floor_of calls) v && nat_lt v (current_of calls))
     || (list_any (is_false_verdict v) calls && nat_lt (floor_of calls) v))

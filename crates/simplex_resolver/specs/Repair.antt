@@ -6,7 +6,7 @@ use Rattle.simplex_resolver.specs.declared.resolver.effect.Effect.{Effect}
 use Rattle.simplex_resolver.specs.declared.resolver.effect.Effect.TheVariants.{Fetch, Settled, Finalized, Raised}
 use Rattle.simplex_resolver.specs.Facts.{ResolverFacts, empty}
 use Rattle.simplex_resolver.specs.Steps.{Call, after, effects}
-use Rattle.simplex_resolver.specs.ReceivedFacts.{is_replayed, are_alike, NamesAView, is_wanted}
+use Rattle.simplex_resolver.specs.ReceivedFacts.{is_replayed, are_alike, NamesAView, is_needed}
 
 -- ---- the effects
 
@@ -56,11 +56,11 @@ effects_of t [] = []
 effects_of t (call ∷ earlier) = effects_of t earlier ++ effects (facts_of t earlier) call
 
 -- once it was replayed, a resolver's outstanding fetches are exactly the wanted views
-abbrev pub OutstandingIsWanted : Type 0
-OutstandingIsWanted =
+abbrev pub OutstandingIsNeeded : Type 0
+OutstandingIsNeeded =
     (t : ℕ) (calls : List Call) → 0 < t → AllByRecursion NamesAView calls
     → list_any is_replayed calls ≡ true
-    → (v : ℕ) → is_outstanding (effects_of t calls) v ≡ is_wanted t calls v
+    → (v : ℕ) → is_outstanding (effects_of t calls) v ≡ is_needed t calls v
 
 -- a certificate opens no fetch where one of its kind and view was handed in before, with these signers or with others
 abbrev pub RecordedAgainFetchesNothing : Type 0

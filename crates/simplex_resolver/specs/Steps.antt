@@ -84,15 +84,15 @@ abbrev pub insert_new : {V : Type 0} → FinMap nat_cmp V → ℕ → V → FinM
 insert_new m v x = if map.contains_key m v then m else map.insert m v x
 
 -- the nullification is kept, unless one of its view is
-abbrev pub with_kept_nullification : ResolverFacts → ℕ → List ℕ → ResolverFacts
-with_kept_nullification x v encoding =
+abbrev pub with_stored_nullification : ResolverFacts → ℕ → List ℕ → ResolverFacts
+with_stored_nullification x v encoding =
     record x { nullifications = record x.nullifications { by_view = insert_new x.nullifications.by_view v encoding } }
 
 -- a nullification is kept where its term ends above the last finalized view
 abbrev pub after_nullification : ResolverFacts → ℕ → List ℕ → ResolverFacts
 after_nullification x v encoding =
     if nat_lt (last_finalized x) (term_end (term_length x) v)
-    then record (with_kept_nullification x v encoding) { current = max x.current v }
+    then record (with_stored_nullification x v encoding) { current = max x.current v }
     else record x { current = max x.current v }
 
 -- what a nullification settles: its view and the rest of its term, unless that is finalized
@@ -115,8 +115,8 @@ notarization_effects x v =
     if nat_lt (last_finalized x) v && not (map.contains_key x.uncertifiable v) then Settled OfNotarization v v ∷ [] else []
 
 -- the highest finalization is kept
-abbrev pub with_kept_finalization : ResolverFacts → ℕ → List ℕ → ResolverFacts
-with_kept_finalization x v encoding = record x {
+abbrev pub with_stored_finalization : ResolverFacts → ℕ → List ℕ → ResolverFacts
+with_stored_finalization x v encoding = record x {
   current = max x.current v;
   finalization = if nat_lt (last_finalized x) v then Some (v, encoding) else x.finalization;
 }
@@ -132,7 +132,7 @@ without_finalized x finalized = record x {
 -- what a finalization makes of the facts
 abbrev pub after_finalization : ResolverFacts → ℕ → List ℕ → ResolverFacts
 after_finalization x v encoding =
-    after_raise (without_finalized (with_kept_finalization x v encoding) (max (last_finalized x) v)) v
+    after_raise (without_finalized (with_stored_finalization x v encoding) (max (last_finalized x) v)) v
 
 -- what it settles
 abbrev pub finalization_effects : ResolverFacts → ℕ → List Effect

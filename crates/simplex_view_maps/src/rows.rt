@@ -303,12 +303,12 @@ fn hand_over<T>(rows: &mut VecDeque<VecDeque<T>>, from: usize, to: usize)
     let mut row = to;
     while from < row {
         row -= 1;
-        hand_on(rows, row);
+        move_last_to_next(rows, row);
     }
 }
 
 /// Hands the last entry of a row to the next row, which has room.
-fn hand_on<T>(rows: &mut VecDeque<VecDeque<T>>, row: usize)
+fn move_last_to_next<T>(rows: &mut VecDeque<VecDeque<T>>, row: usize)
     requires { HasRoomAt (suc row) rows.old.items }
     ensures same { row_entries rows.new.items ≡ row_entries rows.old.items }
     ensures room { HasRoomAt row rows.new.items }

@@ -144,8 +144,8 @@ module _ {K L D : Type 0} (same : D → D → Bool) (elect : Elect L) (x : State
           never true = refl
           never false = refl
 
-      pub goes_on : (d : D) → d ≡ payload_of b → true ≡ holds same bound d → WalkHasReached v top b
-      goes_on d is test = by_hold true (ap (holds same bound) (sym is) ∙ sym test) ∙ ap (λ t. cond t (Some (payload_of top)) None) (itself (is_some (rests b)))
+      pub continues : (d : D) → d ≡ payload_of b → true ≡ holds same bound d → WalkHasReached v top b
+      continues d is test = by_hold true (ap (holds same bound) (sym is) ∙ sym test) ∙ ap (λ t. cond t (Some (payload_of top)) None) (itself (is_some (rests b)))
         where
           itself : (t : Bool) → cond t true false ≡ t
           itself true = refl

@@ -457,8 +457,8 @@ module _ {K L D : Type 0} (same : D → D → Bool) (elect : Elect L) where
             by_value q apart (Some t) at = ap (λ b. Some (cond b (round_left t x.moment (stands q t)) t)) (elsewhere q apart t at)
 
         -- a view without an answer is passed
-        pub goes_on : None ≡ answer_in same elect y (v, r) → IsScanned next (v + 1)
-        goes_on unanswered =
+        pub continues : None ≡ answer_in same elect y (v, r) → IsScanned next (v + 1)
+        continues unanswered =
             let quiet : is_answered (stands v r) ≡ false = sym (answered_by (v, r)) ∙ ap is_some (sym (answer_same (v, r)) ∙ sym unanswered) in
             record {
               others = left_others (standing same elect y (v, r));
@@ -555,7 +555,7 @@ module _ {K L D : Type 0} (same : D → D → Bool) (elect : Elect L) where
         pub visited_on : (z : StateFacts K L D) → z ≡ left_at y (v, round_of y v) (standing same elect y (v, round_of y v)) → None ≡ answer_in same elect y (v, round_of y v) → IsScanned z (v + 1)
         visited_on z left none =
             subst (λ w. IsScanned w (v + 1)) (sym (left_is z left))
-            (goes_on ordered y n passed kept v at.0 at.1 at.2 above at.4 (none ∙ ap (λ r. answer_in same elect y (v, r)) round_is))
+            (continues ordered y n passed kept v at.0 at.1 at.2 above at.4 (none ∙ ap (λ r. answer_in same elect y (v, r)) round_is))
 
         pub visited_after : (z : StateFacts K L D) (a : Verify D K) → z ≡ left_at y (v, round_of y v) (standing same elect y (v, round_of y v)) → Some a ≡ answer_in same elect y (v, round_of y v) → z ≡ after_try_verify same elect x
         visited_after z a left is =

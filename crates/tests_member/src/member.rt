@@ -177,7 +177,7 @@ fn refused(
 }
 
 /// Whether a member goes on from a journal, with as many views kept as before.
-fn goes_on(alloc: Global, stored: Stored, entries: Vec<PlainArtifact>) -> Result<bool, Fail> {
+fn continues(alloc: Global, stored: Stored, entries: Vec<PlainArtifact>) -> Result<bool, Fail> {
     let refusal = Member::resume(alloc, start(alloc, 10)?, stored, entries).err();
     Ok(refusal.is_none())
 }
@@ -228,6 +228,6 @@ fn a_larger_retention_is_refused(rt: HostRuntime) -> Result<(), Fail> {
     let (stored, entries) = pruned(rt.alloc())?;
     let (error, entries) = refused(rt.alloc(), 11, stored, entries)?;
     assert!(rt; error == ResumeError::Recover(RecoverError::RetentionGrown));
-    assert!(rt; goes_on(rt.alloc(), stored, entries)?);
+    assert!(rt; continues(rt.alloc(), stored, entries)?);
     Ok(())
 }

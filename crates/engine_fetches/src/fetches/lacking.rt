@@ -2,7 +2,7 @@
 
 ghost use Rattle.std.specs.Prelude.{◌≡◌, filter};
 ghost use Rattle.simplex_resolver.specs.Repair.{has};
-ghost use Rattle.engine_fetches.specs.OutstandingFetches.{is_held, is_lacking};
+ghost use Rattle.engine_fetches.specs.OutstandingFetches.{is_held, is_missing};
 
 use super::{Fetch, FetchKind, Fetches};
 use simplex_types::types::{CertificateScheme, Digest, Elector, View};
@@ -12,25 +12,25 @@ use std::collections::BTreeSet;
 impl Fetches {
     /// Closes the fetches of what is not lacking: of views up to the last finalized one, and of certificates that the state holds.
     /// The nullifications of these views are wanted though the state may hold them.
-    pub fn keep_lacking<S: CertificateScheme, L: Elector<S>, D: Digest>(
+    pub fn retain_missing<S: CertificateScheme, L: Elector<S>, D: Digest>(
         &mut self,
         wanted: &BTreeSet<View>,
         state: &State<S, L, D>,
     )
-        ensures kept { self.new.wanted.items ≡ filter (is_lacking wanted.now.keys state.now) self.old.wanted.items }
+        ensures kept { self.new.wanted.items ≡ filter (is_missing wanted.now.keys state.now) self.old.wanted.items }
         ensures same { (self.new.peers ≡ self.old.peers) × (self.new.retry ≡ self.old.retry) }
     {
-        self.wanted.retain(|fetch| is_lacking(wanted, state, fetch));
+        self.wanted.retain(|fetch| is_missing(wanted, state, fetch));
     }
 }
 
 /// Whether the fetch is of a view above the last finalized one, and of a certificate that is lacking.
-fn is_lacking<S: CertificateScheme, L: Elector<S>, D: Digest>(
+fn is_missing<S: CertificateScheme, L: Elector<S>, D: Digest>(
     wanted: &BTreeSet<View>,
     state: &State<S, L, D>,
     fetch: &Fetch,
 ) -> bool
-    ensures { result ≡ is_lacking wanted.now.keys state.now fetch.now }
+    ensures { result ≡ is_missing wanted.now.keys state.now fetch.now }
 {
     state.last_finalized() < fetch.view && !is_held(wanted, state, fetch)
 }

@@ -4,11 +4,11 @@ ghost use Rattle.std.specs.Prelude.{◌≡◌, ◌-◌, min, IsFalse};
 ghost use Rattle.simplex_voter.specs.Windows.{min_active};
 ghost use Rattle.simplex_record.specs.Cuts.{finalized_in};
 ghost use Rattle.simplex_record.specs.Entries.{entries_of};
-ghost use Rattle.engine_outbox.specs.RecordLimit.{is_overgrown};
+ghost use Rattle.engine_outbox.specs.RecordLimit.{is_record_too_long};
 ghost use Rattle.engine_outbox.specs.RecordReach.{lowest_of, is_far_below, ReachesTo, IsShort};
 
 use super::Journaled;
-use simplex_record::record::lowest_kept;
+use simplex_record::record::lowest_retained;
 use simplex_types::types::{Artifact, CertificateScheme, Digest, Elector, Scheme, View, Viewable};
 use simplex_voter::voter::State;
 
@@ -19,8 +19,8 @@ impl<S: Scheme<D>, L: Elector<S>, D: Digest> Journaled<S, L, D> {
     /// its views are kept is not written once more.
     ///
     /// - `short`: where it is not, and all of the record is queued, the record is short.
-    pub fn is_overgrown(&self, long: usize) -> bool
-        ensures overgrown { result ≡ is_overgrown long self.now }
+    pub fn is_record_too_long(&self, long: usize) -> bool
+        ensures overgrown { result ≡ is_record_too_long long self.now }
         ensures short { IsFalse result → ReachesTo self.now.reach self.now.stored self.now.member.facts.entries → IsWhole S.certificate_bytes self.now
             → IsShort long self.now.member.facts }
     {
@@ -41,7 +41,7 @@ impl<S: Scheme<D>, L: Elector<S>, D: Digest> Journaled<S, L, D> {
         if !is_far_below(self.reach, active, current) {
             return false;
         }
-        let kept = lowest_kept(self.member.record(), self.member.stored().retention);
+        let kept = lowest_retained(self.member.record(), self.member.stored().retention);
         is_far_below(self.reach, earlier_of(active, kept), current)
     }
 }

@@ -12,7 +12,7 @@ use std::alloc::{AllocError, Global};
 pub(super) struct Building<D, P: Copy> {
     pub context: Context<D, P>,
     /// The application was asked for it.
-    pub is_told: bool,
+    pub is_reported: bool,
 }
 
 /// The blocks that are to be built: one a view at most.
@@ -33,11 +33,11 @@ impl<D: Digest, P: Copy> Builds<D, P> {
     }
 
     /// One more is to be built, in place of one of its view.
-    pub(super) fn put(&mut self, context: Context<D, P>, is_told: bool) -> Result<(), AllocError>
-        ensures { OnOk result (self.new.buildings.items ≡ in_place (record { context = context; is_told = is_told }) self.old.buildings.items) }
+    pub(super) fn put(&mut self, context: Context<D, P>, is_reported: bool) -> Result<(), AllocError>
+        ensures { OnOk result (self.new.buildings.items ≡ in_place (record { context = context; is_reported = is_reported }) self.old.buildings.items) }
     {
         self.end(view_of(&context));
-        self.buildings.push(Building { context, is_told })?;
+        self.buildings.push(Building { context, is_reported })?;
         Ok(())
     }
 
@@ -52,7 +52,7 @@ impl<D: Digest, P: Copy> Builds<D, P> {
     pub(super) fn tell(&mut self, view: View)
         ensures { self.new.buildings.items ≡ map (told_by view) self.old.buildings.items }
     {
-        tell_waiting(view, &mut self.buildings);
+        mark_reported(view, &mut self.buildings);
     }
 
     /// All that are to be built.
@@ -77,7 +77,7 @@ pub(super) fn is_asked_in<D: Digest, P: Copy>(
 ) -> bool
     ensures { result ≡ is_asked_in D.eq context.now building.now }
 {
-    building.is_told
+    building.is_reported
         && building.context.round == context.round
         && building.context.parent == context.parent
 }
@@ -86,7 +86,7 @@ pub(super) fn is_asked_in<D: Digest, P: Copy>(
 pub(super) fn is_asked_at<D: Digest, P: Copy>(building: &Building<D, P>, view: View) -> bool
     ensures { result ≡ is_asked_at view building.now }
 {
-    building.is_told && building.context.round.view == view
+    building.is_reported && building.context.round.view == view
 }
 
 /// Whether the block is of a view above, or of the view and was asked for.
@@ -100,11 +100,11 @@ pub(super) fn is_ahead<D: Digest, P: Copy>(building: &Building<D, P>, view: View
 pub(super) fn has_waited<D: Digest, P: Copy>(building: &Building<D, P>, view: View) -> bool
     ensures { result ≡ has_waited view building.now }
 {
-    !building.is_told && building.context.round.view <= view
+    !building.is_reported && building.context.round.view <= view
 }
 
 /// The application was asked by now for each of these blocks that is of the view, or of one below it.
-fn tell_waiting<D: Digest, P: Copy>(view: View, builds: &mut [Building<D, P>])
+fn mark_reported<D: Digest, P: Copy>(view: View, builds: &mut [Building<D, P>])
     ensures { builds.new ≡ map (told_by view) builds.old }
 {
     for building in builds.iter_mut() {
@@ -118,6 +118,6 @@ fn told_by<D: Digest, P: Copy>(building: Building<D, P>, view: View) -> Building
 {
     Building {
         context: building.context,
-        is_told: building.is_told || building.context.round.view <= view,
+        is_reported: building.is_reported || building.context.round.view <= view,
     }
 }

@@ -5,7 +5,7 @@ ghost use Rattle.simplex_resolver.specs.Steps.{highest_view};
 ghost use Rattle.engine_fetches.specs.Repairs.{IsUnrepaired};
 ghost use Rattle.engine_planner.specs.PlanStates.{HasPlanned};
 ghost use Rattle.simplex_types.specs.MessageViews.{certificate_view};
-ghost use Rattle.engine_planner.specs.Consequences.{showing, IsResolverTold, IsTakenInAbove, IsNewFollowed, IsAddedFollowed, IsCertificateFollowed};
+ghost use Rattle.engine_planner.specs.Consequences.{showing, IsResolverNotified, IsTakenInAbove, IsNewFollowed, IsAddedFollowed, IsCertificateFollowed};
 
 use super::Plan;
 use simplex_member::member::Reply;
@@ -49,7 +49,7 @@ impl<S: CertificateScheme, D: Digest> Plan<S, D> {
         ensures followed { OnOk result (IsAddedFollowed D.bytes S.certificate_bytes now certificate.now is_new equivocator self.old self.new) }
         ensures refused { IfErr result (λ fault. IsUnrepaired (highest_view certificate.now) fault self.old.repair self.new.repair) }
     {
-        self.show(certificate.view(), equivocator)?;
+        self.report_equivocation(certificate.view(), equivocator)?;
         self.follow_new(certificate, is_new, now)
     }
 
@@ -70,7 +70,7 @@ impl<S: CertificateScheme, D: Digest> Plan<S, D> {
     }
 
     /// Shows that a leader signed two proposals, where one did.
-    fn show(&mut self, view: View, equivocator: Option<S::PublicKey>) -> Result<(), AllocError>
+    fn report_equivocation(&mut self, view: View, equivocator: Option<S::PublicKey>) -> Result<(), AllocError>
         ensures { OnOk result (HasPlanned (showing view equivocator) self.old self.new) }
     {
         match equivocator {
@@ -89,16 +89,16 @@ impl<S: CertificateScheme, D: Digest> Plan<S, D> {
         if is_genesis(view) {
             return Ok(());
         }
-        self.hear(certificate, now)?;
+        self.report_certificate(certificate, now)?;
         self.touch(view)?;
         Ok(())
     }
 
     /// The resolver is told of a certificate, and a notarization that came is asked for no longer.
-    fn hear(&mut self, certificate: &Certificate<S, D>, now: u64) -> Result<(), Fault>
+    fn report_certificate(&mut self, certificate: &Certificate<S, D>, now: u64) -> Result<(), Fault>
         requires { 1 ≤ certificate_view certificate.now }
         ensures same { self.new ≡ record self.old { repair = self.new.repair } }
-        ensures heard { OnOk result (IsResolverTold D.bytes S.certificate_bytes now certificate.now self.old self.new.repair) }
+        ensures heard { OnOk result (IsResolverNotified D.bytes S.certificate_bytes now certificate.now self.old self.new.repair) }
         ensures refused { IfErr result (λ fault. IsUnrepaired (highest_view certificate.now) fault self.old.repair self.new.repair) }
     {
         let moment = self.later(now);

@@ -5,7 +5,7 @@ ghost use Rattle.simplex_resolver.specs.Steps.{highest_named};
 ghost use Rattle.engine_fetches.specs.Repairs.{IsUnrepaired};
 ghost use Rattle.engine_planner.specs.PlanStates.{HasPlanned, touching};
 ghost use Rattle.engine_planner.specs.declared.task.Task.TheVariants.{Release, Supersede};
-ghost use Rattle.engine_planner.specs.Consequences.{Consequence, Nothing, Touched, Built, Stopped, Asked, after_refusal, after_flag, after_watch, IsConsequence, lacking, IsVerifyFollowed, waits, IsRequestFollowed, IsBroadcastFollowed, repeating, IsNullifyFollowed, IsTimeoutFollowed, certifying, AreCertified, IsVerdictFollowed, IsVerdictToldAbove, IsUnjudged, IsFollowed, IsUnfollowed};
+ghost use Rattle.engine_planner.specs.Consequences.{Consequence, Nothing, Touched, Built, Stopped, Asked, after_refusal, after_flag, after_watch, IsConsequence, lacking, IsVerifyFollowed, waits, IsRequestFollowed, IsBroadcastFollowed, repeating, IsNullifyFollowed, IsTimeoutFollowed, certifying, AreCertified, IsVerdictFollowed, IsVerdictReportedAbove, IsUnjudged, IsFollowed, IsUnfollowed};
 
 use super::certificates::is_genesis;
 use super::{Plan, Step};
@@ -243,7 +243,7 @@ impl<S: CertificateScheme, D: Digest> Plan<S, D> {
         notarization: Notarization<S, D>,
         now: u64,
     ) -> Result<(), Fault>
-        ensures followed { OnOk result (IsVerdictToldAbove D.bytes S.certificate_bytes now (notarization.proposal.round.view == 0) is_success notarization
+        ensures followed { OnOk result (IsVerdictReportedAbove D.bytes S.certificate_bytes now (notarization.proposal.round.view == 0) is_success notarization
             self.old self.new) }
         ensures refused { IfErr result (λ fault. IsUnrepaired (highest_named notarization.proposal) fault self.old.repair self.new.repair) }
     {

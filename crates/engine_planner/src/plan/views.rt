@@ -18,7 +18,7 @@ impl<S: CertificateScheme, D: Digest> Plan<S, D> {
     ///
     /// Fetches are closed of the views up to a later finalized one. Where another view is entered, what may be due in it is asked
     /// for, and behind that the blocks that waited for it, and the proposals that came before it.
-    pub fn see(&mut self, views: Views) -> Result<(), AllocError>
+    pub fn update_views(&mut self, views: Views) -> Result<(), AllocError>
         ensures { OnOk result (HasSeen views self.old self.new) }
     {
         self.pass(views.last_finalized);

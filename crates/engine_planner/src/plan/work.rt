@@ -19,7 +19,7 @@ use std::alloc::AllocError;
 impl<S: CertificateScheme, D: Digest> Plan<S, D> {
     /// Keeps a proposal that came before its view, where few are kept: nobody sends it again, and its view would be lost.
     /// Without memory nothing has changed.
-    pub fn keep_early(
+    pub fn store_early(
         &mut self,
         from: Participant,
         view: View,
@@ -63,13 +63,13 @@ impl<S: CertificateScheme, D: Digest> Plan<S, D> {
     pub(super) fn build(
         &mut self,
         context: Context<D, S::PublicKey>,
-        is_told: bool,
+        is_reported: bool,
     ) -> Result<(), AllocError>
-        ensures { OnOk result (HasBuilds (asking_for context is_told)
-            (in_place (record { context = context; is_told = is_told }) self.old.builds.buildings.items) self.old self.new) }
+        ensures { OnOk result (HasBuilds (asking_for context is_reported)
+            (in_place (record { context = context; is_reported = is_reported }) self.old.builds.buildings.items) self.old self.new) }
     {
-        self.builds.put(context, is_told)?;
-        if is_told {
+        self.builds.put(context, is_reported)?;
+        if is_reported {
             self.push(Work::Build(context))?;
         }
         Ok(())
@@ -93,16 +93,16 @@ impl<S: CertificateScheme, D: Digest> Plan<S, D> {
     pub(super) fn stop_building(&mut self, view: View) -> Result<(), AllocError>
         ensures { OnOk result (IsStopped view self.old self.new) }
     {
-        let is_told = self.is_asked(view);
+        let is_reported = self.is_asked(view);
         self.end_building(view);
-        self.tell_stopped(view, is_told)
+        self.push_stop(view, is_reported)
     }
 
     /// The application is told that what it builds in the view is of no use any more, where it was asked for it.
-    fn tell_stopped(&mut self, view: View, is_told: bool) -> Result<(), AllocError>
-        ensures { OnOk result (HasPlanned (stopping view is_told) self.old self.new) }
+    fn push_stop(&mut self, view: View, is_reported: bool) -> Result<(), AllocError>
+        ensures { OnOk result (HasPlanned (stopping view is_reported) self.old self.new) }
     {
-        if is_told {
+        if is_reported {
             self.push(Work::StopBuilding(view))?;
         }
         Ok(())

@@ -15,7 +15,7 @@ impl<S: Scheme<D>, L: Elector<S>, D: Digest> LawfulMember<S, L, D> {
     ghost use Rattle.simplex_record.specs.Entries.{entries_of};
     ghost use Rattle.simplex_record.specs.Votes.{votes_of};
     ghost use Rattle.simplex_member.specs.Journal.{stored_of, votes_since, IsResumed, IsNotResumed};
-    ghost use Rattle.laws_safety.specs.MemberHistory.{HasGoneOn};
+    ghost use Rattle.laws_safety.specs.MemberHistory.{HasContinued};
     ghost use Rattle.simplex_member.specs.OutstandingWork.{is_offered};
 
     /// The state, while the member has not failed: it has a floor, and has not failed either.
@@ -60,7 +60,7 @@ impl<S: Scheme<D>, L: Elector<S>, D: Digest> LawfulMember<S, L, D> {
     /// A member that goes on from its journal, as `Member::resume` makes it, or refuses with its errors and the entries.
     ///
     /// The elector's members are the scheme's participants.
-    /// - `goes_on`: in terms of the same length and with the key of the same member or none, what was done by the member that
+    /// - `continues`: in terms of the same length and with the key of the same member or none, what was done by the member that
     ///   the journal was stored of stays done, and the floor's finalization is accepted too.
     pub fn resume(
         alloc: Global,
@@ -77,7 +77,7 @@ impl<S: Scheme<D>, L: Elector<S>, D: Digest> LawfulMember<S, L, D> {
             (entries_of S.certificate_bytes entries.items)
             (start_facts S.me S.participants L.terms L.elects_early S.certificate_bytes start) refusal.error) }
         ensures handed_back { IfErr result (λ refusal. refusal.entries.items ≡ entries.items) }
-        ensures goes_on { IfOk result (λ member. HasGoneOn D.eq L.elect S.me L.terms stored
+        ensures continues { IfOk result (λ member. HasContinued D.eq L.elect S.me L.terms stored
             (entries_of S.certificate_bytes entries.items) start member.facts) }
     {
         match Member::resume(alloc, start, stored, entries) {

@@ -51,7 +51,7 @@ pub fn run_lawfully<S: Scheme<D>, L: Elector<S>, D: Digest>(
 
 /// A member that a driver keeps, with the law of its votes at each moment.
 ///
-/// `HasDone` says what its trace is so far, and as which member of a network: `start` begins the list, `resume` goes on
+/// `HasHistory` says what its trace is so far, and as which member of a network: `start` begins the list, `resume` goes on
 /// with that of an ended member, each method says what it adds, read off its arguments and its reply, and `keeps_the_laws` says
 /// what holds of the whole.
 #[derive(Drop)]
@@ -82,7 +82,7 @@ impl<S: Scheme<D>, L: Elector<S>, D: Digest> LawfulMember<S, L, D> {
     ghost use Rattle.simplex_record.specs.Start.{set_up, IsErrorDue};
     ghost use Rattle.simplex_member.specs.Start.{started_member};
     ghost use Rattle.laws_safety.specs.ExactVotes.{ExactAt};
-    ghost use Rattle.laws_safety.specs.MemberHistory.{DoesMore, MayBeDoneBy, OfAllDone, HasBegun, HasBegunAgain};
+    ghost use Rattle.laws_safety.specs.MemberHistory.{ExtendsHistory, MayBeHistoryOf, OfEachHistory, HasStarted, HasRestarted};
     ghost use Rattle.laws_safety.specs.RecordsOnce.{HoldsEachEntryOnce};
     ghost use Rattle.laws_safety.specs.ObservedTraces.{votes_in, taken_by};
 
@@ -104,7 +104,7 @@ impl<S: Scheme<D>, L: Elector<S>, D: Digest> LawfulMember<S, L, D> {
         ensures refused { IfErr result (IsErrorDue (recover_error D.eq
             (set_up S.me S.participants L.terms L.elects_early start.settings)
             (floor_facts S.certificate_bytes start.floor) start.now [])) }
-        ensures begins { IfOk result (λ member. HasBegun D.eq L.elect S.me L.terms start member.facts) }
+        ensures begins { IfOk result (λ member. HasStarted D.eq L.elect S.me L.terms start member.facts) }
     {
         Ok(LawfulMember {
             member: Member::start(alloc, start)?,
@@ -120,7 +120,7 @@ impl<S: Scheme<D>, L: Elector<S>, D: Digest> LawfulMember<S, L, D> {
     /// - `grown`: the record is as it was, with more behind it.
     /// - `stored`: what a journal stores beside the record stays.
     /// - `exact`: a request for a vote is answered exactly by its rule, and nothing else by a vote.
-    /// - `goes_on`: what the member has done grows by the certificate that is accepted and the vote that is told.
+    /// - `continues`: what the member has done grows by the certificate that is accepted and the vote that is told.
     pub fn call(&mut self, call: Call<S, D>) -> Reply<S, D>
         ensures of_its_kind { is_reply_to (told S.certificate_bytes result) (asked S.certificate_bytes call) ≡ true }
         ensures answered { IsCall D.eq L.elect self.old.facts (asked S.certificate_bytes call) (told S.certificate_bytes result) self.new.facts }
@@ -129,18 +129,18 @@ impl<S: Scheme<D>, L: Elector<S>, D: Digest> LawfulMember<S, L, D> {
         ensures grown { HasGrown self.old.facts self.new.facts }
         ensures stored { stored_of self.new.facts ≡ stored_of self.old.facts }
         ensures exact { ExactAt D.eq L.elect self.old.facts.life (Calls (asked S.certificate_bytes call)) (told S.certificate_bytes result) }
-        ensures goes_on { DoesMore D.eq L.elect self.old.facts (taken_by call result ++ votes_in result) self.new.facts }
+        ensures continues { ExtendsHistory D.eq L.elect self.old.facts (taken_by call result ++ votes_in result) self.new.facts }
     {
         self.member.call(call)
     }
 
     /// Prunes the record within the life, as `Member::prune_record` does.
     ///
-    /// - `goes_on`: what the member has done stays, also what goes from its record.
+    /// - `continues`: what the member has done stays, also what goes from its record.
     pub fn prune_record(&mut self)
         ensures pruned { self.new.facts ≡ pruned_member self.old.facts }
         ensures votes { self.new.votes ≡ votes_within self.old.facts self.old.votes }
-        ensures goes_on { DoesMore D.eq L.elect self.old.facts [] self.new.facts }
+        ensures continues { ExtendsHistory D.eq L.elect self.old.facts [] self.new.facts }
     {
         self.member.prune_record()
     }
@@ -148,7 +148,7 @@ impl<S: Scheme<D>, L: Elector<S>, D: Digest> LawfulMember<S, L, D> {
     /// Begins another life from what is left of the record, as `Member::restart` does, or is refused with its errors.
     ///
     /// The elector's members are the scheme's participants.
-    /// - `goes_on`: in terms of the same length and with the key of the same member or none, what the member has done stays,
+    /// - `continues`: in terms of the same length and with the key of the same member or none, what the member has done stays,
     ///   also what is dropped from its record or pruned; where the restart succeeds the floor's finalization is accepted too.
     pub fn restart(&mut self, restart: Restart<S, L, D>) -> Result<(), RecoverError>
         requires { L.members restart.start.settings.elector ≡ length (S.participants restart.start.settings.scheme) }
@@ -156,7 +156,7 @@ impl<S: Scheme<D>, L: Elector<S>, D: Digest> LawfulMember<S, L, D> {
             (restart_facts S.me S.participants L.terms L.elects_early S.certificate_bytes restart) result self.new.facts }
         ensures votes { self.new.votes
             ≡ votes_left self.old.facts (restart_facts S.me S.participants L.terms L.elects_early S.certificate_bytes restart) self.old.votes }
-        ensures goes_on { HasBegunAgain D.eq L.elect S.me L.terms self.old.facts restart.start result self.new.facts }
+        ensures continues { HasRestarted D.eq L.elect S.me L.terms self.old.facts restart.start result self.new.facts }
     {
         self.member.restart(restart)
     }
@@ -167,8 +167,8 @@ impl<S: Scheme<D>, L: Elector<S>, D: Digest> LawfulMember<S, L, D> {
     /// - `ran`: a network of `agreement` may have it as member `i`.
     /// - `once`: its record holds each entry once, and of each view at most seven.
     pub fn keeps_the_laws(&self)
-        ensures lawful { OfAllDone D.eq L.elect self.now.facts (λ term_length i all. IsLawful term_length all) }
-        ensures ran { OfAllDone D.eq L.elect self.now.facts (MayBeDoneBy S.PublicKey D.eq L.elect) }
-        ensures once { OfAllDone D.eq L.elect self.now.facts (λ term_length i all. HoldsEachEntryOnce self.now.facts) }
+        ensures lawful { OfEachHistory D.eq L.elect self.now.facts (λ term_length i all. IsLawful term_length all) }
+        ensures ran { OfEachHistory D.eq L.elect self.now.facts (MayBeHistoryOf S.PublicKey D.eq L.elect) }
+        ensures once { OfEachHistory D.eq L.elect self.now.facts (λ term_length i all. HoldsEachEntryOnce self.now.facts) }
     {}
 }

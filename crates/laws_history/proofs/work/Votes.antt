@@ -29,15 +29,15 @@ use Rattle.laws_history.proofs.work.WithoutMoment.{IsUnmoved, adds_unmoved, unmo
 
 module _ {D : Type 0} (same : D → D → Bool) (s : SlotFacts D) (p : Proposal D) where
   -- the slot after a proposal was heard of, where this is held
-  abbrev heard_by : Option (Proposal D) → SlotFacts D
-  heard_by held =
+  abbrev received_by : Option (Proposal D) → SlotFacts D
+  received_by held =
       option_map_or
       (λ h. record s { conflict = s.conflict || not (same_proposal same h p); verified = s.verified && same_proposal same h p })
       held
       (record s { held = Some p })
 
   -- another one than the held one is not verified, and none is asked for
-  heard_verified : (held : Option (Proposal D)) → (heard_by held).verified ≡ unwrap_or (if contradicts same held (Some p) then Some false else None) s.verified
+  heard_verified : (held : Option (Proposal D)) → (received_by held).verified ≡ unwrap_or (if contradicts same held (Some p) then Some false else None) s.verified
   heard_verified None = refl
   heard_verified (Some h) = by_same (same_proposal same h p)
     where
@@ -45,11 +45,11 @@ module _ {D : Type 0} (same : D → D → Bool) (s : SlotFacts D) (p : Proposal 
       by_same true = and-true s.verified
       by_same false = and-false s.verified
 
-  heard_build : (held : Option (Proposal D)) → (heard_by held).build_requested ≡ s.build_requested
+  heard_build : (held : Option (Proposal D)) → (received_by held).build_requested ≡ s.build_requested
   heard_build None = refl
   heard_build (Some h) = refl
 
-  heard_verify : (held : Option (Proposal D)) → (heard_by held).verify_requested ≡ s.verify_requested
+  heard_verify : (held : Option (Proposal D)) → (received_by held).verify_requested ≡ s.verify_requested
   heard_verify None = refl
   heard_verify (Some h) = refl
 

@@ -18,7 +18,7 @@ use Rattle.laws_safety.specs.Executions.{Execution}
 use Rattle.laws_safety.specs.ScenarioSteps.{one, in_turn}
 use Rattle.laws_safety.proofs.networks.ComputedRuns.{rises}
 use Rattle.laws_safety.proofs.networks.DividedNetwork.{divided_network}
-use Rattle.laws_progress.specs.NetworkStates.{IsSetUpAs, LivesWith}
+use Rattle.laws_progress.specs.NetworkStates.{IsSetUpAs, RunsWith}
 use Rattle.laws_progress.specs.WorkedNetworks.{MayReach, Reaches}
 use Rattle.laws_progress.proofs.instances.Worked.{IsWorked, lives_by, each_lives_so, agree}
 use Rattle.laws_progress.proofs.networks.Going.{no_network_is_stuck}
@@ -39,7 +39,7 @@ first_worked = record {
   below = refl;
 }
 
-first_lives : (x : StateFacts ℕ ℕ ℕ) × LivesWith nat_eq in_turn first x × Alive 0 x
+first_lives : (x : StateFacts ℕ ℕ ℕ) × RunsWith nat_eq in_turn first x × Alive 0 x
 unfolding first_recover_error recovered_state after_kept_entry may_drop pruned_entries standing has_valid_parent_span ancestry_payload_for_child first_unnullified_view explicit_ancestry_payload in_issuance_window is_admitted verification_matches parent_payload_for may_notarize
 first_lives = lives_by 1 6 0 first (rises entry_view 0 (NotarizeVote one 0 ∷ []) refl, tt) first_worked
 
@@ -56,7 +56,7 @@ second_worked = record {
   below = refl;
 }
 
-second_lives : (x : StateFacts ℕ ℕ ℕ) × LivesWith nat_eq in_turn second x × Alive 1 x
+second_lives : (x : StateFacts ℕ ℕ ℕ) × RunsWith nat_eq in_turn second x × Alive 1 x
 unfolding first_recover_error recovered_state after_kept_entry may_drop pruned_entries standing has_valid_parent_span ancestry_payload_for_child first_unnullified_view explicit_ancestry_payload in_issuance_window is_admitted verification_matches parent_payload_for may_notarize
 second_lives = lives_by 1 6 1 second (rises entry_view 0 (NotarizeVote rival 1 ∷ []) refl, tt) second_worked
 
@@ -73,7 +73,7 @@ third_worked = record {
   below = refl;
 }
 
-third_lives : (x : StateFacts ℕ ℕ ℕ) × LivesWith nat_eq in_turn third x × Alive 2 x
+third_lives : (x : StateFacts ℕ ℕ ℕ) × RunsWith nat_eq in_turn third x × Alive 2 x
 unfolding first_recover_error recovered_state after_kept_entry may_drop pruned_entries standing has_valid_parent_span ancestry_payload_for_child first_unnullified_view explicit_ancestry_payload in_issuance_window is_admitted verification_matches parent_payload_for may_notarize
 third_lives = lives_by 1 6 2 third (rises entry_view 0 [] refl, tt) third_worked
 

@@ -15,7 +15,7 @@ use Rattle.laws_safety.specs.Traces.{Accepts}
 use Rattle.laws_safety.specs.ScenarioSteps.{in_turn, begin_at}
 use Rattle.laws_safety.proofs.networks.ScenarioSteps.{begins, ran_as_told}
 use Rattle.laws_progress.specs.ViewPositions.{BuildsOn}
-use Rattle.laws_progress.specs.NetworkStates.{LivesWith, EachLives}
+use Rattle.laws_progress.specs.NetworkStates.{RunsWith, EachRuns}
 use Rattle.laws_progress.specs.StartedNetworks.{idle, with_first_leader, StandsFirst, Finalizes}
 use Rattle.laws_progress.proofs.networks.FreshStarts.{fresh_starts_are_finalized}
 
@@ -26,7 +26,7 @@ pub idle_ran : (me : ℕ) → IsExecution nat_eq in_turn 1 me (idle me)
 unfolding first_recover_error
 idle_ran me = ran_as_told 1 me (idle me) (begins 1 me (omega arith)) tt refl tt refl
 
-pub lives : (me : ℕ) → LivesWith nat_eq in_turn (idle me) (state me)
+pub lives : (me : ℕ) → RunsWith nat_eq in_turn (idle me) (state me)
 lives me = (_, refl, refl)
 
 knows : (me : ℕ) → StandsFirst me (state me)
@@ -41,11 +41,11 @@ builds_on : (me : ℕ) → BuildsOn 0 1 (state me)
 unfolding explicit_ancestry_payload
 builds_on me = (0, refl)
 
-pub each_lives : EachLives nat_eq in_turn with_first_leader StandsFirst
+pub each_lives : EachRuns nat_eq in_turn with_first_leader StandsFirst
 each_lives zero s at = absurd (cc)
-each_lives (suc zero) s at = let same : idle 1 ≡ s = cc in (state 1, subst (λ t. LivesWith nat_eq in_turn t (state 1)) same (lives 1), knows 1)
-each_lives (suc (suc zero)) s at = let same : idle 2 ≡ s = cc in (state 2, subst (λ t. LivesWith nat_eq in_turn t (state 2)) same (lives 2), knows 2)
-each_lives (suc (suc (suc zero))) s at = let same : idle 3 ≡ s = cc in (state 3, subst (λ t. LivesWith nat_eq in_turn t (state 3)) same (lives 3), knows 3)
+each_lives (suc zero) s at = let same : idle 1 ≡ s = cc in (state 1, subst (λ t. RunsWith nat_eq in_turn t (state 1)) same (lives 1), knows 1)
+each_lives (suc (suc zero)) s at = let same : idle 2 ≡ s = cc in (state 2, subst (λ t. RunsWith nat_eq in_turn t (state 2)) same (lives 2), knows 2)
+each_lives (suc (suc (suc zero))) s at = let same : idle 3 ≡ s = cc in (state 3, subst (λ t. RunsWith nat_eq in_turn t (state 3)) same (lives 3), knows 3)
 each_lives (suc (suc (suc (suc i)))) s at = absurd (cc)
 
 -- so is the rest but that it is a network, and it goes on
@@ -63,9 +63,9 @@ is_network = record {
   backed = λ i s c at h. absurd (let none = subst (λ t. Contains (trace_of t) (Accepts c)) (each_ran i s at).1 h in omega (arith, none.1));
 }
 
-same_builds : (s : Execution ℕ ℕ ℕ) → slice_get with_first_leader 3 ≡ Some (Honest s) → (x : StateFacts ℕ ℕ ℕ) → LivesWith nat_eq in_turn s x → BuildsOn 0 1 x
+same_builds : (s : Execution ℕ ℕ ℕ) → slice_get with_first_leader 3 ≡ Some (Honest s) → (x : StateFacts ℕ ℕ ℕ) → RunsWith nat_eq in_turn s x → BuildsOn 0 1 x
 same_builds s at x alive =
-    let there = subst (λ t. LivesWith nat_eq in_turn t x) (each_ran 3 s at).1 alive in
+    let there = subst (λ t. RunsWith nat_eq in_turn t x) (each_ran 3 s at).1 alive in
     let same : state 3 ≡ x = ap (λ o. unwrap_or o x) (ap (λ (m : MemberFacts ℕ ℕ ℕ). m.life) there.1 ∙ there.2) in
     subst (BuildsOn 0 1) same (builds_on 3)
 

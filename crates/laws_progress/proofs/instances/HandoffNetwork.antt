@@ -13,7 +13,7 @@ use Rattle.laws_safety.specs.HandoffNetwork.{takes_over, can_not_verify, taken_o
 use Rattle.laws_safety.specs.Executions.{Execution}
 use Rattle.laws_safety.specs.ScenarioSteps.{in_turn}
 use Rattle.laws_safety.proofs.networks.HandoffNetwork.{taken_over_network}
-use Rattle.laws_progress.specs.NetworkStates.{IsSetUpAs, LivesWith}
+use Rattle.laws_progress.specs.NetworkStates.{IsSetUpAs, RunsWith}
 use Rattle.laws_progress.specs.WorkedNetworks.{MayReach, Reaches}
 use Rattle.laws_progress.proofs.instances.Worked.{IsWorked, lives_by, each_lives_so, agree}
 use Rattle.laws_progress.proofs.networks.Going.{no_network_is_stuck}
@@ -34,7 +34,7 @@ first_worked = record {
   below = refl;
 }
 
-first_lives : (x : StateFacts ℕ ℕ ℕ) × LivesWith nat_eq in_turn first x × Alive 0 x
+first_lives : (x : StateFacts ℕ ℕ ℕ) × RunsWith nat_eq in_turn first x × Alive 0 x
 first_lives = lives_by 2 11 0 first tt first_worked
 
 abbrev second : Execution ℕ ℕ ℕ
@@ -50,7 +50,7 @@ second_worked = record {
   below = refl;
 }
 
-second_lives : (x : StateFacts ℕ ℕ ℕ) × LivesWith nat_eq in_turn second x × Alive 1 x
+second_lives : (x : StateFacts ℕ ℕ ℕ) × RunsWith nat_eq in_turn second x × Alive 1 x
 second_lives = lives_by 2 11 1 second tt second_worked
 
 abbrev third : Execution ℕ ℕ ℕ
@@ -66,7 +66,7 @@ third_worked = record {
   below = refl;
 }
 
-third_lives : (x : StateFacts ℕ ℕ ℕ) × LivesWith nat_eq in_turn third x × Alive 2 x
+third_lives : (x : StateFacts ℕ ℕ ℕ) × RunsWith nat_eq in_turn third x × Alive 2 x
 third_lives = lives_by 2 11 2 third tt third_worked
 
 pub taken_over_may_go_on : MayReach 2 taken_over 11

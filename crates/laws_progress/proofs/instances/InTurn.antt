@@ -17,7 +17,7 @@ use Rattle.laws_safety.specs.DividedNetwork.{rival, divided}
 use Rattle.laws_safety.specs.ScenarioSteps.{one, in_turn}
 use Rattle.laws_safety.proofs.networks.ComputedRuns.{rises}
 use Rattle.laws_safety.proofs.networks.DividedNetwork.{divided_network}
-use Rattle.laws_progress.specs.NetworkStates.{IsSetUpAs, LivesWith}
+use Rattle.laws_progress.specs.NetworkStates.{IsSetUpAs, RunsWith}
 use Rattle.laws_progress.specs.SharedView.{terms_on}
 use Rattle.laws_progress.specs.WorkedNetworks.{ReachesWithin}
 use Rattle.laws_progress.proofs.instances.DividedNetwork.{first, first_worked, second, second_worked, third, third_worked}
@@ -46,11 +46,11 @@ first_not_four : is_tracked (state_at_end first) 4 ≡ false
 unfolding first_recover_error recovered_state after_kept_entry may_drop pruned_entries standing has_valid_parent_span ancestry_payload_for_child first_unnullified_view explicit_ancestry_payload in_issuance_window is_admitted verification_matches parent_payload_for may_notarize
 first_not_four = refl
 
-first_there : LivesWith nat_eq in_turn first (state_at_end first)
+first_there : RunsWith nat_eq in_turn first (state_at_end first)
 unfolding first_recover_error recovered_state after_kept_entry may_drop pruned_entries standing has_valid_parent_span ancestry_payload_for_child first_unnullified_view explicit_ancestry_payload in_issuance_window is_admitted verification_matches parent_payload_for may_notarize
 first_there = lives_there first (rises entry_view 0 (NotarizeVote one 0 ∷ []) refl, tt) first_worked.told first_worked.alive
 
-first_ahead : (x : StateFacts ℕ ℕ ℕ) × LivesWith nat_eq in_turn first x × Ahead 0 x
+first_ahead : (x : StateFacts ℕ ℕ ℕ) × RunsWith nat_eq in_turn first x × Ahead 0 x
 first_ahead = (state_at_end first, first_there, (first_worked.set_up, (let low = ltb-true (state_at_end first).current 2 first_low in omega (arith, low)), two_unknown (state_at_end first) first_not_three first_not_four))
 
 second_low : nat_lt (state_at_end second).current 2 ≡ true
@@ -65,11 +65,11 @@ second_not_four : is_tracked (state_at_end second) 4 ≡ false
 unfolding first_recover_error recovered_state after_kept_entry may_drop pruned_entries standing has_valid_parent_span ancestry_payload_for_child first_unnullified_view explicit_ancestry_payload in_issuance_window is_admitted verification_matches parent_payload_for may_notarize
 second_not_four = refl
 
-second_there : LivesWith nat_eq in_turn second (state_at_end second)
+second_there : RunsWith nat_eq in_turn second (state_at_end second)
 unfolding first_recover_error recovered_state after_kept_entry may_drop pruned_entries standing has_valid_parent_span ancestry_payload_for_child first_unnullified_view explicit_ancestry_payload in_issuance_window is_admitted verification_matches parent_payload_for may_notarize
 second_there = lives_there second (rises entry_view 0 (NotarizeVote rival 1 ∷ []) refl, tt) second_worked.told second_worked.alive
 
-second_ahead : (x : StateFacts ℕ ℕ ℕ) × LivesWith nat_eq in_turn second x × Ahead 1 x
+second_ahead : (x : StateFacts ℕ ℕ ℕ) × RunsWith nat_eq in_turn second x × Ahead 1 x
 second_ahead = (state_at_end second, second_there, (second_worked.set_up, (let low = ltb-true (state_at_end second).current 2 second_low in omega (arith, low)), two_unknown (state_at_end second) second_not_three second_not_four))
 
 third_low : nat_lt (state_at_end third).current 2 ≡ true
@@ -84,11 +84,11 @@ third_not_four : is_tracked (state_at_end third) 4 ≡ false
 unfolding first_recover_error recovered_state after_kept_entry may_drop pruned_entries standing has_valid_parent_span ancestry_payload_for_child first_unnullified_view explicit_ancestry_payload in_issuance_window is_admitted verification_matches parent_payload_for may_notarize
 third_not_four = refl
 
-third_there : LivesWith nat_eq in_turn third (state_at_end third)
+third_there : RunsWith nat_eq in_turn third (state_at_end third)
 unfolding first_recover_error recovered_state after_kept_entry may_drop pruned_entries standing has_valid_parent_span ancestry_payload_for_child first_unnullified_view explicit_ancestry_payload in_issuance_window is_admitted verification_matches parent_payload_for may_notarize
 third_there = lives_there third (rises entry_view 0 ([]) refl, tt) third_worked.told third_worked.alive
 
-third_ahead : (x : StateFacts ℕ ℕ ℕ) × LivesWith nat_eq in_turn third x × Ahead 2 x
+third_ahead : (x : StateFacts ℕ ℕ ℕ) × RunsWith nat_eq in_turn third x × Ahead 2 x
 third_ahead = (state_at_end third, third_there, (third_worked.set_up, (let low = ltb-true (state_at_end third).current 2 third_low in omega (arith, low)), two_unknown (state_at_end third) third_not_three third_not_four))
 
 pub divided_in_turn : ReachesWithin 7 1 divided

@@ -9,11 +9,11 @@ use Rattle.simplex_voter.specs.ProposalRequests.{propose_answer, proposed_answer
 use Rattle.simplex_voter.specs.Rules.{may_notarize, may_nullify, may_finalize, has_conflicting_nullify, required_certification_parent}
 use Rattle.simplex_voter.specs.Verification.{standing}
 use Rattle.simplex_voter.specs.Windows.{is_admitted, in_issuance_window}
-use Rattle.laws_safety.specs.MissingCertificatesNetwork.{lacks_nullification, skips_two, member_without_notarization, lacking_certificates}
+use Rattle.laws_safety.specs.MissingCertificatesNetwork.{lacks_nullification, skips_two, member_without_notarization, missing_certificates}
 use Rattle.laws_safety.specs.Executions.{Execution}
 use Rattle.laws_safety.specs.ScenarioSteps.{in_turn}
 use Rattle.laws_safety.proofs.networks.LackingNetwork.{lacking_network}
-use Rattle.laws_progress.specs.NetworkStates.{IsSetUpAs, LivesWith}
+use Rattle.laws_progress.specs.NetworkStates.{IsSetUpAs, RunsWith}
 use Rattle.laws_progress.specs.WorkedNetworks.{MayReach, Reaches}
 use Rattle.laws_progress.proofs.instances.Worked.{IsWorked, lives_by, each_lives_so, agree}
 use Rattle.laws_progress.proofs.networks.Going.{no_network_is_stuck}
@@ -34,7 +34,7 @@ first_worked = record {
   below = refl;
 }
 
-first_lives : (x : StateFacts ℕ ℕ ℕ) × LivesWith nat_eq in_turn first x × Alive 0 x
+first_lives : (x : StateFacts ℕ ℕ ℕ) × RunsWith nat_eq in_turn first x × Alive 0 x
 first_lives = lives_by 1 6 0 first tt first_worked
 
 abbrev second : Execution ℕ ℕ ℕ
@@ -50,7 +50,7 @@ second_worked = record {
   below = refl;
 }
 
-second_lives : (x : StateFacts ℕ ℕ ℕ) × LivesWith nat_eq in_turn second x × Alive 1 x
+second_lives : (x : StateFacts ℕ ℕ ℕ) × RunsWith nat_eq in_turn second x × Alive 1 x
 second_lives = lives_by 1 6 1 second tt second_worked
 
 abbrev third : Execution ℕ ℕ ℕ
@@ -66,19 +66,19 @@ third_worked = record {
   below = refl;
 }
 
-third_lives : (x : StateFacts ℕ ℕ ℕ) × LivesWith nat_eq in_turn third x × Alive 2 x
+third_lives : (x : StateFacts ℕ ℕ ℕ) × RunsWith nat_eq in_turn third x × Alive 2 x
 third_lives = lives_by 1 6 2 third tt third_worked
 
-pub lacking_may_go_on : MayReach 1 lacking_certificates 6
+pub lacking_may_go_on : MayReach 1 missing_certificates 6
 lacking_may_go_on = record {
   few_faulty = omega arith;
-  alive = each_lives_so Alive lacking_certificates (first_lives, (second_lives, (third_lives, tt)));
-  consistent = agree 1 lacking_certificates lacking_network (refl, (refl, (refl, tt)));
+  alive = each_lives_so Alive missing_certificates (first_lives, (second_lives, (third_lives, tt)));
+  consistent = agree 1 missing_certificates lacking_network (refl, (refl, (refl, tt)));
   is_term_start = refl;
   small = refl;
   elected = λ bytes. refl;
   honest_leader = (first, refl);
 }
 
-pub lacking_reaches : Reaches 1 lacking_certificates 6
-lacking_reaches = no_network_is_stuck ℕ nat_eq eqb-true (λ d. eq-eqb d d refl) in_turn 1 1 0 6 1 lacking_certificates 7 lacking_network lacking_may_go_on
+pub lacking_reaches : Reaches 1 missing_certificates 6
+lacking_reaches = no_network_is_stuck ℕ nat_eq eqb-true (λ d. eq-eqb d d refl) in_turn 1 1 0 6 1 missing_certificates 7 lacking_network lacking_may_go_on

@@ -10,8 +10,8 @@ use Rattle.laws_safety.specs.Replicas.{Honest, IsNetworkOf}
 use Rattle.laws_safety.specs.Executions.{Execution, trace_of, IsExecution, BeginsAs}
 use Rattle.laws_safety.specs.ScenarioSteps.{in_turn}
 use Rattle.laws_safety.proofs.networks.ScenarioSteps.{ran_as_told}
-use Rattle.laws_progress.specs.NetworkStates.{IsSetUpAs, LivesWith, EachLives}
-use Rattle.laws_progress.specs.TooManyFaulty.{idle_of_five, with_two_faulty, MayGoOnOtherwise, IsStuck}
+use Rattle.laws_progress.specs.NetworkStates.{IsSetUpAs, RunsWith, EachRuns}
+use Rattle.laws_progress.specs.TooManyFaulty.{idle_of_five, with_two_faulty, MayContinueOtherwise, IsStuck}
 use Rattle.laws_progress.proofs.instances.Worked.{agree}
 use Rattle.laws_progress.proofs.networks.Continued.{too_many_are_faulty}
 
@@ -25,7 +25,7 @@ idle_ran me = ran_as_told 1 me (idle_of_five me) (begins me) tt refl tt refl
 state : ℕ → StateFacts ℕ ℕ ℕ
 state me = after_set_floor nat_eq in_turn (new_state (idle_of_five me).start.setup) (Genesis 0) 0
 
-lives : (me : ℕ) → LivesWith nat_eq in_turn (idle_of_five me) (state me)
+lives : (me : ℕ) → RunsWith nat_eq in_turn (idle_of_five me) (state me)
 unfolding state
 lives me = (_, refl, refl)
 
@@ -48,10 +48,10 @@ is_network = record {
   backed = λ i s c at h. absurd (let none = subst (λ t. Contains (trace_of t) (Accepts c)) (each_idle i s at) h in omega (arith, none.1));
 }
 
-each_lives : EachLives nat_eq in_turn with_two_faulty (λ i x. IsSetUpAs 1 5 1 i x × (is_tracked x 4 ≡ false) × (x.current < 4))
-each_lives i s at = (state i, subst (λ t. LivesWith nat_eq in_turn t (state i)) (sym (each_idle i s at)) (lives i), knows i)
+each_lives : EachRuns nat_eq in_turn with_two_faulty (λ i x. IsSetUpAs 1 5 1 i x × (is_tracked x 4 ≡ false) × (x.current < 4))
+each_lives i s at = (state i, subst (λ t. RunsWith nat_eq in_turn t (state i)) (sym (each_idle i s at)) (lives i), knows i)
 
-pub may_otherwise : MayGoOnOtherwise
+pub may_otherwise : MayContinueOtherwise
 may_otherwise = (each_lives, agree 1 with_two_faulty is_network (refl, (refl, (refl, tt))), refl, refl, λ bytes. refl, idle_of_five 2, refl)
 
 pub is_stuck : IsStuck

@@ -11,7 +11,7 @@ use Rattle.laws_safety.specs.Traces.{Accepts}
 use Rattle.laws_safety.specs.Replicas.{Honest, IsNetworkOf}
 use Rattle.laws_safety.specs.Executions.{Execution, trace_of, IsExecution}
 use Rattle.laws_safety.specs.ScenarioSteps.{in_turn}
-use Rattle.laws_progress.specs.NetworkStates.{LivesWith, EachLives}
+use Rattle.laws_progress.specs.NetworkStates.{RunsWith, EachRuns}
 use Rattle.laws_progress.specs.StartedNetworks.{idle, with_second_leader, StandsBeforeSecond, Finalizes}
 use Rattle.laws_progress.proofs.instances.FreshNetwork.{state, idle_ran, lives}
 use Rattle.laws_progress.proofs.networks.Passed.{together_they_go_on}
@@ -51,8 +51,8 @@ each_ran (suc (suc zero)) s at = (omega arith, cc)
 each_ran (suc (suc (suc zero))) s at = absurd (cc)
 each_ran (suc (suc (suc (suc i)))) s at = absurd (cc)
 
-pub each_lives : EachLives nat_eq in_turn with_second_leader StandsBeforeSecond
-each_lives i s at = (state i, subst (λ t. LivesWith nat_eq in_turn t (state i)) (sym (each_ran i s at).1) (lives i), knows i)
+pub each_lives : EachRuns nat_eq in_turn with_second_leader StandsBeforeSecond
+each_lives i s at = (state i, subst (λ t. RunsWith nat_eq in_turn t (state i)) (sym (each_ran i s at).1) (lives i), knows i)
 
 pub is_network : IsNetworkOf nat_eq in_turn 1 with_second_leader
 is_network = record {

@@ -15,7 +15,7 @@ use Rattle.laws_safety.specs.ScenarioSteps.{in_turn}
 use Rattle.laws_safety.proofs.lists.Splits.{Contains-cases}
 use Rattle.laws_safety.proofs.networks.ComputedRuns.{end_from, fits_run}
 use Rattle.laws_safety.proofs.networks.ScenarioSteps.{told_in, FitsIn}
-use Rattle.laws_progress.specs.NetworkStates.{IsSetUpAs, LivesWith, EachLives}
+use Rattle.laws_progress.specs.NetworkStates.{IsSetUpAs, RunsWith, EachRuns}
 use Rattle.laws_progress.specs.ViewCauses.{HasCertified, judged_of}
 use Rattle.laws_progress.proofs.runs.Explicit.{verdict_led}
 use Rattle.laws_progress.proofs.runs.LedLives.{state_led}
@@ -29,7 +29,7 @@ some_is None a is = absurd (false≢true is)
 some_is (Some b) a is = refl
 
 -- where it lives
-pub lives_there : (s : Execution ℕ ℕ ℕ) → FitsIn s → told_in s ≡ s.replies → is_some (end_from nat_eq in_turn (new_member nat_eq in_turn s.start) s.steps).life ≡ true → LivesWith nat_eq in_turn s (state_at_end s)
+pub lives_there : (s : Execution ℕ ℕ ℕ) → FitsIn s → told_in s ≡ s.replies → is_some (end_from nat_eq in_turn (new_member nat_eq in_turn s.start) s.steps).life ≡ true → RunsWith nat_eq in_turn s (state_at_end s)
 lives_there s fits told alive =
     let m = new_member nat_eq in_turn s.start in (
       end_from nat_eq in_turn m s.steps,
@@ -47,22 +47,22 @@ pub record IsWorked (term_length start i : ℕ) (s : Execution ℕ ℕ ℕ) : Ty
   pub below : nat_lt (state_at_end s).current start ≡ true
 
 -- so it lives
-pub lives_by : (term_length start i : ℕ) (s : Execution ℕ ℕ ℕ) → FitsIn s → IsWorked term_length start i s → (x : StateFacts ℕ ℕ ℕ) × LivesWith nat_eq in_turn s x × (IsSetUpAs 1 4 term_length i x × (is_tracked x start ≡ false) × (x.current < start))
+pub lives_by : (term_length start i : ℕ) (s : Execution ℕ ℕ ℕ) → FitsIn s → IsWorked term_length start i s → (x : StateFacts ℕ ℕ ℕ) × RunsWith nat_eq in_turn s x × (IsSetUpAs 1 4 term_length i x × (is_tracked x start ≡ false) × (x.current < start))
 lives_by term_length start i s fits worked = (state_at_end s, lives_there s fits worked.told worked.alive, (worked.set_up, worked.unknown, ltb-true (state_at_end s).current start worked.below))
 
 -- each honest member lives so, one after another
 abbrev pub AllLive : (ℕ → StateFacts ℕ ℕ ℕ → Type 0) → List (Replica ℕ ℕ ℕ) → Type 0
 AllLive P [] = Unit {0}
 AllLive P (Faulty ∷ network) = AllLive (λ i. P (suc i)) network
-AllLive P (Honest s ∷ network) = ((x : StateFacts ℕ ℕ ℕ) × LivesWith nat_eq in_turn s x × P 0 x) × AllLive (λ i. P (suc i)) network
+AllLive P (Honest s ∷ network) = ((x : StateFacts ℕ ℕ ℕ) × RunsWith nat_eq in_turn s x × P 0 x) × AllLive (λ i. P (suc i)) network
 
-pub each_lives_so : (P : ℕ → StateFacts ℕ ℕ ℕ → Type 0) (network : List (Replica ℕ ℕ ℕ)) → AllLive P network → EachLives nat_eq in_turn network P
+pub each_lives_so : (P : ℕ → StateFacts ℕ ℕ ℕ → Type 0) (network : List (Replica ℕ ℕ ℕ)) → AllLive P network → EachRuns nat_eq in_turn network P
 each_lives_so P [] all i s at = absurd (cc)
 each_lives_so P (Faulty ∷ network) all zero s at = absurd (cc)
 each_lives_so P (Faulty ∷ network) all (suc i) s at = each_lives_so (λ i. P (suc i)) network all i s at
 each_lives_so P (Honest t ∷ network) all zero s at =
     let one : t ≡ s = cc in
-    (all.0.0, subst (λ u. LivesWith nat_eq in_turn u all.0.0) one all.0.1, all.0.2)
+    (all.0.0, subst (λ u. RunsWith nat_eq in_turn u all.0.0) one all.0.1, all.0.2)
 each_lives_so P (Honest t ∷ network) all (suc i) s at = each_lives_so (λ i. P (suc i)) network all.1 i s at
 
 -- no false verdict was told
@@ -91,7 +91,7 @@ each_fine (Honest t ∷ network) all zero s at = let one : t ≡ s = cc in subst
 each_fine (Honest t ∷ network) all (suc i) s at = each_fine network all.1 i s at
 
 -- so none stands
-pub agree : (term_length : ℕ) (network : List (Replica ℕ ℕ ℕ)) → IsNetworkOf nat_eq in_turn term_length network → AllFine network → EachHonest network (λ i s. EachHonest network (λ j t. (x : StateFacts ℕ ℕ ℕ) (v : ℕ) → HasCertified 1 (judged_of s) v → LivesWith nat_eq in_turn t x → x.finalized < v → is_judged false (round_of x v).certification ≡ false))
+pub agree : (term_length : ℕ) (network : List (Replica ℕ ℕ ℕ)) → IsNetworkOf nat_eq in_turn term_length network → AllFine network → EachHonest network (λ i s. EachHonest network (λ j t. (x : StateFacts ℕ ℕ ℕ) (v : ℕ) → HasCertified 1 (judged_of s) v → RunsWith nat_eq in_turn t x → x.finalized < v → is_judged false (round_of x v).certification ≡ false))
 agree term_length network good all i s at j t from x v certified lives above = elim (cases_Bool (is_judged false (round_of x v).certification)) [
   | inr fine ↦ fine
   | inl bad ↦ absurd (

@@ -3,10 +3,10 @@ use Rattle.std.proofs.Common.{◌≡◌, ap, sym, subst, ◌⊎◌, inl, inr, �
 use Rattle.simplex_types.specs.declared.types.messages.Proposal.{Proposal}
 use Rattle.simplex_types.specs.declared.types.messages.Subject.TheVariants.{Finalize}
 use Rattle.simplex_voter.specs.Facts.{Elect}
-use Rattle.laws_safety.specs.Continuations.{ReplicasGoOn, SomeHonest, HasBuilt, HonestlyBacked}
+use Rattle.laws_safety.specs.Continuations.{ReplicasContinue, SomeHonest, HasBuilt, HonestlyBacked}
 use Rattle.laws_safety.specs.Replicas.{Replica, Honest, quorum}
 use Rattle.laws_safety.specs.Executions.{Execution}
-use Rattle.laws_progress.specs.Continuation.{IsVotedFor, IsGiven, MembersGoOn, FinalizationsAreNew, NothingIsForged, TooManyAreFaulty, ExchangesGoOn, ExchangesBringWhatWas, OneExchangeIsTooFew}
+use Rattle.laws_progress.specs.Continuation.{IsVotedFor, IsGiven, MembersContinue, FinalizationsAreNew, NothingIsForged, TooManyAreFaulty, ExchangesContinue, ExchangesBringWhatWas, OneExchangeIsTooFew}
 use Rattle.laws_progress.specs.MessageExchanges.{IsExchange, Exchanges}
 use Rattle.laws_progress.proofs.networks.Replicas.{same_length, same_faults, still_there, honest_fit, replicas_same, replicas_joined, alone_backed, trace_stays}
 
@@ -16,13 +16,13 @@ none_built network p (inl unvoted) (i, s, at, built) = unvoted (i, s, at, built.
 none_built network p (inr ungiven) (i, s, at, built) = ungiven (i, s, at, built.0)
 
 module _ {L D : Type 0} (K : Type 0) (same : D → D → Bool) (elect : Elect L) where
-  pub members_go_on : MembersGoOn K same elect
+  pub members_go_on : MembersContinue K same elect
   members_go_on term_length network later final good on = (
     on.runs,
-    same_length network later on.goes_on,
-    same_faults network later on.goes_on,
+    same_length network later on.continues,
+    same_faults network later on.continues,
     λ i s at.
-        (let there = still_there network later i s on.goes_on at in (
+        (let there = still_there network later i s on.continues at in (
           there.0,
           there.1,
           ap (λ (t : Execution K L D). t.start) there.2.1,
@@ -50,16 +50,16 @@ module _ {L D : Type 0} (K : Type 0) (same : D → D → Bool) (elect : Elect L)
 
   pub too_many_are_faulty : TooManyAreFaulty K same elect
   too_many_are_faulty term_length network later final good many i s at on =
-      let there = still_there network later i s on.goes_on at in
+      let there = still_there network later i s on.continues at in
       let alone = ((finalizations_are_new term_length network later final good on).1 i there.0 there.1).2 in
       let fit = honest_fit (Finalize final) 0 (quorum (length later)) later alone in
-      let size = same_length network later on.goes_on in
-      let faulty = same_faults network later on.goes_on in
+      let size = same_length network later on.continues in
+      let faulty = same_faults network later on.continues in
       omega (arith, fit, size, faulty, many)
 
-  pub exchanges_go_on : ExchangesGoOn K same elect
-  exchanges_go_on zero network later taken = subst (λ n. ReplicasGoOn network n) (sym taken) (replicas_same network)
-  exchanges_go_on (suc count) network later (between, one, rest) = replicas_joined network between later one.goes_on (exchanges_go_on count between later rest)
+  pub exchanges_go_on : ExchangesContinue K same elect
+  exchanges_go_on zero network later taken = subst (λ n. ReplicasContinue network n) (sym taken) (replicas_same network)
+  exchanges_go_on (suc count) network later (between, one, rest) = replicas_joined network between later one.continues (exchanges_go_on count between later rest)
 
   one_exchange : (network later : List (Replica K L D)) → Exchanges 1 network later → IsExchange network later
   one_exchange network later (between, one, last) = subst (λ n. IsExchange network n) (sym last) one

@@ -2,7 +2,7 @@
 use Rattle.std.proofs.Common.{◌≡◌, refl, sym, subst, inl, inr, ℕ, zero, suc, ◌+◌, ◌≤◌, List, [], ◌∷◌, length, slice_get, Contains, Some, arith}
 use Rattle.std.specs.Prelude.{⊤}
 use Rattle.simplex_types.specs.declared.types.messages.Subject.{Subject}
-use Rattle.laws_safety.specs.Continuations.{ExecutionGoesOn, ReplicasGoOn}
+use Rattle.laws_safety.specs.Continuations.{ExecutionContinues, ReplicasContinue}
 use Rattle.laws_safety.specs.Traces.{TraceEvent}
 use Rattle.laws_safety.specs.Replicas.{Replica, Faulty, Honest, faults, max_faults, quorum, AtLeastFrom, MayHaveSigned}
 use Rattle.laws_safety.specs.Executions.{Execution, trace_of}
@@ -37,7 +37,7 @@ module _ {K L D : Type 0} (Q : ℕ → Execution K L D → Execution K L D → T
       let rest = all_follow (suc k) network (λ i j t at is. each (suc i) j t at (omega arith)) in
       (Honest one.0 ∷ rest.0, (one.1, rest.1))
 
-  pub replicas_follow : ((i : ℕ) (s t : Execution K L D) → Q i s t → ExecutionGoesOn s t) → (k : ℕ) (network later : List (Replica K L D)) → ReplicasFollow k network later → ReplicasGoOn network later
+  pub replicas_follow : ((i : ℕ) (s t : Execution K L D) → Q i s t → ExecutionContinues s t) → (k : ℕ) (network later : List (Replica K L D)) → ReplicasFollow k network later → ReplicasContinue network later
   replicas_follow goes k [] [] f = tt
   replicas_follow goes k [] (p ∷ later) f = absurd f
   replicas_follow goes k (Faulty ∷ network) [] f = absurd f

@@ -31,7 +31,7 @@ fresh_starts_are_finalized {L} {D} K same decides reflexive elect term_length ep
         let lives = each i s at in
         let built : i ≡ leader → BuildsOn parent start lives.0 = λ e. builds s (subst (λ n. slice_get network n ≡ Some (Honest s)) e at) lives.0 lives.1 in
         let on = member_finalizes same decides reflexive elect term_length epoch (length network) leader start parent i elector q s (good.honest i s at) small lives.0 lives.1 lives.2.0 lives.2.1 lives.2.2 built in
-        (on.0, record { goes_on = on.1.goes_on; ran = on.1.ran; trace = on.1.trace; heard = on.1.heard; builds = on.1.builds })
+        (on.0, record { continues = on.1.continues; ran = on.1.ran; trace = on.1.trace; heard = on.1.heard; builds = on.1.builds })
 
     -- each view that votes may finalize before lies below
     all_below : (o : Proposal D) → Backed network (Finalize o) → o.round.view < start

@@ -8,7 +8,7 @@ use Rattle.simplex_voter.specs.Facts.{Elect}
 use Rattle.laws_safety.specs.Replicas.{Replica, Faulty, Honest, faults, max_faults}
 use Rattle.laws_safety.specs.Executions.{Execution}
 use Rattle.laws_safety.proofs.agreement.Quorums.{faults-cons}
-use Rattle.laws_progress.specs.NotStuck.{MayGoOn}
+use Rattle.laws_progress.specs.NotStuck.{MayContinue}
 use Rattle.laws_progress.specs.MessageExchanges.{Exchanges, IsFinalizedInTurn}
 use Rattle.laws_progress.specs.SharedView.{terms_on}
 use Rattle.laws_progress.proofs.networks.Passed.{there}
@@ -112,7 +112,7 @@ finalized_in_turn K same decides reflexive elect term_length epoch view turn ski
     let index = index_on term_length length_some (suc (skipped + k)) view one in
     let next = next_above term_length view length_some one in
     let from_next = on_from term_length length_some (skipped + k) (next_term_start term_length view) (omega (arith, next)) in
-    let may : MayGoOn same elect term_length network epoch elector ((b + k) % length network) start = record {
+    let may : MayContinue same elect term_length network epoch elector ((b + k) % length network) start = record {
       few_faulty = few;
       alive = λ j t is. (let a = each j t is in (a.0, a.1, (a.2.0, a.2.2 k (omega (arith, found.1)), omega (arith, a.2.1, next, from_next))));
       consistent = agree;

@@ -5,7 +5,7 @@ use Rattle.simplex_types.specs.declared.types.messages.Subject.{Subject}
 use Rattle.simplex_types.specs.declared.types.messages.Subject.TheVariants.{Finalize}
 use Rattle.simplex_voter.specs.Facts.{Elect}
 use Rattle.simplex_member.specs.Runs.{IsRunFrom}
-use Rattle.laws_safety.specs.Continuations.{ReplicasGoOn, EachHonest, SomeHonest, HasAccepted, HasHeard, IsHonestlySigned, HonestlyBacked, GoesOnToFinalize}
+use Rattle.laws_safety.specs.Continuations.{ReplicasContinue, EachHonest, SomeHonest, HasAccepted, HasHeard, IsHonestlySigned, HonestlyBacked, ContinuesToFinalize}
 use Rattle.laws_safety.specs.Traces.{TraceEvent}
 use Rattle.laws_safety.specs.Replicas.{Replica, Faulty, Honest, quorum, AtLeastFrom, MayHaveSigned, IsNetworkOf}
 use Rattle.laws_safety.specs.Executions.{Execution, trace_of}
@@ -16,7 +16,7 @@ module _ {K L D : Type 0} (same : D → D → Bool) (elect : Elect L) where
   AllRun network = (i : ℕ) (s : Execution K L D) → slice_get network i ≡ Some (Honest s) → IsRunFrom same elect s.start s.steps s.replies
 
   -- what is signed stays signed, by as many
-  at_least_still : (P : ℕ → Replica K L D → Type 0) → ((k : ℕ) (s t : Execution K L D) → ((d : TraceEvent D) → Contains (trace_of s) d → Contains (trace_of t) d) → P k (Honest s) → P k (Honest t)) → (k count : ℕ) (a b : List (Replica K L D)) → AllRun a → ReplicasGoOn a b → AtLeastFrom k count P a → AtLeastFrom k count P b
+  at_least_still : (P : ℕ → Replica K L D → Type 0) → ((k : ℕ) (s t : Execution K L D) → ((d : TraceEvent D) → Contains (trace_of s) d → Contains (trace_of t) d) → P k (Honest s) → P k (Honest t)) → (k count : ℕ) (a b : List (Replica K L D)) → AllRun a → ReplicasContinue a b → AtLeastFrom k count P a → AtLeastFrom k count P b
   at_least_still P stays k zero a b run f h = tt
   at_least_still P stays k (suc count) [] b run f h = absurd h
   at_least_still P stays k (suc count) (Faulty ∷ a) [] run f h = absurd f
@@ -31,19 +31,19 @@ module _ {K L D : Type 0} (same : D → D → Bool) (elect : Elect L) where
   module _ (term_length : ℕ) (network mid later : List (Replica K L D)) (final : Proposal D) where
     pub joined : IsNetworkOf same elect term_length network
         → IsNetworkOf same elect term_length mid
-        → ReplicasGoOn network mid
+        → ReplicasContinue network mid
         → EachHonest mid (λ i s. (c : Subject D) → HasAccepted c i s → SomeHonest network (HasAccepted c) ⊎ HonestlyBacked mid c)
         → EachHonest mid (λ i s. (v : ℕ) (p : Proposal D) → HasHeard v p s → SomeHonest network (λ j t. HasHeard v p t))
-        → GoesOnToFinalize same elect term_length mid later final
-        → GoesOnToFinalize same elect term_length network later final
+        → ContinuesToFinalize same elect term_length mid later final
+        → ContinuesToFinalize same elect term_length network later final
     joined good between goes certificates proposals on = record {
-      goes_on = replicas_joined network mid later goes on.goes_on;
+      continues = replicas_joined network mid later goes on.continues;
       runs = on.runs;
       certificates = λ i t at c h.
           elim (on.certificates i t at c h) [
             | inl (j, s, there, old) ↦ elim (certificates j s there c old) [
               | inl before ↦ inl before
-              | inr backs ↦ inr (subst (λ n. AtLeastFrom 0 (quorum n) (IsHonestlySigned c) later) (sym (same_length mid later on.goes_on)) (at_least_still (IsHonestlySigned c) (λ k s t stays h. stays _ h) 0 (quorum (length mid)) mid later (λ k u is. (between.honest k u is).run) on.goes_on backs))
+              | inr backs ↦ inr (subst (λ n. AtLeastFrom 0 (quorum n) (IsHonestlySigned c) later) (sym (same_length mid later on.continues)) (at_least_still (IsHonestlySigned c) (λ k s t stays h. stays _ h) 0 (quorum (length mid)) mid later (λ k u is. (between.honest k u is).run) on.continues backs))
             ]
             | inr backs ↦ inr backs
           ];

@@ -17,14 +17,14 @@ use Rattle.simplex_voter.specs.Facts.{StateFacts, Elect, round_of, is_tracked}
 use Rattle.simplex_member.specs.Calls.{SetProposal}
 use Rattle.simplex_member.specs.MemberFacts.{MemberFacts}
 use Rattle.simplex_member.specs.Runs.{Calls}
-use Rattle.laws_safety.specs.Continuations.{ExecutionGoesOn, EachHonest, SomeHonest, HasAccepted, HasHeard}
+use Rattle.laws_safety.specs.Continuations.{ExecutionContinues, EachHonest, SomeHonest, HasAccepted, HasHeard}
 use Rattle.laws_safety.specs.Traces.{TraceEvent, Accepts, trace_of_steps}
 use Rattle.laws_safety.specs.Replicas.{Replica, Honest, faults, FewFaulty, quorum, AtLeastFrom, MayHaveSigned, IsNetworkOf}
 use Rattle.laws_history.specs.HistoryFacts.{verdict_of}
 use Rattle.laws_safety.specs.Executions.{Execution, trace_of, IsExecution}
 use Rattle.laws_safety.proofs.agreement.Claims.{finalized_uncovered, parent_before}
-use Rattle.laws_progress.specs.NotStuck.{MayGoOn, NetworksMeet}
-use Rattle.laws_progress.specs.NetworkStates.{IsSetUpAs, LivesWith, EachLives}
+use Rattle.laws_progress.specs.NotStuck.{MayContinue, NetworksMeet}
+use Rattle.laws_progress.specs.NetworkStates.{IsSetUpAs, RunsWith, EachRuns}
 use Rattle.laws_progress.specs.CommonViews.{Meets}
 use Rattle.laws_progress.specs.ViewCauses.{IsInEpoch, HasFinalized, HasCertified, IsLedTo, First, PastFinalized, PastCertified, PastNullified, judged_in, judged_of}
 use Rattle.laws_progress.specs.ViewPositions.{StandsBefore}
@@ -32,7 +32,7 @@ use Rattle.laws_progress.proofs.networks.Chosen.{HighestCurrent, highest_current
 use Rattle.laws_progress.proofs.networks.Covers.{Skips, Covered, covered}
 use Rattle.laws_progress.proofs.networks.Followed.{ReplicasFollow, all_follow, replicas_follow, same_many, was_there, backed_still}
 use Rattle.laws_progress.proofs.networks.Tops.{Highest, either_highest, over_honest, finalized_highest, certified_highest}
-use Rattle.laws_progress.proofs.runs.Coming.{ComesTo, Came, SkipsUpTo, hand_all, stays_there, takes_final, takes_certified}
+use Rattle.laws_progress.proofs.runs.Coming.{ComesTo, Came, SkipsUpTo, pass_every, stays_there, takes_final, takes_certified}
 use Rattle.laws_progress.proofs.runs.Ends.{Shown, end_shown}
 use Rattle.laws_progress.proofs.runs.Explicit.{came_stands, explicit_passed}
 use Rattle.laws_progress.proofs.runs.Led.{Led}
@@ -66,9 +66,9 @@ pub record HaveMet {K L D : Type 0} (same : D → D → Bool) (elect : Elect L) 
   pub below : view < start
   pub meets : Meets same elect term_length epoch elector network later parent view start
   pub by_old : EachHonest later (λ i s. (c : Subject D) → HasAccepted c i s → SomeHonest network (HasAccepted c))
-  pub no_higher : EachLives same elect network (λ i x. x.current ≤ view)
+  pub no_higher : EachRuns same elect network (λ i x. x.current ≤ view)
 
-module _ {K L D : Type 0} (same : D → D → Bool) (decides : (d e : D) → same d e ≡ true → d ≡ e) (elect : Elect L) (term_length epoch leader start : ℕ) (elector : L) (network : List (Replica K L D)) (good : IsNetworkOf same elect term_length network) (may : MayGoOn same elect term_length network epoch elector leader start) where
+module _ {K L D : Type 0} (same : D → D → Bool) (decides : (d e : D) → same d e ≡ true → d ≡ e) (elect : Elect L) (term_length epoch leader start : ℕ) (elector : L) (network : List (Replica K L D)) (good : IsNetworkOf same elect term_length network) (may : MayContinue same elect term_length network epoch elector leader start) where
   pub some : 0 < term_length
   some = (good.honest leader may.honest_leader.0 may.honest_leader.1).lives.first.terms.some
 
@@ -173,7 +173,7 @@ module _ {K L D : Type 0} (same : D → D → Bool) (decides : (d e : D) → sam
   abbrev given : Round → Type 0
   given r = Contains road.rounds r ⊎ ⊥
 
-  module _ (i : ℕ) (s : Execution K L D) (at : slice_get network i ≡ Some (Honest s)) (x : StateFacts K L D) (lives : LivesWith same elect s x) (alive : Lives i x) (below : x.current ≤ currents.top) where
+  module _ (i : ℕ) (s : Execution K L D) (at : slice_get network i ≡ Some (Honest s)) (x : StateFacts K L D) (lives : RunsWith same elect s x) (alive : Lives i x) (below : x.current ≤ currents.top) where
     ran : IsExecution same elect term_length i s
     ran = good.honest i s at
 
@@ -261,12 +261,12 @@ module _ {K L D : Type 0} (same : D → D → Bool) (decides : (d e : D) → sam
     ]
 
     comes : ComesTo same elect Q R Arrived lives.0
-    comes = hand_all same decides elect Q R term_length epoch (length network) i elector parent view start view_far may.small Arrived x.finalized verdict road.rounds (λ r. ⊥) fits lives.0 x lives.2 near finishes
+    comes = pass_every same decides elect Q R term_length epoch (length network) i elector parent view start view_far may.small Arrived x.finalized verdict road.rounds (λ r. ⊥) fits lives.0 x lives.2 near finishes
 
     abbrev t : Execution K L D
     t = and_calls same elect s comes.calls comes.replies
 
-    t_lives : LivesWith same elect t comes.state
+    t_lives : RunsWith same elect t comes.state
     t_lives = (comes.end, calls_run same elect term_length i s lives.0 comes.end comes.calls comes.replies lives.1 comes.run, comes.lives)
 
     t_ran : IsExecution same elect term_length i t
@@ -297,12 +297,12 @@ module _ {K L D : Type 0} (same : D → D → Bool) (decides : (d e : D) → sam
 
   -- the member goes on to stand there
   pub record Joins (i : ℕ) (s t : Execution K L D) : Type 0 where
-    goes_on : ExecutionGoesOn s t
+    continues : ExecutionContinues s t
     ran : IsExecution same elect term_length i t
     accepts : (c : Subject D) → HasAccepted c i t → SomeHonest network (HasAccepted c)
     hears : (v : ℕ) (p : Proposal D) → HasHeard v p t → HasHeard v p s
     trace_stays : (d : TraceEvent D) → Contains (trace_of s) d → Contains (trace_of t) d
-    stands : (x : StateFacts K L D) × LivesWith same elect t x × (IsSetUpAs epoch (length network) elector i x × StandsBefore parent view start x)
+    stands : (x : StateFacts K L D) × RunsWith same elect t x × (IsSetUpAs epoch (length network) elector i x × StandsBefore parent view start x)
 
   joins : (i : ℕ) (s : Execution K L D) → slice_get network i ≡ Some (Honest s) → (u : Execution K L D) × Joins i s u
   joins i s at =
@@ -314,7 +314,7 @@ module _ {K L D : Type 0} (same : D → D → Bool) (decides : (d e : D) → sam
       let on = comes i s at x lives alive below in (
         t i s at x lives alive below,
         record {
-          goes_on = calls_go_on same elect term_length i s lives.0 on.end on.calls on.replies lives.1 on.run;
+          continues = calls_go_on same elect term_length i s lives.0 on.end on.calls on.replies lives.1 on.run;
           ran = t_ran i s at x lives alive below;
           accepts = accepts_only i s at x lives alive below;
           hears = λ v p h. elim (Contains-append_cases s.steps (map Calls on.calls) (Calls (SetProposal v p)) h) [ inl old ↦ old | inr new ↦ absurd (on.hears v p new) ];
@@ -352,7 +352,7 @@ module _ {K L D : Type 0} (same : D → D → Bool) (decides : (d e : D) → sam
 
   pub meets : Meets same elect term_length epoch elector network later parent view start
   meets = record {
-    goes_on = replicas_follow Joins (λ i s u on. on.goes_on) 0 network later following.1;
+    continues = replicas_follow Joins (λ i s u on. on.continues) 0 network later following.1;
     runs = runs_on;
     certificates = λ i u at c h. inl ((before i u at).2.accepts c h);
     proposals = λ i u at v p h. (let was = before i u at in (i, was.0, was.1, was.2.hears v p h));

@@ -9,7 +9,7 @@ use Rattle.simplex_voter.specs.Facts.{Elect}
 use Rattle.simplex_member.specs.Calls.{CallFacts, SetProposal, Proposed}
 use Rattle.simplex_member.specs.MemberFacts.{MemberFacts}
 use Rattle.simplex_member.specs.Runs.{StepFacts, Calls, IsRun}
-use Rattle.laws_safety.specs.Continuations.{ExecutionGoesOn, SomeHonest, HasBuilt, IsHonestlySigned, HonestlyBacked}
+use Rattle.laws_safety.specs.Continuations.{ExecutionContinues, SomeHonest, HasBuilt, IsHonestlySigned, HonestlyBacked}
 use Rattle.laws_safety.specs.Traces.{TraceEvent, Accepts, Signs}
 use Rattle.laws_safety.specs.Replicas.{Replica, Honest, faults, max_faults, quorum}
 use Rattle.laws_safety.specs.Executions.{new_member, Execution, trace_of, IsExecution}
@@ -63,7 +63,7 @@ module _ {D : Type 0} (leader : ℕ) (p : Proposal D) where
 module _ {K L D : Type 0} (same : D → D → Bool) (elect : Elect L) (term_length : ℕ) where
   -- a member went on by these calls, with this trace, and may go on by this sequence
   pub record Along (done : ℕ → List (TraceEvent D)) (calls : ℕ → List (CallFacts D)) (rest : ℕ → List (CallFacts D × List (TraceEvent D))) (i : ℕ) (s t : Execution K L D) : Type 0 where
-    pub goes_on : ExecutionGoesOn s t
+    pub continues : ExecutionContinues s t
     pub ran : IsExecution same elect term_length i t
     pub steps : t.steps ≡ s.steps ++ map Calls (calls i)
     pub trace : trace_of t ≡ trace_of s ++ done i
@@ -73,7 +73,7 @@ module _ {K L D : Type 0} (same : D → D → Bool) (elect : Elect L) (term_leng
 
   -- it does one part more
   pub record Adds (part : Part D) (i : ℕ) (t u : Execution K L D) : Type 0 where
-    pub goes_on : ExecutionGoesOn t u
+    pub continues : ExecutionContinues t u
     pub steps : u.steps ≡ t.steps ++ map Calls (calls_in (part i))
     pub trace : trace_of u ≡ trace_of t ++ whole_trace (part i)
 
@@ -86,7 +86,7 @@ module _ {K L D : Type 0} (same : D → D → Bool) (elect : Elect L) (term_leng
       let more : trace_of u ≡ trace_of t ++ whole_trace (part i) = calls_trace same elect term_length i t along.member p.end (calls_in (part i)) p.replies along.run p.run ∙ ap (λ ds. trace_of t ++ ds) p.does in (
         u,
         record {
-          goes_on = execution_joined s t u along.goes_on on;
+          continues = execution_joined s t u along.continues on;
           ran = calls_ran same elect term_length i t along.member p.end (calls_in (part i)) p.replies along.run p.run along.ran;
           steps = ap (λ ss. ss ++ map Calls (calls_in (part i))) along.steps ∙ (append_assoc s.steps (map Calls (calls i)) (map Calls (calls_in (part i))) ∙ ap (λ ss. s.steps ++ ss) (sym (map_joined Calls (calls i) (calls_in (part i)))));
           trace = more ∙ (ap (λ ds. ds ++ whole_trace (part i)) along.trace ∙ append_assoc (trace_of s) (done i) (whole_trace (part i)));
@@ -94,12 +94,12 @@ module _ {K L D : Type 0} (same : D → D → Bool) (elect : Elect L) (term_leng
           run = calls_run same elect term_length i t along.member p.end (calls_in (part i)) p.replies along.run p.run;
           ready = p.rest;
         },
-        record { goes_on = on; steps = refl; trace = more },
+        record { continues = on; steps = refl; trace = more },
       )
 
   along_same : (done more : ℕ → List (TraceEvent D)) (calls others : ℕ → List (CallFacts D)) (rest : ℕ → List (CallFacts D × List (TraceEvent D))) → ((i : ℕ) → done i ≡ more i) → ((i : ℕ) → calls i ≡ others i) → (i : ℕ) (s t : Execution K L D) → Along done calls rest i s t → Along more others rest i s t
   along_same done more calls others rest d c i s t along = record {
-    goes_on = along.goes_on;
+    continues = along.continues;
     ran = along.ran;
     steps = along.steps ∙ ap (λ cs. s.steps ++ map Calls cs) (c i);
     trace = along.trace ∙ ap (λ ds. trace_of s ++ ds) (d i);
@@ -111,7 +111,7 @@ module _ {K L D : Type 0} (same : D → D → Bool) (elect : Elect L) (term_leng
   module _ (leader : ℕ) (p : Proposal D) (base : List (Replica K L D)) (few : faults base ≤ max_faults (length base)) (leads : (s : Execution K L D) × (slice_get base leader ≡ Some (Honest s))) where
     one_exchange : (done : ℕ → List (TraceEvent D)) (calls : ℕ → List (CallFacts D)) (rest : ℕ → List (CallFacts D × List (TraceEvent D))) (part : Part D) (now then_on : List (Replica K L D)) → ReplicasFollow (Along done calls rest) 0 base now → ReplicasFollow (Adds part) 0 now then_on → PartFits leader p done calls part → IsExchange now then_on
     one_exchange done calls rest part now then_on f g fits = record {
-      goes_on = replicas_follow (Adds part) (λ i t u a. a.goes_on) 0 now then_on g;
+      continues = replicas_follow (Adds part) (λ i t u a. a.continues) 0 now then_on g;
       certificates = λ i u at c h.
           (let was = was_there (Adds part) 0 now then_on g i i u at (omega arith) in
           elim (Contains-append_cases (trace_of was.0) (whole_trace (part i)) (Accepts c) (subst (λ ds. Contains ds (Accepts c)) was.2.trace h)) [

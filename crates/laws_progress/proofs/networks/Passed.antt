@@ -20,9 +20,9 @@ use Rattle.laws_safety.specs.Replicas.{Replica as Member, Honest, Backed, IsNetw
 use Rattle.laws_safety.specs.Executions.{Execution, IsExecution}
 use Rattle.laws_safety.proofs.agreement.Quorums.{shared_member}
 use Rattle.laws_safety.proofs.lists.Splits.{Contains-cases, Contains-cons_rest}
-use Rattle.laws_progress.specs.NetworkStates.{IsSetUpAs, LivesWith, EachLives}
+use Rattle.laws_progress.specs.NetworkStates.{IsSetUpAs, RunsWith, EachRuns}
 use Rattle.laws_progress.specs.ViewPositions.{proposal_in, StandsBefore}
-use Rattle.laws_progress.specs.SharedView.{terms_on, TogetherTheyGoOn}
+use Rattle.laws_progress.specs.SharedView.{terms_on, MembersOfOneViewContinue}
 use Rattle.laws_progress.proofs.states.Standing.{StandingMember}
 use Rattle.laws_progress.proofs.states.Highest.{highest_at}
 use Rattle.laws_progress.proofs.runs.Members.{AllHave, one_has, HearsOnly, follower_hears, leader_hears}
@@ -127,7 +127,7 @@ module _ {K L D : Type 0} (same : D → D → Bool) (decides : (d e : D) → sam
     (term_length epoch count leader parent view start terms i : ℕ) (elector : L) (q : D) (s : Execution K L D) (ran : IsExecution same elect term_length i s)
     (far : start ≡ terms_on term_length (suc terms) view) (is_term_start : start ≡ term_start term_length start) (small : is_too_large start ≡ false)
     (elected : (bytes : List ℕ) → elect elector (record { epoch = epoch; view = start }) (Some bytes) ≡ leader) (one_of_them : leader < count)
-    (x : StateFacts K L D) (lives : LivesWith same elect s x) (set : IsSetUpAs epoch count elector i x) (before : StandsBefore parent view start x) where
+    (x : StateFacts K L D) (lives : RunsWith same elect s x) (set : IsSetUpAs epoch count elector i x) (before : StandsBefore parent view start x) where
   abbrev p : Proposal D
   p = proposal_in epoch start parent q
 
@@ -186,7 +186,7 @@ module _ {K L D : Type 0} (same : D → D → Bool) (decides : (d e : D) → sam
       let on = execution_on same elect term_length i s lives.0 all done ran lives.1 passed in (
         on.execution,
         record {
-          goes_on = on.goes_on;
+          continues = on.continues;
           ran = on.ran;
           trace = on.trace;
           heard = λ v o h. elim (Contains-append_cases s.steps (map Calls all) (Calls (SetProposal v o)) (subst (λ ss. Contains ss (Calls (SetProposal v o))) on.steps h)) [
@@ -220,7 +220,7 @@ module _ {K L D : Type 0} (same : D → D → Bool) (decides : (d e : D) → sam
 -- no view from the start on was finalized
 pub none_above : {K L D : Type 0} (same : D → D → Bool) (decides : (d e : D) → same d e ≡ true → d ≡ e) (elect : Elect L) (term_length epoch parent view start terms : ℕ) (elector : L) (network : List (Member K L D))
     → IsNetworkOf same elect term_length network → start ≡ terms_on term_length (suc terms) view
-    → EachLives same elect network (λ i x. IsSetUpAs epoch (length network) elector i x × StandsBefore parent view start x)
+    → EachRuns same elect network (λ i x. IsSetUpAs epoch (length network) elector i x × StandsBefore parent view start x)
     → (o : Proposal D) → Backed network (Finalize o) → o.round.view < start
 none_above same decides elect term_length epoch parent view start terms elector network good far each o backs =
     let one = shared_member network (Finalize o) (Finalize o) good.few_faulty backs backs in
@@ -230,7 +230,7 @@ none_above same decides elect term_length epoch parent view start terms elector 
     let on = on_from term_length ran.lives.first.terms.some (suc terms) view (omega (arith, alive.2.1.stands.below)) in
     omega (arith, shown.living.keeps.stays.stands.passed o one.3, alive.2.1.current, far, on)
 
-pub together_they_go_on : {L D : Type 0} (K : Type 0) (same : D → D → Bool) (decides : (d e : D) → same d e ≡ true → d ≡ e) (reflexive : (d : D) → same d d ≡ true) (elect : Elect L) → TogetherTheyGoOn K same elect
+pub together_they_go_on : {L D : Type 0} (K : Type 0) (same : D → D → Bool) (decides : (d e : D) → same d e ≡ true → d ≡ e) (reflexive : (d : D) → same d d ≡ true) (elect : Elect L) → MembersOfOneViewContinue K same elect
 together_they_go_on {L} {D} K same decides reflexive elect term_length epoch leader parent view start terms elector network q good few far is_term_start small elected leads each =
     (_, goes_on_to_finalize same elect term_length leader p done (enough p term_length (suc terms) view) network good few leads goes (none_above same decides elect term_length epoch parent view start terms elector network good far each))
   where

@@ -4,9 +4,9 @@ use Rattle.std.proofs.lemmas.List.{append-nil}
 use Rattle.std.proofs.lemmas.List.Elements.{Contains-append_left}
 use Rattle.simplex_types.specs.declared.types.messages.Subject.{Subject}
 use Rattle.simplex_voter.specs.Facts.{Elect}
-use Rattle.simplex_member.specs.Calls.{Told}
+use Rattle.simplex_member.specs.Calls.{ReplyFacts}
 use Rattle.simplex_member.specs.Runs.{StepFacts, IsRunFrom}
-use Rattle.laws_safety.specs.Continuations.{and_then, ExecutionGoesOn, ReplicasGoOn, IsHonestlySigned, HonestlyBacked}
+use Rattle.laws_safety.specs.Continuations.{and_then, ExecutionContinues, ReplicasContinue, IsHonestlySigned, HonestlyBacked}
 use Rattle.laws_safety.specs.Traces.{TraceEvent, of_floor, trace_of_steps}
 use Rattle.laws_safety.specs.Replicas.{Replica, Faulty, Honest, faults, quorum, AtLeastFrom, MayHaveSigned, Backed}
 use Rattle.laws_safety.specs.Executions.{new_member, Execution, trace_of}
@@ -18,13 +18,13 @@ map_joined f [] ys = refl
 map_joined f (x ∷ xs) ys = ap (λ zs. f x ∷ zs) (map_joined f xs ys)
 
 module _ {K L D : Type 0} where
-  pub execution_joined : (s t u : Execution K L D) → ExecutionGoesOn s t → ExecutionGoesOn t u → ExecutionGoesOn s u
+  pub execution_joined : (s t u : Execution K L D) → ExecutionContinues s t → ExecutionContinues t u → ExecutionContinues s u
   execution_joined s t u (more, is) (rest, then_is) =
-      let steps : (s.steps ++ map (λ e. e.0) more) ++ map (λ e. e.0) rest ≡ s.steps ++ map (λ e. e.0) (more ++ rest) = append_assoc s.steps (map (λ e. e.0) more) (map (λ e. e.0) rest) ∙ ap (λ zs. s.steps ++ zs) (sym (map_joined (λ (e : StepFacts K L D × Told K D). e.0) more rest)) in
-      let replies : (s.replies ++ map (λ e. e.1) more) ++ map (λ e. e.1) rest ≡ s.replies ++ map (λ e. e.1) (more ++ rest) = append_assoc s.replies (map (λ e. e.1) more) (map (λ e. e.1) rest) ∙ ap (λ zs. s.replies ++ zs) (sym (map_joined (λ (e : StepFacts K L D × Told K D). e.1) more rest)) in
+      let steps : (s.steps ++ map (λ e. e.0) more) ++ map (λ e. e.0) rest ≡ s.steps ++ map (λ e. e.0) (more ++ rest) = append_assoc s.steps (map (λ e. e.0) more) (map (λ e. e.0) rest) ∙ ap (λ zs. s.steps ++ zs) (sym (map_joined (λ (e : StepFacts K L D × ReplyFacts K D). e.0) more rest)) in
+      let replies : (s.replies ++ map (λ e. e.1) more) ++ map (λ e. e.1) rest ≡ s.replies ++ map (λ e. e.1) (more ++ rest) = append_assoc s.replies (map (λ e. e.1) more) (map (λ e. e.1) rest) ∙ ap (λ zs. s.replies ++ zs) (sym (map_joined (λ (e : StepFacts K L D × ReplyFacts K D). e.1) more rest)) in
       (more ++ rest, then_is ∙ (ap (λ (z : Execution K L D). and_then z rest) is ∙ (λ j. record s { steps = steps j; replies = replies j })))
 
-  pub replicas_joined : (a b c : List (Replica K L D)) → ReplicasGoOn a b → ReplicasGoOn b c → ReplicasGoOn a c
+  pub replicas_joined : (a b c : List (Replica K L D)) → ReplicasContinue a b → ReplicasContinue b c → ReplicasContinue a c
   replicas_joined [] [] [] f g = tt
   replicas_joined [] [] (p ∷ c) f g = absurd g
   replicas_joined [] (p ∷ b) c f g = absurd f
@@ -39,7 +39,7 @@ module _ {K L D : Type 0} where
   replicas_joined (Honest s ∷ a) (Honest t ∷ b) (Faulty ∷ c) f g = absurd g
   replicas_joined (Honest s ∷ a) (Honest t ∷ b) (Honest u ∷ c) f g = (execution_joined s t u f.0 g.0, replicas_joined a b c f.1 g.1)
 
-  pub same_length : (a b : List (Replica K L D)) → ReplicasGoOn a b → length b ≡ length a
+  pub same_length : (a b : List (Replica K L D)) → ReplicasContinue a b → length b ≡ length a
   same_length [] [] f = refl
   same_length [] (p ∷ b) f = absurd f
   same_length (Faulty ∷ a) [] f = absurd f
@@ -49,7 +49,7 @@ module _ {K L D : Type 0} where
   same_length (Honest s ∷ a) (Faulty ∷ b) f = absurd f
   same_length (Honest s ∷ a) (Honest t ∷ b) f = let rest = same_length a b f.1 in omega (arith, rest)
 
-  pub same_faults : (a b : List (Replica K L D)) → ReplicasGoOn a b → faults b ≡ faults a
+  pub same_faults : (a b : List (Replica K L D)) → ReplicasContinue a b → faults b ≡ faults a
   same_faults [] [] f = refl
   same_faults [] (p ∷ b) f = absurd f
   same_faults (Faulty ∷ a) [] f = absurd f
@@ -60,7 +60,7 @@ module _ {K L D : Type 0} where
   same_faults (Honest s ∷ a) (Honest t ∷ b) f = let rest = same_faults a b f.1 in omega (arith, rest, faults-cons (Honest s) a, faults-cons (Honest t) b)
 
   -- who was honest is so still, and its execution goes on
-  pub still_there : (a b : List (Replica K L D)) (i : ℕ) (s : Execution K L D) → ReplicasGoOn a b → slice_get a i ≡ Some (Honest s) → (t : Execution K L D) × (slice_get b i ≡ Some (Honest t)) × ExecutionGoesOn s t
+  pub still_there : (a b : List (Replica K L D)) (i : ℕ) (s : Execution K L D) → ReplicasContinue a b → slice_get a i ≡ Some (Honest s) → (t : Execution K L D) × (slice_get b i ≡ Some (Honest t)) × ExecutionContinues s t
   still_there [] [] i s f at = absurd (cc)
   still_there [] (p ∷ b) i s f at = absurd f
   still_there (Faulty ∷ a) [] i s f at = absurd f
@@ -69,16 +69,16 @@ module _ {K L D : Type 0} where
   still_there (Faulty ∷ a) (Honest t ∷ b) i s f at = absurd f
   still_there (Honest r ∷ a) [] i s f at = absurd f
   still_there (Honest r ∷ a) (Faulty ∷ b) i s f at = absurd f
-  still_there (Honest r ∷ a) (Honest t ∷ b) zero s f at = let one : r ≡ s = cc in (t, refl, subst (λ u. ExecutionGoesOn u t) one f.0)
+  still_there (Honest r ∷ a) (Honest t ∷ b) zero s f at = let one : r ≡ s = cc in (t, refl, subst (λ u. ExecutionContinues u t) one f.0)
   still_there (Honest r ∷ a) (Honest t ∷ b) (suc i) s f at = still_there a b i s f.1 at
 
-  pub honest_still : (a b : List (Replica K L D)) (i : ℕ) (s : Execution K L D) → ReplicasGoOn a b → slice_get a i ≡ Some (Honest s) → (t : Execution K L D) × (slice_get b i ≡ Some (Honest t))
+  pub honest_still : (a b : List (Replica K L D)) (i : ℕ) (s : Execution K L D) → ReplicasContinue a b → slice_get a i ≡ Some (Honest s) → (t : Execution K L D) × (slice_get b i ≡ Some (Honest t))
   honest_still a b i s f at = let there = still_there a b i s f at in (there.0, there.1)
 
-  pub execution_same : (s : Execution K L D) → ExecutionGoesOn s s
+  pub execution_same : (s : Execution K L D) → ExecutionContinues s s
   execution_same s = ([], λ j. record s { steps = sym (append-nil s.steps) j; replies = sym (append-nil s.replies) j })
 
-  pub replicas_same : (network : List (Replica K L D)) → ReplicasGoOn network network
+  pub replicas_same : (network : List (Replica K L D)) → ReplicasContinue network network
   replicas_same [] = tt
   replicas_same (Faulty ∷ network) = replicas_same network
   replicas_same (Honest s ∷ network) = (execution_same s, replicas_same network)
@@ -104,10 +104,10 @@ module _ {K L D : Type 0} where
 
 module _ {K L D : Type 0} (same : D → D → Bool) (elect : Elect L) where
   -- what was done stays done
-  pub trace_stays : (s t : Execution K L D) → ExecutionGoesOn s t → IsRunFrom same elect s.start s.steps s.replies → (d : TraceEvent D) → Contains (trace_of s) d → Contains (trace_of t) d
+  pub trace_stays : (s t : Execution K L D) → ExecutionContinues s t → IsRunFrom same elect s.start s.steps s.replies → (d : TraceEvent D) → Contains (trace_of s) d → Contains (trace_of t) d
   unfolding IsRunFrom
   trace_stays s t (more, is) (none, end, run) d h =
       let joined = traces_joined same elect s.steps (map (λ e. e.0) more) s.replies (map (λ e. e.1) more) (new_member same elect s.start) end run in
-      let rest = trace_of_steps (map (λ (e : StepFacts K L D × Told K D). e.0) more) (map (λ (e : StepFacts K L D × Told K D). e.1) more) in
+      let rest = trace_of_steps (map (λ (e : StepFacts K L D × ReplyFacts K D). e.0) more) (map (λ (e : StepFacts K L D × ReplyFacts K D). e.1) more) in
       let whole : trace_of t ≡ trace_of s ++ rest = ap trace_of is ∙ (ap (λ ds. of_floor s.start.floor ++ ds) joined ∙ sym (append_assoc (of_floor s.start.floor) (trace_of_steps s.steps s.replies) rest)) in
       subst (λ ds. Contains ds d) (sym whole) (Contains-append_left (trace_of s) rest d h)

@@ -13,12 +13,12 @@ use Rattle.simplex_voter.specs.Facts.{StateFacts, Elect}
 use Rattle.simplex_voter.specs.Refusals.{is_too_large}
 use Rattle.simplex_member.specs.Calls.{CallFacts, SetProposal, Proposed, ConstructNullify}
 use Rattle.simplex_member.specs.Runs.{StepFacts, Calls}
-use Rattle.laws_safety.specs.Continuations.{GoesOnToFinalize}
+use Rattle.laws_safety.specs.Continuations.{ContinuesToFinalize}
 use Rattle.laws_safety.specs.Traces.{TraceEvent, Accepts}
 use Rattle.laws_safety.specs.Replicas.{Replica, Honest, faults, max_faults, IsNetworkOf}
 use Rattle.laws_safety.specs.Executions.{Execution, trace_of}
-use Rattle.laws_progress.specs.NotStuck.{MayGoOn}
-use Rattle.laws_progress.specs.NetworkStates.{IsSetUpAs, LivesWith, EachLives}
+use Rattle.laws_progress.specs.NotStuck.{MayContinue}
+use Rattle.laws_progress.specs.NetworkStates.{IsSetUpAs, RunsWith, EachRuns}
 use Rattle.laws_progress.specs.MessageExchanges.{IsExchange, Exchanges, IsFinalizedSoon}
 use Rattle.laws_progress.specs.ViewPositions.{StandsBefore, proposal_in}
 use Rattle.laws_progress.specs.SharedView.{terms_on}
@@ -43,7 +43,7 @@ module _ {K L D : Type 0} (same : D → D → Bool) (decides : (d e : D) → sam
     (term_length epoch leader parent view start terms : ℕ) (elector : L) (q : D) (network : List (Replica K L D)) (good : IsNetworkOf same elect term_length network) (few : faults network ≤ max_faults (length network))
     (far : start ≡ terms_on term_length (suc terms) view) (is_term_start : start ≡ term_start term_length start) (small : is_too_large start ≡ false)
     (elected : (bytes : List ℕ) → elect elector (record { epoch = epoch; view = start }) (Some bytes) ≡ leader) (leads : (s : Execution K L D) × (slice_get network leader ≡ Some (Honest s)))
-    (each : EachLives same elect network (λ i x. IsSetUpAs epoch (length network) elector i x × StandsBefore parent view start x)) where
+    (each : EachRuns same elect network (λ i x. IsSetUpAs epoch (length network) elector i x × StandsBefore parent view start x)) where
   abbrev p : Proposal D
   p = proposal_in epoch start parent q
 
@@ -60,7 +60,7 @@ module _ {K L D : Type 0} (same : D → D → Bool) (decides : (d e : D) → sam
   abbrev done : ℕ → List (TraceEvent D)
   done i = skip_trace epoch term_length i (suc terms) view (trace_done (replica_of epoch start parent q i) q)
 
-  traced : (i : ℕ) (s : Execution K L D) → slice_get network i ≡ Some (Honest s) → (x : StateFacts K L D) × (lives : LivesWith same elect s x) × Sequence same elect lives.0 (skip_sequence epoch term_length i (suc terms) view (last i))
+  traced : (i : ℕ) (s : Execution K L D) → slice_get network i ≡ Some (Honest s) → (x : StateFacts K L D) × (lives : RunsWith same elect s x) × Sequence same elect lives.0 (skip_sequence epoch term_length i (suc terms) view (last i))
   traced i s at =
       let alive = each i s at in
       let one_of_them = within network leader (Honest leads.0) leads.1 in (
@@ -85,7 +85,7 @@ module _ {K L D : Type 0} (same : D → D → Bool) (decides : (d e : D) → sam
       let run = there.1.1 in (
         and_calls same elect s (calls_in (first i ∷ [])) one.replies,
         record {
-          goes_on = calls_go_on same elect term_length i s m one.end (calls_in (first i ∷ [])) one.replies run one.run;
+          continues = calls_go_on same elect term_length i s m one.end (calls_in (first i ∷ [])) one.replies run one.run;
           ran = calls_ran same elect term_length i s m one.end (calls_in (first i ∷ [])) one.replies run one.run (good.honest i s at);
           steps = refl;
           trace = calls_trace same elect term_length i s m one.end (calls_in (first i ∷ [])) one.replies run one.run ∙ ap (λ ds. trace_of s ++ ds) one.does;
@@ -128,7 +128,7 @@ module _ {K L D : Type 0} (same : D → D → Bool) (decides : (d e : D) → sam
       let all = skip_calls epoch term_length (suc terms) view (calls_in (last i)) in
       let steps : t.steps ≡ s.steps ++ map Calls all = end.steps ∙ ap (λ cs. s.steps ++ map Calls cs) (calls_are i) in
       record {
-        goes_on = end.goes_on;
+        continues = end.continues;
         ran = end.ran;
         trace = end.trace ∙ ap (λ ds. trace_of s ++ ds) (trace_is i);
         heard = λ v o h. elim (Contains-append_cases s.steps (map Calls all) (Calls (SetProposal v o)) (subst (λ ss. Contains ss (Calls (SetProposal v o))) steps h)) [
@@ -144,7 +144,7 @@ module _ {K L D : Type 0} (same : D → D → Bool) (decides : (d e : D) → sam
   pub exchanged : Exchanges (terms + 4) all_gave.0 later
   exchanged = subst (λ n. Exchanges n all_gave.0 later) (plan_long epoch term_length leader start parent q q terms view) rest_done.1
 
-  pub ends : GoesOnToFinalize same elect term_length network later p
+  pub ends : ContinuesToFinalize same elect term_length network later p
   ends = followed_to_finalize same elect term_length leader p done (enough p term_length (suc terms) view) network good few leads later
       (follows_so End (ContinuesBy same elect term_length leader p done) goes_by 0 network later rest_done.2)
       (none_above same decides elect term_length epoch parent view start terms elector network good far each)
@@ -173,7 +173,7 @@ module _ (length : ℕ) (some : 0 < length) where
 module _ {K L D : Type 0} where
   no_exchange : (network : List (Replica K L D)) → IsExchange network network
   no_exchange network = record {
-    goes_on = replicas_same network;
+    continues = replicas_same network;
     certificates = λ i s at c h. inl (i, s, at, h);
     proposals = λ i s at v p h. inl (i, s, at, h);
   }
@@ -187,13 +187,13 @@ module _ {K L D : Type 0} where
 -- of each network
 
 module _ {K L D : Type 0} (same : D → D → Bool) (decides : (d e : D) → same d e ≡ true → d ≡ e) (reflexive : (d : D) → same d d ≡ true) (elect : Elect L)
-    (term_length epoch leader start terms count : ℕ) (elector : L) (network : List (Replica K L D)) (q : D) (good : IsNetworkOf same elect term_length network) (may : MayGoOn same elect term_length network epoch elector leader start)
+    (term_length epoch leader start terms count : ℕ) (elector : L) (network : List (Replica K L D)) (q : D) (good : IsNetworkOf same elect term_length network) (may : MayContinue same elect term_length network epoch elector leader start)
     (met : HaveMet same elect term_length network epoch elector start) (far : start ≡ terms_on term_length (suc terms) met.view) (fits : suc terms ≤ count) where
   few : faults met.later ≤ max_faults (length met.later)
-  few = omega (arith, may.few_faulty, same_length network met.later met.meets.goes_on, same_faults network met.later met.meets.goes_on)
+  few = omega (arith, may.few_faulty, same_length network met.later met.meets.continues, same_faults network met.later met.meets.continues)
 
   leads : (s : Execution K L D) × (slice_get met.later leader ≡ Some (Honest s))
-  leads = honest_still network met.later leader may.honest_leader.0 met.meets.goes_on may.honest_leader.1
+  leads = honest_still network met.later leader may.honest_leader.0 met.meets.continues may.honest_leader.1
 
   abbrev Gives : ℕ → Execution K L D → Execution K L D → Type 0
   Gives = Gave same decides reflexive elect term_length epoch leader met.parent met.view start terms elector q met.later met.meets.runs few far may.is_term_start may.small may.elected leads met.meets.stands
@@ -203,7 +203,7 @@ module _ {K L D : Type 0} (same : D → D → Bool) (decides : (d e : D) → sam
 
   first_exchange : IsExchange network given.0
   first_exchange = record {
-    goes_on = replicas_joined network met.later given.0 met.meets.goes_on (replicas_follow Gives (λ i s t by. by.goes_on) 0 met.later given.0 given.1);
+    continues = replicas_joined network met.later given.0 met.meets.continues (replicas_follow Gives (λ i s t by. by.continues) 0 met.later given.0 given.1);
     certificates = λ i u at c h.
         (let was = was_there Gives 0 met.later given.0 given.1 i i u at (omega arith) in
         elim (Contains-append_cases (trace_of was.0) (whole_trace (gives_up_now epoch term_length i met.view ∷ [])) (Accepts c) (subst (λ ds. Contains ds (Accepts c)) was.2.trace h)) [
@@ -229,11 +229,11 @@ module _ {K L D : Type 0} (same : D → D → Bool) (decides : (d e : D) → sam
       let more : Exchanges (terms + 4) given.0 end = exchanged same decides reflexive elect term_length epoch leader met.parent met.view start terms elector q met.later met.meets.runs few far may.is_term_start may.small may.elected leads met.meets.stands in
       subst (λ n. Exchanges n network end) (omega (arith, fits)) (and_more (count - suc terms) (suc (terms + 4)) network end (given.0, first_exchange, more))
 
-  finalizes : GoesOnToFinalize same elect term_length network end (proposal_in epoch start met.parent q)
-  finalizes = joined same elect term_length network met.later end (proposal_in epoch start met.parent q) good met.meets.runs met.meets.goes_on met.meets.certificates met.meets.proposals
+  finalizes : ContinuesToFinalize same elect term_length network end (proposal_in epoch start met.parent q)
+  finalizes = joined same elect term_length network met.later end (proposal_in epoch start met.parent q) good met.meets.runs met.meets.continues met.meets.certificates met.meets.proposals
       (ends same decides reflexive elect term_length epoch leader met.parent met.view start terms elector q met.later met.meets.runs few far may.is_term_start may.small may.elected leads met.meets.stands)
 
-  pub met_then : (later : List (Replica K L D)) × (parent : ℕ) × Exchanges (count + 4) network later × GoesOnToFinalize same elect term_length network later (proposal_in epoch start parent q)
+  pub met_then : (later : List (Replica K L D)) × (parent : ℕ) × Exchanges (count + 4) network later × ContinuesToFinalize same elect term_length network later (proposal_in epoch start parent q)
   met_then = (end, met.parent, exchanges, finalizes)
 
 pub starts_are_finalized_soon : {L D : Type 0} (K : Type 0) (same : D → D → Bool) (decides : (d e : D) → same d e ≡ true → d ≡ e) (reflexive : (d : D) → same d d ≡ true) (elect : Elect L) → IsFinalizedSoon K same elect

@@ -7,7 +7,7 @@ use Rattle.simplex_types.specs.declared.types.messages.Subject.TheVariants.{Nota
 use Rattle.simplex_voter.specs.Facts.{Elect}
 use Rattle.simplex_member.specs.Calls.{Proposed}
 use Rattle.simplex_member.specs.Runs.{Calls}
-use Rattle.laws_safety.specs.Continuations.{ExecutionGoesOn, SomeHonest, HasAccepted, HasHeard, HasBuilt, IsHonestlySigned, HonestlyBacked, GoesOnToFinalize}
+use Rattle.laws_safety.specs.Continuations.{ExecutionContinues, SomeHonest, HasAccepted, HasHeard, HasBuilt, IsHonestlySigned, HonestlyBacked, ContinuesToFinalize}
 use Rattle.laws_safety.specs.Traces.{TraceEvent, Accepts, Signs}
 use Rattle.laws_safety.specs.Replicas.{Replica as Member, Honest, faults, max_faults, quorum, FewFaulty, AtLeastFrom, MayHaveSigned, Backed, IsNetworkOf}
 use Rattle.laws_safety.specs.Executions.{Execution, trace_of, IsExecution}
@@ -24,7 +24,7 @@ pub record AreEnough {D : Type 0} (p : Proposal D) (done : ℕ → List (TraceEv
 module _ {K L D : Type 0} (same : D → D → Bool) (elect : Elect L) (term_length leader : ℕ) (p : Proposal D) (done : ℕ → List (TraceEvent D)) where
   -- the member goes on by this trace, and is handed the proposal or builds it
   pub record ContinuesBy (i : ℕ) (s t : Execution K L D) : Type 0 where
-    pub goes_on : ExecutionGoesOn s t
+    pub continues : ExecutionContinues s t
     pub ran : IsExecution same elect term_length i t
     pub trace : trace_of t ≡ trace_of s ++ done i
     pub heard : (v : ℕ) (o : Proposal D) → HasHeard v o t → HasHeard v o s ⊎ (o ≡ p)
@@ -90,9 +90,9 @@ module _ {K L D : Type 0} (same : D → D → Bool) (elect : Elect L) (term_leng
       stays : (i : ℕ) (s t : Execution K L D) (d : TraceEvent D) → Q i s t → Contains (trace_of s) d → Contains (trace_of t) d
       stays i s t d by h = subst (λ ds. Contains ds d) (sym by.trace) (Contains-append_left (trace_of s) (done i) d h)
 
-  pub followed_to_finalize : GoesOnToFinalize same elect term_length network later p
+  pub followed_to_finalize : ContinuesToFinalize same elect term_length network later p
   followed_to_finalize = record {
-    goes_on = replicas_follow Q (λ i s t by. by.goes_on) 0 network later following;
+    continues = replicas_follow Q (λ i s t by. by.continues) 0 network later following;
     runs = runs_on;
     certificates = λ i t at c h.
         (let was = before i t at in
@@ -125,5 +125,5 @@ module _ {K L D : Type 0} (same : D → D → Bool) (elect : Elect L) (term_leng
           let here : i ≡ j = omega arith in
           goes j s (subst (λ n. slice_get network n ≡ Some (Honest s)) here at)
 
-  pub goes_on_to_finalize : GoesOnToFinalize same elect term_length network all_going.0 p
+  pub goes_on_to_finalize : ContinuesToFinalize same elect term_length network all_going.0 p
   goes_on_to_finalize = followed_to_finalize same elect term_length leader p done enough network good few leads all_going.0 all_going.1 all_below

@@ -230,15 +230,15 @@ module _ {K L D : Type 0} (same : D → D → Bool) (decides : (d e : D) → sam
           by_prune true = omega (arith, above)
           by_prune false = omega arith
 
-      hands_in : (f : Event K D) → 0 < finalized_by_event f → (c : ProposalFacts D) × (brings_finalization (finalized_by_event f) f ≡ Some c)
-      hands_in (event.AddFinalization c now) some = (c, rw (eq-eqb c.proposal.round.view c.proposal.round.view refl) refl)
-      hands_in (event.SetFloor (Finalized c) now) some = (c, rw (eq-eqb c.proposal.round.view c.proposal.round.view refl) refl)
-      hands_in _ some = absurd (omega (arith, some))
+      certificate_call : (f : Event K D) → 0 < finalized_by_event f → (c : ProposalFacts D) × (brings_finalization (finalized_by_event f) f ≡ Some c)
+      certificate_call (event.AddFinalization c now) some = (c, rw (eq-eqb c.proposal.round.view c.proposal.round.view refl) refl)
+      certificate_call (event.SetFloor (Finalized c) now) some = (c, rw (eq-eqb c.proposal.round.view c.proposal.round.view refl) refl)
+      certificate_call _ some = absurd (omega (arith, some))
 
       brought : x.finalized < finalized_by_event e → is_some (round_of y (finalized_by_event e)).finalization ≡ true
       brought raised =
           let w = finalized_by_event e in
-          let new = hands_in e (omega (arith, raised)) in
+          let new = certificate_call e (omega (arith, raised)) in
           ap (λ k. is_some k.finalization) (follows.rounds w (kept w (omega (arith, raised)))) ∙ (ap (λ o. is_some (or_new (round_of x w).finalization o)) new.1 ∙ some_brought (round_of x w).finalization new.0)
 
   pub genesis_still : is_some x.genesis ≡ true → is_some y.genesis ≡ true

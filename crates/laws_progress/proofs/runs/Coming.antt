@@ -20,7 +20,7 @@ use Rattle.simplex_voter.specs.Refusals.{is_too_large, names_too_large, is_start
 use Rattle.simplex_voter.proofs.Gaps.{and_both, or_right}
 use Rattle.simplex_member.specs.OutstandingWork.{is_among}
 use Rattle.simplex_member.specs.CallConditions.{is_allowed, fault_of}
-use Rattle.simplex_member.specs.Calls.{CallFacts, Told, Judged, SetProposal, AddNotarization, AddNullification, AddFinalization, Certified}
+use Rattle.simplex_member.specs.Calls.{CallFacts, ReplyFacts, Judged, SetProposal, AddNotarization, AddNullification, AddFinalization, Certified}
 use Rattle.simplex_member.specs.MemberFacts.{MemberFacts, with_call}
 use Rattle.simplex_member.specs.CallSemantics.{answer, after_call}
 use Rattle.simplex_member.specs.Runs.{StepFacts, Calls, IsRun}
@@ -46,7 +46,7 @@ module _ {K L D : Type 0} (same : D → D → Bool) (elect : Elect L) (Q : Subje
   -- the member goes on by calls that hand in such certificates and certify such proposals, and its state is such then
   pub record ComesTo (P : StateFacts K L D → Type 0) (m : MemberFacts K L D) : Type 0 where
     pub calls : List (CallFacts D)
-    pub replies : List (Told K D)
+    pub replies : List (ReplyFacts K D)
     pub end : MemberFacts K L D
     pub run : IsRun same elect m (map Calls calls) replies end
     pub accepts : (c : Subject D) → Contains (trace_of_steps {L = L} (map Calls calls) replies) (Accepts c) → Q c
@@ -88,7 +88,7 @@ module _ {K L D : Type 0} (same : D → D → Bool) (elect : Elect L) (Q : Subje
     holds = rest.holds;
   }
     where
-      told : Told K D
+      told : ReplyFacts K D
       told = answer same elect x m.outstanding_work call
 
 -- a nullification that may be handed in, and skips to the view or below
@@ -120,13 +120,13 @@ module _ {K L D : Type 0} (same : D → D → Bool) (decides : (d e : D) → sam
   Arrived given x = Came term_length epoch count me elector parent view start given x
 
   -- the nullifications, one after another
-  pub hand_all : (P : StateFacts K L D → Type 0) (finalized : ℕ) (verdict : Option Bool) (rounds : List Round) (given : Round → Type 0) → ((r : Round) → Contains rounds r → SkipsUpTo Q term_length epoch view start finalized r) → (m : MemberFacts K L D) (x : StateFacts K L D) → m.life ≡ Some x → Near finalized verdict given x
+  pub pass_every : (P : StateFacts K L D → Type 0) (finalized : ℕ) (verdict : Option Bool) (rounds : List Round) (given : Round → Type 0) → ((r : Round) → Contains rounds r → SkipsUpTo Q term_length epoch view start finalized r) → (m : MemberFacts K L D) (x : StateFacts K L D) → m.life ≡ Some x → Near finalized verdict given x
       → ((n : MemberFacts K L D) (y : StateFacts K L D) → n.life ≡ Some y → Near finalized verdict (λ r. Contains rounds r ⊎ given r) y → ComesTo same elect Q R P n)
       → ComesTo same elect Q R P m
-  hand_all P finalized verdict [] given fits m x alive nears rest = rest m x alive (given_less term_length epoch count me elector parent view start finalized verdict given x nears (λ r. Contains [] r ⊎ given r) (λ r h. elim h [ inl none ↦ absurd (omega (arith, none.1)) | inr old ↦ old ]))
-  hand_all P finalized verdict (round ∷ rounds) given fits m x alive nears rest =
+  pass_every P finalized verdict [] given fits m x alive nears rest = rest m x alive (given_less term_length epoch count me elector parent view start finalized verdict given x nears (λ r. Contains [] r ⊎ given r) (λ r h. elim h [ inl none ↦ absurd (omega (arith, none.1)) | inr old ↦ old ]))
+  pass_every P finalized verdict (round ∷ rounds) given fits m x alive nears rest =
       comes_on same elect Q R P m x (AddNullification c 0) alive takes no_fault (λ d h. subst Q (accepted_is d h) here.accepted) (λ p h. absurd (omega (arith, h.1))) (λ v p e. cc)
-      (hand_all P finalized verdict rounds (λ r. (r ≡ round) ⊎ given r) (λ r h. fits r (Contains-cons_rest round rounds r h)) (with_call same elect x m (AddNullification c 0)) (after_call same elect x m.outstanding_work (AddNullification c 0)) refl then_near
+      (pass_every P finalized verdict rounds (λ r. (r ≡ round) ⊎ given r) (λ r h. fits r (Contains-cons_rest round rounds r h)) (with_call same elect x m (AddNullification c 0)) (after_call same elect x m.outstanding_work (AddNullification c 0)) refl then_near
       (λ n y lives near. rest n y lives (given_less term_length epoch count me elector parent view start finalized verdict (λ r. Contains rounds r ⊎ ((r ≡ round) ⊎ given r)) y near (λ r. Contains (round ∷ rounds) r ⊎ given r) regroup)))
     where
       c : NullificationFacts

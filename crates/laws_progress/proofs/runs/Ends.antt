@@ -14,7 +14,7 @@ use Rattle.laws_safety.proofs.lives.TimingOut.{TimesOut, floor_times_out, event_
 use Rattle.laws_safety.proofs.records.NewLives.{Living}
 use Rattle.laws_safety.proofs.records.RunsLawful.{LivesOn, run_lives, start_lives}
 use Rattle.laws_progress.proofs.runs.Owned.{Owns, event_owns, floor_owns}
-use Rattle.laws_progress.specs.NetworkStates.{LivesWith}
+use Rattle.laws_progress.specs.NetworkStates.{RunsWith}
 
 -- the lives of a member of a network share a length of terms
 pub terms_kept : {K L D : Type 0} (term_length i : ℕ) (steps : List (StepFacts K L D)) → ((r : _) → Contains steps (Restarts r) → BeginsAs term_length i r.start.setup) → KeepTerms term_length steps
@@ -31,7 +31,7 @@ pub record Shown {K L D : Type 0} (term_length : ℕ) (s : Execution K L D) (m :
   pub living : Living term_length (trace_of s) m.closed kept m.entries m.outstanding_work x
 
 module _ {K L D : Type 0} (same : D → D → Bool) (decides : (d e : D) → same d e ≡ true → d ≡ e) (elect : Elect L) (term_length i : ℕ) (s : Execution K L D) (ran : IsExecution same elect term_length i s) where
-  pub end_shown : (x : StateFacts K L D) (lives : LivesWith same elect s x) → Shown term_length s lives.0 x
+  pub end_shown : (x : StateFacts K L D) (lives : RunsWith same elect s x) → Shown term_length s lives.0 x
   end_shown x (m, run, alive) =
       let begins = ran.lives.first.terms in
       let keep = terms_kept term_length i s.steps ran.lives.later in
@@ -46,7 +46,7 @@ module _ {K L D : Type 0} (same : D → D → Bool) (decides : (d e : D) → sam
       }
 
   -- no view from the current one on is decided to be finalized
-  pub none_decided : (x : StateFacts K L D) → LivesWith same elect s x → (v : ℕ) → x.current ≤ v → is_finalize (round_of x v).decision ≡ false
+  pub none_decided : (x : StateFacts K L D) → RunsWith same elect s x → (v : ℕ) → x.current ≤ v → is_finalize (round_of x v).decision ≡ false
   none_decided x lives v from = elim (cases_Bool (is_finalize (round_of x v).decision)) [
     | inl is ↦ absurd (let below = ((end_shown x lives).living.keeps.stays.stands.rounds v).left is in omega (arith, below, from))
     | inr is ↦ is

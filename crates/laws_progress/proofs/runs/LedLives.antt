@@ -25,11 +25,11 @@ use Rattle.simplex_record.proofs.Bearing.{BearsAll}
 use Rattle.simplex_record.proofs.Remaking.{set_takes}
 use Rattle.simplex_record.proofs.Start.{good_floor}
 use Rattle.simplex_member.specs.CallConditions.{is_allowed, fault_of}
-use Rattle.simplex_member.specs.Calls.{CallFacts, Told}
-use Rattle.simplex_member.specs.MemberFacts.{MemberFacts, AnswersAlive, IsCall, reply_of, left_of, without_life}
+use Rattle.simplex_member.specs.Calls.{CallFacts, ReplyFacts}
+use Rattle.simplex_member.specs.MemberFacts.{MemberFacts, AnswersAlive, IsCall, reply_of, left_of, without_lifetime}
 use Rattle.simplex_member.specs.CallSemantics.{answer, recorded_by}
-use Rattle.simplex_member.specs.Restarts.{RestartFacts, cut_member, new_life, retention_grows, RecoversByView, IsRestart, IsRestartWhere}
-use Rattle.simplex_member.specs.Runs.{StepFacts, Calls, Prunes, Restarts, restart_told, IsRun, IsRunFrom}
+use Rattle.simplex_member.specs.Restarts.{RestartFacts, cut_member, new_lifetime, retention_grows, RecoversByView, IsRestart, IsRestartWhere}
+use Rattle.simplex_member.specs.Runs.{StepFacts, Calls, Prunes, Restarts, restart_reply, IsRun, IsRunFrom}
 use Rattle.simplex_member.specs.Pruning.{stays_within, pruned_member}
 use Rattle.laws_safety.specs.Traces.{TraceEvent, Accepts, of_floor, trace_of_call, trace_at, trace_of_steps}
 use Rattle.simplex_record.specs.Events as event
@@ -45,7 +45,7 @@ use Rattle.laws_safety.proofs.lists.Splits.{Contains-cons_rest, only_one}
 use Rattle.laws_safety.proofs.records.Lifetimes.{Between}
 use Rattle.laws_safety.proofs.records.NewLives.{all_of_epoch, first_none}
 use Rattle.laws_safety.proofs.records.RunsLawful.{MemberLives, between_of, cut_between, call_lives_on, prune_lives_on, restart_lives_on, start_lives}
-use Rattle.laws_progress.specs.NetworkStates.{LivesWith}
+use Rattle.laws_progress.specs.NetworkStates.{RunsWith}
 use Rattle.laws_progress.specs.ViewCauses.{HasJudged, IsLedTo, judged_by, judged_in, judged_of}
 use Rattle.laws_progress.proofs.runs.Brought.{BringsAccepted, brings_nothing}
 use Rattle.laws_progress.proofs.runs.Ends.{terms_kept}
@@ -97,10 +97,10 @@ cut_within m drop false e h = left_within m.closed drop m.entries e h
 
 -- an entry's verdict, given or replayed
 module _ {D : Type 0} (epoch : ℕ) (verdicts : List (Bool × Proposal D)) where
-  given_by : (v w : ℕ) (success told b : Bool) → HasJudged success epoch verdicts v → (a : Bool) → (w == v) ≡ a → (if a && b then Some success else None) ≡ Some told → HasJudged told epoch verdicts w
-  given_by v w success told true known true at is = subst (λ s. HasJudged s epoch verdicts w) (ap (λ f. unwrap_or f told) is) (subst (HasJudged success epoch verdicts) (sym (eqb-true w v at)) known)
-  given_by v w success told false known true at is = absurd (false≢true (ap is_some is))
-  given_by v w success told b known false at is = absurd (false≢true (ap is_some is))
+  reply_causes : (v w : ℕ) (success told b : Bool) → HasJudged success epoch verdicts v → (a : Bool) → (w == v) ≡ a → (if a && b then Some success else None) ≡ Some told → HasJudged told epoch verdicts w
+  reply_causes v w success told true known true at is = subst (λ s. HasJudged s epoch verdicts w) (ap (λ f. unwrap_or f told) is) (subst (HasJudged success epoch verdicts) (sym (eqb-true w v at)) known)
+  reply_causes v w success told false known true at is = absurd (false≢true (ap is_some is))
+  reply_causes v w success told b known false at is = absurd (false≢true (ap is_some is))
 
   replayed_by : (v w : ℕ) (success told : Bool) → HasJudged success epoch verdicts v → (a : Bool) → (w == v) ≡ a → (if a then Some success else None) ≡ Some told → HasJudged told epoch verdicts w
   replayed_by v w success told known true at is = subst (λ s. HasJudged s epoch verdicts w) (ap (λ f. unwrap_or f told) is) (subst (HasJudged success epoch verdicts) (sym (eqb-true w v at)) known)
@@ -126,7 +126,7 @@ module _ {K L D : Type 0} (same : D → D → Bool) (decides : (d e : D) → sam
     notarized = λ d is. absurd (cc);
     nullified = λ d is. absurd (cc);
     finalized = λ d is. absurd (cc);
-    judged = λ w told is. given_by epoch verdicts round.view w success told (is_tracked x round.view) known (w == round.view) refl is;
+    judged = λ w told is. reply_causes epoch verdicts round.view w success told (is_tracked x round.view) known (w == round.view) refl is;
   }
 
   replayed_verdict : (x : StateFacts K L D) (round : Round) (success : Bool) → HasJudged success epoch verdicts round.view → BringsAccepted epoch trace verdicts x (event.Replay (Verdict round success))
@@ -211,7 +211,7 @@ module _ {K L D : Type 0} (same : D → D → Bool) (decides : (d e : D) → sam
   still_led : MemberLed term_length trace verdicts m → MemberLed term_length (trace ++ []) (verdicts ++ []) m
   still_led led = subst (λ ds. MemberLed term_length ds (verdicts ++ []) m) (sym (append-nil trace)) (subst (λ ps. MemberLed term_length trace ps m) (sym (append-nil verdicts)) led)
 
-  dead_led : MemberLed term_length trace verdicts m → MemberLed term_length trace verdicts (without_life m)
+  dead_led : MemberLed term_length trace verdicts m → MemberLed term_length trace verdicts (without_lifetime m)
   dead_led led = record { life = tt; judged = led.judged; signed = led.signed; notarized = led.notarized }
 
   -- a call
@@ -219,7 +219,7 @@ module _ {K L D : Type 0} (same : D → D → Bool) (decides : (d e : D) → sam
   answered_led : (call : CallFacts D) (x : StateFacts K L D) → m.life ≡ Some x → MemberLed term_length trace verdicts m → MemberLed term_length (trace ++ trace_of_call call (reply_of same elect x m.outstanding_work call)) (verdicts ++ judged_by (reply_of same elect x m.outstanding_work call)) (left_of same elect x m call)
   answered_led call x alive led = by_allowed (is_allowed x m.outstanding_work call) refl
     where
-      told : Told K D
+      told : ReplyFacts K D
       told = answer same elect x m.outstanding_work call
 
       here : Led term_length trace verdicts x
@@ -247,7 +247,7 @@ module _ {K L D : Type 0} (same : D → D → Bool) (decides : (d e : D) → sam
       by_allowed true allowed = by_fault (fault_of x call) refl allowed
       by_allowed false not_allowed = rw not_allowed (still_led led)
 
-  pub told_led : (call : CallFacts D) (told : Told K D) (left : MemberFacts K L D) → MemberLed term_length trace verdicts m → IsCall same elect m call told left → MemberLed term_length (trace ++ trace_of_call call told) (verdicts ++ judged_by told) left
+  pub told_led : (call : CallFacts D) (told : ReplyFacts K D) (left : MemberFacts K L D) → MemberLed term_length trace verdicts m → IsCall same elect m call told left → MemberLed term_length (trace ++ trace_of_call call told) (verdicts ++ judged_by told) left
   unfolding IsCall
   told_led call told left led is_call = by_life m.life refl is_call
     where
@@ -257,8 +257,8 @@ module _ {K L D : Type 0} (same : D → D → Bool) (decides : (d e : D) → sam
       by_life (Some x) alive (inr (_, tells, inl (_, leaves))) = rw (tells, leaves) (still_led led)
       by_life (Some x) alive (inr (_, tells, inr (_, _, leaves))) = rw (tells, leaves) (still_dead led)
         where
-          still_dead : MemberLed term_length trace verdicts m → MemberLed term_length (trace ++ []) (verdicts ++ []) (without_life m)
-          still_dead led = subst (λ ds. MemberLed term_length ds (verdicts ++ []) (without_life m)) (sym (append-nil trace)) (subst (λ ps. MemberLed term_length trace ps (without_life m)) (sym (append-nil verdicts)) (dead_led led))
+          still_dead : MemberLed term_length trace verdicts m → MemberLed term_length (trace ++ []) (verdicts ++ []) (without_lifetime m)
+          still_dead led = subst (λ ds. MemberLed term_length ds (verdicts ++ []) (without_lifetime m)) (sym (append-nil trace)) (subst (λ ps. MemberLed term_length trace ps (without_lifetime m)) (sym (append-nil verdicts)) (dead_led led))
 
 -- a restart
 
@@ -268,7 +268,7 @@ floor_signs_none (FinalizedFloor c) round h = let e = only_signed (Accepts (subj
 
 module _ {K L D : Type 0} (same : D → D → Bool) (decides : (d e : D) → same d e ≡ true → d ≡ e) (elect : Elect L) (term_length : ℕ) (trace : List (TraceEvent D)) (verdicts : List (Bool × Proposal D)) where
   -- a life from a copy of a record whose entries were accepted or certified
-  from_copy : (n : MemberFacts K L D) (start : StartFacts K L D) (copy : List (ArtifactFacts D)) → HasTerms term_length start.setup → RecordLed trace verdicts n.entries → ((round : Round) → HasSigned trace (subject.Nullify round) → IsLedTo term_length round.epoch trace verdicts round.view) → ((success : Bool) (p : Proposal D) → Contains verdicts (success, p) → Contains trace (Accepts (subject.Notarize p))) → ((e : ArtifactFacts D) → Contains copy e → Contains n.entries e) → first_recover_error same start.setup.settings.epoch start.setup.me start.floor copy ≡ None → MemberLed term_length (trace ++ of_floor start.floor) verdicts (new_life same elect n start copy)
+  from_copy : (n : MemberFacts K L D) (start : StartFacts K L D) (copy : List (ArtifactFacts D)) → HasTerms term_length start.setup → RecordLed trace verdicts n.entries → ((round : Round) → HasSigned trace (subject.Nullify round) → IsLedTo term_length round.epoch trace verdicts round.view) → ((success : Bool) (p : Proposal D) → Contains verdicts (success, p) → Contains trace (Accepts (subject.Notarize p))) → ((e : ArtifactFacts D) → Contains copy e → Contains n.entries e) → first_recover_error same start.setup.settings.epoch start.setup.me start.floor copy ≡ None → MemberLed term_length (trace ++ of_floor start.floor) verdicts (new_lifetime same elect n start copy)
   from_copy n start copy fresh kept signed notarized within none = record {
     life = subst (λ t. Led t (trace ++ of_floor start.floor) verdicts (recovered_state same elect (new_state start.setup) start.floor start.now copy)) fresh.terms (recovered_led same decides elect trace verdicts start copy none (within_led trace verdicts n.entries copy within kept));
     judged = λ success round h. kept.judged success round (floor_verdict n.entries start.floor success round h);
@@ -283,30 +283,30 @@ module _ {K L D : Type 0} (same : D → D → Bool) (decides : (d e : D) → sam
     record_of : (n : MemberFacts K L D) (kept : ℕ) → Between term_length trace n.closed kept n.entries → ((e : ArtifactFacts D) → Contains n.entries e → Contains m.entries e) → RecordLed trace verdicts n.entries
     record_of n kept between within = record { accepted = between.remembers.accepted; judged = λ success round h. led.judged success round (within (Verdict round success) h) }
 
-    ended : (n : MemberFacts K L D) → ((e : ArtifactFacts D) → Contains n.entries e → Contains m.entries e) → MemberLed term_length (trace ++ []) (verdicts ++ []) (without_life n)
-    ended n within = still_led same decides elect term_length trace verdicts (without_life n) (record { life = tt; judged = λ success round h. led.judged success round (within (Verdict round success) h); signed = led.signed; notarized = led.notarized })
+    ended : (n : MemberFacts K L D) → ((e : ArtifactFacts D) → Contains n.entries e → Contains m.entries e) → MemberLed term_length (trace ++ []) (verdicts ++ []) (without_lifetime n)
+    ended n within = still_led same decides elect term_length trace verdicts (without_lifetime n) (record { life = tt; judged = λ success round h. led.judged success round (within (Verdict round success) h); signed = led.signed; notarized = led.notarized })
 
-    goes_on : (n : MemberFacts K L D) (r : RestartFacts K L D) (result : Result (Unit {0}) RecoverError) (left : MemberFacts K L D) (kept : ℕ) → HasTerms term_length r.start.setup → Between term_length trace n.closed kept n.entries → ((e : ArtifactFacts D) → Contains n.entries e → Contains m.entries e) → RecoversByView same elect n r.start result left → MemberLed term_length (trace ++ trace_at (Restarts r) (restart_told {K = K} {D = D} result)) (verdicts ++ judged_by (restart_told {K = K} {D = D} result)) left
-    goes_on n r result left kept fresh between within (inl (is, leaves)) = rw (is, leaves) (ended n within)
-    goes_on n r result left kept fresh between within (inr (copy, by_view, goes)) = by_error (recover_error same (new_state r.start.setup) r.start.floor r.start.now copy) refl goes
+    continues : (n : MemberFacts K L D) (r : RestartFacts K L D) (result : Result (Unit {0}) RecoverError) (left : MemberFacts K L D) (kept : ℕ) → HasTerms term_length r.start.setup → Between term_length trace n.closed kept n.entries → ((e : ArtifactFacts D) → Contains n.entries e → Contains m.entries e) → RecoversByView same elect n r.start result left → MemberLed term_length (trace ++ trace_at (Restarts r) (restart_reply {K = K} {D = D} result)) (verdicts ++ judged_by (restart_reply {K = K} {D = D} result)) left
+    continues n r result left kept fresh between within (inl (is, leaves)) = rw (is, leaves) (ended n within)
+    continues n r result left kept fresh between within (inr (copy, by_view, goes)) = by_error (recover_error same (new_state r.start.setup) r.start.floor r.start.now copy) refl goes
       where
-        by_error : (o : Option RecoverError) → recover_error same (new_state r.start.setup) r.start.floor r.start.now copy ≡ o → MatchOption o ((result ≡ Ok tt) × (left ≡ new_life same elect n r.start copy)) (λ e. (result ≡ Err e) × (left ≡ without_life n)) → MemberLed term_length (trace ++ trace_at (Restarts r) (restart_told {K = K} {D = D} result)) (verdicts ++ judged_by (restart_told {K = K} {D = D} result)) left
+        by_error : (o : Option RecoverError) → recover_error same (new_state r.start.setup) r.start.floor r.start.now copy ≡ o → MatchOption o ((result ≡ Ok tt) × (left ≡ new_lifetime same elect n r.start copy)) (λ e. (result ≡ Err e) × (left ≡ without_lifetime n)) → MemberLed term_length (trace ++ trace_at (Restarts r) (restart_reply {K = K} {D = D} result)) (verdicts ++ judged_by (restart_reply {K = K} {D = D} result)) left
         by_error None none (is, leaves) =
             let begun = from_copy n r.start copy fresh (record_of n kept between within) led.signed led.notarized (same_entries copy n.entries by_view.of_each_view) (first_none (first_recover_error same r.start.setup.settings.epoch r.start.setup.me r.start.floor copy) _ none).0 in
             rw (is, leaves)
-            (subst (λ more. MemberLed term_length (trace ++ more) (verdicts ++ []) (new_life same elect n r.start copy)) (sym (append-nil (of_floor r.start.floor)))
-            (subst (λ ps. MemberLed term_length (trace ++ of_floor r.start.floor) ps (new_life same elect n r.start copy)) (sym (append-nil verdicts)) begun))
+            (subst (λ more. MemberLed term_length (trace ++ more) (verdicts ++ []) (new_lifetime same elect n r.start copy)) (sym (append-nil (of_floor r.start.floor)))
+            (subst (λ ps. MemberLed term_length (trace ++ of_floor r.start.floor) ps (new_lifetime same elect n r.start copy)) (sym (append-nil verdicts)) begun))
         by_error (Some e) due (is, leaves) = rw (is, leaves) (ended n within)
 
-    pub restarted_led : (r : RestartFacts K L D) (result : Result (Unit {0}) RecoverError) (left : MemberFacts K L D) → HasTerms term_length r.start.setup → IsRestart same elect m r result left → MemberLed term_length (trace ++ trace_at (Restarts r) (restart_told {K = K} {D = D} result)) (verdicts ++ judged_by (restart_told {K = K} {D = D} result)) left
+    pub restarted_led : (r : RestartFacts K L D) (result : Result (Unit {0}) RecoverError) (left : MemberFacts K L D) → HasTerms term_length r.start.setup → IsRestart same elect m r result left → MemberLed term_length (trace ++ trace_at (Restarts r) (restart_reply {K = K} {D = D} result)) (verdicts ++ judged_by (restart_reply {K = K} {D = D} result)) left
     unfolding IsRestart
     restarted_led r result left fresh restarts = by_test (retention_grows m r.prune r.start.setup.settings.view_retention) restarts
       where
-        by_test : (b : Bool) → IsRestartWhere same elect b m r result left → MemberLed term_length (trace ++ trace_at (Restarts r) (restart_told {K = K} {D = D} result)) (verdicts ++ judged_by (restart_told {K = K} {D = D} result)) left
+        by_test : (b : Bool) → IsRestartWhere same elect b m r result left → MemberLed term_length (trace ++ trace_at (Restarts r) (restart_reply {K = K} {D = D} result)) (verdicts ++ judged_by (restart_reply {K = K} {D = D} result)) left
         by_test true (is, leaves) = rw (is, leaves) (still_led same decides elect term_length trace verdicts m led)
         by_test false goes =
             let between = cut_between term_length trace m r.drop lives.0 r.prune (between_of term_length trace m.closed lives.0 m.entries m.outstanding_work m.life lives.1) in
-            goes_on (cut_member m r.drop r.prune) r result left between.0 fresh between.1 (cut_within m r.drop r.prune) goes
+            continues (cut_member m r.drop r.prune) r result left between.0 fresh between.1 (cut_within m r.drop r.prune) goes
 
     -- a pruning within the life
     pub pruned_led : MemberLed term_length (trace ++ []) (verdicts ++ []) (pruned_member m)
@@ -320,7 +320,7 @@ module _ {K L D : Type 0} (same : D → D → Bool) (decides : (d e : D) → sam
 -- a run
 
 module _ {K L D : Type 0} (same : D → D → Bool) (decides : (d e : D) → same d e ≡ true → d ≡ e) (elect : Elect L) (term_length : ℕ) (some : 0 < term_length) where
-  end_led : (steps : List (StepFacts K L D)) (replies : List (Told K D)) (trace : List (TraceEvent D)) (verdicts : List (Bool × Proposal D)) (m end : MemberFacts K L D) → KeepTerms term_length steps → MemberLives term_length trace m → MemberLed term_length trace verdicts m → IsRun same elect m steps replies end → MemberLed term_length (trace ++ trace_of_steps steps replies) (verdicts ++ judged_in replies) end
+  end_led : (steps : List (StepFacts K L D)) (replies : List (ReplyFacts K D)) (trace : List (TraceEvent D)) (verdicts : List (Bool × Proposal D)) (m end : MemberFacts K L D) → KeepTerms term_length steps → MemberLives term_length trace m → MemberLed term_length trace verdicts m → IsRun same elect m steps replies end → MemberLed term_length (trace ++ trace_of_steps steps replies) (verdicts ++ judged_in replies) end
   end_led [] [] trace verdicts m end fresh lives led run = subst (MemberLed term_length (trace ++ []) (verdicts ++ [])) run (still_led same decides elect term_length trace verdicts m led)
   end_led [] (told ∷ replies) trace verdicts m end fresh lives led run = absurd run
   end_led (step ∷ steps) [] trace verdicts m end fresh lives led run = absurd run
@@ -362,7 +362,7 @@ module _ {K L D : Type 0} (same : D → D → Bool) (decides : (d e : D) → sam
   member_led end run =
       end_led same decides elect term_length ran.lives.first.terms.some s.steps s.replies (of_floor s.start.floor) [] (new_member same elect s.start) end (terms_kept term_length i s.steps ran.lives.later) (start_lives same decides elect term_length s.start ran.lives.first.terms) (start_led ran.run.0) run
 
-  pub state_led : (x : StateFacts K L D) → LivesWith same elect s x → Led term_length (trace_of s) (judged_of s) x
+  pub state_led : (x : StateFacts K L D) → RunsWith same elect s x → Led term_length (trace_of s) (judged_of s) x
   state_led x (end, run, alive) = subst (HoldsIn (Led term_length (trace_of s) (judged_of s))) alive (member_led end run).life
 
   -- each vote to nullify is of a view that was led to

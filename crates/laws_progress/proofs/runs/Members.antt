@@ -11,11 +11,11 @@ use Rattle.simplex_voter.specs.Parents.{highest_explicit}
 use Rattle.simplex_voter.specs.Refusals.{is_too_large}
 use Rattle.simplex_member.specs.Calls.{CallFacts, SetProposal, TryPropose, Proposed, TryVerify, Verified, ConstructNotarize, AddNotarization, Certified, ConstructFinalize, AddFinalization}
 use Rattle.simplex_member.specs.Runs.{StepFacts, Calls}
-use Rattle.laws_safety.specs.Continuations.{ExecutionGoesOn, HasHeard}
+use Rattle.laws_safety.specs.Continuations.{ExecutionContinues, HasHeard}
 use Rattle.laws_safety.specs.Executions.{Execution, trace_of, IsExecution}
 use Rattle.laws_safety.proofs.lists.Splits.{Contains-cases}
 use Rattle.laws_progress.specs.ViewPositions.{IsFreshStart, CanStandOn, BuildsOn, proposal_in}
-use Rattle.laws_progress.specs.NetworkStates.{IsSetUpAs, LivesWith}
+use Rattle.laws_progress.specs.NetworkStates.{IsSetUpAs, RunsWith}
 use Rattle.laws_progress.proofs.states.Standing.{StandingMember, StandsAtView}
 use Rattle.laws_progress.proofs.states.Calls.{with_work, nothing_done}
 use Rattle.laws_progress.proofs.runs.Onward.{execution_on}
@@ -62,7 +62,7 @@ module _ {K L D : Type 0} (p : Proposal D) where
 module _ {K L D : Type 0} (same : D → D → Bool) (elect : Elect L) where
   -- the member goes on to finalize the proposal, which it is handed or builds
   pub record MemberFinalizes (term_length leader : ℕ) (p : Proposal D) (i : ℕ) (s t : Execution K L D) : Type 0 where
-    pub goes_on : ExecutionGoesOn s t
+    pub continues : ExecutionContinues s t
     pub ran : IsExecution same elect term_length i t
     pub trace : trace_of t ≡ trace_of s ++ trace_done (replica_of p.round.epoch p.round.view p.parent p.payload i) p.payload
     pub heard : (v : ℕ) (o : Proposal D) → HasHeard v o t → HasHeard v o s ⊎ (o ≡ p)
@@ -70,7 +70,7 @@ module _ {K L D : Type 0} (same : D → D → Bool) (elect : Elect L) where
 
 module _ {K L D : Type 0} (same : D → D → Bool) (decides : (d e : D) → same d e ≡ true → d ≡ e) (reflexive : (d : D) → same d d ≡ true) (elect : Elect L)
     (term_length epoch count leader start parent i : ℕ) (elector : L) (q : D) (s : Execution K L D) (ran : IsExecution same elect term_length i s) (small : is_too_large start ≡ false)
-    (x : StateFacts K L D) (lives : LivesWith same elect s x) (set : IsSetUpAs epoch count elector i x) (fresh : IsFreshStart leader start x) (can : CanStandOn parent start x) (builds : i ≡ leader → BuildsOn parent start x) where
+    (x : StateFacts K L D) (lives : RunsWith same elect s x) (set : IsSetUpAs epoch count elector i x) (fresh : IsFreshStart leader start x) (can : CanStandOn parent start x) (builds : i ≡ leader → BuildsOn parent start x) where
   abbrev p : Proposal D
   p = proposal_in epoch start parent q
 
@@ -102,7 +102,7 @@ module _ {K L D : Type 0} (same : D → D → Bool) (decides : (d e : D) → sam
       as_follower other =
           let does = does_of same elect (follower_sequence l q [] []) lives.0 (follower_done same elect reflexive l q [] [] fresh.round fresh.pending fresh.no_finalization lead.0 lead.1 lives.0 x lives.2 stands (signs ∙ ne_eqb i leader other)) in
           let on = execution_on same elect term_length i s lives.0 (follower_calls p) (trace_done l q) ran lives.1 does in
-          (on.execution, record { goes_on = on.goes_on; ran = on.ran; trace = on.trace; heard = hears (follower_calls p) (follower_hears p) on.execution on.steps; builds = λ is. absurd (other is) })
+          (on.execution, record { continues = on.continues; ran = on.ran; trace = on.trace; heard = hears (follower_calls p) (follower_hears p) on.execution on.steps; builds = λ is. absurd (other is) })
 
       as_leader : i ≡ leader → (t : Execution K L D) × MemberFinalizes same elect term_length leader p i s t
       as_leader leads =
@@ -112,4 +112,4 @@ module _ {K L D : Type 0} (same : D → D → Bool) (decides : (d e : D) → sam
           let does = does_of same elect (leader_sequence l q [] []) lives.0 (leader_done same elect reflexive l q [] [] fresh.round fresh.pending fresh.no_finalization lead.0 lead.1 lives.0 x lives.2 stands (signs ∙ eq-eqb i leader leads) highest) in
           let on = execution_on same elect term_length i s lives.0 (leader_calls p) (trace_done l q) ran lives.1 does in
           let built : Contains on.execution.steps (Calls (Proposed start q 0)) = subst (λ ss. Contains ss (Calls (Proposed start q 0))) (sym on.steps) (Contains-append_right s.steps (map Calls (leader_calls p)) (Calls (Proposed start q 0)) (1, omega arith, refl)) in
-          (on.execution, record { goes_on = on.goes_on; ran = on.ran; trace = on.trace; heard = hears (leader_calls p) (leader_hears p) on.execution on.steps; builds = λ is. built })
+          (on.execution, record { continues = on.continues; ran = on.ran; trace = on.trace; heard = hears (leader_calls p) (leader_hears p) on.execution on.steps; builds = λ is. built })

@@ -8,11 +8,11 @@ use Rattle.simplex_types.specs.declared.types.messages.Subject.{Subject}
 use Rattle.simplex_types.specs.declared.types.messages.Subject.TheVariants as subject
 use Rattle.simplex_types.specs.declared.types.numbers.Round.{Round}
 use Rattle.simplex_voter.specs.Facts.{Elect}
-use Rattle.simplex_member.specs.Calls.{CallFacts, Told, Added, AddedNullification, Nullify, Finalize, Notarize, Restarted, AddNotarization, AddNullification, AddFinalization}
+use Rattle.simplex_member.specs.Calls.{CallFacts, ReplyFacts, Added, AddedNullification, Nullify, Finalize, Notarize, Restarted, AddNotarization, AddNullification, AddFinalization}
 use Rattle.simplex_member.specs.MemberFacts.{MemberFacts}
 use Rattle.simplex_member.specs.Runs.{StepFacts, Calls, Prunes, Restarts, IsRun, IsRunFrom}
-use Rattle.laws_safety.specs.Continuations.{ExecutionGoesOn}
-use Rattle.laws_safety.specs.Traces.{TraceEvent, Accepts, Signs, handed_in, of_floor, of_vote, trace_at, trace_of_steps}
+use Rattle.laws_safety.specs.Continuations.{ExecutionContinues}
+use Rattle.laws_safety.specs.Traces.{TraceEvent, Accepts, Signs, passed_certificates, of_floor, of_vote, trace_at, trace_of_steps}
 use Rattle.laws_safety.specs.Lawful.{SignsAfter}
 use Rattle.laws_safety.specs.Executions.{new_member, Execution, trace_of, IsExecution}
 use Rattle.laws_safety.proofs.agreement.VoteOrder.{Contains-middle}
@@ -46,7 +46,7 @@ module _ {D : Type 0} (signer : ℕ) (round : Round) where
   entry_split _ before after is = absurd (none_split before after vote is)
 
   -- none is handed in
-  no_certificate : (call : CallFacts D) (before after : List (TraceEvent D)) → handed_in call ++ [] ≡ before ++ vote ∷ after → ⊥
+  no_certificate : (call : CallFacts D) (before after : List (TraceEvent D)) → passed_certificates call ++ [] ≡ before ++ vote ∷ after → ⊥
   no_certificate (AddNotarization c) before after is = let one = single_split _ vote before after is in let apart = one.1 in cc
   no_certificate (AddNullification c now) before after is = let one = single_split _ vote before after is in let apart = one.1 in cc
   no_certificate (AddFinalization c now) before after is = let one = single_split _ vote before after is in let apart = one.1 in cc
@@ -56,11 +56,11 @@ module _ {D : Type 0} (signer : ℕ) (round : Round) where
   no_floor floor before after is = floor_signs_none floor round (signer, subst (λ ds. Contains ds vote) (sym is) (Contains-middle before after vote))
 
   -- the vote is all that its step does, and no verdict is told then
-  record IsAll {K L : Type 0} (step : StepFacts K L D) (told : Told K D) (before : List (TraceEvent D)) : Type 0 where
+  record IsAll {K L : Type 0} (step : StepFacts K L D) (told : ReplyFacts K D) (before : List (TraceEvent D)) : Type 0 where
     alone : IsAlone (trace_at step told) before
     no_verdict : judged_by told ≡ []
 
-  call_all : {K L : Type 0} (call : CallFacts D) (told : Told K D) (before after : List (TraceEvent D)) → trace_at {L = L} (Calls call) told ≡ before ++ vote ∷ after → IsAll {L = L} (Calls call) told before
+  call_all : {K L : Type 0} (call : CallFacts D) (told : ReplyFacts K D) (before after : List (TraceEvent D)) → trace_at {L = L} (Calls call) told ≡ before ++ vote ∷ after → IsAll {L = L} (Calls call) told before
   call_all call (Added b o) before after is = absurd (no_certificate call before after is)
   call_all call (AddedNullification b) before after is = absurd (no_certificate call before after is)
   call_all call (Nullify (Some (retry, entry))) before after is = record { alone = entry_split entry before after is; no_verdict = refl }
@@ -68,20 +68,20 @@ module _ {D : Type 0} (signer : ℕ) (round : Round) where
   call_all call (Notarize (Some entry)) before after is = record { alone = entry_split entry before after is; no_verdict = refl }
   call_all call _ before after is = absurd (none_split before after vote is)
 
-  restart_all : {K L : Type 0} (r : _) (told : Told K D) (before after : List (TraceEvent D)) → trace_at {L = L} (Restarts r) told ≡ before ++ vote ∷ after → IsAll {L = L} (Restarts r) told before
+  restart_all : {K L : Type 0} (r : _) (told : ReplyFacts K D) (before after : List (TraceEvent D)) → trace_at {L = L} (Restarts r) told ≡ before ++ vote ∷ after → IsAll {L = L} (Restarts r) told before
   restart_all r (Nullify (Some (retry, entry))) before after is = record { alone = entry_split entry before after is; no_verdict = refl }
   restart_all r (Finalize (Some entry)) before after is = record { alone = entry_split entry before after is; no_verdict = refl }
   restart_all r (Notarize (Some entry)) before after is = record { alone = entry_split entry before after is; no_verdict = refl }
   restart_all r Restarted before after is = absurd (no_floor r.start.floor before after (sym (append-nil (of_floor r.start.floor)) ∙ is))
   restart_all r _ before after is = absurd (none_split before after vote is)
 
-  prune_all : {K L : Type 0} (told : Told K D) (before after : List (TraceEvent D)) → trace_at {L = L} Prunes told ≡ before ++ vote ∷ after → IsAll {L = L} Prunes told before
+  prune_all : {K L : Type 0} (told : ReplyFacts K D) (before after : List (TraceEvent D)) → trace_at {L = L} Prunes told ≡ before ++ vote ∷ after → IsAll {L = L} Prunes told before
   prune_all (Nullify (Some (retry, entry))) before after is = record { alone = entry_split entry before after is; no_verdict = refl }
   prune_all (Finalize (Some entry)) before after is = record { alone = entry_split entry before after is; no_verdict = refl }
   prune_all (Notarize (Some entry)) before after is = record { alone = entry_split entry before after is; no_verdict = refl }
   prune_all _ before after is = absurd (none_split before after vote is)
 
-  step_all : {K L : Type 0} (step : StepFacts K L D) (told : Told K D) (before after : List (TraceEvent D)) → trace_at step told ≡ before ++ vote ∷ after → IsAll step told before
+  step_all : {K L : Type 0} (step : StepFacts K L D) (told : ReplyFacts K D) (before after : List (TraceEvent D)) → trace_at step told ≡ before ++ vote ∷ after → IsAll step told before
   step_all (Calls call) told before after is = call_all call told before after is
   step_all Prunes told before after is = prune_all told before after is
   step_all (Restarts r) told before after is = restart_all r told before after is
@@ -89,20 +89,20 @@ module _ {D : Type 0} (signer : ℕ) (round : Round) where
 -- the vote's step, in a run
 
 module _ {K L D : Type 0} (same : D → D → Bool) (elect : Elect L) (signer : ℕ) (round : Round) where
-  record VoteAt (steps : List (StepFacts K L D)) (replies : List (Told K D)) (before : List (TraceEvent D)) : Type 0 where
+  record VoteAt (steps : List (StepFacts K L D)) (replies : List (ReplyFacts K D)) (before : List (TraceEvent D)) : Type 0 where
     first : List (StepFacts K L D)
-    told : List (Told K D)
+    told : List (ReplyFacts K D)
     as_many : length first ≡ length told
     step : StepFacts K L D
-    reply : Told K D
-    more : List (StepFacts K L D × Told K D)
+    reply : ReplyFacts K D
+    more : List (StepFacts K L D × ReplyFacts K D)
     steps_are : steps ≡ first ++ step ∷ map (λ e. e.0) more
     replies_are : replies ≡ told ++ reply ∷ map (λ e. e.1) more
     done : trace_of_steps first told ≡ before
     alone : trace_at step reply ≡ vote signer round ∷ []
     no_verdict : judged_by reply ≡ []
 
-  vote_at : (steps : List (StepFacts K L D)) (replies : List (Told K D)) (m end : MemberFacts K L D) → IsRun same elect m steps replies end → (before after : List (TraceEvent D)) → trace_of_steps steps replies ≡ before ++ vote signer round ∷ after → VoteAt steps replies before
+  vote_at : (steps : List (StepFacts K L D)) (replies : List (ReplyFacts K D)) (m end : MemberFacts K L D) → IsRun same elect m steps replies end → (before after : List (TraceEvent D)) → trace_of_steps steps replies ≡ before ++ vote signer round ∷ after → VoteAt steps replies before
   vote_at [] [] m end run before after is = absurd (none_split before after (vote signer round) is)
   vote_at [] (reply ∷ replies) m end run before after is = absurd run
   vote_at (step ∷ steps) [] m end run before after is = absurd run
@@ -119,7 +119,7 @@ module _ {K L D : Type 0} (same : D → D → Bool) (elect : Elect L) (signer : 
               reply = reply;
               more = pairs.0;
               steps_are = ap (λ (ss : List (StepFacts K L D)). step ∷ ss) (sym pairs.1);
-              replies_are = ap (λ (rs : List (Told K D)). reply ∷ rs) (sym pairs.2);
+              replies_are = ap (λ (rs : List (ReplyFacts K D)). reply ∷ rs) (sym pairs.2);
               done = sym all.alone.0;
               alone = all.alone.1;
               no_verdict = all.no_verdict;
@@ -134,7 +134,7 @@ module _ {K L D : Type 0} (same : D → D → Bool) (elect : Elect L) (signer : 
               reply = v.reply;
               more = v.more;
               steps_are = ap (λ (ss : List (StepFacts K L D)). step ∷ ss) v.steps_are;
-              replies_are = ap (λ (rs : List (Told K D)). reply ∷ rs) v.replies_are;
+              replies_are = ap (λ (rs : List (ReplyFacts K D)). reply ∷ rs) v.replies_are;
               done = ap (λ (ds : List (TraceEvent D)). trace_at step reply ++ ds) v.done ∙ sym before_is;
               alone = v.alone;
               no_verdict = v.no_verdict;
@@ -143,7 +143,7 @@ module _ {K L D : Type 0} (same : D → D → Bool) (elect : Elect L) (signer : 
 
 -- the execution up to the vote's step
 
-trace_pushed : {K L D : Type 0} (steps : List (StepFacts K L D)) (replies : List (Told K D)) (step : StepFacts K L D) (reply : Told K D) → length steps ≡ length replies → trace_of_steps (steps ++ step ∷ []) (replies ++ reply ∷ []) ≡ trace_of_steps steps replies ++ trace_at step reply
+trace_pushed : {K L D : Type 0} (steps : List (StepFacts K L D)) (replies : List (ReplyFacts K D)) (step : StepFacts K L D) (reply : ReplyFacts K D) → length steps ≡ length replies → trace_of_steps (steps ++ step ∷ []) (replies ++ reply ∷ []) ≡ trace_of_steps steps replies ++ trace_at step reply
 trace_pushed [] [] step reply as_many = append-nil (trace_at step reply)
 trace_pushed [] (r ∷ replies) step reply as_many = absurd (omega (arith, as_many))
 trace_pushed (s ∷ steps) [] step reply as_many = absurd (omega (arith, as_many))
@@ -170,8 +170,8 @@ module _ {K L D : Type 0} (same : D → D → Bool) (decides : (d e : D) → sam
   abbrev until : Execution K L D
   until = record s { steps = v.first ++ v.step ∷ []; replies = v.told ++ v.reply ∷ [] }
 
-  goes_on : ExecutionGoesOn earlier s
-  goes_on = ((v.step, v.reply) ∷ v.more, λ j. record s { steps = v.steps_are j; replies = v.replies_are j })
+  continues : ExecutionContinues earlier s
+  continues = ((v.step, v.reply) ∷ v.more, λ j. record s { steps = v.steps_are j; replies = v.replies_are j })
 
   trace_is : trace_of earlier ≡ before
   trace_is = ap (λ ds. of_floor s.start.floor ++ ds) v.done ∙ sym before_is
@@ -201,10 +201,10 @@ module _ {K L D : Type 0} (same : D → D → Bool) (decides : (d e : D) → sam
         (subst (λ ss. IsRunFrom same elect s.start ss ((v.told ++ v.reply ∷ []) ++ map (λ e. e.1) v.more)) steps_whole (subst (λ rs. IsRunFrom same elect s.start s.steps rs) replies_whole ran.run));
   }
 
-  of_step : (t : Execution K L D) × ExecutionGoesOn t s × (trace_of t ≡ before) × IsLedTo term_length round.epoch before (judged_of t) round.view
+  of_step : (t : Execution K L D) × ExecutionContinues t s × (trace_of t ≡ before) × IsLedTo term_length round.epoch before (judged_of t) round.view
   of_step = (
     earlier,
-    goes_on,
+    continues,
     trace_is,
     led_before term_length round.epoch signer round before (judged_of earlier) round.view
         (subst (λ ds. IsLedTo term_length round.epoch ds (judged_of earlier) round.view) until_trace
@@ -213,7 +213,7 @@ module _ {K L D : Type 0} (same : D → D → Bool) (decides : (d e : D) → sam
   )
 
 pub vote_ordered : {K L D : Type 0} (same : D → D → Bool) (decides : (d e : D) → same d e ≡ true → d ≡ e) (elect : Elect L) (term_length i : ℕ) (s : Execution K L D) → IsExecution same elect term_length i s → (before : List (TraceEvent D)) (round : Round) → SignsAfter (trace_of s) before (subject.Nullify round)
-    → (earlier : Execution K L D) × ExecutionGoesOn earlier s × (trace_of earlier ≡ before) × IsLedTo term_length round.epoch before (judged_of earlier) round.view
+    → (earlier : Execution K L D) × ExecutionContinues earlier s × (trace_of earlier ≡ before) × IsLedTo term_length round.epoch before (judged_of earlier) round.view
 unfolding IsRunFrom
 vote_ordered same decides elect term_length i s ran before round (signer, after, is) =
     elim (append_split (of_floor s.start.floor) (trace_of_steps s.steps s.replies) before after (vote signer round) is) [

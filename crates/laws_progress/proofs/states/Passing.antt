@@ -21,7 +21,7 @@ use Rattle.laws_progress.specs.SharedView.{terms_on}
 use Rattle.laws_progress.proofs.states.Calls.{with_work, nothing_done}
 use Rattle.laws_progress.proofs.states.Standing.{StandingMember, StandsAtView}
 use Rattle.laws_progress.proofs.states.Sequences.{Sequence, call_then, calls_in, whole_trace}
-use Rattle.laws_progress.proofs.states.Skipping.{gives_up, give_up_told, next_is, takes_it, no_fault_then, skips, elsewhere, first_round, entered_first}
+use Rattle.laws_progress.proofs.states.Skipping.{abandons, give_up_told, next_is, takes_it, no_fault_then, skips, elsewhere, first_round, entered_first}
 use Rattle.laws_progress.proofs.states.Waiting.{Waits, known_as, stands_now}
 
 -- the nullification of a view, of no bytes
@@ -103,7 +103,7 @@ module _ {K L D : Type 0} (same : D → D → Bool) (elect : Elect L) (length : 
     left = with_call same elect given (with_call same elect x m (ConstructNullify c)) (AddNullification (null_cert l.epoch c) 0)
 
     given_waits : Waits length l h c c given
-    given_waits = gives_up same elect length some l h x m.outstanding_work c c w less
+    given_waits = abandons same elect length some l h x m.outstanding_work c c w less
 
     two_calls : (rest : List (CallFacts D × List (TraceEvent D))) → Sequence same elect left rest → Sequence same elect m (gives_up_now l.epoch length l.me c ∷ skips_now l.epoch length c ∷ rest)
     two_calls rest behind =

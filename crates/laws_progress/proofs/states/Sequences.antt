@@ -9,7 +9,7 @@ use Rattle.simplex_round.specs.Round.{RoundFacts, is_pending, signs_as}
 use Rattle.simplex_voter.specs.Facts.{StateFacts, Elect}
 use Rattle.simplex_voter.specs.Parents.{highest_explicit}
 use Rattle.simplex_member.specs.CallConditions.{is_allowed, fault_of}
-use Rattle.simplex_member.specs.Calls.{CallFacts, Told, Added, Requested, Standing, Answered, Judged, SetProposal, TryPropose, Proposed, TryVerify, Verified, ConstructNotarize, AddNotarization, Certified, ConstructFinalize, AddFinalization}
+use Rattle.simplex_member.specs.Calls.{CallFacts, ReplyFacts, Added, Requested, Standing, Answered, Judged, SetProposal, TryPropose, Proposed, TryVerify, Verified, ConstructNotarize, AddNotarization, Certified, ConstructFinalize, AddFinalization}
 use Rattle.simplex_member.specs.MemberFacts.{MemberFacts, AnswersAlive, IsCall, with_call}
 use Rattle.simplex_member.specs.CallSemantics.{answer, after_call, outstanding_work_after}
 use Rattle.simplex_member.specs.OutstandingWork.{is_among, is_verifying}
@@ -25,7 +25,7 @@ use Rattle.laws_progress.proofs.states.Building.{built_at, tries_propose, opens,
 module _ {K L D : Type 0} (same : D → D → Bool) (elect : Elect L) where
   -- the steps run, and this is their trace
   pub record Does (m : MemberFacts K L D) (steps : List (StepFacts K L D)) (trace : List (TraceEvent D)) : Type 0 where
-    pub replies : List (Told K D)
+    pub replies : List (ReplyFacts K D)
     pub end : MemberFacts K L D
     pub run : IsRun same elect m steps replies end
     pub does : trace_of_steps steps replies ≡ trace
@@ -38,13 +38,13 @@ module _ {K L D : Type 0} (same : D → D → Bool) (elect : Elect L) where
   -- calls run one after another, each with its trace
   unfoldable pub Sequence : MemberFacts K L D → List (CallFacts D × List (TraceEvent D)) → Type 0
   Sequence m [] = Unit {0}
-  Sequence m (e ∷ rest) = (told : Told K D) × (next : MemberFacts K L D) × IsCall same elect m e.0 told next × (trace_of_call e.0 told ≡ e.1) × Sequence next rest
+  Sequence m (e ∷ rest) = (told : ReplyFacts K D) × (next : MemberFacts K L D) × IsCall same elect m e.0 told next × (trace_of_call e.0 told ≡ e.1) × Sequence next rest
 
   pub ends_there : (m : MemberFacts K L D) → Sequence m []
   unfolding Sequence
   ends_there m = tt
 
-  pub call_then : (m : MemberFacts K L D) (x : StateFacts K L D) (call : CallFacts D) (told : Told K D) (rest : List (CallFacts D × List (TraceEvent D))) → m.life ≡ Some x → is_allowed x m.outstanding_work call ≡ true → fault_of x call ≡ None → answer same elect x m.outstanding_work call ≡ told
+  pub call_then : (m : MemberFacts K L D) (x : StateFacts K L D) (call : CallFacts D) (told : ReplyFacts K D) (rest : List (CallFacts D × List (TraceEvent D))) → m.life ≡ Some x → is_allowed x m.outstanding_work call ≡ true → fault_of x call ≡ None → answer same elect x m.outstanding_work call ≡ told
       → Sequence (with_call same elect x m call) rest → Sequence m ((call, trace_of_call call told) ∷ rest)
   unfolding Sequence
   call_then m x call told rest alive allowed none says behind = (told, with_call same elect x m call, subst (λ t. IsCall same elect m call t (with_call same elect x m call)) says (answered m x call alive allowed none), refl, behind)
@@ -69,7 +69,7 @@ module _ {D : Type 0} where
 module _ {K L D : Type 0} (same : D → D → Bool) (elect : Elect L) where
   -- the first of two traces runs, and leaves the second
   pub record Parted (m : MemberFacts K L D) (a b : List (CallFacts D × List (TraceEvent D))) : Type 0 where
-    pub replies : List (Told K D)
+    pub replies : List (ReplyFacts K D)
     pub end : MemberFacts K L D
     pub run : IsRun same elect m (map Calls (calls_in a)) replies end
     pub does : trace_of_steps {L = L} (map Calls (calls_in a)) replies ≡ whole_trace a

@@ -51,8 +51,8 @@ module _ {K L D : Type 0} (same : D → D → Bool) (elect : Elect L) (length : 
   may_give_up = nullify_whole x c (record { current = sym w.current; no_finalize = w.undecided c (omega arith) })
 
   -- the vote to nullify the current view
-  pub gives_up : c < l.view → Waits length l h c g (after_call same elect x o (ConstructNullify c))
-  gives_up less =
+  pub abandons : c < l.view → Waits length l h c g (after_call same elect x o (ConstructNullify c))
+  abandons less =
       let r = round_of x c in
       let y : StateFacts K L D = with_round x c (after_nullify r) in
       let after = given_up r (w.undecided c (omega arith)) in

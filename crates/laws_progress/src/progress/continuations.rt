@@ -2,9 +2,9 @@
 
 ghost use Rattle.laws_progress.specs.Continuation.{
   ExchangesBringWhatWas,
-  ExchangesGoOn,
+  ExchangesContinue,
   FinalizationsAreNew,
-  MembersGoOn,
+  MembersContinue,
   NothingIsForged,
   OneExchangeIsTooFew,
   TooManyAreFaulty,
@@ -12,7 +12,7 @@ ghost use Rattle.laws_progress.specs.Continuation.{
 
 use simplex_types::types::{Digest, Elector, Scheme};
 
-/// What it means that a network goes on to finalize a proposal (`GoesOnToFinalize`), and that exchanges of messages lead to a
+/// What it means that a network goes on to finalize a proposal (`ContinuesToFinalize`), and that exchanges of messages lead to a
 /// later network (`Exchanges`), in words that a driver can check. It does nothing: its contract is the law.
 ///
 /// - `members`: the later network keeps the premises of `agreement`; the same members are faulty, and each honest one did what it
@@ -27,11 +27,11 @@ use simplex_types::types::{Digest, Elector, Scheme};
 /// - `brought`: within one exchange the same holds of what they had signed and built before it.
 /// - `too_few`: so within one exchange no view is finalized.
 pub fn continuations_are_honest<S: Scheme<D>, L: Elector<S>, D: Digest>()
-    ensures members { MembersGoOn S.PublicKey D.eq L.elect }
+    ensures members { MembersContinue S.PublicKey D.eq L.elect }
     ensures new { FinalizationsAreNew S.PublicKey D.eq L.elect }
     ensures nothing_forged { NothingIsForged S.PublicKey D.eq L.elect }
     ensures too_many { TooManyAreFaulty S.PublicKey D.eq L.elect }
-    ensures exchanged { ExchangesGoOn S.PublicKey D.eq L.elect }
+    ensures exchanged { ExchangesContinue S.PublicKey D.eq L.elect }
     ensures brought { ExchangesBringWhatWas S.PublicKey D.eq L.elect }
     ensures too_few { OneExchangeIsTooFew S.PublicKey D.eq L.elect }
 {}

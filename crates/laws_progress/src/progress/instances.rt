@@ -3,11 +3,11 @@
 ghost use Rattle.std.specs.Prelude.{◌≡◌, nat_eq, length};
 ghost use Rattle.laws_safety.specs.DividedNetwork.{divided};
 ghost use Rattle.laws_safety.specs.HandoffNetwork.{taken_over};
-ghost use Rattle.laws_safety.specs.MissingCertificatesNetwork.{lacking_certificates};
+ghost use Rattle.laws_safety.specs.MissingCertificatesNetwork.{missing_certificates};
 ghost use Rattle.laws_safety.specs.Replicas.{faults, IsNetworkOf};
 ghost use Rattle.laws_safety.specs.ScenarioSteps.{in_turn};
-ghost use Rattle.laws_progress.specs.NetworkStates.{EachLives};
-ghost use Rattle.laws_progress.specs.TooManyFaulty.{with_two_faulty, IsStuck, MayGoOnOtherwise};
+ghost use Rattle.laws_progress.specs.NetworkStates.{EachRuns};
+ghost use Rattle.laws_progress.specs.TooManyFaulty.{with_two_faulty, IsStuck, MayContinueOtherwise};
 ghost use Rattle.laws_progress.specs.StartedNetworks.{with_first_leader, with_second_leader, StandsFirst, StandsBeforeSecond, Finalizes};
 ghost use Rattle.laws_progress.specs.WorkedNetworks.{MayReach, Reaches, ReachesWithin};
 
@@ -20,14 +20,14 @@ ghost use Rattle.laws_progress.specs.WorkedNetworks.{MayReach, Reaches, ReachesW
 /// - `second`, `second_few`: the same of a network whose faulty member leads view 1.
 /// - `second_stands`: each honest one stands at view 1 on genesis, and knows nothing of view 2.
 /// - `second_goes_on`: they give view 1 up, and view 2 is finalized.
-pub fn started_networks_go_on()
+pub fn started_networks_continue()
     ensures first { IsNetworkOf nat_eq in_turn 1 with_first_leader }
     ensures first_few { (length with_first_leader ≡ 4) × (faults with_first_leader ≡ 1) }
-    ensures first_stands { EachLives nat_eq in_turn with_first_leader StandsFirst }
+    ensures first_stands { EachRuns nat_eq in_turn with_first_leader StandsFirst }
     ensures first_goes_on { Finalizes with_first_leader 1 }
     ensures second { IsNetworkOf nat_eq in_turn 1 with_second_leader }
     ensures second_few { (length with_second_leader ≡ 4) × (faults with_second_leader ≡ 1) }
-    ensures second_stands { EachLives nat_eq in_turn with_second_leader StandsBeforeSecond }
+    ensures second_stands { EachRuns nat_eq in_turn with_second_leader StandsBeforeSecond }
     ensures second_goes_on { Finalizes with_second_leader 2 }
 {}
 
@@ -39,10 +39,10 @@ pub fn started_networks_go_on()
 ///   seven exchanges of messages, which are one for the term that is skipped, and f + 5.
 /// - `lacking`: the network of `gaps_are_closed`, whose members lack a nullification and a notarization; view 6.
 /// - `taken_over`: the network of `nullified_handoffs_are_left`, in terms of two views; view 11.
-pub fn worked_networks_may_go_on()
+pub fn worked_networks_may_continue()
     ensures divided { MayReach 1 divided 6 × Reaches 1 divided 6 }
     ensures soon { ReachesWithin 7 1 divided }
-    ensures lacking { MayReach 1 lacking_certificates 6 × Reaches 1 lacking_certificates 6 }
+    ensures lacking { MayReach 1 missing_certificates 6 × Reaches 1 missing_certificates 6 }
     ensures taken_over { MayReach 2 taken_over 11 × Reaches 2 taken_over 11 }
 {}
 
@@ -56,6 +56,6 @@ pub fn worked_networks_may_go_on()
 pub fn overrun_network_is_stuck()
     ensures network { IsNetworkOf nat_eq in_turn 1 with_two_faulty }
     ensures too_many { (length with_two_faulty ≡ 5) × (faults with_two_faulty ≡ 2) }
-    ensures otherwise { MayGoOnOtherwise }
+    ensures otherwise { MayContinueOtherwise }
     ensures stuck { IsStuck }
 {}

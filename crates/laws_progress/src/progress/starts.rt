@@ -1,14 +1,14 @@
 //! Starts of a correct leader's term, and what leads to them.
 
 ghost use Rattle.laws_progress.specs.FreshStarts.{FreshStartsAreFinalized};
-ghost use Rattle.laws_progress.specs.CommonViews.{WhoMeetsGoesOn};
-ghost use Rattle.laws_progress.specs.SharedView.{TogetherTheyGoOn};
-ghost use Rattle.laws_progress.specs.UndecidedViews.{CurrentViewsMayBeGivenUp, NoneIsDecidedAhead};
+ghost use Rattle.laws_progress.specs.CommonViews.{MembersThatMeetContinue};
+ghost use Rattle.laws_progress.specs.SharedView.{MembersOfOneViewContinue};
+ghost use Rattle.laws_progress.specs.UndecidedViews.{CurrentViewsMayBeAbandoned, NoneIsDecidedAhead};
 
 use simplex_types::types::{Digest, Elector, Scheme};
 
 /// From where the honest members of a network finalize a view above all that could be finalized before, by what they do alone:
-/// certificates by their own votes, and proposals that one of them built (`GoesOnToFinalize`). It does nothing: its contract is
+/// certificates by their own votes, and proposals that one of them built (`ContinuesToFinalize`). It does nothing: its contract is
 /// the law.
 ///
 /// At most f of n members are faulty, whatever they and the others did so far: calls, restarts, records that were pruned. The
@@ -16,13 +16,13 @@ use simplex_types::types::{Digest, Elector, Scheme};
 ///
 /// - `finalizes`: the start of a correct leader's term that nobody touched, at which they stand on one parent, is finalized, with
 ///   whatever payload its leader builds.
-/// - `goes_on`: from any view at which they stand on one parent, with none above it certified or finalized, they give up term
+/// - `continues`: from any view at which they stand on one parent, with none above it certified or finalized, they give up term
 ///   after term and finalize the start of a later one, which none of them knows and whose leader is correct.
 /// - `meets`: so they do from wherever they can come to stand so.
 pub fn fresh_starts_are_finalized<S: Scheme<D>, L: Elector<S>, D: Digest>()
     ensures finalizes { FreshStartsAreFinalized S.PublicKey D.eq L.elect }
-    ensures goes_on { TogetherTheyGoOn S.PublicKey D.eq L.elect }
-    ensures meets { WhoMeetsGoesOn S.PublicKey D.eq L.elect }
+    ensures continues { MembersOfOneViewContinue S.PublicKey D.eq L.elect }
+    ensures meets { MembersThatMeetContinue S.PublicKey D.eq L.elect }
 {}
 
 /// Where a member of a network lives, it has decided to finalize no view from its current one on, whatever its calls and
@@ -35,7 +35,7 @@ pub fn none_is_decided_ahead<S: Scheme<D>, L: Elector<S>, D: Digest>()
 /// restarts: with a key it signs the vote when it is asked. It does nothing: its contract follows from that of
 /// `none_is_decided_ahead`.
 pub fn current_views_may_be_given_up<S: Scheme<D>, L: Elector<S>, D: Digest>()
-    ensures { CurrentViewsMayBeGivenUp S.PublicKey D.eq L.elect }
+    ensures { CurrentViewsMayBeAbandoned S.PublicKey D.eq L.elect }
 {
     none_is_decided_ahead::<S, L, D>();
 }

@@ -1,7 +1,7 @@
 //! What led members to their views.
 
 ghost use Rattle.laws_progress.specs.ViewCauses.{CurrentViewsAreLedTo, NullifiedViewsAreLedTo, NullifyVotesComeAfter};
-ghost use Rattle.laws_progress.specs.ViewCauses.{ExplicitViewsAreAccepted, JudgedAreNotarized, VerdictsAreTold};
+ghost use Rattle.laws_progress.specs.ViewCauses.{ExplicitViewsAreAccepted, JudgedAreNotarized, VerdictsAreReported};
 
 use simplex_types::types::{Digest, Elector, Scheme};
 
@@ -20,6 +20,6 @@ pub fn views_are_led_to<S: Scheme<D>, L: Elector<S>, D: Digest>()
     ensures nullified { NullifiedViewsAreLedTo S.PublicKey D.eq L.elect }
     ensures ordered { NullifyVotesComeAfter S.PublicKey D.eq L.elect }
     ensures explicit { ExplicitViewsAreAccepted S.PublicKey D.eq L.elect }
-    ensures verdicts { VerdictsAreTold S.PublicKey D.eq L.elect }
+    ensures verdicts { VerdictsAreReported S.PublicKey D.eq L.elect }
     ensures judged { JudgedAreNotarized S.PublicKey D.eq L.elect }
 {}

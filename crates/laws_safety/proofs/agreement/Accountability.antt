@@ -15,7 +15,7 @@ use Rattle.simplex_types.specs.Terms.{covers}
 use Rattle.simplex_types.proofs.Covers.{covers_parts}
 use Rattle.simplex_types.proofs.Proposal.{same_proposal-true, same_proposal-refl}
 use Rattle.simplex_voter.specs.Facts.{Elect}
-use Rattle.laws_safety.specs.Accountability.{AreRivals, Contradicts, distance, BreaksBy, BreaksByFinal, BreaksByNullify, HasAcceptedNearer, MayHaveVoted, MayBeCertified, AcceptCertified, AnswersFor, IsGuilty, IsSuspect, unknowns, IsTraced, known_of, IsBackedNetwork, ContradictionsAreAnsweredFor, ContradictionsAreTraced, BrokenRulesAreRules, EvidenceHolds, NearestIsEvidence, ThirdIsAnother, ContradictionsNeedFaults, ContradictionsAreTracedInNetworks}
+use Rattle.laws_safety.specs.Accountability.{AreRivals, Contradicts, distance, BreaksBy, BreaksByFinal, BreaksByNullify, HasAcceptedNearer, MayHaveVoted, MayBeCertified, AcceptCertified, IsResponsibleFor, IsGuilty, IsSuspect, unknowns, IsTraced, known_of, IsBackedNetwork, ContradictionsHaveFaultyMembers, ContradictionsAreTraced, BrokenRulesAreRules, EvidenceHolds, NearestIsEvidence, ThirdIsAnother, ContradictionsNeedFaults, ContradictionsAreTracedInNetworks}
 use Rattle.laws_safety.specs.Traces.{TraceEvent, Accepts, Signs}
 use Rattle.laws_safety.specs.Lawful.{HasSigned, HasCover, HasFinalizedBetween, IsLawful}
 use Rattle.laws_safety.specs.Replicas.{Replica, Faulty, Honest, faults, AtLeastFrom, MayHaveSigned, Backed, max_faults, quorum}
@@ -350,22 +350,22 @@ module _ {D : Type 0} (term_length : ℕ) (a b : Subject D) where
 -- the two laws
 
 module _ {D : Type 0} (same : D → D → Bool) (decides : (d e : D) → same d e ≡ true → d ≡ e) (itself : (d : D) → same d d ≡ true) where
-  answers : (term_length : ℕ) (a b : Subject D) → Contradicts term_length a b → (i : ℕ) (member : Option (List (TraceEvent D))) → MayHaveVoted a i member × MayHaveVoted b i member → AnswersFor term_length a b i member
+  answers : (term_length : ℕ) (a b : Subject D) → Contradicts term_length a b → (i : ℕ) (member : Option (List (TraceEvent D))) → MayHaveVoted a i member × MayHaveVoted b i member → IsResponsibleFor term_length a b i member
   answers term_length a b against i None both = tt
   answers term_length a b against i (Some trace) both = (both.0, both.1, both_signed same decides itself term_length trace a b against (i, both.0) (i, both.1))
 
-  pub answered_for : ContradictionsAreAnsweredFor D
+  pub answered_for : ContradictionsHaveFaultyMembers D
   answered_for term_length members a b against has_a has_b =
       let n = length members in
       let both = AtLeastFrom-both (MayHaveVoted a) (MayHaveVoted b) 0 (quorum n) (quorum n) (n - 2 * max_faults n) members (omega arith) has_a has_b in
-      AtLeastFrom-map (λ j m. MayHaveVoted a j m × MayHaveVoted b j m) (AnswersFor term_length a b) 0 (n - 2 * max_faults n) members (answers term_length a b against) both
+      AtLeastFrom-map (λ j m. MayHaveVoted a j m × MayHaveVoted b j m) (IsResponsibleFor term_length a b) 0 (n - 2 * max_faults n) members (answers term_length a b against) both
 
   -- who accepted a nearer contradiction
   abbrev Misled : ℕ → Subject D → Subject D → Option (List (TraceEvent D)) → Type 0
   Misled term_length a b None = ⊥
   Misled term_length a b (Some trace) = HasAcceptedNearer term_length a b trace
 
-  guilty_or_misled : (term_length : ℕ) (a b : Subject D) (i : ℕ) (member : Option (List (TraceEvent D))) → AnswersFor term_length a b i member → IsSuspect term_length a b i member ⊎ Misled term_length a b member
+  guilty_or_misled : (term_length : ℕ) (a b : Subject D) (i : ℕ) (member : Option (List (TraceEvent D))) → IsResponsibleFor term_length a b i member → IsSuspect term_length a b i member ⊎ Misled term_length a b member
   guilty_or_misled term_length a b i None answer = inl tt
   guilty_or_misled term_length a b i (Some trace) (has_a, has_b, inl breaks) = inl (has_a, has_b, breaks)
   guilty_or_misled term_length a b i (Some trace) (has_a, has_b, inr nearer) = inr nearer
@@ -417,7 +417,7 @@ module _ {D : Type 0} (same : D → D → Bool) (decides : (d e : D) → same d 
     trace zero a b less against has_a has_b = absurd (omega arith)
     trace (suc bound) a b less against has_a has_b =
         let n = length members in
-        elim (all_or_one (AnswersFor term_length a b) (IsSuspect term_length a b) (Misled term_length a b) (guilty_or_misled term_length a b) 0 (n - 2 * max_faults n) members (answered_for term_length members a b against has_a has_b)) [
+        elim (all_or_one (IsResponsibleFor term_length a b) (IsSuspect term_length a b) (Misled term_length a b) (guilty_or_misled term_length a b) 0 (n - 2 * max_faults n) members (answered_for term_length members a b against has_a has_b)) [
           | inl suspects ↦ record {
             first = a;
             second = b;

@@ -17,11 +17,11 @@ use Rattle.simplex_voter.specs.Rules.{may_notarize, may_nullify, may_finalize, N
 use Rattle.simplex_voter.proofs.Rules.{nullify_parts, nullify_whole, finalize_parts, finalize_whole, notarize_parts, notarize_whole}
 use Rattle.simplex_record.specs.declared.record.error.RecoverError.{RecoverError}
 use Rattle.simplex_member.specs.CallConditions.{is_allowed, fault_of}
-use Rattle.simplex_member.specs.Calls.{CallFacts, ConstructNotarize, ConstructNullify, ConstructFinalize, Told, Nullify, Finalize, Notarize, Refused, NotAllowed, Done}
+use Rattle.simplex_member.specs.Calls.{CallFacts, ConstructNotarize, ConstructNullify, ConstructFinalize, ReplyFacts, Nullify, Finalize, Notarize, Refused, NotAllowed, Done}
 use Rattle.simplex_member.specs.CallSemantics.{answer}
 use Rattle.simplex_member.specs.MemberFacts.{MemberFacts, IsCall, AnswersAlive, reply_of, unless_refused}
 use Rattle.simplex_member.specs.OutstandingWork.{OutstandingWork}
-use Rattle.simplex_member.specs.Runs.{StepFacts, Calls, Prunes, Restarts, restart_told, IsStep, IsRun, IsRunFrom}
+use Rattle.simplex_member.specs.Runs.{StepFacts, Calls, Prunes, Restarts, restart_reply, IsStep, IsRun, IsRunFrom}
 use Rattle.simplex_member.specs.Restarts.{RestartFacts}
 use Rattle.laws_safety.specs.ExactVotes.{ends_in_fault, IsSignedFor, IsExact, proposal_at, ExactAt, RunsExactly, SignsExactly}
 use Rattle.laws_safety.specs.Traces.{TraceEvent, Signs, signed_in}
@@ -36,7 +36,7 @@ no_subject vote e = absurd (cc)
 
 module _ {K D : Type 0} where
   -- no vote is told, since there is no key, the rule doesn't hold, or the call is refused
-  untold : (Rule : Type 0) (me : Option ℕ) (about : Option (Subject D)) (told : Told K D) → signed_in told ≡ [] → ((d : TraceEvent D) → ends_in_fault told ≡ false → Rule → IsSignedFor me about d → ⊥) → IsExact Rule me about told
+  untold : (Rule : Type 0) (me : Option ℕ) (about : Option (Subject D)) (told : ReplyFacts K D) → signed_in told ≡ [] → ((d : TraceEvent D) → ends_in_fault told ≡ false → Rule → IsSignedFor me about d → ⊥) → IsExact Rule me about told
   untold Rule me about told none never = record {
     only = λ d h. absurd (let g : Contains [] d = subst (λ (ds : List (TraceEvent D)). Contains ds d) none h in omega (arith, g.1));
     due = λ d kept rule signed. absurd (never d kept rule signed);
@@ -46,7 +46,7 @@ module _ {K D : Type 0} where
   refused Rule me about f = untold Rule me about (Refused f) refl (λ d kept rule signed. false≢true (sym kept))
 
   -- one is
-  told_so : (Rule : Type 0) (m : ℕ) (about : Subject D) (told : Told K D) → Rule → signed_in told ≡ Signs m about ∷ [] → IsExact Rule (Some m) (Some about) told
+  told_so : (Rule : Type 0) (m : ℕ) (about : Subject D) (told : ReplyFacts K D) → Rule → signed_in told ≡ Signs m about ∷ [] → IsExact Rule (Some m) (Some about) told
   told_so Rule m about told holds is = record {
     only = λ d h. (let e : Signs m about ≡ d = only_one _ d (subst (λ (ds : List (TraceEvent D)). Contains ds d) is h) in (holds, (m, about, refl, refl, sym e)));
     due = λ d kept rule signed. (
@@ -82,13 +82,13 @@ module _ {K D : Type 0} where
 
 module _ {K D : Type 0} where
   -- a reply with no vote stays one where the call isn't allowed or is refused
-  still_none : (allowed : Bool) (f : Option Fault) (told : Told K D) → signed_in told ≡ [] → signed_in (if allowed then unless_refused f told else NotAllowed) ≡ []
+  still_none : (allowed : Bool) (f : Option Fault) (told : ReplyFacts K D) → signed_in told ≡ [] → signed_in (if allowed then unless_refused f told else NotAllowed) ≡ []
   still_none false f told none = refl
   still_none true (Some f) told none = refl
   still_none true None told none = none
 
 module _ (K D : Type 0) where
-  restart_signs_none : (result : Result (Unit {0}) RecoverError) → signed_in {K = K} {D = D} (restart_told result) ≡ []
+  restart_signs_none : (result : Result (Unit {0}) RecoverError) → signed_in {K = K} {D = D} (restart_reply result) ≡ []
   restart_signs_none (Ok done) = refl
   restart_signs_none (Err e) = refl
 
@@ -117,7 +117,7 @@ module _ {K L D : Type 0} (same : D → D → Bool) (elect : Elect L) where
       by_fault None = exact_notarize (NotarizeRule same elect x v) (may_notarize same elect x v) (notarize_whole same elect x v) (notarize_parts same elect x v) (may_notarize same elect x v) refl x.me (proposal_at x v)
   call_told x o call = still_none (is_allowed x o call) (fault_of x call) (answer same elect x o call) refl
 
-  pub call_exact : (m next : MemberFacts K L D) (call : CallFacts D) (told : Told K D) → IsCall same elect m call told next → ExactAt same elect m.life (Calls call) told
+  pub call_exact : (m next : MemberFacts K L D) (call : CallFacts D) (told : ReplyFacts K D) → IsCall same elect m call told next → ExactAt same elect m.life (Calls call) told
   unfolding IsCall
   call_exact m next call told is_call = by_life m.life is_call
     where
@@ -126,7 +126,7 @@ module _ {K L D : Type 0} (same : D → D → Bool) (elect : Elect L) where
       by_life (Some x) (inl (tells, leaves)) = rw tells (call_told x m.outstanding_work call)
       by_life (Some x) (inr (allowed, tells, leaves)) = rw tells (call_refused x call fault.OutOfMemory)
 
-  pub restart_exact : (life : Option (StateFacts K L D)) (r : RestartFacts K L D) (result : Result (Unit {0}) RecoverError) → ExactAt same elect life (Restarts r) (restart_told result)
+  pub restart_exact : (life : Option (StateFacts K L D)) (r : RestartFacts K L D) (result : Result (Unit {0}) RecoverError) → ExactAt same elect life (Restarts r) (restart_reply result)
   restart_exact None r result = restart_signs_none K D result
   restart_exact (Some x) r result = restart_signs_none K D result
 
@@ -134,12 +134,12 @@ module _ {K L D : Type 0} (same : D → D → Bool) (elect : Elect L) where
   prune_exact None = refl
   prune_exact (Some x) = refl
 
-  pub step_exact : (m next : MemberFacts K L D) (step : StepFacts K L D) (told : Told K D) → IsStep same elect m step told next → ExactAt same elect m.life step told
+  pub step_exact : (m next : MemberFacts K L D) (step : StepFacts K L D) (told : ReplyFacts K D) → IsStep same elect m step told next → ExactAt same elect m.life step told
   step_exact m next (Calls call) told is_step = call_exact m next call told is_step
   step_exact m next Prunes told is_step = rw is_step.0 (prune_exact m.life)
   step_exact m next (Restarts r) told (result, restarts, is) = rw is (restart_exact m.life r result)
 
-  exact_steps : (m end : MemberFacts K L D) (steps : List (StepFacts K L D)) (replies : List (Told K D)) → IsRun same elect m steps replies end → RunsExactly same elect m steps replies
+  exact_steps : (m end : MemberFacts K L D) (steps : List (StepFacts K L D)) (replies : List (ReplyFacts K D)) → IsRun same elect m steps replies end → RunsExactly same elect m steps replies
   exact_steps m end [] [] run = tt
   exact_steps m end [] (told ∷ replies) run = absurd run
   exact_steps m end (step ∷ steps) [] run = absurd run

@@ -11,17 +11,17 @@ use Rattle.simplex_member.specs.declared.member.calls.Reply.TheVariants as reply
 use Rattle.simplex_member.specs.declared.member.runs.Step.{Step}
 use Rattle.simplex_member.specs.declared.member.runs.Step.TheVariants as step
 use Rattle.simplex_record.specs.declared.record.start.Start.{Start}
-use Rattle.simplex_member.specs.Calls.{Told, told, asked, CallFacts, Added, AddedNullification}
+use Rattle.simplex_member.specs.Calls.{ReplyFacts, told, asked, CallFacts, Added, AddedNullification}
 use Rattle.simplex_member.specs.declared.member.restart.Restart.{Restart}
 use Rattle.simplex_member.specs.Restarts.{RestartFacts, restart_facts}
-use Rattle.simplex_member.specs.Runs.{Calls, Restarts, step_facts, steps_of, restart_told}
+use Rattle.simplex_member.specs.Runs.{Calls, Restarts, step_facts, steps_of, restart_reply}
 use Rattle.simplex_record.specs.Start.{start_facts}
 use Rattle.simplex_record.specs.declared.record.error.RecoverError.{RecoverError}
 use Rattle.std.proofs.lemmas.List.{append-nil}
 use Rattle.laws_safety.specs.MemberHistory.{execution_of}
 use Rattle.laws_safety.specs.ObservedTraces.{votes_in, certificates_in, floor_in, taken_by, taken_in, begun_by, shown_by, shown_trace, StartsAs, AllStartAs}
-use Rattle.laws_safety.specs.Traces.{TraceEvent, handed_in, accepted_by, of_floor, signed_in, accepted_at, trace_at, trace_of_steps}
-use Rattle.laws_safety.specs.Executions.{trace_of, BeginsAs, LivesAs}
+use Rattle.laws_safety.specs.Traces.{TraceEvent, passed_certificates, accepted_by, of_floor, signed_in, accepted_at, trace_at, trace_of_steps}
+use Rattle.laws_safety.specs.Executions.{trace_of, BeginsAs, RunsAs}
 use Rattle.laws_safety.proofs.lists.Splits.{Contains-cases, Contains-cons_rest}
 
 module _ {S D K G C : Type 0} (bytes_of : C → List ℕ) where
@@ -39,18 +39,18 @@ module _ {S D K G C : Type 0} (bytes_of : C → List ℕ) where
   floor_shown (floor.Finalized f) = refl
 
 -- the certificate of a call that is told whether it is new
-abbrev where_added : {K D : Type 0} → Told K D → List (TraceEvent D) → List (TraceEvent D)
+abbrev where_added : {K D : Type 0} → ReplyFacts K D → List (TraceEvent D) → List (TraceEvent D)
 where_added (Added _ _) trace = trace
 where_added (AddedNullification _) trace = trace
 where_added _ trace = []
 
-accepted_where : {K D : Type 0} (call : CallFacts D) (t : Told K D) → accepted_by call t ≡ where_added t (handed_in call)
+accepted_where : {K D : Type 0} (call : CallFacts D) (t : ReplyFacts K D) → accepted_by call t ≡ where_added t (passed_certificates call)
 accepted_where call (Added newly leader) = refl
 accepted_where call (AddedNullification newly) = refl
 accepted_where call _ = refl
 
 module _ (L : Type 0) {S D K G C : Type 0} (bytes_of : C → List ℕ) where
-  asked_hands : (c : Call S D K G C) → handed_in (asked bytes_of c) ≡ certificates_in c
+  asked_hands : (c : Call S D K G C) → passed_certificates (asked bytes_of c) ≡ certificates_in c
   asked_hands (call.AddNotarization c) = refl
   asked_hands (call.AddNullification c now) = refl
   asked_hands (call.AddFinalization c now) = refl
@@ -105,10 +105,10 @@ module _ {S L D K G C : Type 0} (me : S → Option ℕ) (members : S → List K)
           let same : restart_facts me members terms elects_early bytes_of r ≡ q = cc in
           subst (λ (p : RestartFacts K L D). BeginsAs term_length i p.start.setup) same (begins_as term_length i r.start (holds r refl))
 
-  pub lives_as : (term_length i : ℕ) (start : Start S L D K G C) (steps : List (Step S L D K G C)) → AllStartAs me terms term_length i start steps → LivesAs term_length i (start_facts me members terms elects_early bytes_of start) (steps_of me members terms elects_early bytes_of steps)
+  pub lives_as : (term_length i : ℕ) (start : Start S L D K G C) (steps : List (Step S L D K G C)) → AllStartAs me terms term_length i start steps → RunsAs term_length i (start_facts me members terms elects_early bytes_of start) (steps_of me members terms elects_early bytes_of steps)
   lives_as term_length i start steps holds = record { first = begins_as term_length i start holds.first; later = restarts_as term_length i steps holds.later }
 
-  pub restart_shown : (r : Restart S L D K G C) (result : Result (Unit {0}) RecoverError) → trace_at (Restarts (restart_facts me members terms elects_early bytes_of r)) (restart_told {K = K} {D = D} result) ≡ begun_by r.start result
+  pub restart_shown : (r : Restart S L D K G C) (result : Result (Unit {0}) RecoverError) → trace_at (Restarts (restart_facts me members terms elects_early bytes_of r)) (restart_reply {K = K} {D = D} result) ≡ begun_by r.start result
   restart_shown r (Ok done) = append-nil (of_floor (floor_facts bytes_of r.start.floor)) ∙ sym (floor_shown bytes_of r.start.floor)
   restart_shown r (Err e) = refl
 

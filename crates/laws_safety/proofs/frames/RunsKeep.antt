@@ -5,12 +5,12 @@ use Rattle.simplex_types.specs.Config.{FloorFacts}
 use Rattle.simplex_voter.specs.Facts.{StateFacts, Elect}
 use Rattle.simplex_voter.specs.Acceptance.{after_set_floor}
 use Rattle.simplex_record.specs.declared.record.error.RecoverError.{RecoverError}
-use Rattle.simplex_member.specs.Calls.{CallFacts, Told}
+use Rattle.simplex_member.specs.Calls.{CallFacts, ReplyFacts}
 use Rattle.laws_safety.specs.Executions.{new_member}
 use Rattle.simplex_record.specs.Events.{Event, after_event}
-use Rattle.simplex_member.specs.MemberFacts.{MemberFacts, IsCall, without_life}
+use Rattle.simplex_member.specs.MemberFacts.{MemberFacts, IsCall, without_lifetime}
 use Rattle.simplex_record.specs.Recovery.{recover_error}
-use Rattle.simplex_member.specs.Restarts.{RestartFacts, cut_member, new_life, retention_grows, RecoversByView, IsRestart, IsRestartWhere}
+use Rattle.simplex_member.specs.Restarts.{RestartFacts, cut_member, new_lifetime, retention_grows, RecoversByView, IsRestart, IsRestartWhere}
 use Rattle.simplex_member.specs.Runs.{StepFacts, Calls, Prunes, Restarts, IsRun}
 use Rattle.simplex_record.specs.Start.{StartFacts, new_state}
 use Rattle.laws_safety.specs.TermLengths.{HasTerms, KeepTerms}
@@ -32,7 +32,7 @@ module _ {K L D : Type 0} (same : D → D → Bool) (elect : Elect L) (term_leng
   from_copy n start result left fresh (inl (is, leaves)) = rw leaves tt
   from_copy n start result left fresh (inr (copy, by_view, goes)) = by_error (recover_error same (new_state start.setup) start.floor start.now copy) goes
     where
-      by_error : (o : Option RecoverError) → MatchOption o ((result ≡ Ok tt) × (left ≡ new_life same elect n start copy)) (λ e. (result ≡ Err e) × (left ≡ without_life n)) → HoldsIn P left.life
+      by_error : (o : Option RecoverError) → MatchOption o ((result ≡ Ok tt) × (left ≡ new_lifetime same elect n start copy)) (λ e. (result ≡ Err e) × (left ≡ without_lifetime n)) → HoldsIn P left.life
       by_error None (_, leaves) = rw leaves (floor_then_all_keep same elect P keeps start.now (new_state start.setup) start.floor copy (begins (new_state start.setup) start.floor start.now (fresh_state term_length start.setup fresh)))
       by_error (Some e) (_, leaves) = rw leaves tt
 
@@ -44,7 +44,7 @@ module _ {K L D : Type 0} (same : D → D → Bool) (elect : Elect L) (term_leng
       by_test true (_, leaves) = rw leaves sound
       by_test false goes = from_copy (cut_member m r.drop r.prune) r.start result left fresh goes
 
-  pub told_keeps : (m : MemberFacts K L D) (call : CallFacts D) (told : Told K D) (left : MemberFacts K L D) → IsCall same elect m call told left → HoldsIn P m.life → HoldsIn P left.life
+  pub told_keeps : (m : MemberFacts K L D) (call : CallFacts D) (told : ReplyFacts K D) (left : MemberFacts K L D) → IsCall same elect m call told left → HoldsIn P m.life → HoldsIn P left.life
   told_keeps m call told left is_step sound =
       elim (call_outcome same elect (λ c t x y. P x → P y) (λ c f x s. s) (λ c x s. s)
       (λ c x o allowed s. call_by_any same elect x o P s (λ e. keeps x e s) c) m call told left is_step) [
@@ -53,7 +53,7 @@ module _ {K L D : Type 0} (same : D → D → Bool) (elect : Elect L) (term_leng
       ]
 
   -- from a member that keeps it on, over calls and restarts
-  pub run_keeps : (steps : List (StepFacts K L D)) (replies : List (Told K D)) (m end : MemberFacts K L D) → KeepTerms term_length steps → HoldsIn P m.life → IsRun same elect m steps replies end → HoldsIn P end.life
+  pub run_keeps : (steps : List (StepFacts K L D)) (replies : List (ReplyFacts K D)) (m end : MemberFacts K L D) → KeepTerms term_length steps → HoldsIn P m.life → IsRun same elect m steps replies end → HoldsIn P end.life
   run_keeps [] [] m end fresh sound run = subst (λ n. HoldsIn P n.life) run sound
   run_keeps [] (told ∷ replies) m end fresh sound run = absurd run
   run_keeps (step ∷ steps) [] m end fresh sound run = absurd run
@@ -65,5 +65,5 @@ module _ {K L D : Type 0} (same : D → D → Bool) (elect : Elect L) (term_leng
       run_keeps steps replies next end fresh.1 (restart_keeps m r is_step.0 next fresh.0 sound is_step.1) rest
 
   -- from the start of a run on
-  pub run_induction : (start : StartFacts K L D) (steps : List (StepFacts K L D)) (replies : List (Told K D)) (end : MemberFacts K L D) → HasTerms term_length start.setup → KeepTerms term_length steps → IsRun same elect (new_member same elect start) steps replies end → HoldsIn P end.life
+  pub run_induction : (start : StartFacts K L D) (steps : List (StepFacts K L D)) (replies : List (ReplyFacts K D)) (end : MemberFacts K L D) → HasTerms term_length start.setup → KeepTerms term_length steps → IsRun same elect (new_member same elect start) steps replies end → HoldsIn P end.life
   run_induction start steps replies end begun fresh run = run_keeps steps replies (new_member same elect start) end fresh (begins (new_state start.setup) start.floor start.now (fresh_state term_length start.setup begun)) run

@@ -5,7 +5,7 @@ use Rattle.std.specs.Prelude.{option_map}
 use Rattle.simplex_types.specs.Certificates.{CertificateFacts, Notarized, Nullified, Finalized}
 use Rattle.simplex_voter.specs.Facts.{StateFacts, Elect}
 use Rattle.simplex_voter.specs.StateAnswers.{broadcast_notarization_answer, broadcast_nullification_answer, broadcast_finalization_answer}
-use Rattle.simplex_member.specs.Calls.{CallFacts, BroadcastNotarization, BroadcastNullification, BroadcastFinalization, GetBestCertificate, Told, Handed}
+use Rattle.simplex_member.specs.Calls.{CallFacts, BroadcastNotarization, BroadcastNullification, BroadcastFinalization, GetBestCertificate, ReplyFacts, Returned}
 use Rattle.simplex_record.specs.Entries.{certificate_round}
 use Rattle.simplex_member.specs.CallSemantics.{answer}
 use Rattle.simplex_member.specs.OutstandingWork.{OutstandingWork}
@@ -16,8 +16,8 @@ use Rattle.laws_safety.proofs.lives.HandedOut.{asked}
 abbrev AskedRight : {D : Type 0} → KindOfCertificate → ℕ → CertificateFacts D → Type 0
 AskedRight kind v c = (kind_of_certificate c ≡ kind) × ((certificate_round c).view ≡ v)
 
-abbrev told_it : (K : Type 0) {D : Type 0} → Option (CertificateFacts D) → Told K D
-told_it K certificate = Handed certificate
+abbrev told_it : (K : Type 0) {D : Type 0} → Option (CertificateFacts D) → ReplyFacts K D
+told_it K certificate = Returned certificate
 
 same_view : (v w : ℕ) → v ∷ [] ≡ w ∷ [] → v ≡ w
 same_view v w is = cc
@@ -57,7 +57,7 @@ module _ {K L D : Type 0} (x : StateFacts K L D) (placed : IsPlaced x) (v : ℕ)
         (ap (λ o. told_it K (option_map Finalized o)) (sym some) ∙ tells)
   ]
 
-nothing_asked : (K : Type 0) {D : Type 0} (told : Told K D) → IsAsAsked GetBestCertificate told
+nothing_asked : (K : Type 0) {D : Type 0} (told : ReplyFacts K D) → IsAsAsked GetBestCertificate told
 nothing_asked K told Notarization v c asks tells = absurd (cc)
 nothing_asked K told Nullification v c asks tells = absurd (cc)
 nothing_asked K told Finalization v c asks tells = absurd (cc)

@@ -5,8 +5,8 @@ use Rattle.std.proofs.lemmas.List.Elements.{Contains-append_left}
 use Rattle.simplex_voter.specs.Facts.{StateFacts, Elect}
 use Rattle.simplex_voter.specs.Windows.{min_active}
 use Rattle.simplex_member.specs.CallConditions.{is_allowed}
-use Rattle.simplex_member.specs.Calls.{CallFacts, Told, Refused, NotAllowed}
-use Rattle.laws_safety.specs.LifetimeLaws.{IsLife, WhileAlive, WasDropped, ConflictsStay}
+use Rattle.simplex_member.specs.Calls.{CallFacts, ReplyFacts, Refused, NotAllowed}
+use Rattle.laws_safety.specs.LifetimeLaws.{IsLifetime, WhileAlive, WasDropped, ConflictsStay}
 use Rattle.simplex_member.specs.MemberFacts.{MemberFacts, IsCall}
 use Rattle.simplex_member.specs.CallSemantics.{answer, after_call}
 use Rattle.simplex_member.specs.OutstandingWork.{OutstandingWork}
@@ -17,22 +17,22 @@ use Rattle.simplex_record.proofs.Paths.{tracked_by}
 use Rattle.laws_safety.proofs.lives.WithinLives.{alive_still, alive_joined, each_call}
 
 -- conflicts stay, and what is kept does not begin lower
-pub record ConflictsLast {K L D : Type 0} (replies : List (Told K D)) (x y : StateFacts K L D) : Type 0 where
+pub record ConflictsLast {K L D : Type 0} (replies : List (ReplyFacts K D)) (x y : StateFacts K L D) : Type 0 where
   pub floor : min_active x ≤ min_active y
   pub conflicts : ConflictsStay replies x y
 
 module _ {K D : Type 0} where
-  more_dropped : (told : Told K D) (replies : List (Told K D)) (v : ℕ) → WasDropped replies v → WasDropped (told ∷ replies) v
+  more_dropped : (told : ReplyFacts K D) (replies : List (ReplyFacts K D)) (v : ℕ) → WasDropped replies v → WasDropped (told ∷ replies) v
   more_dropped told replies v (views, there, among) = (views, Contains-cons_rest told replies _ there, among)
 
-  first_dropped : (told : Told K D) (replies : List (Told K D)) (v : ℕ) → WasDropped (told ∷ []) v → WasDropped (told ∷ replies) v
+  first_dropped : (told : ReplyFacts K D) (replies : List (ReplyFacts K D)) (v : ℕ) → WasDropped (told ∷ []) v → WasDropped (told ∷ replies) v
   first_dropped told replies v (views, there, among) = (views, Contains-append_left (told ∷ []) replies _ there, among)
 
 module _ {K L D : Type 0} where
-  pub keeps : (replies : List (Told K D)) (x : StateFacts K L D) → ConflictsLast replies x x
+  pub keeps : (replies : List (ReplyFacts K D)) (x : StateFacts K L D) → ConflictsLast replies x x
   keeps replies x = record { floor = omega arith; conflicts = λ v is. inl is }
 
-  pub keeps_on : (told : Told K D) (replies : List (Told K D)) (x y z : StateFacts K L D) → ConflictsLast (told ∷ []) x y → ConflictsLast replies y z → ConflictsLast (told ∷ replies) x z
+  pub keeps_on : (told : ReplyFacts K D) (replies : List (ReplyFacts K D)) (x y z : StateFacts K L D) → ConflictsLast (told ∷ []) x y → ConflictsLast replies y z → ConflictsLast (told ∷ replies) x z
   keeps_on told replies x y z p q = record { floor = omega (arith, p.floor, q.floor); conflicts = conflicts }
     where
       conflicts : ConflictsStay (told ∷ replies) x z
@@ -57,13 +57,13 @@ module _ {K L D : Type 0} (same : D → D → Bool) (elect : Elect L) where
         | inr drops ↦ inr (record { dropped = drops.dropped (tracked_by x v (λ r. r.slot.conflict) refl is); below = omega (arith, drops.gone.below, floor) })
       ]
 
-  told_keeps : (m : MemberFacts K L D) (call : CallFacts D) (told : Told K D) (left : MemberFacts K L D) → IsCall same elect m call told left → WhileAlive (ConflictsLast (told ∷ [])) m.life left.life
+  told_keeps : (m : MemberFacts K L D) (call : CallFacts D) (told : ReplyFacts K D) (left : MemberFacts K L D) → IsCall same elect m call told left → WhileAlive (ConflictsLast (told ∷ [])) m.life left.life
   told_keeps =
       each_call same elect (λ call told. ConflictsLast (told ∷ []))
       (λ call fault x. keeps (Refused fault ∷ []) x) (λ call x. keeps (NotAllowed ∷ []) x)
       (λ call x o allowed. call_keeps call x o allowed)
 
-  pub life_keeps : (m end : MemberFacts K L D) (calls : List (CallFacts D)) (replies : List (Told K D)) → IsLife same elect m calls replies end → WhileAlive (ConflictsLast replies) m.life end.life
+  pub life_keeps : (m end : MemberFacts K L D) (calls : List (CallFacts D)) (replies : List (ReplyFacts K D)) → IsLifetime same elect m calls replies end → WhileAlive (ConflictsLast replies) m.life end.life
   life_keeps m end [] [] life = subst (λ n. WhileAlive (ConflictsLast []) m.life n.life) life (alive_still (ConflictsLast []) m.life (λ x. keeps [] x))
   life_keeps m end [] (told ∷ replies) life = absurd life
   life_keeps m end (call ∷ calls) [] life = absurd life

@@ -10,9 +10,9 @@ use Rattle.simplex_voter.specs.Parents.{verification_matches}
 use Rattle.simplex_voter.specs.Acceptance.{after_set_floor}
 use Rattle.simplex_voter.specs.StateAnswers.{prune_answer}
 use Rattle.simplex_member.specs.CallConditions.{is_allowed}
-use Rattle.simplex_member.specs.Calls.{CallFacts, AddNotarization, AddNullification, AddFinalization, SetProposal, ReleaseProposalRequest, Verified, BroadcastNotarization, BroadcastFinalization, GetBestCertificate, Prune, Told}
+use Rattle.simplex_member.specs.Calls.{CallFacts, AddNotarization, AddNullification, AddFinalization, SetProposal, ReleaseProposalRequest, Verified, BroadcastNotarization, BroadcastFinalization, GetBestCertificate, Prune, ReplyFacts}
 use Rattle.simplex_member.specs.CallSemantics.{answer, after_call}
-use Rattle.laws_safety.specs.LifetimeLaws.{has_conflict, KindOfCertificate, Notarization, Finalization, handed_out_in}
+use Rattle.laws_safety.specs.LifetimeLaws.{has_conflict, KindOfCertificate, Notarization, Finalization, returned_in}
 use Rattle.simplex_member.specs.OutstandingWork.{no_outstanding_work}
 use Rattle.simplex_record.proofs.Examples.{proposal}
 use Rattle.simplex_record.proofs.RecoveryExamples.{in_turn, settings}
@@ -24,7 +24,7 @@ abbrev Call : Type 0
 Call = CallFacts ℕ
 
 abbrev Reply : Type 0
-Reply = Told ℕ ℕ
+Reply = ReplyFacts ℕ ℕ
 
 -- begun at genesis, in terms of so many views
 abbrev begun_in : ℕ → State
@@ -47,7 +47,7 @@ abbrev certificate : ℕ → ℕ → ProposalFacts ℕ
 certificate v payload = record { proposal = proposal v 0 payload; bytes = [] }
 
 abbrev handed : KindOfCertificate → List Call → List ℕ
-handed kind calls = handed_out_in kind calls (replies_from (begun_in 1) calls)
+handed kind calls = returned_in kind calls (replies_from (begun_in 1) calls)
 
 abbrev asked_often : List Call
 asked_often =

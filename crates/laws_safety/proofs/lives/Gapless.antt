@@ -5,7 +5,7 @@ use Rattle.std.specs.Prelude.{MatchOption}
 use Rattle.simplex_types.specs.Certificates.{ArtifactFacts}
 use Rattle.simplex_voter.specs.Facts.{StateFacts, Elect}
 use Rattle.simplex_voter.proofs.Rules.{notarize_whole}
-use Rattle.simplex_member.specs.Calls.{Told}
+use Rattle.simplex_member.specs.Calls.{ReplyFacts}
 use Rattle.simplex_member.specs.MemberFacts.{MemberFacts}
 use Rattle.simplex_member.specs.OutstandingWork.{OutstandingWork}
 use Rattle.simplex_member.specs.Runs.{StepFacts, IsRun}
@@ -25,7 +25,7 @@ module _ {K L D : Type 0} (same : D → D → Bool) (decides : (d e : D) → sam
       let noted = lives.noted in
       λ v p rule holds. held_reaches same decides elect term_length noted.0 noted.1 trace o x (omega (arith, some, terms)) terms noted.2 v (notarize_whole same elect x v rule) p holds
 
-  pub states_reach : (term_length : ℕ) (start : StartFacts K L D) (steps : List (StepFacts K L D)) (replies : List (Told K D)) (end : MemberFacts K L D) → HasTerms term_length start.setup → KeepTerms term_length steps
+  pub states_reach : (term_length : ℕ) (start : StartFacts K L D) (steps : List (StepFacts K L D)) (replies : List (ReplyFacts K D)) (end : MemberFacts K L D) → HasTerms term_length start.setup → KeepTerms term_length steps
       → IsRun same elect (new_member same elect start) steps replies end → MatchOption end.life (Unit {0}) (NotarizesGapless same elect)
   states_reach term_length start steps replies end begins keep run =
       let lives = run_lives same decides elect term_length begins.some steps replies (of_floor start.floor) _ end keep (start_lives same decides elect term_length start begins) run in

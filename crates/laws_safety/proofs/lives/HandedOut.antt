@@ -11,8 +11,8 @@ use Rattle.simplex_voter.specs.Facts.{StateFacts, Elect, round_at, round_of, rou
 use Rattle.simplex_voter.specs.Windows.{min_active}
 use Rattle.simplex_voter.specs.StateAnswers.{broadcast_notarization_answer, after_broadcast_notarization, broadcast_nullification_answer, after_broadcast_nullification, broadcast_finalization_answer, after_broadcast_finalization, best_certificate}
 use Rattle.simplex_member.specs.CallConditions.{is_allowed}
-use Rattle.simplex_member.specs.Calls.{CallFacts, BroadcastNotarization, BroadcastNullification, BroadcastFinalization, GetBestCertificate, Told, Handed, Refused}
-use Rattle.laws_safety.specs.LifetimeLaws.{IsLife, KindOfCertificate, Notarization, Nullification, Finalization, asked_by, handed_out_by, handed_out_in, HandedOnce}
+use Rattle.simplex_member.specs.Calls.{CallFacts, BroadcastNotarization, BroadcastNullification, BroadcastFinalization, GetBestCertificate, ReplyFacts, Returned, Refused}
+use Rattle.laws_safety.specs.LifetimeLaws.{IsLifetime, KindOfCertificate, Notarization, Nullification, Finalization, asked_by, returned_by_call, returned_in, ReturnedOnce}
 use Rattle.simplex_member.specs.MemberFacts.{MemberFacts, IsCall}
 use Rattle.simplex_member.specs.CallSemantics.{answer, after_call}
 use Rattle.simplex_member.specs.OutstandingWork.{OutstandingWork}
@@ -33,9 +33,9 @@ IsSpent kind v x =
 abbrev pub Hands : {K L D : Type 0} → KindOfCertificate → List ℕ → StateFacts K L D → StateFacts K L D → Type 0
 Hands kind views x y = (views ≡ []) ⊎ ((v : ℕ) × (views ≡ v ∷ []) × (IsSpent kind v x → ⊥) × IsSpent kind v y)
 
-pub record HandsOut {K L D : Type 0} (call : CallFacts D) (told : Told K D) (x y : StateFacts K L D) : Type 0 where
+pub record HandsOut {K L D : Type 0} (call : CallFacts D) (told : ReplyFacts K D) (x y : StateFacts K L D) : Type 0 where
   pub spent : (kind : KindOfCertificate) (v : ℕ) → IsSpent kind v x → IsSpent kind v y
-  pub hands : (kind : KindOfCertificate) → Hands kind (handed_out_by kind call told) x y
+  pub hands : (kind : KindOfCertificate) → Hands kind (returned_by_call kind call told) x y
 
 module _ {K L D C : Type 0} (flag : RoundFacts K D → Bool) (certificate : RoundFacts K D → Option C) (x : StateFacts K L D) (v : ℕ) where
   -- what is answered stands there, and was not handed out
@@ -87,9 +87,9 @@ module _ {K L D : Type 0} where
       (inl (ap (is_handed kind) (round_put x v r) ∙ sent))
 
 module _ {K L D : Type 0} where
-  hands_notarization : (x : StateFacts K L D) (v : ℕ) (kind : KindOfCertificate) → Hands kind (handed_out_by {K = K} {D = D} kind (BroadcastNotarization v) (Handed (option_map Notarized (broadcast_notarization_answer x v)))) x (after_broadcast_notarization x v)
+  hands_notarization : (x : StateFacts K L D) (v : ℕ) (kind : KindOfCertificate) → Hands kind (returned_by_call {K = K} {D = D} kind (BroadcastNotarization v) (Returned (option_map Notarized (broadcast_notarization_answer x v)))) x (after_broadcast_notarization x v)
   hands_notarization x v kind = elim (asked (λ r. r.notarization_broadcast) (λ r. r.notarization) x v) [
-    | inl none ↦ inl (ap (λ o. handed_out_by {K = K} {D = D} kind (BroadcastNotarization v) (Handed (option_map Notarized o))) none)
+    | inl none ↦ inl (ap (λ o. returned_by_call {K = K} {D = D} kind (BroadcastNotarization v) (Returned (option_map Notarized o))) none)
     | inr (c, some, first) ↦ rw some (by_kind kind c first)
   ]
     where
@@ -103,9 +103,9 @@ module _ {K L D : Type 0} where
       by_kind Nullification c first = inl refl
       by_kind Finalization c first = inl refl
 
-  hands_nullification : (x : StateFacts K L D) (v : ℕ) (kind : KindOfCertificate) → Hands kind (handed_out_by {K = K} {D = D} kind (BroadcastNullification v) (Handed (option_map Nullified (broadcast_nullification_answer x v)))) x (after_broadcast_nullification x v)
+  hands_nullification : (x : StateFacts K L D) (v : ℕ) (kind : KindOfCertificate) → Hands kind (returned_by_call {K = K} {D = D} kind (BroadcastNullification v) (Returned (option_map Nullified (broadcast_nullification_answer x v)))) x (after_broadcast_nullification x v)
   hands_nullification x v kind = elim (asked (λ r. r.nullification_broadcast) (λ r. r.nullification) x v) [
-    | inl none ↦ inl (ap (λ o. handed_out_by {K = K} {D = D} kind (BroadcastNullification v) (Handed (option_map Nullified o))) none)
+    | inl none ↦ inl (ap (λ o. returned_by_call {K = K} {D = D} kind (BroadcastNullification v) (Returned (option_map Nullified o))) none)
     | inr (c, some, first) ↦ rw some (by_kind kind c first)
   ]
     where
@@ -119,9 +119,9 @@ module _ {K L D : Type 0} where
       )
       by_kind Finalization c first = inl refl
 
-  hands_finalization : (x : StateFacts K L D) (v : ℕ) (kind : KindOfCertificate) → Hands kind (handed_out_by {K = K} {D = D} kind (BroadcastFinalization v) (Handed (option_map Finalized (broadcast_finalization_answer x v)))) x (after_broadcast_finalization x v)
+  hands_finalization : (x : StateFacts K L D) (v : ℕ) (kind : KindOfCertificate) → Hands kind (returned_by_call {K = K} {D = D} kind (BroadcastFinalization v) (Returned (option_map Finalized (broadcast_finalization_answer x v)))) x (after_broadcast_finalization x v)
   hands_finalization x v kind = elim (asked (λ r. r.finalization_broadcast) (λ r. r.finalization) x v) [
-    | inl none ↦ inl (ap (λ o. handed_out_by {K = K} {D = D} kind (BroadcastFinalization v) (Handed (option_map Finalized o))) none)
+    | inl none ↦ inl (ap (λ o. returned_by_call {K = K} {D = D} kind (BroadcastFinalization v) (Returned (option_map Finalized o))) none)
     | inr (c, some, first) ↦ rw some (by_kind kind c first)
   ]
     where
@@ -135,7 +135,7 @@ module _ {K L D : Type 0} where
         now_spent Finalization x v _ first.tracked (or_some (round_of x v).finalization_broadcast (round_of x v).finalization c first.stands),
       )
 
-best_unasked : (K : Type 0) {D : Type 0} (kind : KindOfCertificate) (best : Option (CertificateFacts D)) → handed_out_by {K = K} {D = D} kind GetBestCertificate (Handed best) ≡ []
+best_unasked : (K : Type 0) {D : Type 0} (kind : KindOfCertificate) (best : Option (CertificateFacts D)) → returned_by_call {K = K} {D = D} kind GetBestCertificate (Returned best) ≡ []
 best_unasked K Notarization None = refl
 best_unasked K Nullification None = refl
 best_unasked K Finalization None = refl
@@ -159,14 +159,14 @@ module _ {K L D : Type 0} (same : D → D → Bool) (elect : Elect L) where
   call_spends : (x : StateFacts K L D) → (o : OutstandingWork K D) (call : CallFacts D) → is_allowed x o call ≡ true → (kind : KindOfCertificate) (v : ℕ) → IsSpent kind v x → IsSpent kind v (after_call same elect x o call)
   call_spends x o call allowed = call_by_event same elect x o (λ es y. (kind : KindOfCertificate) (v : ℕ) → IsSpent kind v x → IsSpent kind v y) (λ kind v spent. spent) (λ e. event_spends x e) call allowed
 
-  call_hands : (x : StateFacts K L D) (o : OutstandingWork K D) (call : CallFacts D) (kind : KindOfCertificate) → Hands kind (handed_out_by kind call (answer same elect x o call)) x (after_call same elect x o call)
+  call_hands : (x : StateFacts K L D) (o : OutstandingWork K D) (call : CallFacts D) (kind : KindOfCertificate) → Hands kind (returned_by_call kind call (answer same elect x o call)) x (after_call same elect x o call)
   call_hands x o (BroadcastNotarization v) kind = hands_notarization x v kind
   call_hands x o (BroadcastNullification v) kind = hands_nullification x v kind
   call_hands x o (BroadcastFinalization v) kind = hands_finalization x v kind
   call_hands x o GetBestCertificate kind = inl (best_unasked K kind (best_certificate x))
   call_hands x o _ kind = inl refl
 
-  outcome : (m : MemberFacts K L D) (call : CallFacts D) (told : Told K D) (left : MemberFacts K L D) → IsCall same elect m call told left → ((fault : Fault) × (told ≡ Refused fault) × (left.life ≡ None)) ⊎ ((x y : StateFacts K L D) × (m.life ≡ Some x) × (left.life ≡ Some y) × HandsOut call told x y)
+  outcome : (m : MemberFacts K L D) (call : CallFacts D) (told : ReplyFacts K D) (left : MemberFacts K L D) → IsCall same elect m call told left → ((fault : Fault) × (told ≡ Refused fault) × (left.life ≡ None)) ⊎ ((x y : StateFacts K L D) × (m.life ≡ Some x) × (left.life ≡ Some y) × HandsOut call told x y)
   outcome =
       call_outcome same elect HandsOut
       (λ call fault x. record { spent = λ kind v s. s; hands = λ kind. inl refl })
@@ -180,7 +180,7 @@ IsSpentIn kind v (Some x) = IsSpent kind v x
 
 module _ {K L D : Type 0} (same : D → D → Bool) (elect : Elect L) (kind : KindOfCertificate) where
   -- what is spent is not handed out any more
-  never_again : (v : ℕ) (m end : MemberFacts K L D) (calls : List (CallFacts D)) (replies : List (Told K D)) → IsSpentIn kind v m.life → IsLife same elect m calls replies end → AllByRecursion (λ w. nat_eq v w ≡ false) (handed_out_in kind calls replies)
+  never_again : (v : ℕ) (m end : MemberFacts K L D) (calls : List (CallFacts D)) (replies : List (ReplyFacts K D)) → IsSpentIn kind v m.life → IsLifetime same elect m calls replies end → AllByRecursion (λ w. nat_eq v w ≡ false) (returned_in kind calls replies)
   never_again v m end [] [] spent life = tt
   never_again v m end [] (told ∷ replies) spent life = absurd life
   never_again v m end (call ∷ calls) [] spent life = absurd life
@@ -199,7 +199,7 @@ module _ {K L D : Type 0} (same : D → D → Bool) (elect : Elect L) (kind : Ki
         )
   ]
 
-  handed_once : (m end : MemberFacts K L D) (calls : List (CallFacts D)) (replies : List (Told K D)) → IsLife same elect m calls replies end → IsDistinct nat_eq (handed_out_in kind calls replies)
+  handed_once : (m end : MemberFacts K L D) (calls : List (CallFacts D)) (replies : List (ReplyFacts K D)) → IsLifetime same elect m calls replies end → IsDistinct nat_eq (returned_in kind calls replies)
   unfolding IsDistinct
   handed_once m end [] [] life = tt
   handed_once m end [] (told ∷ replies) life = absurd life
@@ -216,5 +216,5 @@ module _ {K L D : Type 0} (same : D → D → Bool) (elect : Elect L) (kind : Ki
   ]
 
 module _ {K L D : Type 0} (same : D → D → Bool) (elect : Elect L) where
-  pub life_hands_once : (m end : MemberFacts K L D) (calls : List (CallFacts D)) (replies : List (Told K D)) → IsLife same elect m calls replies end → HandedOnce calls replies
+  pub life_hands_once : (m end : MemberFacts K L D) (calls : List (CallFacts D)) (replies : List (ReplyFacts K D)) → IsLifetime same elect m calls replies end → ReturnedOnce calls replies
   life_hands_once m end calls replies life kind = handed_once same elect kind m end calls replies life

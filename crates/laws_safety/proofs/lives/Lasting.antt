@@ -16,7 +16,7 @@ use Rattle.simplex_record.specs.Events as event
 use Rattle.simplex_record.specs.Events.{Event, IsEvent, after_event, is_prune}
 use Rattle.simplex_member.specs.Events.{in_context, events_of}
 use Rattle.simplex_member.specs.CallConditions.{is_allowed}
-use Rattle.simplex_member.specs.Calls.{CallFacts, Proposed, SupersedeProposalRequest, Prune, Told}
+use Rattle.simplex_member.specs.Calls.{CallFacts, Proposed, SupersedeProposalRequest, Prune, ReplyFacts}
 use Rattle.simplex_member.specs.CallSemantics.{answer, after_call}
 use Rattle.simplex_member.specs.OutstandingWork.{OutstandingWork, context_at}
 use Rattle.simplex_voter.specs.StateAnswers.{prune_answer}
@@ -202,7 +202,7 @@ found_key test v (e ∷ es) there passes = elim (cases_eq v e.0) [
 ]
 
 -- a view below those that were kept isn't tracked from a call on, which is told that it was dropped
-pub record Drops {K L D : Type 0} (x y : StateFacts K L D) (told : Told K D) (v : ℕ) : Type 0 where
+pub record Drops {K L D : Type 0} (x y : StateFacts K L D) (told : ReplyFacts K D) (v : ℕ) : Type 0 where
   pub gone : IsGone x y v
   pub dropped : is_tracked x v ≡ true → WasDropped (told ∷ []) v
 

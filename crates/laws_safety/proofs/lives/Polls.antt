@@ -13,7 +13,7 @@ use Rattle.simplex_voter.specs.Facts.{StateFacts, Elect, round_at, round_of, rou
 use Rattle.simplex_voter.specs.Refusals.{first_fault, is_past_u64}
 use Rattle.simplex_voter.specs.Timeouts.{has_timeout, has_skip_budget, or_stalled, stall_deadline, next_timeout_answer}
 use Rattle.simplex_voter.proofs.Gaps.{and_parts, not_true}
-use Rattle.simplex_member.specs.Calls.{NextTimeout, Told, TimesOut}
+use Rattle.simplex_member.specs.Calls.{NextTimeout, ReplyFacts, TimesOut}
 use Rattle.simplex_member.specs.MemberFacts.{MemberFacts, IsCall, AnswersAlive, unless_refused}
 use Rattle.simplex_member.specs.OutstandingWork.{OutstandingWork}
 use Rattle.simplex_member.specs.Runs.{StepFacts, Calls, Prunes, Restarts, IsStep, IsRun}
@@ -65,7 +65,7 @@ module _ {K L D : Type 0} (x : StateFacts K L D) (now : ℕ) where
           (some_mapped (or_stalled (stall_deadline x) now) (round_timeout (with_retry r now x.settings.timeout_retry) (has_skip_budget x)) (retried r now x.settings.timeout_retry (has_skip_budget x) some))
 
 module _ {K L D : Type 0} (same : D → D → Bool) (elect : Elect L) where
-  poll_answered : (m next : MemberFacts K L D) (now : ℕ) (told : Told K D) → ((x : StateFacts K L D) → m.life ≡ Some x → has_timeout x ≡ true) → IsCall same elect m (NextTimeout now) told next → PollIsAnswered {L = L} (Calls (NextTimeout now)) told
+  poll_answered : (m next : MemberFacts K L D) (now : ℕ) (told : ReplyFacts K D) → ((x : StateFacts K L D) → m.life ≡ Some x → has_timeout x ≡ true) → IsCall same elect m (NextTimeout now) told next → PollIsAnswered {L = L} (Calls (NextTimeout now)) told
   unfolding IsCall
   poll_answered m next now told has is_call = by_life m.life refl is_call
     where
@@ -86,7 +86,7 @@ module _ {K L D : Type 0} (same : D → D → Bool) (elect : Elect L) where
 -- of each state and each step of a run
 
 module _ {K L D : Type 0} (same : D → D → Bool) (decides : (d e : D) → same d e ≡ true → d ≡ e) (elect : Elect L) where
-  pub states_time_out : (term_length : ℕ) (start : StartFacts K L D) (steps : List (StepFacts K L D)) (replies : List (Told K D)) (end : MemberFacts K L D) → HasTerms term_length start.setup → KeepTerms term_length steps
+  pub states_time_out : (term_length : ℕ) (start : StartFacts K L D) (steps : List (StepFacts K L D)) (replies : List (ReplyFacts K D)) (end : MemberFacts K L D) → HasTerms term_length start.setup → KeepTerms term_length steps
       → IsRun same elect (new_member same elect start) steps replies end → MatchOption end.life (Unit {0}) CurrentTimesOut
   states_time_out term_length start steps replies end begins keep run =
       let lives = run_lives same decides elect term_length begins.some steps replies (of_floor start.floor) _ end keep (start_lives same decides elect term_length start begins) run in
@@ -100,17 +100,17 @@ module _ {K L D : Type 0} (same : D → D → Bool) (decides : (d e : D) → sam
       by_life kept (Some x) timed lives = record { ahead = timed.ahead; timeout = has_its_timeout term_length trace end.closed kept end.entries end.outstanding_work x timed lives }
 
 module _ {K L D : Type 0} (same : D → D → Bool) (decides : (d e : D) → same d e ≡ true → d ≡ e) (elect : Elect L) (term_length : ℕ) (some : 0 < term_length) where
-  step_times_out : (step : StepFacts K L D) (steps : List (StepFacts K L D)) (told : Told K D) (m next : MemberFacts K L D) → KeepTerms term_length (step ∷ steps) → HoldsIn Timed m.life → IsStep same elect m step told next → HoldsIn Timed next.life
+  step_times_out : (step : StepFacts K L D) (steps : List (StepFacts K L D)) (told : ReplyFacts K D) (m next : MemberFacts K L D) → KeepTerms term_length (step ∷ steps) → HoldsIn Timed m.life → IsStep same elect m step told next → HoldsIn Timed next.life
   step_times_out (Calls call) steps told m next keep timed is_step = told_keeps same elect term_length Timed (floor_times_out same elect term_length) (event_times_out same elect) m call told next is_step timed
   step_times_out Prunes steps told m next keep timed is_step = rw is_step.1 timed
   step_times_out (Restarts r) steps told m next keep timed is_step = restart_keeps same elect term_length Timed (floor_times_out same elect term_length) (event_times_out same elect) m r is_step.0 next keep.0 timed is_step.1
 
-  step_answered : (step : StepFacts K L D) (told : Told K D) (trace : List (TraceEvent D)) (m next : MemberFacts K L D) → HoldsIn Timed m.life → MemberLives term_length trace m → IsStep same elect m step told next → PollIsAnswered step told
+  step_answered : (step : StepFacts K L D) (told : ReplyFacts K D) (trace : List (TraceEvent D)) (m next : MemberFacts K L D) → HoldsIn Timed m.life → MemberLives term_length trace m → IsStep same elect m step told next → PollIsAnswered step told
   step_answered (Calls (NextTimeout now)) told trace m next timed lives is_step =
       poll_answered same elect m next now told (λ x alive. has_its_timeout term_length trace m.closed lives.0 m.entries m.outstanding_work x (subst (HoldsIn Timed) alive timed) (subst (LivesOn term_length trace m.closed lives.0 m.entries m.outstanding_work) alive lives.1)) is_step
   step_answered _ told trace m next timed lives is_step = tt
 
-  run_polls : (steps : List (StepFacts K L D)) (replies : List (Told K D)) (trace : List (TraceEvent D)) (m end : MemberFacts K L D) → KeepTerms term_length steps → HoldsIn Timed m.life → MemberLives term_length trace m → IsRun same elect m steps replies end → PollsAreAnswered steps replies
+  run_polls : (steps : List (StepFacts K L D)) (replies : List (ReplyFacts K D)) (trace : List (TraceEvent D)) (m end : MemberFacts K L D) → KeepTerms term_length steps → HoldsIn Timed m.life → MemberLives term_length trace m → IsRun same elect m steps replies end → PollsAreAnswered steps replies
   run_polls [] replies trace m end keep timed lives run = tt
   run_polls (step ∷ steps) [] trace m end keep timed lives run = tt
   run_polls (step ∷ steps) (told ∷ replies) trace m end keep timed lives (next, is_step, rest) =
@@ -120,7 +120,7 @@ module _ {K L D : Type 0} (same : D → D → Bool) (decides : (d e : D) → sam
       )
 
 module _ {K L D : Type 0} (same : D → D → Bool) (decides : (d e : D) → same d e ≡ true → d ≡ e) (elect : Elect L) where
-  pub polls_answered : (term_length : ℕ) (start : StartFacts K L D) (steps : List (StepFacts K L D)) (replies : List (Told K D)) (end : MemberFacts K L D) → HasTerms term_length start.setup → KeepTerms term_length steps
+  pub polls_answered : (term_length : ℕ) (start : StartFacts K L D) (steps : List (StepFacts K L D)) (replies : List (ReplyFacts K D)) (end : MemberFacts K L D) → HasTerms term_length start.setup → KeepTerms term_length steps
       → IsRun same elect (new_member same elect start) steps replies end → PollsAreAnswered steps replies
   polls_answered term_length start steps replies end begins keep run =
       run_polls same decides elect term_length begins.some steps replies (of_floor start.floor) (new_member same elect start) end keep

@@ -20,7 +20,7 @@ use Rattle.simplex_voter.specs.Leaders.{has_leader, with_elected_leader}
 use Rattle.simplex_voter.specs.Facts.{StateFacts, Elect, round_at, round_of, round_number, is_tracked, with_round}
 use Rattle.simplex_voter.specs.Refusals.{first_fault, is_too_large, names_too_large, has_late_deadline, takes_round}
 use Rattle.simplex_voter.specs.Windows.{min_active}
-use Rattle.simplex_member.specs.Calls.{Told, AddNullification, AddFinalization, Certified}
+use Rattle.simplex_member.specs.Calls.{ReplyFacts, AddNullification, AddFinalization, Certified}
 use Rattle.simplex_member.specs.MemberFacts.{MemberFacts}
 use Rattle.simplex_member.specs.OutstandingWork.{OutstandingWork}
 use Rattle.simplex_member.specs.Runs.{StepFacts, IsRun}
@@ -164,7 +164,7 @@ module _ {K L D : Type 0} (same : D → D → Bool) (elect : Elect L) where
     alive = (event_goes same elect x (event.SetFloor floor now)).failed ∙ ap (λ (y : StateFacts K L D). y.failed) fresh.fresh;
   }
 
-  pub states_are_left : (term_length : ℕ) (start : StartFacts K L D) (steps : List (StepFacts K L D)) (replies : List (Told K D)) (end : MemberFacts K L D) → HasTerms term_length start.setup → KeepTerms term_length steps
+  pub states_are_left : (term_length : ℕ) (start : StartFacts K L D) (steps : List (StepFacts K L D)) (replies : List (ReplyFacts K D)) (end : MemberFacts K L D) → HasTerms term_length start.setup → KeepTerms term_length steps
       → IsRun same elect (new_member same elect start) steps replies end → MatchOption end.life (Unit {0}) (CanBeLeft same elect)
   states_are_left term_length start steps replies end begins keep run =
       by_life end.life (run_induction same elect term_length (IsSoundAndAlive term_length) (floor_goes_on term_length) (event_goes_on term_length) start steps replies end begins keep run)

@@ -1,11 +1,11 @@
--- For `lives_keep_order`.
+-- For `lifetimes_keep_order`.
 -- What holds of each call holds of each life.
 use Rattle.std.proofs.Common.{◌≡◌, refl, ap, ◌∙◌, ◌⊎◌, subst, Bool, true, false, List, [], ◌∷◌, Option, Some, None, inl, inr, sym}
 use Rattle.simplex_types.specs.declared.types.fault.Fault.{Fault}
 use Rattle.simplex_voter.specs.Facts.{StateFacts, Elect}
 use Rattle.simplex_member.specs.CallConditions.{is_allowed, fault_of}
-use Rattle.simplex_member.specs.Calls.{CallFacts, Told, Refused, NotAllowed}
-use Rattle.laws_safety.specs.LifetimeLaws.{IsLife, WhileAlive, NeverFalls}
+use Rattle.simplex_member.specs.Calls.{CallFacts, ReplyFacts, Refused, NotAllowed}
+use Rattle.laws_safety.specs.LifetimeLaws.{IsLifetime, WhileAlive, NeverFalls}
 use Rattle.simplex_member.specs.MemberFacts.{MemberFacts, IsCall, AnswersAlive, reply_of, left_of}
 use Rattle.simplex_member.specs.CallSemantics.{answer, after_call}
 use Rattle.simplex_member.specs.OutstandingWork.{OutstandingWork}
@@ -26,12 +26,12 @@ module _ {K L D : Type 0} where
 
 module _ {K L D : Type 0} (same : D → D → Bool) (elect : Elect L) where
   -- a relation of each state to itself where a call is refused, and to what is left where it is answered
-  module _ (Holds : CallFacts D → Told K D → StateFacts K L D → StateFacts K L D → Type 0)
+  module _ (Holds : CallFacts D → ReplyFacts K D → StateFacts K L D → StateFacts K L D → Type 0)
       (refused : (call : CallFacts D) (fault : Fault) (x : StateFacts K L D) → Holds call (Refused fault) x x)
       (not_allowed : (call : CallFacts D) (x : StateFacts K L D) → Holds call NotAllowed x x)
       (answered : (call : CallFacts D) (x : StateFacts K L D) (o : OutstandingWork K D) → is_allowed x o call ≡ true → Holds call (answer same elect x o call) x (after_call same elect x o call)) where
     -- the call is refused and leaves no state, or it leads from one state to another
-    abbrev pub Outcome : MemberFacts K L D → CallFacts D → Told K D → MemberFacts K L D → Type 0
+    abbrev pub Outcome : MemberFacts K L D → CallFacts D → ReplyFacts K D → MemberFacts K L D → Type 0
     Outcome m call told left =
         ((fault : Fault) × (told ≡ Refused fault) × (left.life ≡ None))
         ⊎ ((x y : StateFacts K L D) × (m.life ≡ Some x) × (left.life ≡ Some y) × Holds call told x y)
@@ -47,7 +47,7 @@ module _ {K L D : Type 0} (same : D → D → Bool) (elect : Elect L) where
         by_allowed true allowed = by_fault (fault_of x call) refl allowed
         by_allowed false refuses = rw refuses (x, alive, not_allowed call x)
 
-    pub call_outcome : (m : MemberFacts K L D) (call : CallFacts D) (told : Told K D) (left : MemberFacts K L D) → IsCall same elect m call told left → Outcome m call told left
+    pub call_outcome : (m : MemberFacts K L D) (call : CallFacts D) (told : ReplyFacts K D) (left : MemberFacts K L D) → IsCall same elect m call told left → Outcome m call told left
     unfolding IsCall
     call_outcome m call told left is_call = by_life m.life refl is_call
       where
@@ -59,20 +59,20 @@ module _ {K L D : Type 0} (same : D → D → Bool) (elect : Elect L) where
         by_life (Some x) alive (inr (_, tells, inl (_, leaves))) = inr (x, x, alive, ap (λ n. n.life) leaves ∙ alive, subst (λ t. Holds call t x x) (sym tells) (refused call _ x))
         by_life (Some x) alive (inr (_, tells, inr (_, _, leaves))) = inl (_, tells, ap (λ n. n.life) leaves)
 
-    pub each_call : (m : MemberFacts K L D) (call : CallFacts D) (told : Told K D) (left : MemberFacts K L D) → IsCall same elect m call told left → WhileAlive (Holds call told) m.life left.life
+    pub each_call : (m : MemberFacts K L D) (call : CallFacts D) (told : ReplyFacts K D) (left : MemberFacts K L D) → IsCall same elect m call told left → WhileAlive (Holds call told) m.life left.life
     each_call m call told left is_step = elim (call_outcome m call told left is_step) [
       | inl (fault, tells, dies) ↦ rw dies tt
       | inr (x, y, alive, lives, holds) ↦ rw (alive, lives) holds
     ]
 
 module _ {K L D : Type 0} (same : D → D → Bool) (elect : Elect L) where
-  call_never_falls : (m : MemberFacts K L D) (call : CallFacts D) (told : Told K D) (left : MemberFacts K L D) → IsCall same elect m call told left → WhileAlive NeverFalls m.life left.life
+  call_never_falls : (m : MemberFacts K L D) (call : CallFacts D) (told : ReplyFacts K D) (left : MemberFacts K L D) → IsCall same elect m call told left → WhileAlive NeverFalls m.life left.life
   call_never_falls =
       each_call same elect (λ call told. NeverFalls)
       (λ call fault x. never_fell x) (λ call x. never_fell x)
       (λ call x o allowed. never_falls x _ (call_goes same elect x o call))
 
-  pub life_never_falls : (m end : MemberFacts K L D) (calls : List (CallFacts D)) (replies : List (Told K D)) → IsLife same elect m calls replies end → WhileAlive NeverFalls m.life end.life
+  pub life_never_falls : (m end : MemberFacts K L D) (calls : List (CallFacts D)) (replies : List (ReplyFacts K D)) → IsLifetime same elect m calls replies end → WhileAlive NeverFalls m.life end.life
   life_never_falls m end [] [] life = subst (λ n. WhileAlive NeverFalls m.life n.life) life (alive_still NeverFalls m.life (λ x. never_fell x))
   life_never_falls m end [] (told ∷ replies) life = absurd life
   life_never_falls m end (call ∷ calls) [] life = absurd life

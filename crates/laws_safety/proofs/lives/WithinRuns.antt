@@ -6,9 +6,9 @@ use Rattle.simplex_types.specs.declared.types.fault.Fault.{Fault}
 use Rattle.simplex_voter.specs.Facts.{StateFacts, Elect}
 use Rattle.simplex_voter.specs.Windows.{min_active}
 use Rattle.simplex_member.specs.CallConditions.{is_allowed}
-use Rattle.simplex_member.specs.Calls.{CallFacts, Told, Dropped, Refused, NotAllowed}
+use Rattle.simplex_member.specs.Calls.{CallFacts, ReplyFacts, Dropped, Refused, NotAllowed}
 use Rattle.laws_safety.specs.Executions.{new_member}
-use Rattle.laws_safety.specs.LifetimeLaws.{IsLife, IsLifeOfRun, WhileAlive, WasDropped, ConflictsStay, DroppedForGood, HandedOnce, IsAsAsked, HandedAsAsked}
+use Rattle.laws_safety.specs.LifetimeLaws.{IsLifetime, IsLifetimeOfRun, WhileAlive, WasDropped, ConflictsStay, DroppedForGood, ReturnedOnce, IsAsAsked, ReturnedAsRequested}
 use Rattle.simplex_member.specs.MemberFacts.{MemberFacts, IsCall}
 use Rattle.simplex_member.specs.CallSemantics.{answer, after_call}
 use Rattle.simplex_member.specs.OutstandingWork.{OutstandingWork}
@@ -27,17 +27,17 @@ use Rattle.laws_safety.proofs.frames.RunsKeep.{HoldsIn, run_induction}
 use Rattle.laws_safety.proofs.lives.WithinLives.{alive_still, alive_joined, each_call, call_outcome}
 
 -- where no view below one that is kept is tracked none comes to be, also where views are dropped on the way
-pub record Away {K L D : Type 0} (replies : List (Told K D)) (x y : StateFacts K L D) : Type 0 where
+pub record Away {K L D : Type 0} (replies : List (ReplyFacts K D)) (x y : StateFacts K L D) : Type 0 where
   pub floor : min_active x ≤ min_active y
   pub clear : (low : ℕ) → low ≤ min_active x → IsClear low x → IsClear low y
   pub dropped : (v : ℕ) → WasDropped replies v → (low : ℕ) × (v < low) × (low ≤ min_active y) × IsClear low y
 
 -- from a sound state on
-abbrev pub SoundlyAway : {K L D : Type 0} → ℕ → List (Told K D) → StateFacts K L D → StateFacts K L D → Type 0
+abbrev pub SoundlyAway : {K L D : Type 0} → ℕ → List (ReplyFacts K D) → StateFacts K L D → StateFacts K L D → Type 0
 SoundlyAway term_length replies x y = IsSound term_length x → IsSound term_length y × Away replies x y
 
 module _ {K L D : Type 0} where
-  nothing_away : (told : Told K D) (x : StateFacts K L D) → ((views : List ℕ) → told ≡ Dropped views → ⊥) → Away (told ∷ []) x x
+  nothing_away : (told : ReplyFacts K D) (x : StateFacts K L D) → ((views : List ℕ) → told ≡ Dropped views → ⊥) → Away (told ∷ []) x x
   nothing_away told x none = record {
     floor = omega arith;
     clear = λ low under clear. clear;
@@ -47,7 +47,7 @@ module _ {K L D : Type 0} where
   away_still : (x : StateFacts K L D) → Away [] x x
   away_still x = record { floor = omega arith; clear = λ low under clear. clear; dropped = λ v is. absurd (omega (arith, is.1.1)) }
 
-  away_on : (told : Told K D) (replies : List (Told K D)) (x y z : StateFacts K L D) → Away (told ∷ []) x y → Away replies y z → Away (told ∷ replies) x z
+  away_on : (told : ReplyFacts K D) (replies : List (ReplyFacts K D)) (x y z : StateFacts K L D) → Away (told ∷ []) x y → Away replies y z → Away (told ∷ replies) x z
   away_on told replies x y z p q = record {
     floor = omega (arith, p.floor, q.floor);
     clear = λ low under clear. q.clear low (omega (arith, under, p.floor)) (p.clear low under clear);
@@ -78,14 +78,14 @@ module _ {K L D : Type 0} (same : D → D → Bool) (elect : Elect L) (term_leng
         },
       )
 
-  told_away : 0 < term_length → (m : MemberFacts K L D) (call : CallFacts D) (told : Told K D) (left : MemberFacts K L D) → IsCall same elect m call told left → WhileAlive (SoundlyAway term_length (told ∷ [])) m.life left.life
+  told_away : 0 < term_length → (m : MemberFacts K L D) (call : CallFacts D) (told : ReplyFacts K D) (left : MemberFacts K L D) → IsCall same elect m call told left → WhileAlive (SoundlyAway term_length (told ∷ [])) m.life left.life
   told_away some =
       each_call same elect (λ call told. SoundlyAway term_length (told ∷ []))
       (λ call fault x sound. (sound, nothing_away (Refused fault) x (λ views is. absurd (cc))))
       (λ call x sound. (sound, nothing_away NotAllowed x (λ views is. absurd (cc))))
       (λ call x o allowed. call_away some call x o allowed)
 
-  life_away : 0 < term_length → (m end : MemberFacts K L D) (calls : List (CallFacts D)) (replies : List (Told K D)) → IsLife same elect m calls replies end → WhileAlive (SoundlyAway term_length replies) m.life end.life
+  life_away : 0 < term_length → (m end : MemberFacts K L D) (calls : List (CallFacts D)) (replies : List (ReplyFacts K D)) → IsLifetime same elect m calls replies end → WhileAlive (SoundlyAway term_length replies) m.life end.life
   life_away some m end [] [] life = subst (λ n. WhileAlive (SoundlyAway term_length []) m.life n.life) life (alive_still (SoundlyAway term_length []) m.life (λ x sound. (sound, away_still x)))
   life_away some m end [] (told ∷ replies) life = absurd life
   life_away some m end (call ∷ calls) [] life = absurd life
@@ -101,29 +101,29 @@ IsSoundIn term_length life = HoldsIn (IsSound term_length) life
 
 module _ {K L D : Type 0} (same : D → D → Bool) (elect : Elect L) (term_length : ℕ) where
   -- a life of a run begins with a sound state
-  pub life_sound : (start : StartFacts K L D) (steps : List (StepFacts K L D)) (told : List (Told K D)) (m end : MemberFacts K L D) (calls : List (CallFacts D)) (replies : List (Told K D)) → HasTerms term_length start.setup → KeepTerms term_length steps → IsLifeOfRun same elect start steps told m calls replies end → IsSoundIn term_length m.life
+  pub life_sound : (start : StartFacts K L D) (steps : List (StepFacts K L D)) (told : List (ReplyFacts K D)) (m end : MemberFacts K L D) (calls : List (CallFacts D)) (replies : List (ReplyFacts K D)) → HasTerms term_length start.setup → KeepTerms term_length steps → IsLifetimeOfRun same elect start steps told m calls replies end → IsSoundIn term_length m.life
   life_sound start steps told m end calls replies begins fresh of_run =
       run_induction same elect term_length (IsSound term_length) (λ x floor now new. floor_sound same elect term_length x floor now new) (λ x e sound. event_sound same elect term_length x e sound) start steps told m begins fresh of_run.reached
 
-  for_good : (replies : List (Told K D)) (first last : Option (StateFacts K L D)) → IsSoundIn term_length first → WhileAlive (SoundlyAway term_length replies) first last → WhileAlive (DroppedForGood replies) first last
+  for_good : (replies : List (ReplyFacts K D)) (first last : Option (StateFacts K L D)) → IsSoundIn term_length first → WhileAlive (SoundlyAway term_length replies) first last → WhileAlive (DroppedForGood replies) first last
   for_good replies first None sound away = tt
   for_good replies None (Some y) sound away = absurd away
   for_good replies (Some x) (Some y) sound away = λ v is. (let gone = (away sound).1.dropped v is in gone.3.views v gone.1)
 
-  pub life_drops_for_good : (start : StartFacts K L D) (steps : List (StepFacts K L D)) (told : List (Told K D)) (m end : MemberFacts K L D) (calls : List (CallFacts D)) (replies : List (Told K D)) → HasTerms term_length start.setup → KeepTerms term_length steps → IsLifeOfRun same elect start steps told m calls replies end → WhileAlive (DroppedForGood replies) m.life end.life
+  pub life_drops_for_good : (start : StartFacts K L D) (steps : List (StepFacts K L D)) (told : List (ReplyFacts K D)) (m end : MemberFacts K L D) (calls : List (CallFacts D)) (replies : List (ReplyFacts K D)) → HasTerms term_length start.setup → KeepTerms term_length steps → IsLifetimeOfRun same elect start steps told m calls replies end → WhileAlive (DroppedForGood replies) m.life end.life
   life_drops_for_good start steps told m end calls replies begins fresh of_run =
       for_good replies m.life end.life (life_sound start steps told m end calls replies begins fresh of_run) (life_away same elect term_length begins.some m end calls replies of_run.life)
 
-  stay_in : (replies : List (Told K D)) (first last : Option (StateFacts K L D)) → WhileAlive (ConflictsLast replies) first last → WhileAlive (ConflictsStay replies) first last
+  stay_in : (replies : List (ReplyFacts K D)) (first last : Option (StateFacts K L D)) → WhileAlive (ConflictsLast replies) first last → WhileAlive (ConflictsStay replies) first last
   stay_in replies first None keeps = tt
   stay_in replies None (Some y) keeps = absurd keeps
   stay_in replies (Some x) (Some y) keeps = keeps.conflicts
 
-  pub life_conflicts : (start : StartFacts K L D) (steps : List (StepFacts K L D)) (told : List (Told K D)) (m end : MemberFacts K L D) (calls : List (CallFacts D)) (replies : List (Told K D)) → HasTerms term_length start.setup → KeepTerms term_length steps → IsLifeOfRun same elect start steps told m calls replies end → WhileAlive (ConflictsStay replies) m.life end.life
+  pub life_conflicts : (start : StartFacts K L D) (steps : List (StepFacts K L D)) (told : List (ReplyFacts K D)) (m end : MemberFacts K L D) (calls : List (CallFacts D)) (replies : List (ReplyFacts K D)) → HasTerms term_length start.setup → KeepTerms term_length steps → IsLifetimeOfRun same elect start steps told m calls replies end → WhileAlive (ConflictsStay replies) m.life end.life
   life_conflicts start steps told m end calls replies begins fresh of_run =
       stay_in replies m.life end.life (life_keeps same elect m end calls replies of_run.life)
 
-  pub life_hands_out_once : (start : StartFacts K L D) (steps : List (StepFacts K L D)) (told : List (Told K D)) (m end : MemberFacts K L D) (calls : List (CallFacts D)) (replies : List (Told K D)) → HasTerms term_length start.setup → KeepTerms term_length steps → IsLifeOfRun same elect start steps told m calls replies end → HandedOnce calls replies
+  pub life_hands_out_once : (start : StartFacts K L D) (steps : List (StepFacts K L D)) (told : List (ReplyFacts K D)) (m end : MemberFacts K L D) (calls : List (CallFacts D)) (replies : List (ReplyFacts K D)) → HasTerms term_length start.setup → KeepTerms term_length steps → IsLifetimeOfRun same elect start steps told m calls replies end → ReturnedOnce calls replies
   life_hands_out_once start steps told m end calls replies begins fresh of_run =
       life_hands_once same elect m end calls replies of_run.life
 
@@ -137,7 +137,7 @@ module _ (K : Type 0) {D : Type 0} where
 
 module _ {K L D : Type 0} (same : D → D → Bool) (elect : Elect L) (term_length : ℕ) where
   -- so it is of each call from a sound state on
-  told_as_asked : (m : MemberFacts K L D) (call : CallFacts D) (told : Told K D) (left : MemberFacts K L D) → IsCall same elect m call told left → IsSoundIn term_length m.life → IsAsAsked call told × IsSoundIn term_length left.life
+  told_as_asked : (m : MemberFacts K L D) (call : CallFacts D) (told : ReplyFacts K D) (left : MemberFacts K L D) → IsCall same elect m call told left → IsSoundIn term_length m.life → IsAsAsked call told × IsSoundIn term_length left.life
   told_as_asked m call told left is_call sound =
       elim (call_outcome same elect (λ c t x y. IsSound term_length x → IsAsAsked c t × IsSound term_length y)
       (λ c f x s. (refused_rightly K c f, s)) (λ c x s. (not_allowed_rightly K c, s))
@@ -146,7 +146,7 @@ module _ {K L D : Type 0} (same : D → D → Bool) (elect : Elect L) (term_leng
         | inr (x, y, alive, lives, keeps) ↦ (let kept = keeps (subst (IsSoundIn term_length) alive sound) in (kept.0, subst (IsSoundIn term_length) (sym lives) kept.1))
       ]
 
-  life_as_asked : (m end : MemberFacts K L D) (calls : List (CallFacts D)) (replies : List (Told K D)) → IsSoundIn term_length m.life → IsLife same elect m calls replies end → HandedAsAsked calls replies
+  life_as_asked : (m end : MemberFacts K L D) (calls : List (CallFacts D)) (replies : List (ReplyFacts K D)) → IsSoundIn term_length m.life → IsLifetime same elect m calls replies end → ReturnedAsRequested calls replies
   life_as_asked m end [] [] sound life = tt
   life_as_asked m end [] (told ∷ replies) sound life = absurd life
   life_as_asked m end (call ∷ calls) [] sound life = absurd life
@@ -154,13 +154,13 @@ module _ {K L D : Type 0} (same : D → D → Bool) (elect : Elect L) (term_leng
       let first = told_as_asked m call told next is_call sound in
       (first.0, life_as_asked next end calls replies first.1 rest)
 
-  pub life_hands_as_asked : (start : StartFacts K L D) (steps : List (StepFacts K L D)) (told : List (Told K D)) (m end : MemberFacts K L D) (calls : List (CallFacts D)) (replies : List (Told K D)) → HasTerms term_length start.setup → KeepTerms term_length steps → IsLifeOfRun same elect start steps told m calls replies end → HandedAsAsked calls replies
+  pub life_hands_as_asked : (start : StartFacts K L D) (steps : List (StepFacts K L D)) (told : List (ReplyFacts K D)) (m end : MemberFacts K L D) (calls : List (CallFacts D)) (replies : List (ReplyFacts K D)) → HasTerms term_length start.setup → KeepTerms term_length steps → IsLifetimeOfRun same elect start steps told m calls replies end → ReturnedAsRequested calls replies
   life_hands_as_asked start steps told m end calls replies begins fresh of_run =
       life_as_asked m end calls replies (life_sound same elect term_length start steps told m end calls replies begins fresh of_run) of_run.life
 
 module _ {K L D : Type 0} (same : D → D → Bool) (elect : Elect L) where
   -- a run comes apart between its steps
-  run_apart : (steps after : List (StepFacts K L D)) (told rest : List (Told K D)) (m end : MemberFacts K L D) → length steps ≡ length told → IsRun same elect m (steps ++ after) (told ++ rest) end → (middle : MemberFacts K L D) × IsRun same elect m steps told middle × IsRun same elect middle after rest end
+  run_apart : (steps after : List (StepFacts K L D)) (told rest : List (ReplyFacts K D)) (m end : MemberFacts K L D) → length steps ≡ length told → IsRun same elect m (steps ++ after) (told ++ rest) end → (middle : MemberFacts K L D) × IsRun same elect m steps told middle × IsRun same elect middle after rest end
   run_apart [] after [] rest m end as_many run = (m, refl, run)
   run_apart [] after (reply ∷ told) rest m end as_many run = absurd (omega (arith, as_many))
   run_apart (step ∷ steps) after [] rest m end as_many run = absurd (omega (arith, as_many))
@@ -169,14 +169,14 @@ module _ {K L D : Type 0} (same : D → D → Bool) (elect : Elect L) where
       (parts.0, (next, is_step, parts.1), parts.2)
 
   -- the beginning of a run from a start is one
-  pub run_from_before : (start : StartFacts K L D) (steps after : List (StepFacts K L D)) (told rest : List (Told K D)) → length steps ≡ length told → IsRunFrom same elect start (steps ++ after) (told ++ rest) → IsRunFrom same elect start steps told
+  pub run_from_before : (start : StartFacts K L D) (steps after : List (StepFacts K L D)) (told rest : List (ReplyFacts K D)) → length steps ≡ length told → IsRunFrom same elect start (steps ++ after) (told ++ rest) → IsRunFrom same elect start steps told
   unfolding IsRunFrom
   run_from_before start steps after told rest as_many (accepted, last, run) =
       let first = run_apart steps after told rest (new_member same elect start) last as_many run in
       (accepted, first.0, first.1)
 
   -- calls of a run without a restart among them go on from a member that the run leads to
-  pub stretch_is_life : (start : StartFacts K L D) (steps after : List (StepFacts K L D)) (calls : List (CallFacts D)) (told replies rest : List (Told K D)) → length steps ≡ length told → length calls ≡ length replies → IsRunFrom same elect start (steps ++ (map Calls calls ++ after)) (told ++ (replies ++ rest)) → (m end : MemberFacts K L D) × IsLifeOfRun same elect start steps told m calls replies end
+  pub stretch_is_life : (start : StartFacts K L D) (steps after : List (StepFacts K L D)) (calls : List (CallFacts D)) (told replies rest : List (ReplyFacts K D)) → length steps ≡ length told → length calls ≡ length replies → IsRunFrom same elect start (steps ++ (map Calls calls ++ after)) (told ++ (replies ++ rest)) → (m end : MemberFacts K L D) × IsLifetimeOfRun same elect start steps told m calls replies end
   unfolding IsRunFrom
   stretch_is_life start steps after calls told replies rest as_many as_told (accepted, last, run) =
       let first = run_apart steps (map Calls calls ++ after) told (replies ++ rest) (new_member same elect start) last as_many run in

@@ -1,4 +1,4 @@
--- For `lives_may_differ`, `refusals_accept_nothing`.
+-- For `lifetimes_may_differ`, `refusals_accept_nothing`.
 -- Members of whom much is refused, and whose lives differ, run as they are told.
 use Rattle.std.proofs.Common.{◌≡◌, refl, ℕ, inl, inr, true, false, List, [], ◌∷◌, ◌++◌, nat_eq, arith}
 use Rattle.simplex_types.specs.Certificates.{ArtifactFacts, NullifyVote, FinalizeVote, Verdict, Accepted, Notarized, Nullified, Finalized as CertifiedFinal}
@@ -12,7 +12,7 @@ use Rattle.simplex_record.specs.Check.{first_recover_error}
 use Rattle.simplex_record.specs.Cuts.{may_drop, pruned_entries}
 use Rattle.simplex_record.specs.Entries.{entry_view}
 use Rattle.simplex_record.specs.Recovery.{recovered_state, after_kept_entry}
-use Rattle.laws_safety.specs.ChangedSettings.{wider_start, refusing, keyless_start, other_start, changing, with_refusing, giving_up, with_changing}
+use Rattle.laws_safety.specs.ChangedSettings.{wider_start, refusing, keyless_start, other_start, changing, with_refusing, abandoning, with_changing}
 use Rattle.laws_safety.specs.Replicas.{FewFaulty, IsNetworkOf}
 use Rattle.laws_safety.specs.Scripts.{leader, patient}
 use Rattle.laws_safety.specs.Executions.{new_member, Execution, BeginsAs, IsExecution}
@@ -96,15 +96,15 @@ patient_told_2 : told_from nat_eq leader (patient 2) ≡ (patient 2).replies
 unfolding standing has_valid_parent_span ancestry_payload_for_child first_unnullified_view explicit_ancestry_payload in_issuance_window is_admitted verification_matches parent_payload_for may_notarize may_nullify may_finalize has_conflicting_nullify required_certification_parent
 patient_told_2 = refl
 
-giving_up_told : told_from nat_eq leader giving_up ≡ giving_up.replies
+giving_up_told : told_from nat_eq leader abandoning ≡ abandoning.replies
 unfolding standing has_valid_parent_span ancestry_payload_for_child first_unnullified_view explicit_ancestry_payload in_issuance_window is_admitted verification_matches parent_payload_for may_notarize may_nullify may_finalize has_conflicting_nullify required_certification_parent
 giving_up_told = refl
 
-giving_up_ran : IsExecution nat_eq leader 5 0 giving_up
+giving_up_ran : IsExecution nat_eq leader 5 0 abandoning
 unfolding first_recover_error
 giving_up_ran =
-    let begins : BeginsAs 5 0 giving_up.start.setup = record { terms = record { terms = refl; some = omega arith }; signs_as = inl refl } in
-    record { lives = record { first = begins; later = each_begins 5 0 giving_up.steps tt }; run = fits_run_from nat_eq leader giving_up refl tt giving_up_told }
+    let begins : BeginsAs 5 0 abandoning.start.setup = record { terms = record { terms = refl; some = omega arith }; signs_as = inl refl } in
+    record { lives = record { first = begins; later = each_begins 5 0 abandoning.steps tt }; run = fits_run_from nat_eq leader abandoning refl tt giving_up_told }
 
 few_with_refusing : FewFaulty with_refusing
 few_with_refusing = inl (omega arith, omega arith)

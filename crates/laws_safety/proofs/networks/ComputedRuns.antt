@@ -8,14 +8,14 @@ use Rattle.std.proofs.lemmas.Bool.{leb-true}
 use Rattle.simplex_types.specs.declared.types.fault.Fault.TheVariants as fault
 use Rattle.simplex_voter.specs.Facts.{StateFacts, Elect}
 use Rattle.simplex_voter.proofs.Gaps.{and_parts}
-use Rattle.simplex_member.specs.Calls.{CallFacts, Told, Refused, Restarted, NotRestarted, Done}
+use Rattle.simplex_member.specs.Calls.{CallFacts, ReplyFacts, Refused, Restarted, NotRestarted, Done}
 use Rattle.simplex_record.specs.Entries.{entry_view}
-use Rattle.simplex_member.specs.MemberFacts.{MemberFacts, AnswersAlive, IsCall, reply_of, left_of, without_life}
+use Rattle.simplex_member.specs.MemberFacts.{MemberFacts, AnswersAlive, IsCall, reply_of, left_of, without_lifetime}
 use Rattle.simplex_record.specs.Recovery.{recover_error}
 use Rattle.simplex_record.specs.declared.record.error.RecoverError.{RecoverError}
 use Rattle.simplex_record.specs.declared.record.error.RecoverError.TheVariants as error
-use Rattle.simplex_member.specs.Restarts.{RestartFacts, cut_member, new_life, retention_grows, IsRestart, IsRestartWhere}
-use Rattle.simplex_member.specs.Runs.{StepFacts, Calls, Prunes, Restarts, restart_told, IsRun, IsRunFrom}
+use Rattle.simplex_member.specs.Restarts.{RestartFacts, cut_member, new_lifetime, retention_grows, IsRestart, IsRestartWhere}
+use Rattle.simplex_member.specs.Runs.{StepFacts, Calls, Prunes, Restarts, restart_reply, IsRun, IsRunFrom}
 use Rattle.simplex_record.specs.Start.{new_state}
 use Rattle.simplex_member.specs.Pruning.{pruned_member}
 use Rattle.laws_safety.specs.Executions.{new_member, Execution, BeginsAs}
@@ -37,7 +37,7 @@ module _ {K L D : Type 0} (same : D → D → Bool) (elect : Elect L) where
   grows_at m r = retention_grows m r.prune r.start.setup.settings.view_retention
 
   -- what a restart is told, by whether the retention grows and the error that is due
-  abbrev pub told_restart : Bool → Option RecoverError → Told K D
+  abbrev pub told_restart : Bool → Option RecoverError → ReplyFacts K D
   told_restart true due = NotRestarted error.RetentionGrown
   told_restart false None = Restarted
   told_restart false (Some e) = NotRestarted e
@@ -45,11 +45,11 @@ module _ {K L D : Type 0} (same : D → D → Bool) (elect : Elect L) where
   -- and what it leaves
   abbrev pub left_restart : Bool → Option RecoverError → MemberFacts K L D → RestartFacts K L D → MemberFacts K L D
   left_restart true due m r = m
-  left_restart false None m r = new_life same elect (cut_member m r.drop r.prune) r.start (cut_member m r.drop r.prune).entries
-  left_restart false (Some e) m r = without_life (cut_member m r.drop r.prune)
+  left_restart false None m r = new_lifetime same elect (cut_member m r.drop r.prune) r.start (cut_member m r.drop r.prune).entries
+  left_restart false (Some e) m r = without_lifetime (cut_member m r.drop r.prune)
 
   -- what is told, where no growth is refused
-  abbrev pub reply_then : Option (StateFacts K L D) → MemberFacts K L D → StepFacts K L D → Told K D
+  abbrev pub reply_then : Option (StateFacts K L D) → MemberFacts K L D → StepFacts K L D → ReplyFacts K D
   reply_then life m Prunes = Done
   reply_then life m (Restarts r) = told_restart (grows_at m r) (due_error m r)
   reply_then None m (Calls call) = Refused fault.Failed
@@ -62,7 +62,7 @@ module _ {K L D : Type 0} (same : D → D → Bool) (elect : Elect L) where
   next_then None m (Calls call) = m
   next_then (Some x) m (Calls call) = left_of same elect x m call
 
-  abbrev pub replies_from : MemberFacts K L D → List (StepFacts K L D) → List (Told K D)
+  abbrev pub replies_from : MemberFacts K L D → List (StepFacts K L D) → List (ReplyFacts K D)
   replies_from m [] = []
   replies_from m (step ∷ steps) = reply_then m.life m step ∷ replies_from (next_then m.life m step) steps
 
@@ -86,7 +86,7 @@ module _ {K L D : Type 0} (same : D → D → Bool) (elect : Elect L) where
   unfolding IsCall
   call_made m call = call_answered m.life m call
 
-  told_so : (grows : Bool) (due : Option RecoverError) → told_restart grows due ≡ restart_told (result_then grows due)
+  told_so : (grows : Bool) (due : Option RecoverError) → told_restart grows due ≡ restart_reply (result_then grows due)
   told_so true due = refl
   told_so false None = refl
   told_so false (Some e) = refl
@@ -110,12 +110,12 @@ module _ {K L D : Type 0} (same : D → D → Bool) (elect : Elect L) where
       (next_then m.life m (Restarts r), (result_then grows due, restart_made m r fits.0, told_so grows due), fits_run (next_then m.life m (Restarts r)) steps fits.1)
 
   -- what the steps of an execution are told, from its start on
-  abbrev pub told_from : Execution K L D → List (Told K D)
+  abbrev pub told_from : Execution K L D → List (ReplyFacts K D)
   told_from s = replies_from (new_member same elect s.start) s.steps
 
   pub fits_run_from : (s : Execution K L D) → recover_error same (new_state s.start.setup) s.start.floor s.start.now [] ≡ None → FindsRisingRecords (new_member same elect s.start) s.steps → replies_from (new_member same elect s.start) s.steps ≡ s.replies → IsRunFrom same elect s.start s.steps s.replies
   unfolding IsRunFrom
-  fits_run_from s none fits is = (none, end_from (new_member same elect s.start) s.steps, subst (λ (told : List (Told K D)). IsRun same elect (new_member same elect s.start) s.steps told (end_from (new_member same elect s.start) s.steps)) is (fits_run (new_member same elect s.start) s.steps fits))
+  fits_run_from s none fits is = (none, end_from (new_member same elect s.start) s.steps, subst (λ (told : List (ReplyFacts K D)). IsRun same elect (new_member same elect s.start) s.steps told (end_from (new_member same elect s.start) s.steps)) is (fits_run (new_member same elect s.start) s.steps fits))
 
 -- the numbers of the items rise
 abbrev pub rises_from : {X : Type 0} → (X → ℕ) → ℕ → List X → Bool

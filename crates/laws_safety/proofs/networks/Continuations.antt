@@ -1,5 +1,5 @@
--- For `conflicts_are_left`, `gaps_are_closed`, `nullified_handoffs_are_left`, `rivals_are_answered_for`,
--- `skipped_finalizations_are_answered_for`, `views_ahead_are_agreed_on`.
+-- For `conflicts_are_left`, `gaps_are_closed`, `nullified_handoffs_are_left`, `rivals_have_faulty_members`,
+-- `skipped_finalizations_have_faulty_members`, `views_ahead_are_agreed_on`.
 -- Tests by which it is computed that a network goes on as another, and what each of them shows. Payloads are numbers.
 use Rattle.std.proofs.Common.{◌≡◌, refl, ap, sym, ◌∙◌, subst, ℕ, zero, suc, ◌+◌, ◌<◌, ◌⊎◌, inl, inr, Bool, true, false, ◌&&◌, ◌||◌, not, if◌then◌else◌, List, [], ◌∷◌, map, length, slice_get, Contains, Some, nat_eq, nat_lt, arith}
 use Rattle.std.specs.Prelude.{◌==◌}
@@ -15,10 +15,10 @@ use Rattle.simplex_types.specs.declared.types.numbers.Round.{Round}
 use Rattle.simplex_types.proofs.Proposal.{same_proposal-true}
 use Rattle.simplex_voter.specs.Facts.{Elect}
 use Rattle.simplex_voter.proofs.Gaps.{and_parts}
-use Rattle.simplex_member.specs.Calls.{SetProposal, Proposed, Told}
+use Rattle.simplex_member.specs.Calls.{SetProposal, Proposed, ReplyFacts}
 use Rattle.simplex_member.specs.Runs.{StepFacts, Calls, Restarts}
 use Rattle.laws_safety.specs.Accountability.{IsBackedNetwork}
-use Rattle.laws_safety.specs.Continuations.{and_then, ReplicasGoOn, EachHonest, SomeHonest, HasSignedAs, HasAccepted, HasHeard, HasBuilt, IsHonestlySigned, HonestlyBacked, GoesOnToFinalize}
+use Rattle.laws_safety.specs.Continuations.{and_then, ReplicasContinue, EachHonest, SomeHonest, HasSignedAs, HasAccepted, HasHeard, HasBuilt, IsHonestlySigned, HonestlyBacked, ContinuesToFinalize}
 use Rattle.laws_safety.specs.Traces.{TraceEvent, Accepts, Signs}
 use Rattle.laws_safety.specs.Replicas.{Replica, Faulty, Honest, FewFaulty, AtLeastFrom, quorum, MayHaveSigned, Backed, IsNetworkOf}
 use Rattle.laws_safety.specs.Executions.{Execution, trace_of, IsExecution}
@@ -274,7 +274,7 @@ module _ (elect : Elect ℕ) (term_length : ℕ) where
   }
 
   -- the beginning of a run is one
-  ran_before : (i : ℕ) (s : Execution ℕ ℕ ℕ) (more : List (StepFacts ℕ ℕ ℕ × Told ℕ ℕ)) → length s.steps ≡ length s.replies → IsExecution nat_eq elect term_length i (and_then s more) → IsExecution nat_eq elect term_length i s
+  ran_before : (i : ℕ) (s : Execution ℕ ℕ ℕ) (more : List (StepFacts ℕ ℕ ℕ × ReplyFacts ℕ ℕ)) → length s.steps ≡ length s.replies → IsExecution nat_eq elect term_length i (and_then s more) → IsExecution nat_eq elect term_length i s
   ran_before i s more as_many ran = record {
     lives = record {
       first = ran.lives.first;
@@ -288,7 +288,7 @@ module _ (elect : Elect ℕ) (term_length : ℕ) where
   have_replies (Faulty ∷ network) = have_replies network
   have_replies (Honest s ∷ network) = length s.steps == length s.replies && have_replies network
 
-  pub all_ran_before : (j : ℕ) (network later : List (Replica ℕ ℕ ℕ)) → have_replies network ≡ true → ReplicasGoOn network later → AreExecutions j later → AreExecutions j network
+  pub all_ran_before : (j : ℕ) (network later : List (Replica ℕ ℕ ℕ)) → have_replies network ≡ true → ReplicasContinue network later → AreExecutions j later → AreExecutions j network
   all_ran_before j [] [] full goes all = tt
   all_ran_before j [] (p ∷ later) full goes all = absurd goes
   all_ran_before j (Faulty ∷ network) [] full goes all = absurd goes
@@ -362,9 +362,9 @@ module _ (elect : Elect ℕ) (term_length : ℕ) where
       pub finalized : each_honest is_finalized 0 later ≡ true
       pub new : are_finalized_below ≡ true
 
-    pub goes_on_so : FewFaulty network → FewFaulty later → ReplicasGoOn network later → AreExecutions 0 later → PassesTests → GoesOnToFinalize nat_eq elect term_length network later final
+    pub goes_on_so : FewFaulty network → FewFaulty later → ReplicasContinue network later → AreExecutions 0 later → PassesTests → ContinuesToFinalize nat_eq elect term_length network later final
     goes_on_so few later_few goes all tests = record {
-      goes_on = goes;
+      continues = goes;
       runs = network_of later later_few all tests.backed;
       certificates = λ i s at c h. from_honest c (accepted_so comes_from_honest later tests.certificates i s at c h);
       proposals = λ i s at v p h. proposed_so v p (heard_so is_proposed later tests.proposals i s at v p h);

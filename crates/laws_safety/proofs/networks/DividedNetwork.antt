@@ -17,7 +17,7 @@ use Rattle.simplex_record.specs.Cuts.{may_drop, pruned_entries}
 use Rattle.simplex_record.specs.Entries.{entry_view}
 use Rattle.simplex_record.specs.Recovery.{recovered_state, after_kept_entry}
 use Rattle.laws_safety.specs.DividedNetwork.{rival, deceived, warned, divided, after_conflict, leads_past_conflict, follows_past_conflict, united}
-use Rattle.laws_safety.specs.Continuations.{and_then, ReplicasGoOn, GoesOnToFinalize}
+use Rattle.laws_safety.specs.Continuations.{and_then, ReplicasContinue, ContinuesToFinalize}
 use Rattle.laws_safety.specs.Traces.{TraceEvent, Signs}
 use Rattle.laws_safety.specs.Replicas.{FewFaulty, Backed, IsNetworkOf}
 use Rattle.laws_safety.specs.ScenarioSteps.{one, in_turn}
@@ -88,7 +88,7 @@ few = inl (omega arith, omega arith)
 later_few : FewFaulty united
 later_few = inl (omega arith, omega arith)
 
-goes : ReplicasGoOn divided united
+goes : ReplicasContinue divided united
 goes = ((leads_past_conflict 0 2000 CertificationTimeout, refl), ((follows_past_conflict 1 2000 CertificationTimeout, refl), ((follows_past_conflict 2 1000 LeaderTimeout, refl), tt)))
 
 all_ran : AreExecutions in_turn 1 0 united
@@ -97,7 +97,7 @@ all_ran = (leading_ran, (following_ran, (forgetting_ran, tt)))
 pub divided_network : IsNetworkOf nat_eq in_turn 1 divided
 divided_network = network_of in_turn 1 divided few (all_ran_before in_turn 1 0 divided united refl goes all_ran) refl
 
-pub divided_goes_on : GoesOnToFinalize nat_eq in_turn 1 divided united after_conflict
+pub divided_goes_on : ContinuesToFinalize nat_eq in_turn 1 divided united after_conflict
 divided_goes_on = goes_on_so in_turn 1 divided united after_conflict few later_few goes all_ran (record { backed = refl; certificates = refl; proposals = refl; finalized = refl; new = refl })
 
 -- no proposal has votes enough: each of the two has that of one honest member

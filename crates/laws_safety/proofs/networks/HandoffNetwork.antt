@@ -12,7 +12,7 @@ use Rattle.simplex_voter.specs.Rules.{may_notarize, may_nullify, may_finalize, h
 use Rattle.simplex_voter.specs.Verification.{standing}
 use Rattle.simplex_voter.specs.Windows.{is_admitted, in_issuance_window}
 use Rattle.simplex_record.specs.Check.{first_recover_error}
-use Rattle.laws_safety.specs.Continuations.{and_then, HasSignedAs, ReplicasGoOn, GoesOnToFinalize}
+use Rattle.laws_safety.specs.Continuations.{and_then, HasSignedAs, ReplicasContinue, ContinuesToFinalize}
 use Rattle.laws_safety.specs.HandoffNetwork.{handed_over, takes_over, can_not_verify, taken_over, leads_past_handoff, follows_past_handoff, gone_on, after_handoff}
 use Rattle.laws_safety.specs.Traces.{Signs}
 use Rattle.laws_safety.specs.Replicas.{FewFaulty, Backed, IsNetworkOf}
@@ -60,7 +60,7 @@ few = inl (omega arith, omega arith)
 later_few : FewFaulty gone_on
 later_few = inl (omega arith, omega arith)
 
-goes : ReplicasGoOn taken_over gone_on
+goes : ReplicasContinue taken_over gone_on
 goes = ((follows_past_handoff 0, refl), ((leads_past_handoff 1, refl), ((follows_past_handoff 2, refl), tt)))
 
 all_ran : AreExecutions in_turn 2 0 gone_on
@@ -69,7 +69,7 @@ all_ran = (left_first_ran, (left_second_ran, (left_third_ran, tt)))
 pub taken_over_network : IsNetworkOf nat_eq in_turn 2 taken_over
 taken_over_network = network_of in_turn 2 taken_over few (all_ran_before in_turn 2 0 taken_over gone_on refl goes all_ran) refl
 
-pub taken_over_goes_on : GoesOnToFinalize nat_eq in_turn 2 taken_over gone_on after_handoff
+pub taken_over_goes_on : ContinuesToFinalize nat_eq in_turn 2 taken_over gone_on after_handoff
 taken_over_goes_on = goes_on_so in_turn 2 taken_over gone_on after_handoff few later_few goes all_ran (record { backed = refl; certificates = refl; proposals = refl; finalized = refl; new = refl })
 
 -- no proposal above view 1 has votes enough: at most that of the leader

@@ -10,8 +10,8 @@ use Rattle.simplex_voter.specs.Rules.{may_notarize, may_nullify, may_finalize, h
 use Rattle.simplex_voter.specs.Verification.{standing}
 use Rattle.simplex_voter.specs.Windows.{is_admitted, in_issuance_window}
 use Rattle.simplex_record.specs.Check.{first_recover_error}
-use Rattle.laws_safety.specs.Continuations.{and_then, HasAccepted, ReplicasGoOn, GoesOnToFinalize}
-use Rattle.laws_safety.specs.MissingCertificatesNetwork.{lacks_nullification, skips_two, member_without_notarization, lacking_certificates, finishes, has_nullification, has_notarization, supplied, over_two}
+use Rattle.laws_safety.specs.Continuations.{and_then, HasAccepted, ReplicasContinue, ContinuesToFinalize}
+use Rattle.laws_safety.specs.MissingCertificatesNetwork.{lacks_nullification, skips_two, member_without_notarization, missing_certificates, finishes, has_nullification, has_notarization, supplied, over_two}
 use Rattle.laws_safety.specs.Replicas.{FewFaulty, IsNetworkOf}
 use Rattle.laws_safety.specs.ScenarioSteps.{round, one, in_turn}
 use Rattle.laws_safety.specs.Executions.{Execution, IsExecution}
@@ -51,23 +51,23 @@ supplied_third_ran : IsExecution nat_eq in_turn 1 2 supplied_third
 unfolding first_recover_error
 supplied_third_ran = ran_as_told 1 2 supplied_third (begins 1 2 (omega arith)) tt refl tt supplied_third_told
 
-few : FewFaulty lacking_certificates
+few : FewFaulty missing_certificates
 few = inl (omega arith, omega arith)
 
 later_few : FewFaulty supplied
 later_few = inl (omega arith, omega arith)
 
-goes : ReplicasGoOn lacking_certificates supplied
+goes : ReplicasContinue missing_certificates supplied
 goes = ((has_nullification, refl), ((finishes 1, refl), ((has_notarization, refl), tt)))
 
 all_ran : AreExecutions in_turn 1 0 supplied
 all_ran = (supplied_first_ran, (supplied_second_ran, (supplied_third_ran, tt)))
 
-pub lacking_network : IsNetworkOf nat_eq in_turn 1 lacking_certificates
-lacking_network = network_of in_turn 1 lacking_certificates few (all_ran_before in_turn 1 0 lacking_certificates supplied refl goes all_ran) refl
+pub lacking_network : IsNetworkOf nat_eq in_turn 1 missing_certificates
+lacking_network = network_of in_turn 1 missing_certificates few (all_ran_before in_turn 1 0 missing_certificates supplied refl goes all_ran) refl
 
-pub lacking_goes_on : GoesOnToFinalize nat_eq in_turn 1 lacking_certificates supplied over_two
-lacking_goes_on = goes_on_so in_turn 1 lacking_certificates supplied over_two few later_few goes all_ran (record { backed = refl; certificates = refl; proposals = refl; finalized = refl; new = refl })
+pub lacking_goes_on : ContinuesToFinalize nat_eq in_turn 1 missing_certificates supplied over_two
+lacking_goes_on = goes_on_so in_turn 1 missing_certificates supplied over_two few later_few goes all_ran (record { backed = refl; certificates = refl; proposals = refl; finalized = refl; new = refl })
 
 -- what two members have not accepted
 

@@ -1,4 +1,4 @@
--- For `rivals_are_answered_for`, `skipped_finalizations_are_answered_for`.
+-- For `rivals_have_faulty_members`, `skipped_finalizations_have_faulty_members`.
 -- Networks in which certificates contradict, and who answers for it.
 use Rattle.std.proofs.Common.{◌≡◌, ◌≢◌, refl, ap, subst, ℕ, zero, suc, inl, inr, Bool, true, ◌&&◌, List, [], ◌∷◌, length, slice_get, Contains, Option, Some, None, nat_eq, arith}
 use Rattle.std.specs.List.{list_any}

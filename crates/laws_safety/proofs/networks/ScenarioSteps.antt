@@ -1,7 +1,7 @@
 -- For `conflicts_are_left`, `gaps_are_closed`, `nullified_handoffs_are_left`, `views_ahead_are_agreed_on`.
 -- Members of the networks in which leaders take turns: what an execution is whose replies are computed.
 use Rattle.std.proofs.Common.{◌≡◌, refl, ℕ, inl, ◌<◌, [], List, None, nat_eq}
-use Rattle.simplex_member.specs.Calls.{Told}
+use Rattle.simplex_member.specs.Calls.{ReplyFacts}
 use Rattle.simplex_record.specs.Recovery.{recover_error}
 use Rattle.simplex_record.specs.Start.{new_state}
 use Rattle.laws_safety.specs.Executions.{new_member, Execution, BeginsAs, IsExecution}
@@ -12,7 +12,7 @@ pub begins : (term_length me : ℕ) → 0 < term_length → BeginsAs term_length
 begins term_length me some = record { terms = record { terms = refl; some = some }; signs_as = inl refl }
 
 -- what the steps of an execution are told by the definitions
-abbrev pub told_in : Execution ℕ ℕ ℕ → List (Told ℕ ℕ)
+abbrev pub told_in : Execution ℕ ℕ ℕ → List (ReplyFacts ℕ ℕ)
 told_in s = replies_from nat_eq in_turn (new_member nat_eq in_turn s.start) s.steps
 
 abbrev pub FitsIn : Execution ℕ ℕ ℕ → Type 0

@@ -17,11 +17,11 @@ use Rattle.simplex_record.specs.Entries.{entry_view}
 use Rattle.simplex_record.specs.Recovery.{is_finalization_entry, with_floor, recover_error, recovered_state}
 use Rattle.simplex_record.specs.Start.{StartFacts, new_state}
 use Rattle.simplex_member.specs.CallConditions.{is_allowed, fault_of}
-use Rattle.simplex_member.specs.Calls.{CallFacts, Told}
+use Rattle.simplex_member.specs.Calls.{CallFacts, ReplyFacts}
 use Rattle.simplex_member.specs.CallSemantics.{after_call, recorded_by}
-use Rattle.simplex_member.specs.MemberFacts.{MemberFacts, IsCall, AnswersAlive, left_of, without_life}
+use Rattle.simplex_member.specs.MemberFacts.{MemberFacts, IsCall, AnswersAlive, left_of, without_lifetime}
 use Rattle.simplex_member.specs.Pruning.{stays_within, pruned_member}
-use Rattle.simplex_member.specs.Restarts.{RestartFacts, IsByView, cut_member, new_life, retention_grows, IsRestart, IsRestartWhere}
+use Rattle.simplex_member.specs.Restarts.{RestartFacts, IsByView, cut_member, new_lifetime, retention_grows, IsRestart, IsRestartWhere}
 use Rattle.simplex_member.specs.Runs.{StepFacts, Calls, Prunes, Restarts, IsStep, IsRun}
 use Rattle.laws_safety.specs.Executions.{new_member}
 use Rattle.laws_safety.specs.RecordsOnce.{are_of_one_kind, are_alike, RecordsOnce}
@@ -111,12 +111,12 @@ module _ {K L D : Type 0} where
       by_life (Some x) (low, shows) = (low, record { under = shows.under; clear = shows.clear; shown = λ a h over. shows.shown a (Contains-filtered (λ e. stays_within m (entry_view e)) m.entries a h) over })
 
   -- where the life ends the record is left
-  ended_keeps : (m : MemberFacts K L D) → RecordsOnce m.entries → KeepsOnce (without_life m)
+  ended_keeps : (m : MemberFacts K L D) → RecordsOnce m.entries → KeepsOnce (without_lifetime m)
   ended_keeps m once = record { once = once; shows = tt }
 
 module _ {K L D : Type 0} (same : D → D → Bool) (elect : Elect L) (term_length : ℕ) where
   -- a new life from a copy by view
-  new_life_keeps : (n : MemberFacts K L D) (start : StartFacts K L D) (copy : List (ArtifactFacts D)) → HasTerms term_length start.setup → IsByView n.entries copy → RecordsOnce n.entries → KeepsOnce (new_life same elect n start copy)
+  new_life_keeps : (n : MemberFacts K L D) (start : StartFacts K L D) (copy : List (ArtifactFacts D)) → HasTerms term_length start.setup → IsByView n.entries copy → RecordsOnce n.entries → KeepsOnce (new_lifetime same elect n start copy)
   new_life_keeps n start copy has by_view once =
       let x = new_state start.setup in
       let ends = entries_recover same elect x.settings x.me x.members x.elector x.terms x.elects_early start.now term_length start.floor copy (fresh_state term_length start.setup has) by_view.rising in
@@ -146,7 +146,7 @@ module _ {K L D : Type 0} (same : D → D → Bool) (elect : Elect L) (term_leng
       once : RecordsOnce n.entries
       once = cut_once m r.drop r.prune keeps.once
 
-      by_error : (copy : List (ArtifactFacts D)) → IsByView n.entries copy → (o : Option RecoverError) → MatchOption o ((result ≡ Ok tt) × (left ≡ new_life same elect n r.start copy)) (λ e. (result ≡ Err e) × (left ≡ without_life n)) → KeepsOnce left
+      by_error : (copy : List (ArtifactFacts D)) → IsByView n.entries copy → (o : Option RecoverError) → MatchOption o ((result ≡ Ok tt) × (left ≡ new_lifetime same elect n r.start copy)) (λ e. (result ≡ Err e) × (left ≡ without_lifetime n)) → KeepsOnce left
       by_error copy by_view None (is, leaves) = rw leaves (new_life_keeps n r.start copy has by_view once)
       by_error copy by_view (Some e) (is, leaves) = rw leaves (ended_keeps n once)
 
@@ -178,7 +178,7 @@ module _ {K L D : Type 0} (same : D → D → Bool) (elect : Elect L) (term_leng
       by_allowed true allowed = by_fault (fault_of x call) refl allowed
       by_allowed false not_allowed = rw not_allowed keeps
 
-  call_keeps : 0 < term_length → (trace : List (TraceEvent D)) (m : MemberFacts K L D) (call : CallFacts D) (told : Told K D) (left : MemberFacts K L D) → MemberLives term_length trace m → KeepsOnce m → IsCall same elect m call told left → KeepsOnce left
+  call_keeps : 0 < term_length → (trace : List (TraceEvent D)) (m : MemberFacts K L D) (call : CallFacts D) (told : ReplyFacts K D) (left : MemberFacts K L D) → MemberLives term_length trace m → KeepsOnce m → IsCall same elect m call told left → KeepsOnce left
   unfolding IsCall
   call_keeps some trace m call told left lives keeps is_call = by_life m.life refl is_call
     where
@@ -190,12 +190,12 @@ module _ {K L D : Type 0} (same : D → D → Bool) (elect : Elect L) (term_leng
 
 module _ {K L D : Type 0} (same : D → D → Bool) (decides : (d e : D) → same d e ≡ true → d ≡ e) (elect : Elect L) (term_length : ℕ) (some : 0 < term_length) where
   -- a step
-  step_keeps : (step : StepFacts K L D) (steps : List (StepFacts K L D)) (told : Told K D) (trace : List (TraceEvent D)) (m next : MemberFacts K L D) → KeepTerms term_length (step ∷ steps) → MemberLives term_length trace m → KeepsOnce m → IsStep same elect m step told next → KeepsOnce next
+  step_keeps : (step : StepFacts K L D) (steps : List (StepFacts K L D)) (told : ReplyFacts K D) (trace : List (TraceEvent D)) (m next : MemberFacts K L D) → KeepTerms term_length (step ∷ steps) → MemberLives term_length trace m → KeepsOnce m → IsStep same elect m step told next → KeepsOnce next
   step_keeps (Calls call) steps told trace m next fresh lives keeps is_step = call_keeps same elect term_length some trace m call told next lives keeps is_step
   step_keeps Prunes steps told trace m next fresh lives keeps is_step = rw is_step.1 (prune_keeps m keeps)
   step_keeps (Restarts r) steps told trace m next fresh lives keeps is_step = restart_keeps same elect term_length m r is_step.0 next fresh.0 keeps is_step.1
 
-  run_keeps : (steps : List (StepFacts K L D)) (replies : List (Told K D)) (trace : List (TraceEvent D)) (m end : MemberFacts K L D) → KeepTerms term_length steps → MemberLives term_length trace m → KeepsOnce m → IsRun same elect m steps replies end → KeepsOnce end
+  run_keeps : (steps : List (StepFacts K L D)) (replies : List (ReplyFacts K D)) (trace : List (TraceEvent D)) (m end : MemberFacts K L D) → KeepTerms term_length steps → MemberLives term_length trace m → KeepsOnce m → IsRun same elect m steps replies end → KeepsOnce end
   run_keeps [] [] trace m end fresh lives keeps run = subst KeepsOnce run keeps
   run_keeps [] (told ∷ replies) trace m end fresh lives keeps run = absurd run
   run_keeps (step ∷ steps) [] trace m end fresh lives keeps run = absurd run
@@ -214,6 +214,6 @@ module _ {K L D : Type 0} (same : D → D → Bool) (decides : (d e : D) → sam
       record { once = first.once; shows = first.shows }
 
   -- a run from a start records no two entries of one kind and one view
-  pub run_records_once : (steps : List (StepFacts K L D)) (replies : List (Told K D)) (end : MemberFacts K L D) → KeepTerms term_length steps → IsRun same elect (new_member same elect start) steps replies end → RecordsOnce end.entries
+  pub run_records_once : (steps : List (StepFacts K L D)) (replies : List (ReplyFacts K D)) (end : MemberFacts K L D) → KeepTerms term_length steps → IsRun same elect (new_member same elect start) steps replies end → RecordsOnce end.entries
   run_records_once steps replies end fresh run =
       (run_keeps same decides elect term_length begins.some steps replies (of_floor start.floor) (new_member same elect start) end fresh (start_lives same decides elect term_length start begins) start_keeps run).once

@@ -15,15 +15,15 @@ use Rattle.simplex_record.specs.declared.record.error.RecoverError.{RecoverError
 use Rattle.simplex_record.specs.declared.record.error.RecoverError.TheVariants as error
 use Rattle.simplex_member.specs.CallConditions.{is_allowed, fault_of}
 use Rattle.simplex_member.specs.Calls as calls
-use Rattle.simplex_member.specs.Calls.{CallFacts, Told, Added, AddedNullification}
-use Rattle.simplex_member.specs.MemberFacts.{MemberFacts, IsCall, AnswersAlive, left_of, without_life}
+use Rattle.simplex_member.specs.Calls.{CallFacts, ReplyFacts, Added, AddedNullification}
+use Rattle.simplex_member.specs.MemberFacts.{MemberFacts, IsCall, AnswersAlive, left_of, without_lifetime}
 use Rattle.simplex_record.specs.Recovery.{recover_error, recovered_state}
-use Rattle.simplex_member.specs.Restarts.{RestartFacts, IsByView, cut_member, new_life, retention_grows, RecoversByView, IsRestart, IsRestartWhere}
-use Rattle.simplex_member.specs.Runs.{StepFacts, Calls, Prunes, Restarts, restart_told, IsRun}
+use Rattle.simplex_member.specs.Restarts.{RestartFacts, IsByView, cut_member, new_lifetime, retention_grows, RecoversByView, IsRestart, IsRestartWhere}
+use Rattle.simplex_member.specs.Runs.{StepFacts, Calls, Prunes, Restarts, restart_reply, IsRun}
 use Rattle.simplex_record.specs.Start.{StartFacts, new_state}
 use Rattle.simplex_member.specs.Pruning.{pruned_member}
 use Rattle.laws_safety.specs.Executions.{new_member}
-use Rattle.laws_safety.specs.Traces.{TraceEvent, Signs, handed_in, of_floor, signed_in, accepted_by, trace_of_call, trace_at, trace_of_steps}
+use Rattle.laws_safety.specs.Traces.{TraceEvent, Signs, passed_certificates, of_floor, signed_in, accepted_by, trace_of_call, trace_at, trace_of_steps}
 use Rattle.laws_safety.specs.ExactVotes.{ExactAt, proposal_at}
 use Rattle.laws_safety.specs.Lawful.{HasSigned}
 use Rattle.laws_safety.specs.RecordRefusals.{VotedTooHigh, is_floor_too_large}
@@ -50,7 +50,7 @@ pub record VotesBuilt {K L D : Type 0} (past : List (StepFacts K L D)) (trace : 
 -- what is accepted is no vote
 
 module _ {D : Type 0} where
-  handed_signs_none : (call : CallFacts D) (i : ℕ) (vote : Subject D) → Contains (handed_in call) (Signs i vote) → ⊥
+  handed_signs_none : (call : CallFacts D) (i : ℕ) (vote : Subject D) → Contains (passed_certificates call) (Signs i vote) → ⊥
   handed_signs_none (calls.AddNotarization c) i vote h = (let is = only_one _ (Signs i vote) h in absurd (cc))
   handed_signs_none (calls.AddNullification c now) i vote h = (let is = only_one _ (Signs i vote) h in absurd (cc))
   handed_signs_none (calls.AddFinalization c now) i vote h = (let is = only_one _ (Signs i vote) h in absurd (cc))
@@ -61,7 +61,7 @@ module _ {D : Type 0} where
   floor_signs_none (FinalizedFloor c) i vote h = (let is = only_one _ (Signs i vote) h in absurd (cc))
 
 module _ {K D : Type 0} where
-  accepted_signs_none : (call : CallFacts D) (told : Told K D) (i : ℕ) (vote : Subject D) → Contains (accepted_by call told) (Signs i vote) → ⊥
+  accepted_signs_none : (call : CallFacts D) (told : ReplyFacts K D) (i : ℕ) (vote : Subject D) → Contains (accepted_by call told) (Signs i vote) → ⊥
   accepted_signs_none call (Added newly leader) i vote h = handed_signs_none call i vote h
   accepted_signs_none call (AddedNullification newly) i vote h = handed_signs_none call i vote h
   accepted_signs_none call _ i vote h = absurd (omega (arith, h.1))
@@ -77,14 +77,14 @@ none_finalized (Some h) vote i j p about is = absurd (cc)
 
 module _ {K L D : Type 0} (same : D → D → Bool) (elect : Elect L) where
   -- a vote to notarize is for what is held
-  noted_held : (x : StateFacts K L D) (call : CallFacts D) (told : Told K D) (i : ℕ) (p : Proposal D) → ExactAt same elect (Some x) (Calls call) told → Contains (signed_in told) (Signs i (subject.Notarize p)) → (v : ℕ) × ((round_of x v).slot.held ≡ Some p)
+  noted_held : (x : StateFacts K L D) (call : CallFacts D) (told : ReplyFacts K D) (i : ℕ) (p : Proposal D) → ExactAt same elect (Some x) (Calls call) told → Contains (signed_in told) (Signs i (subject.Notarize p)) → (v : ℕ) × ((round_of x v).slot.held ≡ Some p)
   noted_held x (calls.ConstructNotarize v) told i p exact h = (let so = (exact.only (Signs i (subject.Notarize p)) h).1 in (v, held_voted (proposal_at x v) so.1 i so.0 p so.3 so.4))
   noted_held x (calls.ConstructFinalize v) told i p exact h = (let so = (exact.only (Signs i (subject.Notarize p)) h).1 in absurd (none_finalized (proposal_at x v) so.1 i so.0 p so.3 so.4))
   noted_held x (calls.ConstructNullify v) told i p exact h = (let so = (exact.only (Signs i (subject.Notarize p)) h).1 in absurd (cc))
   noted_held x _ told i p exact h = absurd (let none = subst (λ ds. Contains ds (Signs i (subject.Notarize p))) exact h in omega (arith, none.1))
 
 module _ {K L D : Type 0} where
-  restart_signs_none : (r : RestartFacts K L D) (result : Result (Unit {0}) RecoverError) (i : ℕ) (vote : Subject D) → Contains (trace_at (Restarts r) (restart_told {K = K} {D = D} result)) (Signs i vote) → ⊥
+  restart_signs_none : (r : RestartFacts K L D) (result : Result (Unit {0}) RecoverError) (i : ℕ) (vote : Subject D) → Contains (trace_at (Restarts r) (restart_reply {K = K} {D = D} result)) (Signs i vote) → ⊥
   restart_signs_none r (Ok done) i vote h = elim (Contains-append_cases (of_floor r.start.floor) [] (Signs i vote) h) [ inl of_start ↦ floor_signs_none r.start.floor i vote of_start | inr none ↦ absurd (omega (arith, none.1)) ]
   restart_signs_none r (Err e) i vote h = absurd (omega (arith, h.1))
 
@@ -111,7 +111,7 @@ module _ {K L D : Type 0} (same : D → D → Bool) (decides : (d e : D) → sam
       by_allowed true allowed = by_fault (fault_of x call) refl allowed
       by_allowed false not_allowed = rw not_allowed as_before
 
-  call_holds : (call : CallFacts D) (told : Told K D) (next : MemberFacts K L D) → IsCall same elect m call told next → HoldsBuilt (past ++ Calls call ∷ []) next.life
+  call_holds : (call : CallFacts D) (told : ReplyFacts K D) (next : MemberFacts K L D) → IsCall same elect m call told next → HoldsBuilt (past ++ Calls call ∷ []) next.life
   unfolding IsCall
   call_holds call told next is_call = by_life m.life refl is_call
     where
@@ -121,11 +121,11 @@ module _ {K L D : Type 0} (same : D → D → Bool) (decides : (d e : D) → sam
       by_life (Some x) alive (inr (allowed, tells, inl (_, leaves))) = rw leaves (holds_still past (Calls call ∷ []) m.life votes.holds)
       by_life (Some x) alive (inr (allowed, tells, inr (no_fault, falls, leaves))) = rw leaves tt
 
-  new_vote : (call : CallFacts D) (told : Told K D) (i : ℕ) (p : Proposal D) (o : Option (StateFacts K L D)) → HoldsBuilt past o → ExactAt same elect o (Calls call) told → Contains (signed_in told) (Signs i (subject.Notarize p)) → WasBuilt past p
+  new_vote : (call : CallFacts D) (told : ReplyFacts K D) (i : ℕ) (p : Proposal D) (o : Option (StateFacts K L D)) → HoldsBuilt past o → ExactAt same elect o (Calls call) told → Contains (signed_in told) (Signs i (subject.Notarize p)) → WasBuilt past p
   new_vote call told i p None holds exact h = absurd (let none = subst (λ ds. Contains ds (Signs i (subject.Notarize p))) exact h in omega (arith, none.1))
   new_vote call told i p (Some x) holds exact h = let found = noted_held same elect x call told i p exact h in holds found.0 p found.1
 
-  pub call_builds : (call : CallFacts D) (told : Told K D) (next : MemberFacts K L D) → IsCall same elect m call told next → VotesBuilt (past ++ Calls call ∷ []) (trace ++ trace_of_call call told) next
+  pub call_builds : (call : CallFacts D) (told : ReplyFacts K D) (next : MemberFacts K L D) → IsCall same elect m call told next → VotesBuilt (past ++ Calls call ∷ []) (trace ++ trace_of_call call told) next
   call_builds call told next is_call = record {
     holds = call_holds call told next is_call;
     voted = λ p h. built_still past (Calls call ∷ []) p (elim (signed_cases trace (trace_of_call call told) (subject.Notarize p) h) [
@@ -143,7 +143,7 @@ module _ {K L D : Type 0} (same : D → D → Bool) (decides : (d e : D) → sam
   goes_on_holds n left r result (inl (is, leaves)) = rw leaves tt
   goes_on_holds n left r result (inr (copy, by_view, goes)) = by_error (recover_error same (new_state r.start.setup) r.start.floor r.start.now copy) refl goes
     where
-      by_error : (o : Option RecoverError) → recover_error same (new_state r.start.setup) r.start.floor r.start.now copy ≡ o → MatchOption o ((result ≡ Ok tt) × (left ≡ new_life same elect n r.start copy)) (λ e. (result ≡ Err e) × (left ≡ without_life n)) → HoldsBuilt (past ++ Restarts r ∷ []) left.life
+      by_error : (o : Option RecoverError) → recover_error same (new_state r.start.setup) r.start.floor r.start.now copy ≡ o → MatchOption o ((result ≡ Ok tt) × (left ≡ new_lifetime same elect n r.start copy)) (λ e. (result ≡ Err e) × (left ≡ without_lifetime n)) → HoldsBuilt (past ++ Restarts r ∷ []) left.life
       by_error None none (is, leaves) =
           let small = taken_small same (new_state r.start.setup) r.start.floor r.start.now copy none in
           rw leaves (recovered_held same decides elect (past ++ Restarts r ∷ []) r.start.now r.start.setup r.start.floor copy small.0 small.1)
@@ -157,10 +157,10 @@ module _ {K L D : Type 0} (same : D → D → Bool) (decides : (d e : D) → sam
       by_test true (is, leaves) = rw leaves (holds_still past (Restarts r ∷ []) m.life votes.holds)
       by_test false goes = goes_on_holds (cut_member m r.drop r.prune) next r result goes
 
-  pub restart_builds : (next : MemberFacts K L D) (r : RestartFacts K L D) (result : Result (Unit {0}) RecoverError) → IsRestart same elect m r result next → VotesBuilt (past ++ Restarts r ∷ []) (trace ++ trace_at (Restarts r) (restart_told {K = K} {D = D} result)) next
+  pub restart_builds : (next : MemberFacts K L D) (r : RestartFacts K L D) (result : Result (Unit {0}) RecoverError) → IsRestart same elect m r result next → VotesBuilt (past ++ Restarts r ∷ []) (trace ++ trace_at (Restarts r) (restart_reply {K = K} {D = D} result)) next
   restart_builds next r result restarts = record {
     holds = restart_holds next r result restarts;
-    voted = λ p h. built_still past (Restarts r ∷ []) p (elim (signed_cases trace (trace_at (Restarts r) (restart_told {K = K} {D = D} result)) (subject.Notarize p) h) [
+    voted = λ p h. built_still past (Restarts r ∷ []) p (elim (signed_cases trace (trace_at (Restarts r) (restart_reply {K = K} {D = D} result)) (subject.Notarize p) h) [
       | inl old ↦ votes.voted p old
       | inr new ↦ absurd (restart_signs_none r result new.0 (subject.Notarize p) new.1)
     ]);
@@ -181,7 +181,7 @@ module _ {K L D : Type 0} (same : D → D → Bool) (decides : (d e : D) → sam
       subst (λ all. VotesBuilt (past ++ step ∷ steps) all end) (append_assoc trace at rest)
       (subst (λ all. VotesBuilt all ((trace ++ at) ++ rest) end) (append_assoc past (step ∷ []) steps) votes)
 
-  run_builds : (steps : List (StepFacts K L D)) (replies : List (Told K D)) (past : List (StepFacts K L D)) (trace : List (TraceEvent D)) (m end : MemberFacts K L D) → KeepTerms term_length steps → LivesAndTells term_length trace m → VotesBuilt past trace m → IsRun same elect m steps replies end → VotesBuilt (past ++ steps) (trace ++ trace_of_steps steps replies) end
+  run_builds : (steps : List (StepFacts K L D)) (replies : List (ReplyFacts K D)) (past : List (StepFacts K L D)) (trace : List (TraceEvent D)) (m end : MemberFacts K L D) → KeepTerms term_length steps → LivesAndTells term_length trace m → VotesBuilt past trace m → IsRun same elect m steps replies end → VotesBuilt (past ++ steps) (trace ++ trace_of_steps steps replies) end
   run_builds [] [] past trace m end fresh own votes run =
       subst (λ all. VotesBuilt all (trace ++ []) end) (sym (append-nil past)) (subst (λ all. VotesBuilt past all end) (sym (append-nil trace)) (subst (λ n. VotesBuilt past trace n) run votes))
   run_builds [] (told ∷ replies) past trace m end fresh own votes run = absurd run
@@ -217,7 +217,7 @@ module _ {K L D : Type 0} (same : D → D → Bool) (decides : (d e : D) → sam
 
   -- a copy of a member's own record is refused for a view that is too large only where the next floor names one, or the member
   -- voted in one
-  pub own_high_voted : (steps : List (StepFacts K L D)) (replies : List (Told K D)) (end : MemberFacts K L D) (next : RestartFacts K L D) (copy : List (ArtifactFacts D)) → KeepTerms term_length steps → IsRun same elect (new_member same elect start) steps replies end → IsByView (cut_member end next.drop next.prune).entries copy → recover_error same (new_state next.start.setup) next.start.floor next.start.now copy ≡ Some error.ViewTooLarge → (is_floor_too_large next.start.floor ≡ true) ⊎ VotedTooHigh steps (of_floor start.floor ++ trace_of_steps steps replies)
+  pub own_high_voted : (steps : List (StepFacts K L D)) (replies : List (ReplyFacts K D)) (end : MemberFacts K L D) (next : RestartFacts K L D) (copy : List (ArtifactFacts D)) → KeepTerms term_length steps → IsRun same elect (new_member same elect start) steps replies end → IsByView (cut_member end next.drop next.prune).entries copy → recover_error same (new_state next.start.setup) next.start.floor next.start.now copy ≡ Some error.ViewTooLarge → (is_floor_too_large next.start.floor ≡ true) ⊎ VotedTooHigh steps (of_floor start.floor ++ trace_of_steps steps replies)
   own_high_voted steps replies end next copy fresh run by_view is =
       let trace = of_floor start.floor ++ trace_of_steps steps replies in
       let first = start_own same decides itself elect term_length start begins in

@@ -10,16 +10,16 @@ use Rattle.simplex_voter.specs.Facts.{StateFacts, Elect, is_tracked}
 use Rattle.simplex_record.specs.declared.record.error.RecoverError.{RecoverError}
 use Rattle.simplex_record.specs.declared.record.error.RecoverError.TheVariants as error
 use Rattle.simplex_member.specs.CallConditions.{is_allowed, fault_of}
-use Rattle.simplex_member.specs.Calls.{CallFacts, Told}
+use Rattle.simplex_member.specs.Calls.{CallFacts, ReplyFacts}
 use Rattle.simplex_record.specs.Check.{stands}
 use Rattle.simplex_record.specs.Cuts.{may_drop, without_last, finalized_in, pruned_entries}
 use Rattle.simplex_record.specs.Entries.{entry_view}
-use Rattle.simplex_member.specs.MemberFacts.{MemberFacts, IsCall, AnswersAlive, reply_of, left_of, without_life}
+use Rattle.simplex_member.specs.MemberFacts.{MemberFacts, IsCall, AnswersAlive, reply_of, left_of, without_lifetime}
 use Rattle.laws_safety.specs.Executions.{new_member}
 use Rattle.laws_safety.specs.RecordRefusals.{AcceptedParentAbove, is_floor_too_large, IsFromOutside, IsExcused, VerdictsFollowNotarizations}
 use Rattle.simplex_record.specs.Recovery.{recover_error, recovered_state, is_finalization_entry, with_floor}
-use Rattle.simplex_member.specs.Restarts.{RestartFacts, IsByView, cut_member, new_life, retention_grows, RecoversByView, IsRestart, IsRestartWhere}
-use Rattle.simplex_member.specs.Runs.{StepFacts, Calls, Prunes, Restarts, restart_told, IsRun, EndsRun, EndsRunFrom}
+use Rattle.simplex_member.specs.Restarts.{RestartFacts, IsByView, cut_member, new_lifetime, retention_grows, RecoversByView, IsRestart, IsRestartWhere}
+use Rattle.simplex_member.specs.Runs.{StepFacts, Calls, Prunes, Restarts, restart_reply, IsRun, EndsRun, EndsRunFrom}
 use Rattle.simplex_record.specs.Start.{StartFacts, new_state}
 use Rattle.simplex_record.proofs.Cuts.{none_dropped}
 use Rattle.laws_safety.specs.Traces.{TraceEvent, of_floor, trace_of_call, trace_at, trace_of_steps}
@@ -138,7 +138,7 @@ module _ {K L D : Type 0} (same : D → D → Bool) (elect : Elect L) (term_leng
       by_allowed true allowed = by_fault (fault_of x call) refl allowed
       by_allowed false not_allowed = rw not_allowed (untold trace m tells)
 
-  call_tells_on : (call : CallFacts D) (told : Told K D) (left : MemberFacts K L D) → MemberTells trace m → IsCall same elect m call told left → MemberTells (trace ++ trace_of_call call told) left
+  call_tells_on : (call : CallFacts D) (told : ReplyFacts K D) (left : MemberFacts K L D) → MemberTells trace m → IsCall same elect m call told left → MemberTells (trace ++ trace_of_call call told) left
   unfolding IsCall
   call_tells_on call told left tells is_call = by_life m.life refl is_call
     where
@@ -146,11 +146,11 @@ module _ {K L D : Type 0} (same : D → D → Bool) (elect : Elect L) (term_leng
       by_life None dead (tell, leaves) = rw (tell, leaves) (untold trace m tells)
       by_life (Some x) alive (inl (tell, leaves)) = rw (tell, leaves) (answered call x alive tells)
       by_life (Some x) alive (inr (_, tell, inl (_, leaves))) = rw (tell, leaves) (untold trace m tells)
-      by_life (Some x) alive (inr (_, tell, inr (_, _, leaves))) = rw (tell, leaves) (untold trace (without_life m) (own_of trace m.entries m.life tells))
+      by_life (Some x) alive (inr (_, tell, inr (_, _, leaves))) = rw (tell, leaves) (untold trace (without_lifetime m) (own_of trace m.entries m.life tells))
 
   -- a restart
 
-  from_copy : (n : MemberFacts K L D) (start : StartFacts K L D) (copy : List (ArtifactFacts D)) → OwnRecord trace n.entries → IsByView n.entries copy → MemberTells (trace ++ of_floor start.floor) (new_life same elect n start copy)
+  from_copy : (n : MemberFacts K L D) (start : StartFacts K L D) (copy : List (ArtifactFacts D)) → OwnRecord trace n.entries → IsByView n.entries copy → MemberTells (trace ++ of_floor start.floor) (new_lifetime same elect n start copy)
   from_copy n start copy own by_view =
       let x = new_state start.setup in
       let in_copy = own_copy trace n.entries own copy by_view.of_each_view in
@@ -160,23 +160,23 @@ module _ {K L D : Type 0} (same : D → D → Bool) (elect : Elect L) (term_leng
         shows = shows_whole n.entries copy start.floor (recovered_state same elect x start.floor start.now copy) by_view.of_each_view shows;
       }
 
-  goes_on : (n : MemberFacts K L D) (r : RestartFacts K L D) (result : Result (Unit {0}) RecoverError) (left : MemberFacts K L D) → OwnRecord trace n.entries → RecoversByView same elect n r.start result left → MemberTells (trace ++ trace_at (Restarts r) (restart_told {K = K} {D = D} result)) left
-  goes_on n r result left own (inl (is, leaves)) = rw (is, leaves) (untold trace (without_life n) own)
-  goes_on n r result left own (inr (copy, by_view, goes)) = by_error (recover_error same (new_state r.start.setup) r.start.floor r.start.now copy) goes
+  continues : (n : MemberFacts K L D) (r : RestartFacts K L D) (result : Result (Unit {0}) RecoverError) (left : MemberFacts K L D) → OwnRecord trace n.entries → RecoversByView same elect n r.start result left → MemberTells (trace ++ trace_at (Restarts r) (restart_reply {K = K} {D = D} result)) left
+  continues n r result left own (inl (is, leaves)) = rw (is, leaves) (untold trace (without_lifetime n) own)
+  continues n r result left own (inr (copy, by_view, goes)) = by_error (recover_error same (new_state r.start.setup) r.start.floor r.start.now copy) goes
     where
-      by_error : (o : Option RecoverError) → MatchOption o ((result ≡ Ok tt) × (left ≡ new_life same elect n r.start copy)) (λ e. (result ≡ Err e) × (left ≡ without_life n)) → MemberTells (trace ++ trace_at (Restarts r) (restart_told {K = K} {D = D} result)) left
+      by_error : (o : Option RecoverError) → MatchOption o ((result ≡ Ok tt) × (left ≡ new_lifetime same elect n r.start copy)) (λ e. (result ≡ Err e) × (left ≡ without_lifetime n)) → MemberTells (trace ++ trace_at (Restarts r) (restart_reply {K = K} {D = D} result)) left
       by_error None (is, leaves) =
           rw (is, leaves)
-          (subst (λ more. MemberTells (trace ++ more) (new_life same elect n r.start copy)) (sym (append-nil (of_floor r.start.floor))) (from_copy n r.start copy own by_view))
-      by_error (Some e) (is, leaves) = rw (is, leaves) (untold trace (without_life n) own)
+          (subst (λ more. MemberTells (trace ++ more) (new_lifetime same elect n r.start copy)) (sym (append-nil (of_floor r.start.floor))) (from_copy n r.start copy own by_view))
+      by_error (Some e) (is, leaves) = rw (is, leaves) (untold trace (without_lifetime n) own)
 
-  restart_tells_on : (r : RestartFacts K L D) (result : Result (Unit {0}) RecoverError) (left : MemberFacts K L D) → MemberTells trace m → IsRestart same elect m r result left → MemberTells (trace ++ trace_at (Restarts r) (restart_told {K = K} {D = D} result)) left
+  restart_tells_on : (r : RestartFacts K L D) (result : Result (Unit {0}) RecoverError) (left : MemberFacts K L D) → MemberTells trace m → IsRestart same elect m r result left → MemberTells (trace ++ trace_at (Restarts r) (restart_reply {K = K} {D = D} result)) left
   unfolding IsRestart
   restart_tells_on r result left tells restarts = by_test (retention_grows m r.prune r.start.setup.settings.view_retention) restarts
     where
-      by_test : (b : Bool) → IsRestartWhere same elect b m r result left → MemberTells (trace ++ trace_at (Restarts r) (restart_told {K = K} {D = D} result)) left
+      by_test : (b : Bool) → IsRestartWhere same elect b m r result left → MemberTells (trace ++ trace_at (Restarts r) (restart_reply {K = K} {D = D} result)) left
       by_test true (is, leaves) = rw (is, leaves) (untold trace m tells)
-      by_test false goes = goes_on (cut_member m r.drop r.prune) r result left (cut_own trace m r.drop r.prune (own_of trace m.entries m.life tells)) goes
+      by_test false goes = continues (cut_member m r.drop r.prune) r result left (cut_own trace m r.drop r.prune (own_of trace m.entries m.life tells)) goes
 
 -- the error of a refusal
 abbrev error_in : Result (Unit {0}) RecoverError → RecoverError
@@ -189,13 +189,13 @@ pub record LivesAndTells {K L D : Type 0} (term_length : ℕ) (trace : List (Tra
   pub tells : MemberTells trace m
 
 module _ {K L D : Type 0} (same : D → D → Bool) (decides : (d e : D) → same d e ≡ true → d ≡ e) (itself : (d : D) → same d d ≡ true) (elect : Elect L) (term_length : ℕ) (some : 0 < term_length) where
-  pub called : (trace : List (TraceEvent D)) (m next : MemberFacts K L D) (call : CallFacts D) (told : Told K D) → LivesAndTells term_length trace m → IsCall same elect m call told next → LivesAndTells term_length (trace ++ trace_of_call call told) next
+  pub called : (trace : List (TraceEvent D)) (m next : MemberFacts K L D) (call : CallFacts D) (told : ReplyFacts K D) → LivesAndTells term_length trace m → IsCall same elect m call told next → LivesAndTells term_length (trace ++ trace_of_call call told) next
   called trace m next call told own is = record {
     lives = call_lives_on same decides elect term_length some trace m call told next own.lives is;
     tells = call_tells_on same elect term_length trace m call told next own.tells is;
   }
 
-  pub restarted : (trace : List (TraceEvent D)) (m next : MemberFacts K L D) (r : RestartFacts K L D) (told : Told K D) → HasTerms term_length r.start.setup → LivesAndTells term_length trace m → (result : Result (Unit {0}) RecoverError) × IsRestart same elect m r result next × (told ≡ restart_told result) → LivesAndTells term_length (trace ++ trace_at (Restarts r) told) next
+  pub restarted : (trace : List (TraceEvent D)) (m next : MemberFacts K L D) (r : RestartFacts K L D) (told : ReplyFacts K D) → HasTerms term_length r.start.setup → LivesAndTells term_length trace m → (result : Result (Unit {0}) RecoverError) × IsRestart same elect m r result next × (told ≡ restart_reply result) → LivesAndTells term_length (trace ++ trace_at (Restarts r) told) next
   restarted trace m next r told fresh own (result, is, tell) = rw tell (record {
     lives = restart_lives_on same decides elect term_length some trace m r result next fresh own.lives is;
     tells = restart_tells_on same elect term_length trace m r result next own.tells is;
@@ -205,7 +205,7 @@ module _ {K L D : Type 0} (same : D → D → Bool) (decides : (d e : D) → sam
   pruned trace m own = record { lives = prune_lives_on term_length trace m own.lives; tells = prune_tells_on trace m own.tells }
 
   -- so it does where the run ends
-  pub run_own : (steps : List (StepFacts K L D)) (replies : List (Told K D)) (trace : List (TraceEvent D)) (m end : MemberFacts K L D) → KeepTerms term_length steps → LivesAndTells term_length trace m → IsRun same elect m steps replies end → LivesAndTells term_length (trace ++ trace_of_steps steps replies) end
+  pub run_own : (steps : List (StepFacts K L D)) (replies : List (ReplyFacts K D)) (trace : List (TraceEvent D)) (m end : MemberFacts K L D) → KeepTerms term_length steps → LivesAndTells term_length trace m → IsRun same elect m steps replies end → LivesAndTells term_length (trace ++ trace_of_steps steps replies) end
   run_own [] [] trace m end fresh own run = subst (λ all. LivesAndTells term_length all end) (sym (append-nil trace)) (subst (λ n. LivesAndTells term_length trace n) run own)
   run_own [] (told ∷ replies) trace m end fresh own run = absurd run
   run_own (step ∷ steps) [] trace m end fresh own run = absurd run
@@ -251,7 +251,7 @@ module _ {K L D : Type 0} (same : D → D → Bool) (decides : (d e : D) → sam
   unfolding IsRestart
   restart_excused trace m left r result found refused own restarts = by_test (retention_grows m r.prune r.start.setup.settings.view_retention) restarts
     where
-      by_error : (copy : List (ArtifactFacts D)) → IsByView (cut_member m r.drop r.prune).entries copy → (o : Option RecoverError) → recover_error same (new_state r.start.setup) r.start.floor r.start.now copy ≡ o → MatchOption o ((result ≡ Ok tt) × (left ≡ new_life same elect (cut_member m r.drop r.prune) r.start copy)) (λ e. (result ≡ Err e) × (left ≡ without_life (cut_member m r.drop r.prune))) → IsExcused found
+      by_error : (copy : List (ArtifactFacts D)) → IsByView (cut_member m r.drop r.prune).entries copy → (o : Option RecoverError) → recover_error same (new_state r.start.setup) r.start.floor r.start.now copy ≡ o → MatchOption o ((result ≡ Ok tt) × (left ≡ new_lifetime same elect (cut_member m r.drop r.prune) r.start copy)) (λ e. (result ≡ Err e) × (left ≡ without_lifetime (cut_member m r.drop r.prune))) → IsExcused found
       by_error copy by_view None none (is, leaves) = absurd (cc)
       by_error copy by_view (Some e) due (is, leaves) = inl (copy_outside trace m r copy found own by_view (due ∙ ap Some (sym (ap error_in is) ∙ ap error_in refused)))
 
@@ -286,25 +286,25 @@ module _ {K L D : Type 0} (same : D → D → Bool) (decides : (d e : D) → sam
 
   module _ (steps : List (StepFacts K L D)) (fresh : KeepTerms term_length steps) where
     -- a copy of a member's own record is refused only for what comes from outside
-    pub own_record_outside : (replies : List (Told K D)) (end : MemberFacts K L D) (next : RestartFacts K L D) (copy : List (ArtifactFacts D)) (found : RecoverError) → IsRun same elect (new_member same elect start) steps replies end → IsByView (cut_member end next.drop next.prune).entries copy → recover_error same (new_state next.start.setup) next.start.floor next.start.now copy ≡ Some found → IsFromOutside found
+    pub own_record_outside : (replies : List (ReplyFacts K D)) (end : MemberFacts K L D) (next : RestartFacts K L D) (copy : List (ArtifactFacts D)) (found : RecoverError) → IsRun same elect (new_member same elect start) steps replies end → IsByView (cut_member end next.drop next.prune).entries copy → recover_error same (new_state next.start.setup) next.start.floor next.start.now copy ≡ Some found → IsFromOutside found
     own_record_outside replies end next copy found run by_view is =
         let own = run_own same decides itself elect term_length begins.some steps replies (of_floor start.floor) (new_member same elect start) end fresh start_own run in
         copy_outside same decides itself elect term_length begins.some (of_floor start.floor ++ trace_of_steps steps replies) end next copy found own by_view is
 
     -- for a parent, only where such a notarization was accepted
-    pub own_parent_accepted : (replies : List (Told K D)) (end : MemberFacts K L D) (next : RestartFacts K L D) (copy : List (ArtifactFacts D)) → IsRun same elect (new_member same elect start) steps replies end → IsByView (cut_member end next.drop next.prune).entries copy → recover_error same (new_state next.start.setup) next.start.floor next.start.now copy ≡ Some error.ParentNotBelow → AcceptedParentAbove (of_floor start.floor ++ trace_of_steps steps replies)
+    pub own_parent_accepted : (replies : List (ReplyFacts K D)) (end : MemberFacts K L D) (next : RestartFacts K L D) (copy : List (ArtifactFacts D)) → IsRun same elect (new_member same elect start) steps replies end → IsByView (cut_member end next.drop next.prune).entries copy → recover_error same (new_state next.start.setup) next.start.floor next.start.now copy ≡ Some error.ParentNotBelow → AcceptedParentAbove (of_floor start.floor ++ trace_of_steps steps replies)
     own_parent_accepted replies end next copy run by_view is =
         let own = run_own same decides itself elect term_length begins.some steps replies (of_floor start.floor) (new_member same elect start) end fresh start_own run in
         copy_parent same decides itself elect term_length begins.some (of_floor start.floor ++ trace_of_steps steps replies) end next copy own by_view is
 
     -- behind its verdicts stand notarizations, in its own order
-    pub own_verdicts_follow : (replies : List (Told K D)) (end : MemberFacts K L D) → IsRun same elect (new_member same elect start) steps replies end → VerdictsFollowNotarizations end
+    pub own_verdicts_follow : (replies : List (ReplyFacts K D)) (end : MemberFacts K L D) → IsRun same elect (new_member same elect start) steps replies end → VerdictsFollowNotarizations end
     own_verdicts_follow replies end run =
         let own = run_own same decides itself elect term_length begins.some steps replies (of_floor start.floor) (new_member same elect start) end fresh start_own run in
         (own_of (of_floor start.floor ++ trace_of_steps steps replies) end.entries end.life own.tells).notarized
 
     -- so is a restart, but for its retention and want of memory
-    pub own_restart_excused : (replies : List (Told K D)) (end left : MemberFacts K L D) (next : RestartFacts K L D) (found : RecoverError) → IsRun same elect (new_member same elect start) steps replies end → IsRestart same elect end next (Err found) left → IsExcused found
+    pub own_restart_excused : (replies : List (ReplyFacts K D)) (end left : MemberFacts K L D) (next : RestartFacts K L D) (found : RecoverError) → IsRun same elect (new_member same elect start) steps replies end → IsRestart same elect end next (Err found) left → IsExcused found
     own_restart_excused replies end left next found run restarts =
         let own = run_own same decides itself elect term_length begins.some steps replies (of_floor start.floor) (new_member same elect start) end fresh start_own run in
         restart_excused same decides itself elect term_length begins.some (of_floor start.floor ++ trace_of_steps steps replies) end left next (Err found) found refl own restarts

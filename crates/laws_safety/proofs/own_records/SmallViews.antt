@@ -13,15 +13,15 @@ use Rattle.simplex_record.specs.declared.record.error.RecoverError.{RecoverError
 use Rattle.simplex_record.specs.declared.record.error.RecoverError.TheVariants as error
 use Rattle.simplex_member.specs.CallConditions.{is_allowed, fault_of}
 use Rattle.simplex_member.specs.Calls as calls
-use Rattle.simplex_member.specs.Calls.{CallFacts, AddNotarization, AddNullification, AddFinalization, Told, Added, AddedNullification, Nullify, Finalize, Notarize}
+use Rattle.simplex_member.specs.Calls.{CallFacts, AddNotarization, AddNullification, AddFinalization, ReplyFacts, Added, AddedNullification, Nullify, Finalize, Notarize}
 use Rattle.simplex_record.specs.Check.{first_error, recovery_floor_rules, first_broken_after, first_recover_error}
-use Rattle.simplex_member.specs.MemberFacts.{MemberFacts, IsCall, AnswersAlive, reply_of, unless_refused, without_life}
+use Rattle.simplex_member.specs.MemberFacts.{MemberFacts, IsCall, AnswersAlive, reply_of, unless_refused, without_lifetime}
 use Rattle.simplex_member.specs.CallSemantics.{answer}
 use Rattle.simplex_record.specs.Recovery.{recover_error}
-use Rattle.simplex_member.specs.Restarts.{RestartFacts, cut_member, new_life, retention_grows, RecoversByView, IsRestart, IsRestartWhere}
-use Rattle.simplex_member.specs.Runs.{StepFacts, Calls, Prunes, Restarts, restart_told, IsRun}
+use Rattle.simplex_member.specs.Restarts.{RestartFacts, cut_member, new_lifetime, retention_grows, RecoversByView, IsRestart, IsRestartWhere}
+use Rattle.simplex_member.specs.Runs.{StepFacts, Calls, Prunes, Restarts, restart_reply, IsRun}
 use Rattle.simplex_record.specs.Start.{new_state}
-use Rattle.laws_safety.specs.Traces.{TraceEvent, Accepts, handed_in, of_floor, of_vote, signed_in, accepted_by, trace_of_call, trace_at, trace_of_steps}
+use Rattle.laws_safety.specs.Traces.{TraceEvent, Accepts, passed_certificates, of_floor, of_vote, signed_in, accepted_by, trace_of_call, trace_at, trace_of_steps}
 use Rattle.laws_safety.proofs.records.NewLives.{first_none}
 use Rattle.laws_safety.proofs.lists.Splits.{only_one}
 
@@ -84,19 +84,19 @@ no_fault false true late is = absurd (cc)
 no_fault false false late is = refl
 
 module _ {K L D : Type 0} where
-  handed_small : (x : StateFacts K L D) (call : CallFacts D) → fault_of x call ≡ None → AreSmall (handed_in call)
+  handed_small : (x : StateFacts K L D) (call : CallFacts D) → fault_of x call ≡ None → AreSmall (passed_certificates call)
   handed_small x (AddNotarization c) none = small_one (subject.Notarize c.proposal) (no_fault x.failed (names_too_large c.proposal) false none)
   handed_small x (AddNullification c now) none = small_one (subject.Nullify c.round) (no_fault x.failed (is_too_large c.round.view) _ none)
   handed_small x (AddFinalization c now) none = small_one (subject.Finalize c.proposal) (no_fault x.failed (names_too_large c.proposal) _ none)
   handed_small x _ none = small_none
 
 module _ {K D : Type 0} where
-  accepted_small : (call : CallFacts D) (told : Told K D) → AreSmall (handed_in call) → AreSmall (accepted_by call told)
+  accepted_small : (call : CallFacts D) (told : ReplyFacts K D) → AreSmall (passed_certificates call) → AreSmall (accepted_by call told)
   accepted_small call (Added newly leader) small = small
   accepted_small call (AddedNullification newly) small = small
   accepted_small call _ small = small_none
 
-  signed_small : (told : Told K D) → AreSmall (signed_in told)
+  signed_small : (told : ReplyFacts K D) → AreSmall (signed_in told)
   signed_small (Nullify (Some (retry, vote))) = vote_accepts_none vote
   signed_small (Finalize (Some vote)) = vote_accepts_none vote
   signed_small (Notarize (Some vote)) = vote_accepts_none vote
@@ -113,7 +113,7 @@ module _ {K L D : Type 0} (same : D → D → Bool) (elect : Elect L) where
           let told = answer same elect x m.outstanding_work call in
           small_both (accepted_by call told) (signed_in told) (accepted_small call told (handed_small x call is)) (signed_small told)
 
-  call_small : (m next : MemberFacts K L D) (call : CallFacts D) (told : Told K D) → IsCall same elect m call told next → AreSmall (trace_of_call call told)
+  call_small : (m next : MemberFacts K L D) (call : CallFacts D) (told : ReplyFacts K D) → IsCall same elect m call told next → AreSmall (trace_of_call call told)
   unfolding IsCall
   call_small m next call told is_call = by_life m.life is_call
     where
@@ -124,24 +124,24 @@ module _ {K L D : Type 0} (same : D → D → Bool) (elect : Elect L) where
 
   -- a restart
 
-  goes_on_small : (n left : MemberFacts K L D) (r : RestartFacts K L D) (result : Result (Unit {0}) RecoverError) → RecoversByView same elect n r.start result left → AreSmall (trace_at (Restarts r) (restart_told {K = K} {D = D} result))
+  goes_on_small : (n left : MemberFacts K L D) (r : RestartFacts K L D) (result : Result (Unit {0}) RecoverError) → RecoversByView same elect n r.start result left → AreSmall (trace_at (Restarts r) (restart_reply {K = K} {D = D} result))
   goes_on_small n left r result (inl (is, leaves)) = rw is small_none
   goes_on_small n left r result (inr (copy, by_view, goes)) = by_error (recover_error same (new_state r.start.setup) r.start.floor r.start.now copy) refl goes
     where
-      by_error : (o : Option RecoverError) → recover_error same (new_state r.start.setup) r.start.floor r.start.now copy ≡ o → MatchOption o ((result ≡ Ok tt) × (left ≡ new_life same elect n r.start copy)) (λ e. (result ≡ Err e) × (left ≡ without_life n)) → AreSmall (trace_at (Restarts r) (restart_told {K = K} {D = D} result))
+      by_error : (o : Option RecoverError) → recover_error same (new_state r.start.setup) r.start.floor r.start.now copy ≡ o → MatchOption o ((result ≡ Ok tt) × (left ≡ new_lifetime same elect n r.start copy)) (λ e. (result ≡ Err e) × (left ≡ without_lifetime n)) → AreSmall (trace_at (Restarts r) (restart_reply {K = K} {D = D} result))
       by_error None none (is, leaves) = rw is (small_both (of_floor r.start.floor) [] (floor_small same (new_state r.start.setup) r.start.floor r.start.now copy none) small_none)
       by_error (Some e) due (is, leaves) = rw is small_none
 
-  restart_small : (m next : MemberFacts K L D) (r : RestartFacts K L D) (result : Result (Unit {0}) RecoverError) → IsRestart same elect m r result next → AreSmall (trace_at (Restarts r) (restart_told {K = K} {D = D} result))
+  restart_small : (m next : MemberFacts K L D) (r : RestartFacts K L D) (result : Result (Unit {0}) RecoverError) → IsRestart same elect m r result next → AreSmall (trace_at (Restarts r) (restart_reply {K = K} {D = D} result))
   unfolding IsRestart
   restart_small m next r result restarts = by_test (retention_grows m r.prune r.start.setup.settings.view_retention) restarts
     where
-      by_test : (b : Bool) → IsRestartWhere same elect b m r result next → AreSmall (trace_at (Restarts r) (restart_told {K = K} {D = D} result))
+      by_test : (b : Bool) → IsRestartWhere same elect b m r result next → AreSmall (trace_at (Restarts r) (restart_reply {K = K} {D = D} result))
       by_test true (is, leaves) = rw is small_none
       by_test false goes = goes_on_small (cut_member m r.drop r.prune) next r result goes
 
   -- a run
-  pub steps_small : (steps : List (StepFacts K L D)) (replies : List (Told K D)) (m end : MemberFacts K L D) → IsRun same elect m steps replies end → AreSmall (trace_of_steps steps replies)
+  pub steps_small : (steps : List (StepFacts K L D)) (replies : List (ReplyFacts K D)) (m end : MemberFacts K L D) → IsRun same elect m steps replies end → AreSmall (trace_of_steps steps replies)
   steps_small [] [] m end run = small_none
   steps_small [] (told ∷ replies) m end run = absurd run
   steps_small (step ∷ steps) [] m end run = absurd run

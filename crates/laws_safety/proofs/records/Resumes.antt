@@ -12,15 +12,15 @@ use Rattle.simplex_record.specs.declared.record.error.RecoverError.{RecoverError
 use Rattle.simplex_member.specs.declared.member.journal.Stored.{Stored}
 use Rattle.simplex_member.specs.declared.member.resume.ResumeError.TheVariants.{Recover}
 use Rattle.simplex_member.specs.CallConditions.{is_allowed, fault_of}
-use Rattle.simplex_member.specs.Calls.{CallFacts, Told, Restarted}
+use Rattle.simplex_member.specs.Calls.{CallFacts, ReplyFacts, Restarted}
 use Rattle.simplex_member.specs.CallSemantics.{recorded_by}
 use Rattle.simplex_record.specs.Check.{stands}
 use Rattle.simplex_record.specs.Cuts.{may_drop, without_last}
 use Rattle.simplex_member.specs.Journal.{stored_of, stored_facts, whole_restart, IsResumed, IsNotResumed}
-use Rattle.simplex_member.specs.MemberFacts.{MemberFacts, without_life, left_of, AnswersAlive, IsCall}
+use Rattle.simplex_member.specs.MemberFacts.{MemberFacts, without_lifetime, left_of, AnswersAlive, IsCall}
 use Rattle.simplex_member.specs.OutstandingWork.{OutstandingWork, no_outstanding_work}
 use Rattle.simplex_record.specs.Recovery.{recover_error, is_finalization_entry, with_floor}
-use Rattle.simplex_member.specs.Restarts.{RestartFacts, cut_member, retention_grows, new_life, RecoversByView, IsRestartWhere, IsRestart}
+use Rattle.simplex_member.specs.Restarts.{RestartFacts, cut_member, retention_grows, new_lifetime, RecoversByView, IsRestartWhere, IsRestart}
 use Rattle.simplex_member.specs.Runs.{StepFacts, Calls, Prunes, Restarts, IsStep, IsRun, IsRefused}
 use Rattle.simplex_record.specs.Start.{StartFacts, new_state}
 use Rattle.laws_safety.specs.Executions.{new_member}
@@ -70,7 +70,7 @@ module _ {K L D : Type 0} (same : D → D → Bool) (elect : Elect L) (m : Membe
   more_within : (more : List (ArtifactFacts D)) → m.closed ≤ length (m.entries ++ more)
   more_within more = let grows = grown m.entries more in omega (arith, grows, within)
 
-  call_within : (call : CallFacts D) (told : Told K D) (left : MemberFacts K L D) → IsCall same elect m call told left → Within left
+  call_within : (call : CallFacts D) (told : ReplyFacts K D) (left : MemberFacts K L D) → IsCall same elect m call told left → Within left
   unfolding IsCall
   call_within call told left is_call = by_life m.life is_call
     where
@@ -93,7 +93,7 @@ module _ {K L D : Type 0} (same : D → D → Bool) (elect : Elect L) where
   goes_on_within n start result left within (inl (is, leaves)) = rw leaves within
   goes_on_within n start result left within (inr (copy, by_view, goes)) = by_error (recover_error same (new_state start.setup) start.floor start.now copy) goes
     where
-      by_error : (o : Option RecoverError) → MatchOption o ((result ≡ Ok tt) × (left ≡ new_life same elect n start copy)) (λ e. (result ≡ Err e) × (left ≡ without_life n)) → Within left
+      by_error : (o : Option RecoverError) → MatchOption o ((result ≡ Ok tt) × (left ≡ new_lifetime same elect n start copy)) (λ e. (result ≡ Err e) × (left ≡ without_lifetime n)) → Within left
       by_error None (is, leaves) = rw leaves (let grows = floor_grown n.entries start.floor in omega (arith, grows, within))
       by_error (Some e) (is, leaves) = rw leaves within
 
@@ -105,7 +105,7 @@ module _ {K L D : Type 0} (same : D → D → Bool) (elect : Elect L) where
       by_test true (is, leaves) = rw leaves within
       by_test false goes = goes_on_within (cut_member m r.drop r.prune) r.start result left (cut_within m r.drop r.prune within) goes
 
-  run_within : (m end : MemberFacts K L D) (steps : List (StepFacts K L D)) (replies : List (Told K D)) → Within m → IsRun same elect m steps replies end → Within end
+  run_within : (m end : MemberFacts K L D) (steps : List (StepFacts K L D)) (replies : List (ReplyFacts K D)) → Within m → IsRun same elect m steps replies end → Within end
   run_within m end [] [] within run = subst Within run within
   run_within m end [] (told ∷ replies) within run = absurd run
   run_within m end (step ∷ steps) [] within run = absurd run
@@ -113,7 +113,7 @@ module _ {K L D : Type 0} (same : D → D → Bool) (elect : Elect L) where
   run_within m end (Prunes ∷ steps) (told ∷ replies) within (next, (tells, leaves), rest) = run_within next end steps replies (rw leaves (omega arith)) rest
   run_within m end (Restarts r ∷ steps) (told ∷ replies) within (next, (result, restarts, tell), rest) = run_within next end steps replies (restart_within m r result next within restarts) rest
 
-  pub run_loses_nothing : (start : StartFacts K L D) (steps : List (StepFacts K L D)) (replies : List (Told K D)) (m : MemberFacts K L D) → IsRun same elect (new_member same elect start) steps replies m → LosesNothing m
+  pub run_loses_nothing : (start : StartFacts K L D) (steps : List (StepFacts K L D)) (replies : List (ReplyFacts K D)) (m : MemberFacts K L D) → IsRun same elect (new_member same elect start) steps replies m → LosesNothing m
   run_loses_nothing start steps replies m run = not_below m.closed (length m.entries) (run_within (new_member same elect start) m steps replies (omega arith) run)
 
 -- the member that a journal holds restarts as the one that it was stored of
@@ -125,8 +125,8 @@ module _ {K L D : Type 0} (same : D → D → Bool) (elect : Elect L) (start : S
   other_life m next life outstanding_work restarts = by_test (retention_grows m false start.setup.settings.view_retention) restarts
     where
       by_error : (copy : List (ArtifactFacts D)) (o : Option RecoverError)
-          → MatchOption o ((◌≡◌ {A = Result (Unit {0}) RecoverError} (Ok tt) (Ok tt)) × (next ≡ new_life same elect m start copy)) (λ e. (◌≡◌ {A = Result (Unit {0}) RecoverError} (Ok tt) (Err e)) × (next ≡ without_life m))
-          → MatchOption o ((◌≡◌ {A = Result (Unit {0}) RecoverError} (Ok tt) (Ok tt)) × (next ≡ new_life same elect m start copy)) (λ e. (◌≡◌ {A = Result (Unit {0}) RecoverError} (Ok tt) (Err e)) × (next ≡ without_life (record m { life = life; outstanding_work = outstanding_work })))
+          → MatchOption o ((◌≡◌ {A = Result (Unit {0}) RecoverError} (Ok tt) (Ok tt)) × (next ≡ new_lifetime same elect m start copy)) (λ e. (◌≡◌ {A = Result (Unit {0}) RecoverError} (Ok tt) (Err e)) × (next ≡ without_lifetime m))
+          → MatchOption o ((◌≡◌ {A = Result (Unit {0}) RecoverError} (Ok tt) (Ok tt)) × (next ≡ new_lifetime same elect m start copy)) (λ e. (◌≡◌ {A = Result (Unit {0}) RecoverError} (Ok tt) (Err e)) × (next ≡ without_lifetime (record m { life = life; outstanding_work = outstanding_work })))
       by_error copy None (is, leaves) = (is, leaves)
       by_error copy (Some e) (is, leaves) = absurd cc
 
@@ -142,8 +142,8 @@ module _ {K L D : Type 0} (same : D → D → Bool) (elect : Elect L) (start : S
   other_refusal m left life outstanding_work found restarts = by_test (retention_grows m false start.setup.settings.view_retention) restarts
     where
       by_error : (copy : List (ArtifactFacts D)) (o : Option RecoverError)
-          → MatchOption o ((◌≡◌ {A = Result (Unit {0}) RecoverError} (Err found) (Ok tt)) × (left ≡ new_life same elect m start copy)) (λ e. (◌≡◌ {A = Result (Unit {0}) RecoverError} (Err found) (Err e)) × (left ≡ without_life m))
-          → MatchOption o ((◌≡◌ {A = Result (Unit {0}) RecoverError} (Err found) (Ok tt)) × (record m { life = None; outstanding_work = no_outstanding_work } ≡ new_life same elect m start copy)) (λ e. (◌≡◌ {A = Result (Unit {0}) RecoverError} (Err found) (Err e)) × (◌≡◌ {A = MemberFacts K L D} (record m { life = None; outstanding_work = no_outstanding_work }) (record m { life = None; outstanding_work = no_outstanding_work })))
+          → MatchOption o ((◌≡◌ {A = Result (Unit {0}) RecoverError} (Err found) (Ok tt)) × (left ≡ new_lifetime same elect m start copy)) (λ e. (◌≡◌ {A = Result (Unit {0}) RecoverError} (Err found) (Err e)) × (left ≡ without_lifetime m))
+          → MatchOption o ((◌≡◌ {A = Result (Unit {0}) RecoverError} (Err found) (Ok tt)) × (record m { life = None; outstanding_work = no_outstanding_work } ≡ new_lifetime same elect m start copy)) (λ e. (◌≡◌ {A = Result (Unit {0}) RecoverError} (Err found) (Err e)) × (◌≡◌ {A = MemberFacts K L D} (record m { life = None; outstanding_work = no_outstanding_work }) (record m { life = None; outstanding_work = no_outstanding_work })))
       by_error copy None (is, leaves) = absurd cc
       by_error copy (Some e) (is, leaves) = (is, refl)
 

@@ -10,20 +10,20 @@ use Rattle.simplex_types.specs.declared.types.messages.Subject.TheVariants as su
 use Rattle.simplex_voter.specs.Facts.{StateFacts, Elect}
 use Rattle.simplex_record.specs.declared.record.error.RecoverError.{RecoverError}
 use Rattle.simplex_member.specs.CallConditions.{is_allowed, fault_of}
-use Rattle.simplex_member.specs.Calls.{CallFacts, Told}
+use Rattle.simplex_member.specs.Calls.{CallFacts, ReplyFacts}
 use Rattle.simplex_record.specs.Check.{first_recover_error, first_broken_after, first_error, recovery_floor_rules}
 use Rattle.simplex_record.specs.Cuts.{without_last, finalized_in}
 use Rattle.simplex_member.specs.OutstandingWork.{OutstandingWork, no_outstanding_work}
-use Rattle.simplex_member.specs.MemberFacts.{MemberFacts, IsCall, AnswersAlive, reply_of, left_of, without_life}
+use Rattle.simplex_member.specs.MemberFacts.{MemberFacts, IsCall, AnswersAlive, reply_of, left_of, without_lifetime}
 use Rattle.simplex_record.specs.Recovery.{recover_error, recovered_state, with_floor}
-use Rattle.simplex_member.specs.Restarts.{RestartFacts, IsByView, cut_member, new_life, retention_grows, RecoversByView, IsRestart, IsRestartWhere}
+use Rattle.simplex_member.specs.Restarts.{RestartFacts, IsByView, cut_member, new_lifetime, retention_grows, RecoversByView, IsRestart, IsRestartWhere}
 use Rattle.laws_safety.specs.Traces.{TraceEvent, of_floor, trace_of_call, trace_at, trace_of_steps}
 use Rattle.laws_safety.specs.Lawful.{IsLawful}
 use Rattle.laws_safety.specs.Executions.{new_member, Execution, trace_of, BeginsAs, IsExecution}
 use Rattle.laws_safety.proofs.lists.Signed.{signed_none}
 use Rattle.laws_safety.proofs.lists.Splits.{Contains-cons_rest}
 use Rattle.laws_safety.specs.TermLengths.{HasTerms, KeepTerms}
-use Rattle.simplex_member.specs.Runs.{StepFacts, Calls, Prunes, Restarts, restart_told, IsStep, IsRun, IsRunFrom}
+use Rattle.simplex_member.specs.Runs.{StepFacts, Calls, Prunes, Restarts, restart_reply, IsStep, IsRun, IsRunFrom}
 use Rattle.simplex_record.specs.Start.{StartFacts, new_state}
 use Rattle.laws_safety.proofs.agreement.Lawful.{lawful_start}
 use Rattle.laws_safety.proofs.records.Remembering.{none_split}
@@ -84,7 +84,7 @@ module _ {K L D : Type 0} (same : D → D → Bool) (decides : (d e : D) → sam
       by_allowed true allowed = by_fault (fault_of x call) refl allowed
       by_allowed false not_allowed = rw not_allowed (quiet term_length trace m lives)
 
-  pub call_lives_on : (call : CallFacts D) (told : Told K D) (left : MemberFacts K L D) → MemberLives term_length trace m → IsCall same elect m call told left → MemberLives term_length (trace ++ trace_of_call call told) left
+  pub call_lives_on : (call : CallFacts D) (told : ReplyFacts K D) (left : MemberFacts K L D) → MemberLives term_length trace m → IsCall same elect m call told left → MemberLives term_length (trace ++ trace_of_call call told) left
   unfolding IsCall
   call_lives_on call told left lives is_call = by_life m.life refl is_call
     where
@@ -92,42 +92,42 @@ module _ {K L D : Type 0} (same : D → D → Bool) (decides : (d e : D) → sam
       by_life None dead (tells, leaves) = rw (tells, leaves) (quiet term_length trace m lives)
       by_life (Some x) alive (inl (tells, leaves)) = rw (tells, leaves) (answered call x alive lives)
       by_life (Some x) alive (inr (_, tells, inl (_, leaves))) = rw (tells, leaves) (quiet term_length trace m lives)
-      by_life (Some x) alive (inr (_, tells, inr (_, _, leaves))) = rw (tells, leaves) (quiet term_length trace (without_life m) (lives.0, between_of term_length trace m.closed lives.0 m.entries m.outstanding_work m.life lives.1))
+      by_life (Some x) alive (inr (_, tells, inr (_, _, leaves))) = rw (tells, leaves) (quiet term_length trace (without_lifetime m) (lives.0, between_of term_length trace m.closed lives.0 m.entries m.outstanding_work m.life lives.1))
 
   -- a restart
 
-  from_copy : (n : MemberFacts K L D) (start : StartFacts K L D) (kept : ℕ) (copy : List (ArtifactFacts D)) → HasTerms term_length start.setup → Between term_length trace n.closed kept n.entries → IsByView n.entries copy → first_recover_error same start.setup.settings.epoch start.setup.me start.floor copy ≡ None → MemberLives term_length (trace ++ of_floor start.floor) (new_life same elect n start copy)
+  from_copy : (n : MemberFacts K L D) (start : StartFacts K L D) (kept : ℕ) (copy : List (ArtifactFacts D)) → HasTerms term_length start.setup → Between term_length trace n.closed kept n.entries → IsByView n.entries copy → first_recover_error same start.setup.settings.epoch start.setup.me start.floor copy ≡ None → MemberLives term_length (trace ++ of_floor start.floor) (new_lifetime same elect n start copy)
   from_copy n start kept copy fresh between by_view none =
       let x = new_state start.setup in
       let epochs = all_of_epoch same x.settings.epoch x.me [] copy (unbroken same x.settings.epoch x.me start.floor copy none) in
       let here : Between x.terms.term_length trace n.closed kept n.entries = subst (λ t. Between t trace n.closed kept n.entries) (sym fresh.terms) between in
       let lives = new_life_lives same decides elect x.settings x.me x.members x.elector x.terms x.elects_early trace n.closed kept n.entries copy start.floor start.now here by_view.of_each_view epochs in
-      (kept, subst (λ t. Living t (trace ++ of_floor start.floor) n.closed kept (new_life same elect n start copy).entries no_outstanding_work (recovered_state same elect x start.floor start.now copy)) fresh.terms lives)
+      (kept, subst (λ t. Living t (trace ++ of_floor start.floor) n.closed kept (new_lifetime same elect n start copy).entries no_outstanding_work (recovered_state same elect x start.floor start.now copy)) fresh.terms lives)
 
   -- where a life is refused, what is left of the record is kept
-  refused_life : (n : MemberFacts K L D) (kept : ℕ) → Between term_length trace n.closed kept n.entries → MemberLives term_length (trace ++ []) (without_life n)
-  refused_life n kept between = quiet term_length trace (without_life n) (kept, between)
+  refused_life : (n : MemberFacts K L D) (kept : ℕ) → Between term_length trace n.closed kept n.entries → MemberLives term_length (trace ++ []) (without_lifetime n)
+  refused_life n kept between = quiet term_length trace (without_lifetime n) (kept, between)
 
-  goes_on : (n : MemberFacts K L D) (r : RestartFacts K L D) (result : Result (Unit {0}) RecoverError) (left : MemberFacts K L D) (kept : ℕ) → HasTerms term_length r.start.setup → Between term_length trace n.closed kept n.entries → RecoversByView same elect n r.start result left → MemberLives term_length (trace ++ trace_at (Restarts r) (restart_told {K = K} {D = D} result)) left
-  goes_on n r result left kept fresh between (inl (is, leaves)) = rw (is, leaves) (refused_life n kept between)
-  goes_on n r result left kept fresh between (inr (copy, by_view, goes)) = by_error (recover_error same (new_state r.start.setup) r.start.floor r.start.now copy) refl goes
+  continues : (n : MemberFacts K L D) (r : RestartFacts K L D) (result : Result (Unit {0}) RecoverError) (left : MemberFacts K L D) (kept : ℕ) → HasTerms term_length r.start.setup → Between term_length trace n.closed kept n.entries → RecoversByView same elect n r.start result left → MemberLives term_length (trace ++ trace_at (Restarts r) (restart_reply {K = K} {D = D} result)) left
+  continues n r result left kept fresh between (inl (is, leaves)) = rw (is, leaves) (refused_life n kept between)
+  continues n r result left kept fresh between (inr (copy, by_view, goes)) = by_error (recover_error same (new_state r.start.setup) r.start.floor r.start.now copy) refl goes
     where
-      by_error : (o : Option RecoverError) → recover_error same (new_state r.start.setup) r.start.floor r.start.now copy ≡ o → MatchOption o ((result ≡ Ok tt) × (left ≡ new_life same elect n r.start copy)) (λ e. (result ≡ Err e) × (left ≡ without_life n)) → MemberLives term_length (trace ++ trace_at (Restarts r) (restart_told {K = K} {D = D} result)) left
+      by_error : (o : Option RecoverError) → recover_error same (new_state r.start.setup) r.start.floor r.start.now copy ≡ o → MatchOption o ((result ≡ Ok tt) × (left ≡ new_lifetime same elect n r.start copy)) (λ e. (result ≡ Err e) × (left ≡ without_lifetime n)) → MemberLives term_length (trace ++ trace_at (Restarts r) (restart_reply {K = K} {D = D} result)) left
       by_error None none (is, leaves) =
           rw (is, leaves)
-          (subst (λ more. MemberLives term_length (trace ++ more) (new_life same elect n r.start copy)) (sym (append-nil (of_floor r.start.floor)))
+          (subst (λ more. MemberLives term_length (trace ++ more) (new_lifetime same elect n r.start copy)) (sym (append-nil (of_floor r.start.floor)))
           (from_copy n r.start kept copy fresh between by_view (first_none (first_recover_error same r.start.setup.settings.epoch r.start.setup.me r.start.floor copy) _ none).0))
       by_error (Some e) due (is, leaves) = rw (is, leaves) (refused_life n kept between)
 
-  pub restart_lives_on : (r : RestartFacts K L D) (result : Result (Unit {0}) RecoverError) (left : MemberFacts K L D) → HasTerms term_length r.start.setup → MemberLives term_length trace m → IsRestart same elect m r result left → MemberLives term_length (trace ++ trace_at (Restarts r) (restart_told {K = K} {D = D} result)) left
+  pub restart_lives_on : (r : RestartFacts K L D) (result : Result (Unit {0}) RecoverError) (left : MemberFacts K L D) → HasTerms term_length r.start.setup → MemberLives term_length trace m → IsRestart same elect m r result left → MemberLives term_length (trace ++ trace_at (Restarts r) (restart_reply {K = K} {D = D} result)) left
   unfolding IsRestart
   restart_lives_on r result left fresh lives restarts = by_test (retention_grows m r.prune r.start.setup.settings.view_retention) restarts
     where
-      by_test : (b : Bool) → IsRestartWhere same elect b m r result left → MemberLives term_length (trace ++ trace_at (Restarts r) (restart_told {K = K} {D = D} result)) left
+      by_test : (b : Bool) → IsRestartWhere same elect b m r result left → MemberLives term_length (trace ++ trace_at (Restarts r) (restart_reply {K = K} {D = D} result)) left
       by_test true (is, leaves) = rw (is, leaves) (quiet term_length trace m lives)
       by_test false goes =
           let between = cut_between term_length trace m r.drop lives.0 r.prune (between_of term_length trace m.closed lives.0 m.entries m.outstanding_work m.life lives.1) in
-          goes_on (cut_member m r.drop r.prune) r result left between.0 fresh between.1 goes
+          continues (cut_member m r.drop r.prune) r result left between.0 fresh between.1 goes
 
 module _ {K L D : Type 0} (same : D → D → Bool) (decides : (d e : D) → same d e ≡ true → d ≡ e) (elect : Elect L) (term_length : ℕ) (some : 0 < term_length) where
   keep_parts : (step : StepFacts K L D) (steps : List (StepFacts K L D)) → KeepTerms term_length (step ∷ steps) → KeepTerms term_length (step ∷ []) × KeepTerms term_length steps
@@ -136,7 +136,7 @@ module _ {K L D : Type 0} (same : D → D → Bool) (decides : (d e : D) → sam
   keep_parts (Restarts r) steps keep = ((keep.0, tt), keep.1)
 
   -- a step, and what is left of the terms that later steps keep
-  pub step_lives : (step : StepFacts K L D) (steps : List (StepFacts K L D)) (told : Told K D) (trace : List (TraceEvent D)) (m next : MemberFacts K L D) → KeepTerms term_length (step ∷ steps) → MemberLives term_length trace m → IsStep same elect m step told next → KeepTerms term_length steps × MemberLives term_length (trace ++ trace_at step told) next
+  pub step_lives : (step : StepFacts K L D) (steps : List (StepFacts K L D)) (told : ReplyFacts K D) (trace : List (TraceEvent D)) (m next : MemberFacts K L D) → KeepTerms term_length (step ∷ steps) → MemberLives term_length trace m → IsStep same elect m step told next → KeepTerms term_length steps × MemberLives term_length (trace ++ trace_at step told) next
   step_lives step steps told trace m next keep lives is_step = let parts = keep_parts step steps keep in (parts.1, by_kind step parts.0 is_step)
     where
       by_kind : (s : StepFacts K L D) → KeepTerms term_length (s ∷ []) → IsStep same elect m s told next → MemberLives term_length (trace ++ trace_at s told) next
@@ -144,7 +144,7 @@ module _ {K L D : Type 0} (same : D → D → Bool) (decides : (d e : D) → sam
       by_kind Prunes fresh is = rw (is.0, is.1) (prune_lives_on term_length trace m lives)
       by_kind (Restarts r) fresh is = rw is.2 (restart_lives_on same decides elect term_length some trace m r is.0 next fresh.0 lives is.1)
 
-  pub run_lives : (steps : List (StepFacts K L D)) (replies : List (Told K D)) (trace : List (TraceEvent D)) (m end : MemberFacts K L D) → KeepTerms term_length steps → MemberLives term_length trace m → IsRun same elect m steps replies end → MemberLives term_length (trace ++ trace_of_steps steps replies) end
+  pub run_lives : (steps : List (StepFacts K L D)) (replies : List (ReplyFacts K D)) (trace : List (TraceEvent D)) (m end : MemberFacts K L D) → KeepTerms term_length steps → MemberLives term_length trace m → IsRun same elect m steps replies end → MemberLives term_length (trace ++ trace_of_steps steps replies) end
   run_lives [] [] trace m end keep lives run = subst (MemberLives term_length (trace ++ [])) run (quiet term_length trace m lives)
   run_lives [] (told ∷ replies) trace m end keep lives run = absurd run
   run_lives (step ∷ steps) [] trace m end keep lives run = absurd run
@@ -152,7 +152,7 @@ module _ {K L D : Type 0} (same : D → D → Bool) (decides : (d e : D) → sam
       let kept = step_lives step steps told trace m next keep lives is_step in
       subst (λ a. MemberLives term_length a end) (append_assoc trace (trace_at step told) (trace_of_steps steps replies)) (run_lives steps replies (trace ++ trace_at step told) next end kept.0 kept.1 rest)
 
-  pub run_lawful : (steps : List (StepFacts K L D)) (replies : List (Told K D)) (trace : List (TraceEvent D)) (m end : MemberFacts K L D) → KeepTerms term_length steps → MemberLives term_length trace m → IsRun same elect m steps replies end → IsLawful term_length (trace ++ trace_of_steps steps replies)
+  pub run_lawful : (steps : List (StepFacts K L D)) (replies : List (ReplyFacts K D)) (trace : List (TraceEvent D)) (m end : MemberFacts K L D) → KeepTerms term_length steps → MemberLives term_length trace m → IsRun same elect m steps replies end → IsLawful term_length (trace ++ trace_of_steps steps replies)
   run_lawful steps replies trace m end fresh lives run =
       let last = run_lives steps replies trace m end fresh lives run in
       (between_of term_length (trace ++ trace_of_steps steps replies) end.closed last.0 end.entries end.outstanding_work end.life last.1).lawful
@@ -185,7 +185,7 @@ module _ {K L D : Type 0} (same : D → D → Bool) (decides : (d e : D) → sam
       (0, subst (λ t. Living t (of_floor start.floor) 0 0 whole no_outstanding_work (recovered_state same elect x start.floor start.now [])) begins.terms lives)
 
   -- from the start on
-  pub run_from_lawful : (steps : List (StepFacts K L D)) (replies : List (Told K D)) → KeepTerms term_length steps → IsRunFrom same elect start steps replies → IsLawful term_length (of_floor start.floor ++ trace_of_steps steps replies)
+  pub run_from_lawful : (steps : List (StepFacts K L D)) (replies : List (ReplyFacts K D)) → KeepTerms term_length steps → IsRunFrom same elect start steps replies → IsLawful term_length (of_floor start.floor ++ trace_of_steps steps replies)
   unfolding IsRunFrom
   run_from_lawful steps replies fresh (accepted, end, run) =
       run_lawful same decides elect term_length begins.some steps replies (of_floor start.floor) (new_member same elect start) end fresh start_lives run

@@ -46,7 +46,7 @@ use Rattle.simplex_record.proofs.Steps as step
 use Rattle.simplex_record.proofs.Steps.{Path, Still, Then, Moves, Unnames}
 use Rattle.simplex_record.proofs.Paths.{either, put, to_prepared, to_triggered, build_path, proposal_path, handle_path, polled_path}
 use Rattle.laws_safety.proofs.frames.CallsOnWork.{is_silent}
-use Rattle.laws_safety.proofs.votes.Proposals.{Tidy, contrary, opposite, answered, given_out, proposes, reopened, tidy_calm}
+use Rattle.laws_safety.proofs.votes.Proposals.{Tidy, contrary, opposite, answered, returned_outputs, proposes, reopened, tidy_calm}
 use Rattle.laws_safety.proofs.votes.NotarizeVotesShown.{NotesStand, notes_calm}
 use Rattle.laws_safety.proofs.votes.OutstandingWork.{among_others, now_among, got_others, still_open, now_open, some_still, still_placed, NoMoreContexts}
 use Rattle.laws_safety.proofs.frames.InOrder.{InOrder}
@@ -475,7 +475,7 @@ module _ {K L D : Type 0} (same : D → D → Bool) (elect : Elect L) (base low 
           let bound : (verifying_round r d).binding ≡ Some (found.0.1, d) = ap (option_map (λ p. (p, d))) parts.3 in (
             given_grown w r d,
             λ is. is,
-            λ over. given_out w (is_verifying o w) (is_some (context_at o w)) (is_verifying opened w) (is_some (context_at opened w)) r (verifying_round r d) (given_grown w r d) (context_still w) (notes.tidy w over) found.0.1 d (λ is. is) bound parts.3 parts.2 refl parts.0 parts.1,
+            λ over. returned_outputs w (is_verifying o w) (is_some (context_at o w)) (is_verifying opened w) (is_some (context_at opened w)) r (verifying_round r d) (given_grown w r d) (context_still w) (notes.tidy w over) found.0.1 d (λ is. is) bound parts.3 parts.2 refl parts.0 parts.1,
           )
       by_standing true s scanned stands = calm_kept (round_left r x.moment s) (left_calm w r x.moment s refl) (λ given. false≢true (ap is_given_out (sym stands) ∙ given.ready))
 

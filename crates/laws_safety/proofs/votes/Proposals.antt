@@ -76,8 +76,8 @@ module _ {K D : Type 0} (v : ℕ) (verifying opened verifying' opened' : Bool) (
   }
 
   -- the held proposal is given out to be verified
-  pub given_out : (p : Proposal D) (d : D) → (s.slot.verified ≡ true → r.slot.verified ≡ true) → s.binding ≡ Some (p, d) → r.slot.held ≡ Some p → r.slot.verify_requested ≡ false → s.slot.verify_requested ≡ true → leads_round r ≡ false → is_some r.leader ≡ true → Tidy verifying' opened' s
-  given_out p d m b holds unrequested requested other led = record {
+  pub returned_outputs : (p : Proposal D) (d : D) → (s.slot.verified ≡ true → r.slot.verified ≡ true) → s.binding ≡ Some (p, d) → r.slot.held ≡ Some p → r.slot.verify_requested ≡ false → s.slot.verify_requested ≡ true → leads_round r ≡ false → is_some r.leader ≡ true → Tidy verifying' opened' s
+  returned_outputs p d m b holds unrequested requested other led = record {
     bound = λ is. absurd (opposite r.slot.verify_requested (tidy.verified_requested (m is)) unrequested);
     verifying_bound = λ is clear un. (p, d, g.holding p holds clear, b);
     verifying_other = λ is. (let l = g.leader led in (leads_alike l ∙ other, ap is_some l ∙ led, requested));

@@ -3,10 +3,10 @@
 ghost use Rattle.std.specs.Prelude.{◌≡◌, ℕ, ◌≤◌, nat_eq, length};
 ghost use Rattle.simplex_types.specs.declared.types.messages.Proposal.{Proposal};
 ghost use Rattle.simplex_types.specs.declared.types.messages.Subject.TheVariants.{Notarize, Nullify};
-ghost use Rattle.laws_safety.specs.Continuations.{HasAccepted, HasSignedAs, GoesOnToFinalize};
+ghost use Rattle.laws_safety.specs.Continuations.{HasAccepted, HasSignedAs, ContinuesToFinalize};
 ghost use Rattle.laws_safety.specs.DividedNetwork.{divided, united, after_conflict};
 ghost use Rattle.laws_safety.specs.HandoffNetwork.{handed_over, takes_over, taken_over, gone_on, after_handoff};
-ghost use Rattle.laws_safety.specs.MissingCertificatesNetwork.{lacks_nullification, member_without_notarization, lacking_certificates, supplied, over_two};
+ghost use Rattle.laws_safety.specs.MissingCertificatesNetwork.{lacks_nullification, member_without_notarization, missing_certificates, supplied, over_two};
 ghost use Rattle.laws_safety.specs.Replicas.{faults, Backed, IsNetworkOf};
 ghost use Rattle.laws_safety.specs.ScenarioSteps.{round, one, in_turn};
 
@@ -16,12 +16,12 @@ ghost use Rattle.laws_safety.specs.ScenarioSteps.{round, one, in_turn};
 ///
 /// - `network`, `few`: it keeps the premises of `agreement`; one of four is faulty.
 /// - `divided`: no proposal has votes enough for a notarization, whatever the faulty member signs.
-/// - `goes_on`: it may go on as `united`, by what its honest members do alone, and view 2 is finalized there.
+/// - `continues`: it may go on as `united`, by what its honest members do alone, and view 2 is finalized there.
 pub fn conflicts_are_left()
     ensures network { IsNetworkOf nat_eq in_turn 1 divided }
     ensures few { (length divided ≡ 4) × (faults divided ≡ 1) }
     ensures divided { (p : Proposal ℕ) → Backed divided (Notarize p) → ⊥ }
-    ensures goes_on { GoesOnToFinalize nat_eq in_turn 1 divided united after_conflict }
+    ensures continues { ContinuesToFinalize nat_eq in_turn 1 divided united after_conflict }
 {}
 
 /// A network of four in terms of one view, where view 3 is built on view 1. One member can't verify that yet, since it lacks
@@ -30,12 +30,12 @@ pub fn conflicts_are_left()
 ///
 /// - `network`, `few`: it keeps the premises of `agreement`; one of four is faulty.
 /// - `lacks`: what the two members have not accepted.
-/// - `goes_on`: it may go on as `supplied`, by what its honest members do alone, and view 3 is finalized there.
+/// - `continues`: it may go on as `supplied`, by what its honest members do alone, and view 3 is finalized there.
 pub fn gaps_are_closed()
-    ensures network { IsNetworkOf nat_eq in_turn 1 lacking_certificates }
-    ensures few { (length lacking_certificates ≡ 4) × (faults lacking_certificates ≡ 1) }
+    ensures network { IsNetworkOf nat_eq in_turn 1 missing_certificates }
+    ensures few { (length missing_certificates ≡ 4) × (faults missing_certificates ≡ 1) }
     ensures lacks { (HasAccepted (Nullify (round 2)) 0 lacks_nullification → ⊥) × (HasAccepted (Notarize one) 2 member_without_notarization → ⊥) }
-    ensures goes_on { GoesOnToFinalize nat_eq in_turn 1 lacking_certificates supplied over_two }
+    ensures continues { ContinuesToFinalize nat_eq in_turn 1 missing_certificates supplied over_two }
 {}
 
 /// A network of four in terms of two views. The leader of the second term takes it over early: it builds view 3 on view 2 and
@@ -45,11 +45,11 @@ pub fn gaps_are_closed()
 /// - `network`, `few`: it keeps the premises of `agreement`; one of four is faulty.
 /// - `voted`: the leader has no vote to notarize left in view 3.
 /// - `stuck`: no proposal above view 1 has votes enough for a notarization, whatever the faulty member signs.
-/// - `goes_on`: it may go on as `gone_on`, by what its honest members do alone, and view 5 is finalized there.
+/// - `continues`: it may go on as `gone_on`, by what its honest members do alone, and view 5 is finalized there.
 pub fn nullified_handoffs_are_left()
     ensures network { IsNetworkOf nat_eq in_turn 2 taken_over }
     ensures few { (length taken_over ≡ 4) × (faults taken_over ≡ 1) }
     ensures voted { HasSignedAs (Notarize handed_over) 0 takes_over }
     ensures stuck { (p : Proposal ℕ) → 2 ≤ p.round.view → Backed taken_over (Notarize p) → ⊥ }
-    ensures goes_on { GoesOnToFinalize nat_eq in_turn 2 taken_over gone_on after_handoff }
+    ensures continues { ContinuesToFinalize nat_eq in_turn 2 taken_over gone_on after_handoff }
 {}

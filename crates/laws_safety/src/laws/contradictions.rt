@@ -1,6 +1,6 @@
 //! Who answers for certificates that contradict, where more members are faulty than agreement bears.
 
-ghost use Rattle.laws_safety.specs.Accountability.{ContradictionsAreAnsweredFor, ContradictionsAreTraced, NearestIsEvidence};
+ghost use Rattle.laws_safety.specs.Accountability.{ContradictionsHaveFaultyMembers, ContradictionsAreTraced, NearestIsEvidence};
 ghost use Rattle.laws_safety.specs.Accountability.{BrokenRulesAreRules, EvidenceHolds, ThirdIsAnother, ContradictionsNeedFaults, ContradictionsAreTracedInNetworks};
 
 use simplex_types::types::{Digest, Elector, Scheme};
@@ -25,7 +25,7 @@ use simplex_types::types::{Digest, Elector, Scheme};
 ///   it, on two proposals, or where one is to nullify and one to finalize the same view.
 /// - `nearest`: certificates that contradict at distance 0 are of such votes.
 pub fn accountability<D: Digest>()
-    ensures answered { ContradictionsAreAnsweredFor D }
+    ensures answered { ContradictionsHaveFaultyMembers D }
     ensures third { ThirdIsAnother D }
     ensures traced { ContradictionsAreTraced D }
     ensures broken { BrokenRulesAreRules D }

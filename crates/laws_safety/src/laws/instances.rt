@@ -115,7 +115,7 @@ pub fn refusals_accept_nothing()
 /// - `ran`, `network`: it is what member 1 of a network does, and with two more and a faulty leader it keeps the premises of
 ///   `agreement`.
 /// - `does`: what it accepts and signs.
-pub fn lives_may_differ()
+pub fn lifetimes_may_differ()
     ensures ran { IsExecution nat_eq leader 5 1 changing }
     ensures network { IsNetworkOf nat_eq leader 5 with_changing }
     ensures does { trace_of changing ≡

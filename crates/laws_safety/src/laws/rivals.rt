@@ -20,7 +20,7 @@ ghost use Rattle.laws_safety.specs.ScenarioSteps.{round, one, two};
 /// - `evidence`: so two votes for both are evidence.
 /// - `known`: what is known of the four, with the trace of one of the faulty members, is as `accountability` asks.
 /// - `suspects`, `guilty`: two are suspects, of which the known one is guilty.
-pub fn rivals_are_answered_for()
+pub fn rivals_have_faulty_members()
     ensures network { IsBackedNetwork nat_eq leader 5 two_proposals }
     ensures many { (length two_proposals ≡ 4) × (faults two_proposals ≡ 2) }
     ensures contradict { Contradicts 5 (Notarize one) (Notarize rival)
@@ -45,7 +45,7 @@ pub fn rivals_are_answered_for()
 /// - `evidence`: at that distance the two votes are evidence.
 /// - `known`: what is known of the four, with the trace of one of the faulty members, is as `accountability` asks.
 /// - `suspects`, `guilty`: at the nearer pair two are suspects, of which the known one is guilty.
-pub fn skipped_finalizations_are_answered_for()
+pub fn skipped_finalizations_have_faulty_members()
     ensures network { IsBackedNetwork nat_eq leader 1 skipped_over }
     ensures many { (length skipped_over ≡ 4) × (faults skipped_over ≡ 2) }
     ensures contradict { Contradicts 1 (Notarize past_two) (Finalize two)

@@ -26,7 +26,7 @@ use Rattle.simplex_voter.specs.Acceptance as accept
 use Rattle.simplex_voter.specs.Votes.{nullify_answer, after_construct_nullify, finalize_answer, after_construct_finalize, notarize_answer, after_construct_notarize}
 use Rattle.simplex_voter.specs.declared.voter.propose.ProposalRequest.{ProposalRequest}
 use Rattle.simplex_voter.specs.declared.voter.verify.Verify.{Verify}
-use Rattle.simplex_voter.specs.ProposalRequests.{propose_answer, after_try_propose, proposed_answer, after_proposed, supersede_answer, after_supersede, abandonment_answer, after_release, parent_certified, voted_nullify as gives_up}
+use Rattle.simplex_voter.specs.ProposalRequests.{propose_answer, after_try_propose, proposed_answer, after_proposed, supersede_answer, after_supersede, abandonment_answer, after_release, parent_certified, voted_nullify as abandons}
 use Rattle.simplex_voter.specs.Verification.{takes_proposal, set_proposal_answer, after_set_proposal, standing, verify_answer, after_try_verify, verified_answer, after_verified, after_verification_failed}
 use Rattle.simplex_voter.specs.StateAnswers.{best_certificate, broadcast_notarization_answer, after_broadcast_notarization, broadcast_nullification_answer, after_broadcast_nullification, broadcast_finalization_answer, after_broadcast_finalization, prune_answer, after_prune, elapsed_since_start, elapsed_since_entry, leader_of, forwardable_of}
 use Rattle.simplex_voter.specs.Replay.{artifact_round, replay_refusal, after_replayed}
@@ -164,7 +164,7 @@ reply_to x (Elapsed v now) = Since (elapsed_since_start x v now) (elapsed_since_
 reply_to x (Leader v) = Member (leader_of x v)
 reply_to x (Forwardable v) = Vote (forwardable_of x v)
 reply_to x (ParentCertified v d) = Flag (parent_certified same x (v, d))
-reply_to x (VotedNullify v) = Flag (gives_up x v)
+reply_to x (VotedNullify v) = Flag (abandons x v)
 reply_to x (AdmitsVote v) = Flag (admits_vote x v)
 reply_to x (Restart now entries) = Done
 

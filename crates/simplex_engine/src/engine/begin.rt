@@ -4,11 +4,11 @@
 ghost use Rattle.std.specs.Prelude.{◌≡◌, ◌==◌, ℕ, List, Option, [], ◌∷◌, Err, IfOk, IfErr, IfSome, length, reverse};
 ghost use Rattle.simplex_resolver.specs.RecordCalls.{calls_of};
 ghost use Rattle.simplex_resolver.specs.Steps.{Replayed};
-ghost use Rattle.simplex_resolver.specs.CallHistory.{HasBeenTold};
+ghost use Rattle.simplex_resolver.specs.CallHistory.{HasReceivedCalls};
 ghost use Rattle.simplex_record.specs.Entries.{entries_of};
-ghost use Rattle.simplex_engine.specs.EngineStart.{with_a_retry, IsPlanOf, IsCompanyOf, HasBegunWith, IsNotReplayed};
+ghost use Rattle.simplex_engine.specs.EngineStart.{with_a_retry, IsPlanOf, IsCompanyOf, HasStartedWith, IsNotReplayed};
 ghost use Rattle.simplex_record.specs.Votes.{votes_of};
-ghost use Rattle.engine_outbox.specs.Continuity.{IsKept, IsWhole, TellsNothing, BeginsTraced};
+ghost use Rattle.engine_outbox.specs.Continuity.{IsJournaled, IsWhole, ReportsNothing, BeginsTraced};
 ghost use Rattle.engine_outbox.specs.Journals.{BeginsWith};
 ghost use Rattle.engine_outbox.specs.Signatures.{BeginsSigned};
 
@@ -80,13 +80,13 @@ impl<S: Assembly<D>, L: Elector<S>, D: Digest> Engine<S, L, D> {
     ghost use Rattle.simplex_record.specs.Start.{set_up, start_facts};
     ghost use Rattle.simplex_member.specs.Journal.{IsNotResumed, IsResumed};
     ghost use Rattle.simplex_member.specs.Start.{started_member};
-    ghost use Rattle.laws_safety.specs.MemberHistory.{HasBegun, HasGoneOn};
-    ghost use Rattle.simplex_engine.specs.EngineStart.{IsMemberError, IsNotBegun};
+    ghost use Rattle.laws_safety.specs.MemberHistory.{HasStarted, HasContinued};
+    ghost use Rattle.simplex_engine.specs.EngineStart.{IsMemberError, IsStartRefusal};
     ghost use Rattle.simplex_engine.specs.declared.engine.begin.StartError.TheVariants.{RetryZero};
     ghost use Rattle.simplex_engine.specs.Bounds.{HoldsNoneAhead};
-    ghost use Rattle.simplex_engine.specs.Provenance.{at_hand};
-    ghost use Rattle.simplex_engine.specs.FetchHeights.{AsksForTheHeard};
-    ghost use Rattle.simplex_engine.specs.ApplicationWork.{HasToldAll};
+    ghost use Rattle.simplex_engine.specs.Provenance.{pending_causes};
+    ghost use Rattle.simplex_engine.specs.FetchHeights.{FetchesTheReported};
+    ghost use Rattle.simplex_engine.specs.ApplicationWork.{HasReportedAll};
 
     /// Begins the engine of a member that never voted, at a floor. A member that voted must `resume`, or it could vote twice in a view.
     ///
@@ -96,12 +96,12 @@ impl<S: Assembly<D>, L: Elector<S>, D: Digest> Engine<S, L, D> {
     /// - `begins`: the member has accepted the floor's finalization, if there is one, and done nothing else.
     /// - `traced`: the empty list of outputs is traced by what the member did before (`IsTraced`).
     /// - `signed`: the votes that are stored are signed under the member's key, where those of its record are (`IsSignedBy`).
-    /// - `kept`, `whole`, `queued`, `told`, `bounded`, `duties`: no output was returned. The whole record is queued, in place of all that is
+    /// - `kept`, `whole`, `queued`, `told`, `bounded`, `due_work`: no output was returned. The whole record is queued, in place of all that is
     ///   stored, and nothing else is; nothing is to be reported as final, and the member waits for nothing.
     /// - `begun`: no vote is held; certificates are made by the number of the scheme's participants; the resolver has received the record,
     ///   and its outstanding fetches are due at once, from all participants but this member; no input was ignored.
     /// - `nothing`: no work is queued or planned, no early proposal is stored, and each fetch is one that the resolver wants.
-    /// - `heights`: no fetch is of a view above both the next term's first and those of all entries.
+    /// - `fetch_heights`: no fetch is of a view above both the next term's first and those of all entries.
     /// - `no_retry`, `refused`: `RetryZero` exactly where `timeout_retry` is 0; the other errors as below.
     ///
     /// # Errors
@@ -114,29 +114,29 @@ impl<S: Assembly<D>, L: Elector<S>, D: Digest> Engine<S, L, D> {
         options: Options,
     ) -> Result<Engine<S, L, D>, StartError>
         requires { L.members start.settings.elector ≡ length (S.participants start.settings.scheme) }
-        ensures kept { IfOk result (λ engine. IsKept S.certificate_bytes [] engine.core) }
+        ensures kept { IfOk result (λ engine. IsJournaled S.certificate_bytes [] engine.core) }
         ensures traced { IfOk result (λ engine. BeginsTraced D.eq L.elect S.certificate_bytes engine.core.member engine.core) }
         ensures signed { IfOk result (λ engine. BeginsSigned S.IsSignature engine.core.member engine.core) }
         ensures whole { IfOk result (λ engine. IsWhole S.certificate_bytes engine.core) }
         ensures queued { IfOk result (λ engine. BeginsWith S.certificate_bytes engine.core.member engine.core.outbox.queue.items) }
-        ensures told { IfOk result (λ engine. TellsNothing engine.core) }
-        ensures duties { IfOk result (HasToldAll []) }
+        ensures told { IfOk result (λ engine. ReportsNothing engine.core) }
+        ensures due_work { IfOk result (HasReportedAll []) }
         ensures bounded { IfOk result (λ engine. HoldsNoneAhead S.participants engine.core engine.batcher) }
-        ensures begun { IfOk result (HasBegunWith D.bytes S.participants (S.participants start.settings.scheme) (S.me start.settings.scheme)
+        ensures begun { IfOk result (HasStartedWith D.bytes S.participants (S.participants start.settings.scheme) (S.me start.settings.scheme)
             (L.terms start.settings.elector).term_length (with_a_retry options)) }
         ensures started { IfOk result (λ engine. engine.core.member.facts ≡ started_member D.eq L.elect
             (set_up S.me S.participants L.terms L.elects_early start.settings)
             (floor_facts S.certificate_bytes start.floor) start.now) }
         ensures votes { IfOk result (λ engine. engine.core.member.votes ≡ []) }
-        ensures begins { IfOk result (λ engine. HasBegun D.eq L.elect S.me L.terms start engine.core.member.facts) }
+        ensures begins { IfOk result (λ engine. HasStarted D.eq L.elect S.me L.terms start engine.core.member.facts) }
         ensures no_retry { start.settings.timeout_retry ≡ 0 → result ≡ Err RetryZero }
-        ensures refused { IfErr result (IsNotBegun start.settings.timeout_retry
+        ensures refused { IfErr result (IsStartRefusal start.settings.timeout_retry
             (IsMemberError (recover_error D.eq (set_up S.me S.participants L.terms L.elects_early start.settings)
             (floor_facts S.certificate_bytes start.floor) start.now []))
             (λ m. m ≡ started_member D.eq L.elect (set_up S.me S.participants L.terms L.elects_early start.settings)
             (floor_facts S.certificate_bytes start.floor) start.now)) }
-        ensures nothing { IfOk result (λ engine. at_hand engine ≡ []) }
-        ensures heights { IfOk result AsksForTheHeard }
+        ensures nothing { IfOk result (λ engine. pending_causes engine ≡ []) }
+        ensures fetch_heights { IfOk result FetchesTheReported }
     {
         if has_no_retry(&start) {
             return Err(StartError::RetryZero);
@@ -153,9 +153,9 @@ impl<S: Assembly<D>, L: Elector<S>, D: Digest> Engine<S, L, D> {
     /// The elector's members are the scheme's participants.
     ///
     /// - `resumed`, `votes`: its member is the one that `LawfulMember::resume` makes, with the votes of the entries.
-    /// - `goes_on`: in terms of the same length, and with the key of the same member or none, the member has done what it had done before,
+    /// - `continues`: in terms of the same length, and with the key of the same member or none, the member has done what it had done before,
     ///   and has accepted the floor's finalization.
-    /// - `kept`, `traced`, `signed`, `whole`, `queued`, `told`, `bounded`, `duties`, `begun`, `nothing`, `heights`, `no_retry`, `refused`: as of `start`.
+    /// - `kept`, `traced`, `signed`, `whole`, `queued`, `told`, `bounded`, `due_work`, `begun`, `nothing`, `fetch_heights`, `no_retry`, `refused`: as of `start`.
     ///
     /// # Errors
     ///
@@ -169,30 +169,30 @@ impl<S: Assembly<D>, L: Elector<S>, D: Digest> Engine<S, L, D> {
         options: Options,
     ) -> Result<Engine<S, L, D>, StartError>
         requires { L.members start.settings.elector ≡ length (S.participants start.settings.scheme) }
-        ensures kept { IfOk result (λ engine. IsKept S.certificate_bytes [] engine.core) }
+        ensures kept { IfOk result (λ engine. IsJournaled S.certificate_bytes [] engine.core) }
         ensures traced { IfOk result (λ engine. BeginsTraced D.eq L.elect S.certificate_bytes engine.core.member engine.core) }
         ensures signed { IfOk result (λ engine. BeginsSigned S.IsSignature engine.core.member engine.core) }
         ensures whole { IfOk result (λ engine. IsWhole S.certificate_bytes engine.core) }
         ensures queued { IfOk result (λ engine. BeginsWith S.certificate_bytes engine.core.member engine.core.outbox.queue.items) }
-        ensures told { IfOk result (λ engine. TellsNothing engine.core) }
-        ensures duties { IfOk result (HasToldAll []) }
+        ensures told { IfOk result (λ engine. ReportsNothing engine.core) }
+        ensures due_work { IfOk result (HasReportedAll []) }
         ensures bounded { IfOk result (λ engine. HoldsNoneAhead S.participants engine.core engine.batcher) }
-        ensures begun { IfOk result (HasBegunWith D.bytes S.participants (S.participants start.settings.scheme) (S.me start.settings.scheme)
+        ensures begun { IfOk result (HasStartedWith D.bytes S.participants (S.participants start.settings.scheme) (S.me start.settings.scheme)
             (L.terms start.settings.elector).term_length (with_a_retry options)) }
         ensures resumed { IfOk result (λ engine. IsResumed D.eq L.elect stored
             (entries_of S.certificate_bytes entries.items)
             (start_facts S.me S.participants L.terms L.elects_early S.certificate_bytes start) engine.core.member.facts) }
         ensures votes { IfOk result (λ engine. engine.core.member.votes ≡ votes_of entries.items) }
-        ensures goes_on { IfOk result (λ engine. HasGoneOn D.eq L.elect S.me L.terms stored
+        ensures continues { IfOk result (λ engine. HasContinued D.eq L.elect S.me L.terms stored
             (entries_of S.certificate_bytes entries.items) start engine.core.member.facts) }
         ensures no_retry { start.settings.timeout_retry ≡ 0 → result ≡ Err RetryZero }
-        ensures refused { IfErr result (IsNotBegun start.settings.timeout_retry
+        ensures refused { IfErr result (IsStartRefusal start.settings.timeout_retry
             (IsNotResumed D.eq L.elect stored (entries_of S.certificate_bytes entries.items)
             (start_facts S.me S.participants L.terms L.elects_early S.certificate_bytes start))
             (IsResumed D.eq L.elect stored (entries_of S.certificate_bytes entries.items)
             (start_facts S.me S.participants L.terms L.elects_early S.certificate_bytes start))) }
-        ensures nothing { IfOk result (λ engine. at_hand engine ≡ []) }
-        ensures heights { IfOk result AsksForTheHeard }
+        ensures nothing { IfOk result (λ engine. pending_causes engine ≡ []) }
+        ensures fetch_heights { IfOk result FetchesTheReported }
     {
         if has_no_retry(&start) {
             return Err(StartError::RetryZero);
@@ -238,15 +238,15 @@ fn begin<S: Assembly<D>, L: Elector<S>, D: Digest>(
     company: Company<S, D>,
     options: Options,
 ) -> Result<Engine<S, L, D>, StartError>
-    ensures kept { IfOk result (λ engine. IsKept S.certificate_bytes [] engine.core) }
+    ensures kept { IfOk result (λ engine. IsJournaled S.certificate_bytes [] engine.core) }
     ensures traced { IfOk result (λ engine. BeginsTraced D.eq L.elect S.certificate_bytes engine.core.member engine.core) }
     ensures signed { IfOk result (λ engine. BeginsSigned S.IsSignature engine.core.member engine.core) }
     ensures whole { IfOk result (λ engine. IsWhole S.certificate_bytes engine.core) }
-    ensures told { IfOk result (λ engine. TellsNothing engine.core) }
+    ensures told { IfOk result (λ engine. ReportsNothing engine.core) }
     ensures member { IfOk result (λ engine. engine.core.member ≡ member) }
     ensures queued { IfOk result (λ engine. BeginsWith S.certificate_bytes engine.core.member engine.core.outbox.queue.items) }
     ensures begun { (keys : List S.PublicKey) (me : Option ℕ) (term_length : ℕ) → IsCompanyOf S.participants keys me term_length company
-        → IfOk result (HasBegunWith D.bytes S.participants keys me term_length (with_a_retry options)) }
+        → IfOk result (HasStartedWith D.bytes S.participants keys me term_length (with_a_retry options)) }
     ensures refused { IfErr result (IsNotReplayed member.facts.entries) }
 {
     let plan = plan_of(alloc, &member, &company, options.with_a_retry())?;
@@ -282,7 +282,7 @@ fn resolver_of<S: CertificateScheme, D: Digest>(
     term_length: TermLength,
     record: &[Artifact<S, D>],
 ) -> Result<LawfulResolver, StartError>
-    ensures told { IfOk result (HasBeenTold term_length (Replayed ∷ calls_of D.bytes (reverse (entries_of S.certificate_bytes record.now)))) }
+    ensures told { IfOk result (HasReceivedCalls term_length (Replayed ∷ calls_of D.bytes (reverse (entries_of S.certificate_bytes record.now)))) }
     ensures refused { IfErr result (IsNotReplayed (entries_of S.certificate_bytes record.now)) }
 {
     match LawfulResolver::start(alloc, term_length, record) {

@@ -17,24 +17,24 @@ use simplex_types::types::{CertificateScheme, Digest, Elector, Fault, Participan
 use simplex_voter::voter::Verify;
 
 impl<S: Assembly<D>, L: Elector<S>, D: Digest> Engine<S, L, D> {
-    ghost use Rattle.engine_outbox.specs.Continuity.{GoesOn};
-    ghost use Rattle.simplex_engine.specs.OwnSteps.{GoesOnAlone};
-    ghost use Rattle.simplex_engine.specs.NothingDue.{AnswersNothing, AnswerNothing, HasNothingDue};
+    ghost use Rattle.engine_outbox.specs.Continuity.{Continues};
+    ghost use Rattle.simplex_engine.specs.OwnSteps.{ContinuesWithoutInput};
+    ghost use Rattle.simplex_engine.specs.NothingDue.{ReturnsNothing, ReturnNothing, HasNothingDue};
     ghost use Rattle.simplex_engine.specs.InputEffects.{HasDoneTask};
-    ghost use Rattle.simplex_engine.specs.Provenance.{at_hand, is_final, ComesAlone, ComesWith, HasNoLack, IsMeant};
-    ghost use Rattle.simplex_engine.specs.ApplicationWork.{KeepsDuties};
-    ghost use Rattle.engine_planner.specs.FetchRequests.{heard_by, never, KeepsAsking};
-    ghost use Rattle.engine_planner.specs.Causes.{given_by, planned_matters, Lack};
+    ghost use Rattle.simplex_engine.specs.Provenance.{pending_causes, is_final, IsCausedWithoutInput, IsCausedWith, HasNoMissingCertificate, IsCallCaused};
+    ghost use Rattle.simplex_engine.specs.ApplicationWork.{KeepsApplicationWork};
+    ghost use Rattle.engine_planner.specs.FetchRequests.{received_by, never, KeepsFetching};
+    ghost use Rattle.engine_planner.specs.Causes.{reply_causes, planned_causes, MissingCertificate};
     ghost use Rattle.engine_planner.specs.PlannedWork.{AreAmong, KeepsPlanned, KeepsPlannedThen, PlansAnswerThen};
-    ghost use Rattle.simplex_engine.specs.MemberViews.{HasComeTo};
+    ghost use Rattle.simplex_engine.specs.MemberViews.{TracksViews};
 
     /// Asks the member for work of the application. Returns whether there is none.
     pub(super) fn ask_for_work(&mut self, now: u64) -> Result<bool, Fault>
-        ensures alone { GoesOnAlone D.eq L.elect S.certificate_bytes S.IsSignature self.old self.new }
+        ensures alone { ContinuesWithoutInput D.eq L.elect S.certificate_bytes S.IsSignature self.old self.new }
         ensures nothing { IfOk result (λ nothing. IsTrue nothing
-            → AnswerNothing D.eq L.elect self.old.core.member.facts for_work self.new.core.member.facts) }
-        ensures duties { OnOk result (KeepsDuties self.old self.new) }
-        ensures comes { OnOk result (ComesAlone D.eq L.elect D.bytes S.certificate_bytes now self.old self.new) }
+            → ReturnNothing D.eq L.elect self.old.core.member.facts for_work self.new.core.member.facts) }
+        ensures due_work { OnOk result (KeepsApplicationWork self.old self.new) }
+        ensures provenance { OnOk result (IsCausedWithoutInput D.eq L.elect D.bytes S.certificate_bytes now self.old self.new) }
     {
         let mut has_none = self.ask_for(Task::Verify, now)?;
         has_none &= self.ask_for(Task::Propose, now)?;
@@ -51,8 +51,8 @@ impl<S: Assembly<D>, L: Elector<S>, D: Digest> Engine<S, L, D> {
         ensures nothing { IfOk result (λ nothing. IsTrue nothing
             → HasNothingDue D.eq L.elect self.new.core.member.facts × (self.new.plan ≡ self.old.plan)) }
         ensures planned { OnOk result (KeepsPlanned self.old.plan self.new.plan) }
-        ensures matters { OnOk result (AreAmong (planned_matters self.new.plan) (planned_matters self.old.plan)) }
-        ensures asks { OnOk result (KeepsAsking [] never [] self.old.plan self.new.plan) }
+        ensures causes { OnOk result (AreAmong (planned_causes self.new.plan) (planned_causes self.old.plan)) }
+        ensures asks { OnOk result (KeepsFetching [] never [] self.old.plan self.new.plan) }
     {
         match self.first_due()? {
             Some(view) => {
@@ -76,13 +76,13 @@ impl<S: Assembly<D>, L: Elector<S>, D: Digest> Engine<S, L, D> {
 
     /// Asks for work, and follows the reply. Returns whether that has nothing new.
     fn ask_for(&mut self, task: Task<D>, now: u64) -> Result<bool, Fault>
-        ensures alone { GoesOnAlone D.eq L.elect S.certificate_bytes S.IsSignature self.old self.new }
+        ensures alone { ContinuesWithoutInput D.eq L.elect S.certificate_bytes S.IsSignature self.old self.new }
         ensures nothing { IfOk result (λ nothing. IsTrue nothing
-            → AnswersNothing D.eq L.elect self.old.core.member.facts (call_of task now) self.new.core.member.facts) }
-        ensures duties { OnOk result (KeepsDuties self.old self.new) }
-        ensures comes { OnOk result ((came : _) → HasNoLack came
-            → IsMeant now (came ++ at_hand self.old) self.old.core.member.facts (call_of task now)
-            → ComesWith D.eq L.elect D.bytes S.certificate_bytes now came self.old self.new) }
+            → ReturnsNothing D.eq L.elect self.old.core.member.facts (call_of task now) self.new.core.member.facts) }
+        ensures due_work { OnOk result (KeepsApplicationWork self.old self.new) }
+        ensures provenance { OnOk result ((came : _) → HasNoMissingCertificate came
+            → IsCallCaused now (came ++ pending_causes self.old) self.old.core.member.facts (call_of task now)
+            → IsCausedWith D.eq L.elect D.bytes S.certificate_bytes now came self.old self.new) }
     {
         let reply = self.core.call(task.call(now));
         let is_nothing = is_nothing(&reply);
@@ -92,13 +92,13 @@ impl<S: Assembly<D>, L: Elector<S>, D: Digest> Engine<S, L, D> {
 
     /// Makes a call of the member, and follows its answer. Whether it was of use.
     pub(super) fn ask(&mut self, task: Task<D>, now: u64) -> Result<bool, Fault>
-        ensures goes_on { GoesOn D.eq L.elect S.certificate_bytes S.IsSignature None self.old.core self.new.core }
+        ensures continues { Continues D.eq L.elect S.certificate_bytes S.IsSignature None self.old.core self.new.core }
         ensures batcher { self.new.batcher ≡ self.old.batcher }
         ensures acted { IfOk result (HasDoneTask D.eq L.elect task now self.old.core.member.facts self.new.core.member.facts) }
-        ensures duties { OnOk result (KeepsDuties self.old self.new) }
-        ensures comes { OnOk result ((came : _) → HasNoLack came
-            → IsMeant now (came ++ at_hand self.old) self.old.core.member.facts (call_of task now)
-            → ComesWith D.eq L.elect D.bytes S.certificate_bytes now came self.old self.new) }
+        ensures due_work { OnOk result (KeepsApplicationWork self.old self.new) }
+        ensures provenance { OnOk result ((came : _) → HasNoMissingCertificate came
+            → IsCallCaused now (came ++ pending_causes self.old) self.old.core.member.facts (call_of task now)
+            → IsCausedWith D.eq L.elect D.bytes S.certificate_bytes now came self.old self.new) }
     {
         let reply = self.core.call(task.call(now));
         self.follow(task, reply, now)
@@ -110,26 +110,26 @@ impl<S: Assembly<D>, L: Elector<S>, D: Digest> Engine<S, L, D> {
         ensures batcher { self.new.batcher ≡ self.old.batcher }
         ensures of_use { IfOk result (λ is_of_use. is_of_use ≡ not (says_nothing (told S.certificate_bytes reply))) }
         ensures planned { OnOk result (PlansAnswerThen task (told S.certificate_bytes reply) self.old.plan self.new.plan) }
-        ensures seen { OnOk result (HasComeTo self.new.core.member.facts self.new.plan) }
-        ensures matters { OnOk result (AreAmong (planned_matters self.new.plan)
-            (planned_matters self.old.plan ++ given_by now reply (call_of task now))) }
-        ensures asks { OnOk result (KeepsAsking (given_by now reply (call_of task now)) (λ kind view. is_final self.new.core.member.facts view)
-            (heard_by D.bytes S.certificate_bytes reply (call_of task now)) self.old.plan self.new.plan) }
+        ensures seen { OnOk result (TracksViews self.new.core.member.facts self.new.plan) }
+        ensures causes { OnOk result (AreAmong (planned_causes self.new.plan)
+            (planned_causes self.old.plan ++ reply_causes now reply (call_of task now))) }
+        ensures asks { OnOk result (KeepsFetching (reply_causes now reply (call_of task now)) (λ kind view. is_final self.new.core.member.facts view)
+            (received_by D.bytes S.certificate_bytes reply (call_of task now)) self.old.plan self.new.plan) }
     {
         let is_of_use = !says_nothing(&reply);
-        self.see()?;
+        self.update_views()?;
         self.plan.follow(task, reply, now)?;
         Ok(is_of_use)
     }
 
     /// The member may have come to other views. One that has failed since found no memory.
-    pub(super) fn see(&mut self) -> Result<(), Fault>
+    pub(super) fn update_views(&mut self) -> Result<(), Fault>
         ensures core { self.new.core ≡ self.old.core }
         ensures batcher { self.new.batcher ≡ self.old.batcher }
         ensures planned { OnOk result (KeepsPlannedThen self.old.plan self.new.plan) }
-        ensures seen { OnOk result (HasComeTo self.new.core.member.facts self.new.plan) }
-        ensures matters { OnOk result (AreAmong (planned_matters self.new.plan) (planned_matters self.old.plan)) }
-        ensures asks { OnOk result (KeepsAsking [] (λ kind view. is_final self.new.core.member.facts view) [] self.old.plan self.new.plan) }
+        ensures seen { OnOk result (TracksViews self.new.core.member.facts self.new.plan) }
+        ensures causes { OnOk result (AreAmong (planned_causes self.new.plan) (planned_causes self.old.plan)) }
+        ensures asks { OnOk result (KeepsFetching [] (λ kind view. is_final self.new.core.member.facts view) [] self.old.plan self.new.plan) }
     {
         let Some(state) = self.core.state() else {
             return Err(Fault::OutOfMemory);
@@ -138,7 +138,7 @@ impl<S: Assembly<D>, L: Elector<S>, D: Digest> Engine<S, L, D> {
             current: state.current_view(),
             last_finalized: state.last_finalized(),
         };
-        self.plan.see(views)?;
+        self.plan.update_views(views)?;
         Ok(())
     }
 
@@ -153,8 +153,8 @@ impl<S: Assembly<D>, L: Elector<S>, D: Digest> Engine<S, L, D> {
         ensures core { self.new.core ≡ self.old.core }
         ensures batcher { self.new.batcher ≡ self.old.batcher }
         ensures planned { KeepsPlanned self.old.plan self.new.plan }
-        ensures matters { AreAmong (planned_matters self.new.plan) (planned_matters self.old.plan ++ Lack kind view ∷ []) }
-        ensures asks { OnOk result (KeepsAsking (Lack kind view ∷ []) never [] self.old.plan self.new.plan) }
+        ensures causes { AreAmong (planned_causes self.new.plan) (planned_causes self.old.plan ++ MissingCertificate kind view ∷ []) }
+        ensures asks { OnOk result (KeepsFetching (MissingCertificate kind view ∷ []) never [] self.old.plan self.new.plan) }
     {
         let leader = self.leader_of(proposal);
         self.plan.resolve(kind, view, leader, now)?;

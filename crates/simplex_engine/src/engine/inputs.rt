@@ -20,14 +20,14 @@ use simplex_types::types::{
 use simplex_voter::voter::State;
 
 impl<S: Assembly<D>, L: Elector<S>, D: Digest> Engine<S, L, D> {
-    ghost use Rattle.engine_outbox.specs.Continuity.{GoesOn};
+    ghost use Rattle.engine_outbox.specs.Continuity.{Continues};
     ghost use Rattle.simplex_engine.specs.InputResults.{IsInputTaken};
     ghost use Rattle.engine_planner.specs.Blocks.{is_asked_in};
     ghost use Rattle.simplex_engine.specs.InputEffects.{HasDoneTask, IsBlockTaken};
-    ghost use Rattle.simplex_engine.specs.Provenance.{ComesWith};
-    ghost use Rattle.simplex_engine.specs.ApplicationWork.{KeepsDuties};
+    ghost use Rattle.simplex_engine.specs.Provenance.{IsCausedWith};
+    ghost use Rattle.simplex_engine.specs.ApplicationWork.{KeepsApplicationWork};
     ghost use Rattle.engine_planner.specs.Causes.{Arrival, Message};
-    ghost use Rattle.simplex_engine.specs.Admission.{is_so, ignoring, IsKeptEarly};
+    ghost use Rattle.simplex_engine.specs.Admission.{is_so, ignoring, IsStoredEarly};
 
     /// Takes what came in, while the engine has not failed, and counts what is of no use.
     pub(super) fn take(&mut self, input: Input<S, D>, now: u64) -> Result<bool, Fault>
@@ -66,31 +66,31 @@ impl<S: Assembly<D>, L: Elector<S>, D: Digest> Engine<S, L, D> {
         proposal: Proposal<D>,
         now: u64,
     ) -> Result<bool, Fault>
-        ensures goes_on { GoesOn D.eq L.elect S.certificate_bytes S.IsSignature None self.old.core self.new.core }
+        ensures continues { Continues D.eq L.elect S.certificate_bytes S.IsSignature None self.old.core self.new.core }
         ensures batcher { self.new.batcher ≡ self.old.batcher }
         ensures unadmitted { IsFalse (is_so (λ x. admits_proposal x from proposal.round) self.old.core.member.facts) → IfOk result (λ is_of_use.
-            IsFalse is_of_use × IsKeptEarly from proposal self.old self.new) }
+            IsFalse is_of_use × IsStoredEarly from proposal self.old self.new) }
         ensures acted { IsTrue (is_so (λ x. admits_proposal x from proposal.round) self.old.core.member.facts) → IfOk result
             (HasDoneTask D.eq L.elect (SetProposal proposal.round.view proposal) now self.old.core.member.facts self.new.core.member.facts) }
-        ensures duties { OnOk result (KeepsDuties self.old self.new) }
-        ensures comes { OnOk result (ComesWith D.eq L.elect D.bytes S.certificate_bytes now (Arrival from proposal ∷ []) self.old self.new) }
+        ensures due_work { OnOk result (KeepsApplicationWork self.old self.new) }
+        ensures provenance { OnOk result (IsCausedWith D.eq L.elect D.bytes S.certificate_bytes now (Arrival from proposal ∷ []) self.old self.new) }
     {
         if self.admits_proposal(from, proposal.round) {
             return self.ask(Task::SetProposal(proposal.view(), proposal), now);
         }
-        self.keep_early(from, proposal)?;
+        self.store_early(from, proposal)?;
         Ok(false)
     }
 
     /// Keeps a proposal of this epoch whose view comes soon.
-    fn keep_early(&mut self, from: Participant, proposal: Proposal<D>) -> Result<(), Fault>
+    fn store_early(&mut self, from: Participant, proposal: Proposal<D>) -> Result<(), Fault>
         ensures same { self.new ≡ record self.old { plan = record (self.old.plan) { early = self.new.plan.early } } }
-        ensures kept { OnOk result (IsKeptEarly from proposal self.old self.new) }
+        ensures kept { OnOk result (IsStoredEarly from proposal self.old self.new) }
     {
         if !self.is_of_this_epoch(proposal.round) {
             return Ok(());
         }
-        self.plan.keep_early(from, proposal.view(), proposal)?;
+        self.plan.store_early(from, proposal.view(), proposal)?;
         Ok(())
     }
 
@@ -121,12 +121,12 @@ impl<S: Assembly<D>, L: Elector<S>, D: Digest> Engine<S, L, D> {
         payload: D,
         now: u64,
     ) -> Result<bool, Fault>
-        ensures goes_on { GoesOn D.eq L.elect S.certificate_bytes S.IsSignature None self.old.core self.new.core }
+        ensures continues { Continues D.eq L.elect S.certificate_bytes S.IsSignature None self.old.core self.new.core }
         ensures batcher { self.new.batcher ≡ self.old.batcher }
         ensures acted { IfOk result (IsBlockTaken D.eq L.elect (list_any (is_asked_in D.eq context.now) self.old.plan.builds.buildings.items)
             context.now.round.view payload now self.old.core.member.facts self.new.core.member.facts) }
-        ensures duties { OnOk result (KeepsDuties self.old self.new) }
-        ensures comes { OnOk result (ComesWith D.eq L.elect D.bytes S.certificate_bytes now (Message (Proposed context.now.round.view payload) ∷ [])
+        ensures due_work { OnOk result (KeepsApplicationWork self.old self.new) }
+        ensures provenance { OnOk result (IsCausedWith D.eq L.elect D.bytes S.certificate_bytes now (Message (Proposed context.now.round.view payload) ∷ [])
             self.old self.new) }
     {
         if !self.plan.is_building(context) {
@@ -138,13 +138,13 @@ impl<S: Assembly<D>, L: Elector<S>, D: Digest> Engine<S, L, D> {
     /// The application's verdict on a proposal, where the member offered it and has no verdict yet. Any other verdict is ignored: the
     /// member would take it on whatever proposal of the view is notarized, also one on a parent that is not certified.
     fn judge(&mut self, view: View, is_success: bool, now: u64) -> Result<bool, Fault>
-        ensures goes_on { GoesOn D.eq L.elect S.certificate_bytes S.IsSignature None self.old.core self.new.core }
+        ensures continues { Continues D.eq L.elect S.certificate_bytes S.IsSignature None self.old.core self.new.core }
         ensures batcher { self.new.batcher ≡ self.old.batcher }
         ensures unadmitted { IsFalse (is_offered self.old.core.member.facts.outstanding_work view) → (result ≡ Ok false) × (self.new ≡ self.old) }
         ensures acted { IsTrue (is_offered self.old.core.member.facts.outstanding_work view) → IfOk result
             (HasDoneTask D.eq L.elect (Certified view is_success) now self.old.core.member.facts self.new.core.member.facts) }
-        ensures duties { OnOk result (KeepsDuties self.old self.new) }
-        ensures comes { OnOk result (ComesWith D.eq L.elect D.bytes S.certificate_bytes now (Message (Certified view is_success) ∷ []) self.old self.new) }
+        ensures due_work { OnOk result (KeepsApplicationWork self.old self.new) }
+        ensures provenance { OnOk result (IsCausedWith D.eq L.elect D.bytes S.certificate_bytes now (Message (Certified view is_success) ∷ []) self.old self.new) }
     {
         if !self.core.awaits_verdict(view) {
             return Ok(false);

@@ -12,18 +12,18 @@ use engine_planner::task::Task;
 use simplex_types::types::{Digest, Elector, Fault, View};
 
 impl<S: Assembly<D>, L: Elector<S>, D: Digest> Engine<S, L, D> {
-    ghost use Rattle.engine_outbox.specs.Continuity.{GoesOn, IsKept, IsWhole};
+    ghost use Rattle.engine_outbox.specs.Continuity.{Continues, IsJournaled, IsWhole};
     ghost use Rattle.engine_outbox.specs.RecordReach.{IsShort};
-    ghost use Rattle.simplex_engine.specs.OwnSteps.{GoesOnAlone, GoesOnForgetting};
+    ghost use Rattle.simplex_engine.specs.OwnSteps.{ContinuesWithoutInput, ContinuesWithPruning};
     ghost use Rattle.simplex_engine.specs.NothingDue.{HasNothingNew};
     ghost use Rattle.engine_planner.specs.PlanStates.{IsIdle};
     ghost use Rattle.simplex_engine.specs.Bounds.{HoldsFromKept};
     ghost use Rattle.simplex_engine.specs.BuildBounds.{BuildsAhead};
-    ghost use Rattle.simplex_engine.specs.MissingCertificates.{AsksForItsLacking};
-    ghost use Rattle.simplex_engine.specs.Provenance.{held_by, is_final, ComesAlone, ComesForgetting, ComesWith};
-    ghost use Rattle.simplex_engine.specs.ApplicationWork.{KeepsDuties, KeepsTaken};
-    ghost use Rattle.engine_planner.specs.FetchRequests.{KeepsAsking};
-    ghost use Rattle.engine_planner.specs.Causes.{of_step, of_task, of_work, planned_matters};
+    ghost use Rattle.simplex_engine.specs.MissingCertificates.{FetchesItsMissing};
+    ghost use Rattle.simplex_engine.specs.Provenance.{held_by, is_final, IsCausedWithoutInput, IsCausedWithPruning, IsCausedWith};
+    ghost use Rattle.simplex_engine.specs.ApplicationWork.{KeepsApplicationWork, KeepsTaken};
+    ghost use Rattle.engine_planner.specs.FetchRequests.{KeepsFetching};
+    ghost use Rattle.engine_planner.specs.Causes.{of_step, of_task, of_work, planned_causes};
     ghost use Rattle.engine_planner.specs.PlannedWork.{work_planned, AreAmong, KeepsPlanned};
     ghost use Rattle.simplex_voter.specs.Windows.{min_active};
     ghost use Rattle.engine_outbox.specs.declared.output.Work.TheVariants as work;
@@ -34,20 +34,20 @@ impl<S: Assembly<D>, L: Elector<S>, D: Digest> Engine<S, L, D> {
     /// - `idle`, `ahead`: nothing is to be done at the moment, and no block is to be built of a view that is over.
     /// - `short`: by a pruning no more views of the record go than stay, or it has few entries.
     /// - `lowest`, `lacking`: no vote is held of a view below the lowest one that is kept, and just what is lacking is asked for.
-    /// - `comes`: all comes of what was at hand, and of the member's answers, but that views may be forgotten below the lowest one that
+    /// - `provenance`: all comes of what was at hand, and of the member's answers, but that views may be forgotten below the lowest one that
     ///   the member keeps then; and what is lacking is asked for still.
     pub(super) fn work(&mut self, now: u64) -> Result<(), Fault>
-        ensures alone { GoesOnForgetting D.eq L.elect S.certificate_bytes S.IsSignature self.old self.new }
+        ensures alone { ContinuesWithPruning D.eq L.elect S.certificate_bytes S.IsSignature self.old self.new }
         ensures whole { OnOk result (IsWhole S.certificate_bytes self.new.core) }
         ensures quiet { OnOk result (HasNothingNew D.eq L.elect self.new.core.member.facts) }
         ensures idle { OnOk result (IsIdle now self.new.plan) }
         ensures ahead { OnOk result (BuildsAhead self.new.core self.new.plan) }
-        ensures short { (given : _) → IsKept S.certificate_bytes given self.old.core
+        ensures short { (given : _) → IsJournaled S.certificate_bytes given self.old.core
             → OnOk result (IsShort self.new.plan.options.long_record self.new.core.member.facts) }
         ensures lowest { OnOk result (HoldsFromKept self.new.core self.new.batcher) }
-        ensures lacking { OnOk result (AsksForItsLacking self.new.core self.new.plan.repair) }
-        ensures duties { OnOk result (KeepsDuties self.old self.new) }
-        ensures comes { OnOk result (ComesForgetting D.eq L.elect D.bytes S.certificate_bytes now self.old self.new) }
+        ensures lacking { OnOk result (FetchesItsMissing self.new.core self.new.plan.repair) }
+        ensures due_work { OnOk result (KeepsApplicationWork self.old self.new) }
+        ensures provenance { OnOk result (IsCausedWithPruning D.eq L.elect D.bytes S.certificate_bytes now self.old self.new) }
     {
         self.plan.begin();
         self.finish(now)
@@ -55,17 +55,17 @@ impl<S: Assembly<D>, L: Elector<S>, D: Digest> Engine<S, L, D> {
 
     /// Takes all steps, lets go what is kept of views that are not, and queues what the record has grown by.
     fn finish(&mut self, now: u64) -> Result<(), Fault>
-        ensures alone { GoesOnForgetting D.eq L.elect S.certificate_bytes S.IsSignature self.old self.new }
+        ensures alone { ContinuesWithPruning D.eq L.elect S.certificate_bytes S.IsSignature self.old self.new }
         ensures whole { OnOk result (IsWhole S.certificate_bytes self.new.core) }
         ensures quiet { OnOk result (HasNothingNew D.eq L.elect self.new.core.member.facts) }
         ensures idle { OnOk result (IsIdle now self.new.plan) }
         ensures ahead { OnOk result (BuildsAhead self.new.core self.new.plan) }
-        ensures short { (given : _) → IsKept S.certificate_bytes given self.old.core
+        ensures short { (given : _) → IsJournaled S.certificate_bytes given self.old.core
             → OnOk result (IsShort self.new.plan.options.long_record self.new.core.member.facts) }
         ensures lowest { OnOk result (HoldsFromKept self.new.core self.new.batcher) }
-        ensures lacking { OnOk result (AsksForItsLacking self.new.core self.new.plan.repair) }
-        ensures duties { OnOk result (KeepsDuties self.old self.new) }
-        ensures comes { OnOk result (ComesForgetting D.eq L.elect D.bytes S.certificate_bytes now self.old self.new) }
+        ensures lacking { OnOk result (FetchesItsMissing self.new.core self.new.plan.repair) }
+        ensures due_work { OnOk result (KeepsApplicationWork self.old self.new) }
+        ensures provenance { OnOk result (IsCausedWithPruning D.eq L.elect D.bytes S.certificate_bytes now self.old self.new) }
     {
         self.run_to_short(now)?;
         self.settle()?;
@@ -74,14 +74,14 @@ impl<S: Assembly<D>, L: Elector<S>, D: Digest> Engine<S, L, D> {
 
     /// Takes all steps, and prunes the record where more views of it go than stay, until nothing of both is left.
     fn run_to_short(&mut self, now: u64) -> Result<(), Fault>
-        ensures alone { GoesOnAlone D.eq L.elect S.certificate_bytes S.IsSignature self.old self.new }
+        ensures alone { ContinuesWithoutInput D.eq L.elect S.certificate_bytes S.IsSignature self.old self.new }
         ensures quiet { OnOk result (HasNothingNew D.eq L.elect self.new.core.member.facts) }
         ensures idle { OnOk result (IsIdle now self.new.plan) }
         ensures ahead { OnOk result (BuildsAhead self.new.core self.new.plan) }
-        ensures short { (given : _) → IsKept S.certificate_bytes given self.old.core
+        ensures short { (given : _) → IsJournaled S.certificate_bytes given self.old.core
             → OnOk result (IsShort self.new.plan.options.long_record self.new.core.member.facts) }
-        ensures duties { OnOk result (KeepsDuties self.old self.new) }
-        ensures comes { OnOk result (ComesAlone D.eq L.elect D.bytes S.certificate_bytes now self.old self.new) }
+        ensures due_work { OnOk result (KeepsApplicationWork self.old self.new) }
+        ensures provenance { OnOk result (IsCausedWithoutInput D.eq L.elect D.bytes S.certificate_bytes now self.old self.new) }
     {
         for _ in 0..u64::MAX {
             self.run_all(now)?;
@@ -95,29 +95,29 @@ impl<S: Assembly<D>, L: Elector<S>, D: Digest> Engine<S, L, D> {
 
     /// Queues the new entries of the record to be stored. Returns whether the record is short.
     fn store_and_measure(&mut self) -> Result<bool, Fault>
-        ensures alone { GoesOnAlone D.eq L.elect S.certificate_bytes S.IsSignature self.old self.new }
+        ensures alone { ContinuesWithoutInput D.eq L.elect S.certificate_bytes S.IsSignature self.old self.new }
         ensures member { self.new.core.member ≡ self.old.core.member }
         ensures plan { self.new.plan ≡ self.old.plan }
-        ensures short { (given : _) → IsKept S.certificate_bytes given self.old.core
+        ensures short { (given : _) → IsJournaled S.certificate_bytes given self.old.core
             → IfOk result (λ short. IsTrue short → IsShort self.new.plan.options.long_record self.new.core.member.facts) }
-        ensures duties { OnOk result (KeepsDuties self.old self.new) }
-        ensures comes { OnOk result ((now : ℕ) → ComesAlone D.eq L.elect D.bytes S.certificate_bytes now self.old self.new) }
+        ensures due_work { OnOk result (KeepsApplicationWork self.old self.new) }
+        ensures provenance { OnOk result ((now : ℕ) → IsCausedWithoutInput D.eq L.elect D.bytes S.certificate_bytes now self.old self.new) }
     {
         self.core.store()?;
-        Ok(!self.core.is_overgrown(self.plan.long_record()))
+        Ok(!self.core.is_record_too_long(self.plan.long_record()))
     }
 
     /// Lets go what is held of views that are not kept, and queues what the record has grown by.
     fn settle(&mut self) -> Result<(), Fault>
-        ensures alone { GoesOnForgetting D.eq L.elect S.certificate_bytes S.IsSignature self.old self.new }
+        ensures alone { ContinuesWithPruning D.eq L.elect S.certificate_bytes S.IsSignature self.old self.new }
         ensures member { self.new.core.member ≡ self.old.core.member }
         ensures idle { (now : ℕ) → IsIdle now self.old.plan → IsIdle now self.new.plan }
         ensures builds { self.new.plan.builds.buildings.items ≡ self.old.plan.builds.buildings.items }
         ensures whole { OnOk result (IsWhole S.certificate_bytes self.new.core) }
         ensures lowest { OnOk result (HoldsFromKept self.new.core self.new.batcher) }
-        ensures lacking { OnOk result (AsksForItsLacking self.new.core self.new.plan.repair) }
-        ensures duties { OnOk result (KeepsDuties self.old self.new) }
-        ensures comes { OnOk result ((now : ℕ) → ComesForgetting D.eq L.elect D.bytes S.certificate_bytes now self.old self.new) }
+        ensures lacking { OnOk result (FetchesItsMissing self.new.core self.new.plan.repair) }
+        ensures due_work { OnOk result (KeepsApplicationWork self.old self.new) }
+        ensures provenance { OnOk result ((now : ℕ) → IsCausedWithPruning D.eq L.elect D.bytes S.certificate_bytes now self.old self.new) }
     {
         self.drop_unretained()?;
         self.core.store()?;
@@ -126,12 +126,12 @@ impl<S: Assembly<D>, L: Elector<S>, D: Digest> Engine<S, L, D> {
 
     /// Takes steps until none is due and the member has nothing new.
     fn run_all(&mut self, now: u64) -> Result<(), Fault>
-        ensures alone { GoesOnAlone D.eq L.elect S.certificate_bytes S.IsSignature self.old self.new }
+        ensures alone { ContinuesWithoutInput D.eq L.elect S.certificate_bytes S.IsSignature self.old self.new }
         ensures quiet { OnOk result (HasNothingNew D.eq L.elect self.new.core.member.facts) }
         ensures idle { OnOk result (IsIdle now self.new.plan) }
         ensures ahead { OnOk result (BuildsAhead self.new.core self.new.plan) }
-        ensures duties { OnOk result (KeepsDuties self.old self.new) }
-        ensures comes { OnOk result (ComesAlone D.eq L.elect D.bytes S.certificate_bytes now self.old self.new) }
+        ensures due_work { OnOk result (KeepsApplicationWork self.old self.new) }
+        ensures provenance { OnOk result (IsCausedWithoutInput D.eq L.elect D.bytes S.certificate_bytes now self.old self.new) }
     {
         for _ in 0..u64::MAX {
             if self.run_and_ask(now)? {
@@ -143,12 +143,12 @@ impl<S: Assembly<D>, L: Elector<S>, D: Digest> Engine<S, L, D> {
 
     /// Takes steps until none is due, then asks once for work, blocks and votes. Returns whether nothing new came of it.
     fn run_and_ask(&mut self, now: u64) -> Result<bool, Fault>
-        ensures alone { GoesOnAlone D.eq L.elect S.certificate_bytes S.IsSignature self.old self.new }
+        ensures alone { ContinuesWithoutInput D.eq L.elect S.certificate_bytes S.IsSignature self.old self.new }
         ensures quiet { IfOk result (λ settled. IsTrue settled → HasNothingNew D.eq L.elect self.new.core.member.facts) }
         ensures idle { IfOk result (λ settled. IsTrue settled → IsIdle now self.new.plan) }
         ensures ahead { IfOk result (λ settled. IsTrue settled → BuildsAhead self.new.core self.new.plan) }
-        ensures duties { OnOk result (KeepsDuties self.old self.new) }
-        ensures comes { OnOk result (ComesAlone D.eq L.elect D.bytes S.certificate_bytes now self.old self.new) }
+        ensures due_work { OnOk result (KeepsApplicationWork self.old self.new) }
+        ensures provenance { OnOk result (IsCausedWithoutInput D.eq L.elect D.bytes S.certificate_bytes now self.old self.new) }
     {
         self.run(now)?;
         if !self.ask_for_work(now)? {
@@ -175,9 +175,9 @@ impl<S: Assembly<D>, L: Elector<S>, D: Digest> Engine<S, L, D> {
 
     /// Takes steps until none is due. A run that had no end would be one of 2^64 steps.
     fn run(&mut self, now: u64) -> Result<(), Fault>
-        ensures alone { GoesOnAlone D.eq L.elect S.certificate_bytes S.IsSignature self.old self.new }
-        ensures duties { OnOk result (KeepsDuties self.old self.new) }
-        ensures comes { OnOk result (ComesAlone D.eq L.elect D.bytes S.certificate_bytes now self.old self.new) }
+        ensures alone { ContinuesWithoutInput D.eq L.elect S.certificate_bytes S.IsSignature self.old self.new }
+        ensures due_work { OnOk result (KeepsApplicationWork self.old self.new) }
+        ensures provenance { OnOk result (IsCausedWithoutInput D.eq L.elect D.bytes S.certificate_bytes now self.old self.new) }
     {
         for _ in 0..u64::MAX {
             if !self.step(now)? {
@@ -189,9 +189,9 @@ impl<S: Assembly<D>, L: Elector<S>, D: Digest> Engine<S, L, D> {
 
     /// Takes the next step, where one is due.
     fn step(&mut self, now: u64) -> Result<bool, Fault>
-        ensures alone { GoesOnAlone D.eq L.elect S.certificate_bytes S.IsSignature self.old self.new }
-        ensures duties { OnOk result (KeepsDuties self.old self.new) }
-        ensures comes { OnOk result (ComesAlone D.eq L.elect D.bytes S.certificate_bytes now self.old self.new) }
+        ensures alone { ContinuesWithoutInput D.eq L.elect S.certificate_bytes S.IsSignature self.old self.new }
+        ensures due_work { OnOk result (KeepsApplicationWork self.old self.new) }
+        ensures provenance { OnOk result (IsCausedWithoutInput D.eq L.elect D.bytes S.certificate_bytes now self.old self.new) }
     {
         match self.plan.next(now)? {
             Some(step) => self.take_step(step, now),
@@ -201,9 +201,9 @@ impl<S: Assembly<D>, L: Elector<S>, D: Digest> Engine<S, L, D> {
 
     /// Takes a step.
     fn take_step(&mut self, step: Step<S, D>, now: u64) -> Result<bool, Fault>
-        ensures alone { GoesOnAlone D.eq L.elect S.certificate_bytes S.IsSignature self.old self.new }
-        ensures duties { OnOk result (KeepsTaken (work_planned (step ∷ [])) self.old self.new) }
-        ensures comes { OnOk result (ComesWith D.eq L.elect D.bytes S.certificate_bytes now (of_step step) self.old self.new) }
+        ensures alone { ContinuesWithoutInput D.eq L.elect S.certificate_bytes S.IsSignature self.old self.new }
+        ensures due_work { OnOk result (KeepsTaken (work_planned (step ∷ [])) self.old self.new) }
+        ensures provenance { OnOk result (IsCausedWith D.eq L.elect D.bytes S.certificate_bytes now (of_step step) self.old self.new) }
     {
         match step {
             Step::Ask(task) => taken(self.ask_planned(task, now)),
@@ -216,10 +216,10 @@ impl<S: Assembly<D>, L: Elector<S>, D: Digest> Engine<S, L, D> {
 
     /// Makes a planned call of the member. No verdict is planned; one would be ignored: the offer that it is on may be closed by now.
     fn ask_planned(&mut self, task: Task<D>, now: u64) -> Result<bool, Fault>
-        ensures goes_on { GoesOn D.eq L.elect S.certificate_bytes S.IsSignature None self.old.core self.new.core }
+        ensures continues { Continues D.eq L.elect S.certificate_bytes S.IsSignature None self.old.core self.new.core }
         ensures batcher { self.new.batcher ≡ self.old.batcher }
-        ensures duties { OnOk result (KeepsDuties self.old self.new) }
-        ensures comes { OnOk result (ComesWith D.eq L.elect D.bytes S.certificate_bytes now (of_task task) self.old self.new) }
+        ensures due_work { OnOk result (KeepsApplicationWork self.old self.new) }
+        ensures provenance { OnOk result (IsCausedWith D.eq L.elect D.bytes S.certificate_bytes now (of_task task) self.old self.new) }
     {
         if is_verdict(&task) {
             return Ok(false);
@@ -229,9 +229,9 @@ impl<S: Assembly<D>, L: Elector<S>, D: Digest> Engine<S, L, D> {
 
     /// Sends the newest vote to nullify once more, where it is one of the view.
     fn repeat(&mut self, view: View) -> Result<bool, Fault>
-        ensures alone { GoesOnAlone D.eq L.elect S.certificate_bytes S.IsSignature self.old self.new }
-        ensures duties { OnOk result (KeepsDuties self.old self.new) }
-        ensures comes { OnOk result ((now : ℕ) → ComesAlone D.eq L.elect D.bytes S.certificate_bytes now self.old self.new) }
+        ensures alone { ContinuesWithoutInput D.eq L.elect S.certificate_bytes S.IsSignature self.old self.new }
+        ensures due_work { OnOk result (KeepsApplicationWork self.old self.new) }
+        ensures provenance { OnOk result ((now : ℕ) → IsCausedWithoutInput D.eq L.elect D.bytes S.certificate_bytes now self.old self.new) }
     {
         self.core.repeat(view)?;
         Ok(true)
@@ -239,9 +239,9 @@ impl<S: Assembly<D>, L: Elector<S>, D: Digest> Engine<S, L, D> {
 
     /// Queues work to be carried out.
     fn push(&mut self, work: Work<S, D>) -> Result<bool, Fault>
-        ensures alone { GoesOnAlone D.eq L.elect S.certificate_bytes S.IsSignature self.old self.new }
-        ensures duties { OnOk result (KeepsTaken (work ∷ []) self.old self.new) }
-        ensures comes { OnOk result ((now : ℕ) → ComesWith D.eq L.elect D.bytes S.certificate_bytes now (of_work work) self.old self.new) }
+        ensures alone { ContinuesWithoutInput D.eq L.elect S.certificate_bytes S.IsSignature self.old self.new }
+        ensures due_work { OnOk result (KeepsTaken (work ∷ []) self.old self.new) }
+        ensures provenance { OnOk result ((now : ℕ) → IsCausedWith D.eq L.elect D.bytes S.certificate_bytes now (of_work work) self.old self.new) }
     {
         self.core.push(work)?;
         Ok(true)
@@ -249,23 +249,23 @@ impl<S: Assembly<D>, L: Elector<S>, D: Digest> Engine<S, L, D> {
 
     /// Lets go what is held of views that are not kept: votes here and elsewhere; and fetches of what is not lacking.
     fn drop_unretained(&mut self) -> Result<(), Fault>
-        ensures alone { GoesOnForgetting D.eq L.elect S.certificate_bytes S.IsSignature self.old self.new }
+        ensures alone { ContinuesWithPruning D.eq L.elect S.certificate_bytes S.IsSignature self.old self.new }
         ensures member { self.new.core.member ≡ self.old.core.member }
         ensures idle { (now : ℕ) → IsIdle now self.old.plan → IsIdle now self.new.plan }
         ensures builds { self.new.plan.builds.buildings.items ≡ self.old.plan.builds.buildings.items }
         ensures lowest { OnOk result (HoldsFromKept self.new.core self.new.batcher) }
-        ensures lacking { OnOk result (AsksForItsLacking self.new.core self.new.plan.repair) }
-        ensures duties { OnOk result (KeepsDuties self.old self.new) }
-        ensures comes { OnOk result ((now : ℕ) → ComesForgetting D.eq L.elect D.bytes S.certificate_bytes now self.old self.new) }
+        ensures lacking { OnOk result (FetchesItsMissing self.new.core self.new.plan.repair) }
+        ensures due_work { OnOk result (KeepsApplicationWork self.old self.new) }
+        ensures provenance { OnOk result ((now : ℕ) → IsCausedWithPruning D.eq L.elect D.bytes S.certificate_bytes now self.old self.new) }
     {
-        let lowest = self.lowest_kept()?;
+        let lowest = self.lowest_retained()?;
         self.report_forgotten(lowest)?;
         self.batcher.forget(lowest);
         self.drop_final_fetches()
     }
 
     /// From which view on what is held is kept. A member that has failed since found no memory.
-    fn lowest_kept(&self) -> Result<View, Fault>
+    fn lowest_retained(&self) -> Result<View, Fault>
         ensures lowest { IfOk result (λ lowest. IfSome self.now.core.member.facts.life (λ x. min_active x ≡ lowest)) }
         ensures alive { IfOk result (λ lowest. option_map min_active self.now.core.member.facts.life ≡ Some lowest) }
     {
@@ -281,25 +281,25 @@ impl<S: Assembly<D>, L: Elector<S>, D: Digest> Engine<S, L, D> {
         ensures batcher { self.new.batcher ≡ self.old.batcher }
         ensures idle { (now : ℕ) → IsIdle now self.old.plan → IsIdle now self.new.plan }
         ensures builds { self.new.plan.builds.buildings.items ≡ self.old.plan.builds.buildings.items }
-        ensures lacking { OnOk result (AsksForItsLacking self.new.core self.new.plan.repair) }
+        ensures lacking { OnOk result (FetchesItsMissing self.new.core self.new.plan.repair) }
         ensures planned { KeepsPlanned self.old.plan self.new.plan }
-        ensures matters { AreAmong (planned_matters self.new.plan) (planned_matters self.old.plan) }
-        ensures asks { OnOk result (KeepsAsking [] (λ kind view. held_by self.new kind view || is_final self.new.core.member.facts view)
+        ensures causes { AreAmong (planned_causes self.new.plan) (planned_causes self.old.plan) }
+        ensures asks { OnOk result (KeepsFetching [] (λ kind view. held_by self.new kind view || is_final self.new.core.member.facts view)
             [] self.old.plan self.new.plan) }
     {
         match self.core.state() {
-            Some(state) => self.plan.let_go(state),
+            Some(state) => self.plan.drop_served(state),
             None => Err(Fault::OutOfMemory),
         }
     }
 
     /// Others are told that the views below may be forgotten, where more may than before.
     fn report_forgotten(&mut self, lowest: View) -> Result<(), Fault>
-        ensures alone { GoesOnAlone D.eq L.elect S.certificate_bytes S.IsSignature self.old self.new }
+        ensures alone { ContinuesWithoutInput D.eq L.elect S.certificate_bytes S.IsSignature self.old self.new }
         ensures member { self.new.core.member ≡ self.old.core.member }
         ensures plan { self.new.plan ≡ self.old.plan }
-        ensures duties { OnOk result (KeepsDuties self.old self.new) }
-        ensures comes { OnOk result ((now : ℕ) → ComesWith D.eq L.elect D.bytes S.certificate_bytes now (of_work (work.Forget lowest)) self.old self.new) }
+        ensures due_work { OnOk result (KeepsApplicationWork self.old self.new) }
+        ensures provenance { OnOk result ((now : ℕ) → IsCausedWith D.eq L.elect D.bytes S.certificate_bytes now (of_work (work.Forget lowest)) self.old self.new) }
     {
         if lowest <= self.forgotten {
             return Ok(());
@@ -312,9 +312,9 @@ impl<S: Assembly<D>, L: Elector<S>, D: Digest> Engine<S, L, D> {
     /// Prunes the record. The member drops the views that are over first: the entries of a view stay as long as it is tracked, and at
     /// the begin of a life all views of the record are.
     fn prune_record(&mut self, now: u64) -> Result<(), Fault>
-        ensures alone { GoesOnAlone D.eq L.elect S.certificate_bytes S.IsSignature self.old self.new }
-        ensures duties { OnOk result (KeepsDuties self.old self.new) }
-        ensures comes { OnOk result (ComesAlone D.eq L.elect D.bytes S.certificate_bytes now self.old self.new) }
+        ensures alone { ContinuesWithoutInput D.eq L.elect S.certificate_bytes S.IsSignature self.old self.new }
+        ensures due_work { OnOk result (KeepsApplicationWork self.old self.new) }
+        ensures provenance { OnOk result (IsCausedWithoutInput D.eq L.elect D.bytes S.certificate_bytes now self.old self.new) }
     {
         self.ask(Task::Prune, now)?;
         self.core.prune_record()?;

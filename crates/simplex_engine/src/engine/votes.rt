@@ -19,19 +19,19 @@ use simplex_types::types::{Certificate, CertificateScheme, Digest, Elector, Faul
 use simplex_voter::voter::State;
 
 impl<S: Assembly<D>, L: Elector<S>, D: Digest> Engine<S, L, D> {
-    ghost use Rattle.engine_outbox.specs.Continuity.{GoesOn};
+    ghost use Rattle.engine_outbox.specs.Continuity.{Continues};
     ghost use Rattle.simplex_engine.specs.CertificateVotes.{TakesNone};
     ghost use Rattle.simplex_engine.specs.Inputs.{subject_made};
     ghost use Rattle.engine_votes.specs.Subjects.{subject_round};
-    ghost use Rattle.simplex_engine.specs.InputEffects.{IsHandedIn, IsCountFollowed};
+    ghost use Rattle.simplex_engine.specs.InputEffects.{IsSubmitted, IsCountFollowed};
     ghost use Rattle.simplex_engine.specs.InputResults.{IsInputTaken};
-    ghost use Rattle.simplex_engine.specs.Provenance.{is_final, of_counted, ComesWith};
-    ghost use Rattle.simplex_engine.specs.ApplicationWork.{KeepsDuties};
-    ghost use Rattle.engine_outbox.specs.CertificateCalls.{hands_in};
-    ghost use Rattle.engine_planner.specs.FetchRequests.{heard_by, is_plain, KeepsAsking};
-    ghost use Rattle.engine_planner.specs.Causes.{given_by, planned_matters, Quorum};
+    ghost use Rattle.simplex_engine.specs.Provenance.{is_final, of_counted, IsCausedWith};
+    ghost use Rattle.simplex_engine.specs.ApplicationWork.{KeepsApplicationWork};
+    ghost use Rattle.engine_outbox.specs.CertificateCalls.{certificate_call};
+    ghost use Rattle.engine_planner.specs.FetchRequests.{received_by, is_plain, KeepsFetching};
+    ghost use Rattle.engine_planner.specs.Causes.{reply_causes, planned_causes, Quorum};
     ghost use Rattle.engine_planner.specs.PlannedWork.{AreAmong, KeepsPlannedThen};
-    ghost use Rattle.simplex_engine.specs.MemberViews.{HasComeTo};
+    ghost use Rattle.simplex_engine.specs.MemberViews.{TracksViews};
     ghost use Rattle.simplex_engine.specs.declared.input.Input.TheVariants as input;
     ghost use Rattle.simplex_engine.specs.Admission.{is_so};
 
@@ -71,12 +71,12 @@ impl<S: Assembly<D>, L: Elector<S>, D: Digest> Engine<S, L, D> {
 
     /// Follows what a vote came to. Whether that was of use.
     fn follow_counted(&mut self, counted: Counted<S, D>, now: u64) -> Result<bool, Fault>
-        ensures goes_on { GoesOn D.eq L.elect S.certificate_bytes S.IsSignature (subject_made S.certificate_bytes counted) self.old.core self.new.core }
+        ensures continues { Continues D.eq L.elect S.certificate_bytes S.IsSignature (subject_made S.certificate_bytes counted) self.old.core self.new.core }
         ensures batcher { self.new.batcher ≡ self.old.batcher }
         ensures followed { IfOk result (IsCountFollowed D.eq L.elect S.certificate_bytes now counted self.old.plan.steps.items
             self.old.core.member.facts self.new.plan.steps.items self.new.core.member.facts) }
-        ensures duties { OnOk result (KeepsDuties self.old self.new) }
-        ensures comes { OnOk result (ComesWith D.eq L.elect D.bytes S.certificate_bytes now (of_counted S.certificate_bytes counted) self.old self.new) }
+        ensures due_work { OnOk result (KeepsApplicationWork self.old self.new) }
+        ensures provenance { OnOk result (IsCausedWith D.eq L.elect D.bytes S.certificate_bytes now (of_counted S.certificate_bytes counted) self.old self.new) }
     {
         match counted {
             Counted::Certified(certificate) => match self.accept(&certificate, now) {
@@ -98,7 +98,7 @@ impl<S: Assembly<D>, L: Elector<S>, D: Digest> Engine<S, L, D> {
         certificate: &Certificate<S, D>,
         now: u64,
     ) -> Result<bool, Fault>
-        ensures goes_on { GoesOn D.eq L.elect S.certificate_bytes S.IsSignature
+        ensures continues { Continues D.eq L.elect S.certificate_bytes S.IsSignature
             (Some (certificate_subject (certificate_facts S.certificate_bytes certificate.now))) self.old.core self.new.core }
         ensures votes { TakesNone self.old.batcher self.new.batcher }
         ensures batcher { self.new.batcher ≡ self.old.batcher }
@@ -106,16 +106,16 @@ impl<S: Assembly<D>, L: Elector<S>, D: Digest> Engine<S, L, D> {
         ensures unadmitted { IsFalse (is_so (λ x. admits x (certificate_facts S.certificate_bytes certificate.now)) self.old.core.member.facts)
             → (result ≡ Ok false) × (self.new ≡ self.old) }
         ensures acted { IsTrue (is_so (λ x. admits x (certificate_facts S.certificate_bytes certificate.now)) self.old.core.member.facts) → IfOk result
-            (IsHandedIn D.eq L.elect S.certificate_bytes now certificate.now self.old.core.member.facts self.new.core.member.facts) }
-        ensures duties { OnOk result (KeepsDuties self.old self.new) }
-        ensures comes { OnOk result (ComesWith D.eq L.elect D.bytes S.certificate_bytes now (Quorum (certificate_subject
+            (IsSubmitted D.eq L.elect S.certificate_bytes now certificate.now self.old.core.member.facts self.new.core.member.facts) }
+        ensures due_work { OnOk result (KeepsApplicationWork self.old self.new) }
+        ensures provenance { OnOk result (IsCausedWith D.eq L.elect D.bytes S.certificate_bytes now (Quorum (certificate_subject
             (certificate_facts S.certificate_bytes certificate.now)) ∷ []) self.old self.new) }
     {
         if !self.admits(certificate) {
             return Ok(false);
         }
         let copy = certificate.clone(self.alloc)?;
-        let reply = self.core.hand_in(copy, now)?;
+        let reply = self.core.submit(copy, now)?;
         self.follow_certificate(certificate, &reply, now)
     }
 
@@ -141,16 +141,16 @@ impl<S: Assembly<D>, L: Elector<S>, D: Digest> Engine<S, L, D> {
         ensures batcher { self.new.batcher ≡ self.old.batcher }
         ensures of_use { IfOk result (λ is_of_use. is_of_use ≡ not (is_refused (told S.certificate_bytes reply.now))) }
         ensures planned { OnOk result (KeepsPlannedThen self.old.plan self.new.plan) }
-        ensures seen { OnOk result (HasComeTo self.new.core.member.facts self.new.plan) }
-        ensures matters { OnOk result (AreAmong (planned_matters self.new.plan)
-            (planned_matters self.old.plan ++ given_by now reply.now (hands_in (certificate_facts S.certificate_bytes certificate.now) now))) }
-        ensures asks { IsTrue (is_plain reply.now) → OnOk result (KeepsAsking (given_by now reply.now
-            (hands_in (certificate_facts S.certificate_bytes certificate.now) now)) (λ kind view. is_final self.new.core.member.facts view)
-            (heard_by D.bytes S.certificate_bytes reply.now (hands_in (certificate_facts S.certificate_bytes certificate.now) now))
+        ensures seen { OnOk result (TracksViews self.new.core.member.facts self.new.plan) }
+        ensures causes { OnOk result (AreAmong (planned_causes self.new.plan)
+            (planned_causes self.old.plan ++ reply_causes now reply.now (certificate_call (certificate_facts S.certificate_bytes certificate.now) now))) }
+        ensures asks { IsTrue (is_plain reply.now) → OnOk result (KeepsFetching (reply_causes now reply.now
+            (certificate_call (certificate_facts S.certificate_bytes certificate.now) now)) (λ kind view. is_final self.new.core.member.facts view)
+            (received_by D.bytes S.certificate_bytes reply.now (certificate_call (certificate_facts S.certificate_bytes certificate.now) now))
             self.old.plan self.new.plan) }
     {
         let is_of_use = !is_refused(reply);
-        self.see()?;
+        self.update_views()?;
         self.plan.follow_certificate(certificate, reply, now)?;
         Ok(is_of_use)
     }

@@ -14,7 +14,7 @@ pub(super) fn broadcast_notarization<S: CertificateScheme, L: Elector<S>, D: Dig
     state: &mut State<S, L, D>,
     view: View,
 ) -> Result<Option<Certificate<S, D>>, Fault>
-    requires going_on { state.old.failed ≡ false }
+    requires resumption { state.old.failed ≡ false }
     requires begun { is_started state.old ≡ true }
     ensures answer { IfOk result (λ c. option_map (certificate_facts S.certificate_bytes) c
         ≡ option_map Notarized (broadcast_notarization_answer state.old view)) }
@@ -33,7 +33,7 @@ pub(super) fn broadcast_nullification<S: CertificateScheme, L: Elector<S>, D: Di
     state: &mut State<S, L, D>,
     view: View,
 ) -> Result<Option<Certificate<S, D>>, Fault>
-    requires going_on { state.old.failed ≡ false }
+    requires resumption { state.old.failed ≡ false }
     requires begun { is_started state.old ≡ true }
     ensures answer { IfOk result (λ c. option_map (certificate_facts S.certificate_bytes) c
         ≡ option_map Nullified (broadcast_nullification_answer state.old view)) }
@@ -52,7 +52,7 @@ pub(super) fn broadcast_finalization<S: CertificateScheme, L: Elector<S>, D: Dig
     state: &mut State<S, L, D>,
     view: View,
 ) -> Result<Option<Certificate<S, D>>, Fault>
-    requires going_on { state.old.failed ≡ false }
+    requires resumption { state.old.failed ≡ false }
     requires begun { is_started state.old ≡ true }
     ensures answer { IfOk result (λ c. option_map (certificate_facts S.certificate_bytes) c
         ≡ option_map Finalized (broadcast_finalization_answer state.old view)) }

@@ -5,7 +5,7 @@ ghost use Rattle.std.specs.Option.{option_copied};
 
 use super::calls::{Call, Reply};
 use super::outstanding_work::OutstandingWork;
-use super::restart::keep_finalization;
+use super::restart::store_finalization;
 use simplex_record::record::{RecoverError, Start, begin, retention_of};
 use simplex_types::types::{Artifact, CertificateScheme, Digest, Elector, Scheme, View, ViewDelta};
 use simplex_voter::voter::State;
@@ -77,7 +77,7 @@ impl<S: CertificateScheme, L: Elector<S>, D: Digest> Member<S, L, D> {
     ghost use Rattle.simplex_member.specs.MemberFacts.{IsCall, HasGrown};
     ghost use Rattle.simplex_member.specs.OutstandingWork.{is_offered};
     ghost use Rattle.simplex_member.specs.ReplySignatures.{IsSignedReply, signed_reply};
-    ghost use Rattle.simplex_member.specs.MethodContracts.{is_reply_to, IfAnswered, IfRefused, IsAnswered, UnchangedButLife};
+    ghost use Rattle.simplex_member.specs.MethodContracts.{is_reply_to, IfAnswered, IfRefused, IsAnswered, UnchangedButLifetime};
     ghost use Rattle.simplex_record.specs.Recovery.{recover_error};
     ghost use Rattle.simplex_record.specs.Start.{set_up, IsErrorDue};
     ghost use Rattle.simplex_member.specs.Start.{started_member};
@@ -102,7 +102,7 @@ impl<S: CertificateScheme, L: Elector<S>, D: Digest> Member<S, L, D> {
         let retention = retention_of(&start.settings);
         let (state, finalization) = begin(alloc, start.settings, start.floor, start.now)?;
         let mut artifacts = Vec::new(alloc);
-        keep_finalization(&mut artifacts, finalization)?;
+        store_finalization(&mut artifacts, finalization)?;
         Ok(Member {
             alloc,
             state,
@@ -163,7 +163,7 @@ impl<S: CertificateScheme, L: Elector<S>, D: Digest> Member<S, L, D> {
         ensures of_its_kind { is_reply_to (told S.certificate_bytes result) (asked S.certificate_bytes call) ≡ true }
         ensures answered { IfAnswered (told S.certificate_bytes result)
             (IsAnswered D.eq L.elect self.old.facts (asked S.certificate_bytes call) (told S.certificate_bytes result) self.new.facts) }
-        ensures kept { IfRefused (told S.certificate_bytes result) (λ refusal. UnchangedButLife self.old.facts refusal self.new.facts) }
+        ensures kept { IfRefused (told S.certificate_bytes result) (λ refusal. UnchangedButLifetime self.old.facts refusal self.new.facts) }
         ensures grown { HasGrown self.old.facts self.new.facts }
         ensures signed { IfSome self.old.facts.life (IsSignedReply S.IsSignature result) }
         ensures votes { self.new.votes ≡ self.old.votes ++ signed_reply result }

@@ -8,7 +8,7 @@ ghost use Rattle.simplex_member.specs.MemberFacts.{living};
 ghost use Rattle.simplex_member.specs.Pruning.{tracks};
 
 use super::life::Member;
-use simplex_record::record::{keep_from, lowest_kept};
+use simplex_record::record::{keep_from, lowest_retained};
 use simplex_types::types::{Artifact, CertificateScheme, Digest, Elector, View, Viewable};
 use simplex_voter::voter::State;
 
@@ -26,7 +26,7 @@ impl<S: CertificateScheme, L: Elector<S>, D: Digest> Member<S, L, D> {
         ensures pruned { self.new.facts ≡ pruned_member self.old.facts }
         ensures votes { self.new.votes ≡ votes_within self.old.facts self.old.votes }
     {
-        let lowest = lowest_kept(&self.artifacts, self.retention);
+        let lowest = lowest_retained(&self.artifacts, self.retention);
         keep_within(&mut self.artifacts, &self.state, self.failed, lowest);
         self.closed = self.artifacts.len();
         self.is_pruned = true;

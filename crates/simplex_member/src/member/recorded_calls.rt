@@ -35,7 +35,7 @@ pub(super) fn keep<S: CertificateScheme, D: Digest>(
 }
 
 /// Records an artifact for which there is room, where it is new. It is no vote.
-pub(super) fn keep_new<S: CertificateScheme, D: Digest>(
+pub(super) fn store_new<S: CertificateScheme, D: Digest>(
     artifacts: &mut Vec<Artifact<S, D>>,
     is_new: bool,
     artifact: Artifact<S, D>,
@@ -91,7 +91,7 @@ pub(super) fn certified<S: CertificateScheme, L: Elector<S>, D: Digest>(
     success: bool,
     now: u64,
 ) -> Result<Option<Notarization<S, D>>, Fault>
-    requires going_on { state.old.failed ≡ false }
+    requires resumption { state.old.failed ≡ false }
     requires allowed { takes_verdict state.old view success ≡ true }
     requires room { vec_len artifacts.old < vec_capacity artifacts.old }
     ensures due { OnOk result (certified_refusal state.old view success now ≡ None) }
@@ -112,7 +112,7 @@ pub(super) fn certified<S: CertificateScheme, L: Elector<S>, D: Digest>(
     };
     match state.certified(view, success, now) {
         Ok(answer) => {
-            keep_new(artifacts, is_first, Artifact::Certification(round, success));
+            store_new(artifacts, is_first, Artifact::Certification(round, success));
             outstanding_work.close_offer(view);
             Ok(answer)
         }
@@ -125,7 +125,7 @@ pub(super) fn certify_candidates<S: CertificateScheme, L: Elector<S>, D: Digest>
     state: &mut State<S, L, D>,
     outstanding_work: &mut OutstandingWork<D, S::PublicKey>,
 ) -> Result<(Vec<Proposal<D>>, Vec<CertificateFetch>), Fault>
-    requires going_on { state.old.failed ≡ false }
+    requires resumption { state.old.failed ≡ false }
     requires begun { is_started state.old ≡ true }
     ensures answer { IfOk result (λ answer. (answer.0.items, answer.1.items) ≡ candidates_answer D.eq L.elect state.old) }
     ensures after { OnOk result (state.new ≡ after_candidates state.old) }

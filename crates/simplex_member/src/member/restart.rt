@@ -86,7 +86,7 @@ impl<S: CertificateScheme, L: Elector<S>, D: Digest> Member<S, L, D> {
     /// Begins a life from the record as it stands.
     fn go_on(&mut self, start: Start<S, L, D>) -> Result<(), RecoverError>
         requires { L.members start.settings.elector ≡ length (S.participants start.settings.scheme) }
-        ensures goes_on { RecoversByView D.eq L.elect self.old.facts
+        ensures continues { RecoversByView D.eq L.elect self.old.facts
             (start_facts S.me S.participants L.terms L.elects_early S.certificate_bytes start) result self.new.facts }
         ensures votes { self.new.votes ≡ self.old.votes }
     {
@@ -119,7 +119,7 @@ pub(super) fn renew<S: CertificateScheme, L: Elector<S>, D: Digest>(
     ensures renewed { IfOk result (λ state. IsRemadeBy D.eq L.elect
         (start_facts S.me S.participants L.terms L.elects_early S.certificate_bytes start)
         (entries_of S.certificate_bytes artifacts.old.items) state.value) }
-    ensures going_on { IfOk result (λ state. (state.value.failed ≡ false) × (is_started state.value ≡ true)) }
+    ensures resumption { IfOk result (λ state. (state.value.failed ≡ false) × (is_started state.value ≡ true)) }
     ensures recorded { OnOk result (entries_of S.certificate_bytes artifacts.new.items
         ≡ with_floor (entries_of S.certificate_bytes artifacts.old.items) (floor_facts S.certificate_bytes start.floor)) }
     ensures votes { votes_of artifacts.new.items ≡ votes_of artifacts.old.items }
@@ -129,7 +129,7 @@ pub(super) fn renew<S: CertificateScheme, L: Elector<S>, D: Digest>(
         (entries_of S.certificate_bytes artifacts.old.items) error) }
 {
     let (state, finalization) = remake_by_view(alloc, start, artifacts)?;
-    keep_finalization(artifacts, finalization)?;
+    store_finalization(artifacts, finalization)?;
     Ok(state)
 }
 
@@ -144,7 +144,7 @@ fn remake_by_view<S: CertificateScheme, L: Elector<S>, D: Digest>(
         (start_facts S.me S.participants L.terms L.elects_early S.certificate_bytes start) (entries_of S.certificate_bytes artifacts.now) made.0.value) }
     ensures floor { IfOk result (λ made. option_map (finalization_facts S.certificate_bytes) made.1
         ≡ floor_answer (floor_facts S.certificate_bytes start.floor)) }
-    ensures going_on { IfOk result (λ made. (made.0.value.failed ≡ false) × (is_started made.0.value ≡ true)) }
+    ensures resumption { IfOk result (λ made. (made.0.value.failed ≡ false) × (is_started made.0.value ≡ true)) }
     ensures refused { IfErr result (λ error. (error ≡ OutOfMemory) ⊎ IsRefusedBy D.eq
         (start_facts S.me S.participants L.terms L.elects_early S.certificate_bytes start) (entries_of S.certificate_bytes artifacts.now) error) }
 {
@@ -181,7 +181,7 @@ fn copy_of<S: CertificateScheme, D: Digest>(
 }
 
 /// Records a finalization, unless one of its view stands in the record.
-pub(super) fn keep_finalization<S: CertificateScheme, D: Digest>(
+pub(super) fn store_finalization<S: CertificateScheme, D: Digest>(
     artifacts: &mut Vec<Artifact<S, D>>,
     finalization: Option<Finalization<S, D>>,
 ) -> Result<(), RecoverError>

@@ -4,7 +4,7 @@ ghost use Rattle.std.specs.Prelude.{◌≡◌, ◌⊎◌, ◌<◌, ◌++◌, Ok,
 ghost use Rattle.simplex_types.specs.declared.types.fault.Fault.TheVariants.{OutOfMemory};
 ghost use Rattle.simplex_record.specs.Entries.{entries_of};
 ghost use Rattle.simplex_record.specs.Votes.{votes_of};
-ghost use Rattle.simplex_member.specs.Calls.{told_notarize, told_nullify, told_finalize};
+ghost use Rattle.simplex_member.specs.Calls.{reply_notarize, reply_nullify, reply_finalize};
 ghost use Rattle.simplex_member.specs.CallSemantics.{unrepeated_vote, vote_entry};
 ghost use Rattle.simplex_member.specs.ReplySignatures.{signed_notarize, signed_nullify, signed_finalize};
 
@@ -15,7 +15,7 @@ use simplex_types::types::{
 use std::alloc::Global;
 
 /// Records a vote to nullify that the state made, unless it is a repeat. Where there is no memory for a copy, the state is lost.
-pub(super) fn keep_nullify<S: CertificateScheme, D: Digest>(
+pub(super) fn store_nullify<S: CertificateScheme, D: Digest>(
     alloc: Global,
     artifacts: &mut Vec<Artifact<S, D>>,
     made: Result<Option<(bool, Nullify<S>)>, Fault>,
@@ -23,7 +23,7 @@ pub(super) fn keep_nullify<S: CertificateScheme, D: Digest>(
     requires { vec_len artifacts.old < vec_capacity artifacts.old }
     ensures same { IfOk result (λ vote. made ≡ Ok vote) }
     ensures kept { IfOk result (λ vote. entries_of S.certificate_bytes artifacts.new.items
-        ≡ entries_of S.certificate_bytes artifacts.old.items ++ unrepeated_vote (told_nullify vote)) }
+        ≡ entries_of S.certificate_bytes artifacts.old.items ++ unrepeated_vote (reply_nullify vote)) }
     ensures votes { IfOk result (λ vote. votes_of artifacts.new.items ≡ votes_of artifacts.old.items ++ signed_nullify vote) }
     ensures same_record { OnErr result (entries_of S.certificate_bytes artifacts.new.items ≡ entries_of S.certificate_bytes artifacts.old.items) }
     ensures same_votes { OnErr result (votes_of artifacts.new.items ≡ votes_of artifacts.old.items) }
@@ -40,7 +40,7 @@ pub(super) fn keep_nullify<S: CertificateScheme, D: Digest>(
 }
 
 /// Records a vote to notarize that the state made. Where there is no memory for a copy, the state is lost.
-pub(super) fn keep_notarize<S: CertificateScheme, D: Digest>(
+pub(super) fn store_notarize<S: CertificateScheme, D: Digest>(
     alloc: Global,
     artifacts: &mut Vec<Artifact<S, D>>,
     made: Result<Option<Notarize<S, D>>, Fault>,
@@ -48,7 +48,7 @@ pub(super) fn keep_notarize<S: CertificateScheme, D: Digest>(
     requires { vec_len artifacts.old < vec_capacity artifacts.old }
     ensures same { IfOk result (λ vote. made ≡ Ok vote) }
     ensures kept { IfOk result (λ vote. entries_of S.certificate_bytes artifacts.new.items
-        ≡ entries_of S.certificate_bytes artifacts.old.items ++ vote_entry (told_notarize vote)) }
+        ≡ entries_of S.certificate_bytes artifacts.old.items ++ vote_entry (reply_notarize vote)) }
     ensures votes { IfOk result (λ vote. votes_of artifacts.new.items ≡ votes_of artifacts.old.items ++ signed_notarize vote) }
     ensures same_record { OnErr result (entries_of S.certificate_bytes artifacts.new.items ≡ entries_of S.certificate_bytes artifacts.old.items) }
     ensures same_votes { OnErr result (votes_of artifacts.new.items ≡ votes_of artifacts.old.items) }
@@ -65,7 +65,7 @@ pub(super) fn keep_notarize<S: CertificateScheme, D: Digest>(
 }
 
 /// Records a vote to finalize that the state made. Where there is no memory for a copy, the state is lost.
-pub(super) fn keep_finalize<S: CertificateScheme, D: Digest>(
+pub(super) fn store_finalize<S: CertificateScheme, D: Digest>(
     alloc: Global,
     artifacts: &mut Vec<Artifact<S, D>>,
     made: Result<Option<Finalize<S, D>>, Fault>,
@@ -73,7 +73,7 @@ pub(super) fn keep_finalize<S: CertificateScheme, D: Digest>(
     requires { vec_len artifacts.old < vec_capacity artifacts.old }
     ensures same { IfOk result (λ vote. made ≡ Ok vote) }
     ensures kept { IfOk result (λ vote. entries_of S.certificate_bytes artifacts.new.items
-        ≡ entries_of S.certificate_bytes artifacts.old.items ++ vote_entry (told_finalize vote)) }
+        ≡ entries_of S.certificate_bytes artifacts.old.items ++ vote_entry (reply_finalize vote)) }
     ensures votes { IfOk result (λ vote. votes_of artifacts.new.items ≡ votes_of artifacts.old.items ++ signed_finalize vote) }
     ensures same_record { OnErr result (entries_of S.certificate_bytes artifacts.new.items ≡ entries_of S.certificate_bytes artifacts.old.items) }
     ensures same_votes { OnErr result (votes_of artifacts.new.items ≡ votes_of artifacts.old.items) }

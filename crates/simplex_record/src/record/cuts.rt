@@ -36,12 +36,12 @@ pub fn prune_record<S: CertificateScheme, D: Digest>(
     ensures votes { votes_of entries.new.items
         ≡ pruned_votes retention (entries_of S.certificate_bytes entries.old.items) (votes_of entries.old.items) }
 {
-    let lowest = lowest_kept(entries, retention);
+    let lowest = lowest_retained(entries, retention);
     keep_from(entries, lowest);
 }
 
 /// The lowest view that a record keeps: `retention` views below the highest finalized one, and 0 where there are fewer.
-pub fn lowest_kept<S: CertificateScheme, D: Digest>(
+pub fn lowest_retained<S: CertificateScheme, D: Digest>(
     entries: &[Artifact<S, D>],
     retention: ViewDelta,
 ) -> View

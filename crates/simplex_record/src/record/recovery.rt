@@ -27,7 +27,7 @@ fn add<S: CertificateScheme, L: Elector<S>, D: Digest>(
     artifact: &Artifact<S, D>,
     now: u64,
 ) -> Result<(), Fault>
-    requires going_on { state.old.failed ≡ false }
+    requires resumption { state.old.failed ≡ false }
     requires in_time { has_late_deadline state.old now ≡ false }
     requires kept { takes_round state.old (artifact_round artifact.now) ≡ true }
     requires small { artifact_too_large artifact.now ≡ false }
@@ -74,7 +74,7 @@ fn replay<S: CertificateScheme, L: Elector<S>, D: Digest>(
     state: &mut State<S, L, D>,
     artifact: &Artifact<S, D>,
 ) -> Result<(), Fault>
-    requires going_on { state.old.failed ≡ false }
+    requires resumption { state.old.failed ≡ false }
     requires small { artifact_too_large artifact.now ≡ false }
     requires taken { TakesReplay state.old artifact.now }
     ensures after { OnOk result (state.new ≡ after_replaying D.eq L.elect state.old (artifact_facts S.certificate_bytes artifact.now)) }
@@ -89,7 +89,7 @@ fn give<S: CertificateScheme, L: Elector<S>, D: Digest>(
     artifact: &Artifact<S, D>,
     now: u64,
 ) -> Result<(), Fault>
-    requires going_on { state.old.failed ≡ false }
+    requires resumption { state.old.failed ≡ false }
     requires in_time { has_late_deadline state.old now ≡ false }
     requires allowed { GivesVerdict state.old (artifact_facts S.certificate_bytes artifact.now) }
     ensures after { OnOk result (state.new ≡ after_verdict_of L.elect state.old now (artifact_facts S.certificate_bytes artifact.now)) }
@@ -108,7 +108,7 @@ fn take<S: CertificateScheme, L: Elector<S>, D: Digest>(
     artifact: &Artifact<S, D>,
     now: u64,
 ) -> Result<(), Fault>
-    requires going_on { state.old.failed ≡ false }
+    requires resumption { state.old.failed ≡ false }
     requires in_time { has_late_deadline state.old now ≡ false }
     requires small { artifact_too_large artifact.now ≡ false }
     requires taken { TakesEntry S.certificate_bytes D.eq L.elect state.old now artifact.now }
@@ -128,7 +128,7 @@ fn take_kept<S: CertificateScheme, L: Elector<S>, D: Digest>(
     artifact: &Artifact<S, D>,
     now: u64,
 ) -> Result<(), Fault>
-    requires going_on { state.old.failed ≡ false }
+    requires resumption { state.old.failed ≡ false }
     requires in_time { has_late_deadline state.old now ≡ false }
     requires next { TakesNext S.certificate_bytes D.eq L.elect state.old now artifact.now }
     ensures after { OnOk result (state.new ≡ after_kept_entry D.eq L.elect state.old now (artifact_facts S.certificate_bytes artifact.now)) }
@@ -147,7 +147,7 @@ fn take_all<S: CertificateScheme, L: Elector<S>, D: Digest>(
     entries: &[Artifact<S, D>],
     now: u64,
 ) -> Result<(), Fault>
-    requires going_on { state.old.failed ≡ false }
+    requires resumption { state.old.failed ≡ false }
     requires in_time { has_late_deadline state.old now ≡ false }
     requires each { TakesEntries S.certificate_bytes D.eq L.elect state.old now entries.now }
     ensures after { OnOk result (state.new ≡ after_entries D.eq L.elect state.old now (entries_of S.certificate_bytes entries.now)) }
@@ -168,7 +168,7 @@ pub fn remake<S: CertificateScheme, L: Elector<S>, D: Digest>(
     requires { L.members start.settings.elector ≡ length (S.participants start.settings.scheme) }
     ensures recovered { IfOk result (λ made. made.0.value ≡ recovered_state D.eq L.elect (set_up S.me S.participants L.terms L.elects_early start.settings)
         (floor_facts S.certificate_bytes start.floor) start.now (entries_of S.certificate_bytes entries.now)) }
-    ensures going_on { IfOk result (λ made. (made.0.value.failed ≡ false) × (is_started made.0.value ≡ true)) }
+    ensures resumption { IfOk result (λ made. (made.0.value.failed ≡ false) × (is_started made.0.value ≡ true)) }
     ensures floor { IfOk result (λ made. option_map (finalization_facts S.certificate_bytes) made.1
         ≡ floor_answer (floor_facts S.certificate_bytes start.floor)) }
     ensures accepted { OnOk result (recover_error D.eq (set_up S.me S.participants L.terms L.elects_early start.settings)

@@ -14,12 +14,12 @@ use simplex_types::types::{Artifact, Certificate, CertificateScheme, Digest, Fau
 use std::alloc::Global;
 
 /// Hands the entries in, in order.
-pub(super) fn hand_all<S: CertificateScheme, D: Digest>(
+pub(super) fn pass_every<S: CertificateScheme, D: Digest>(
     alloc: Global,
     state: &mut State,
     entries: &[Artifact<S, D>],
 ) -> Result<(), Fault>
-    requires going_on { state.old.is_failed ≡ false }
+    requires resumption { state.old.is_failed ≡ false }
     requires sound { record_error (newest_first S.certificate_bytes entries.now) ≡ None }
     ensures after { OnOk result (state.new ≡ all_after state.old (record_calls D.bytes S.certificate_bytes entries.now)) }
     ensures refused { IfErr result (λ fault. fault ≡ OutOfMemory) }
@@ -41,7 +41,7 @@ fn hand<S: CertificateScheme, D: Digest>(
     before: &[Artifact<S, D>],
     artifact: &Artifact<S, D>,
 ) -> Result<(), Fault>
-    requires going_on { state.old.is_failed ≡ false }
+    requires resumption { state.old.is_failed ≡ false }
     requires noted { AreNoted S.certificate_bytes places.now before.now }
     requires sound { record_error (artifact_facts S.certificate_bytes artifact.now ∷ newest_first S.certificate_bytes before.now) ≡ None }
     ensures after { OnOk result (state.new ≡ all_after state.old
@@ -51,28 +51,28 @@ fn hand<S: CertificateScheme, D: Digest>(
     match artifact {
         Artifact::Notarization(notarization) => {
             let copy = notarization.clone(alloc)?;
-            hand_certificate(state, Certificate::Notarization(copy))
+            pass_certificate(state, Certificate::Notarization(copy))
         }
         Artifact::Nullification(nullification) => {
             let copy = nullification.clone(alloc)?;
-            hand_certificate::<S, D>(state, Certificate::Nullification(copy))
+            pass_certificate::<S, D>(state, Certificate::Nullification(copy))
         }
         Artifact::Finalization(finalization) => {
             let copy = finalization.clone(alloc)?;
-            hand_certificate(state, Certificate::Finalization(copy))
+            pass_certificate(state, Certificate::Finalization(copy))
         }
         Artifact::Certification(round, success) => {
-            hand_verdict(alloc, state, places, before, round.view, *success)
+            pass_verdict(alloc, state, places, before, round.view, *success)
         }
         Artifact::Notarize(_) | Artifact::Nullify(_) | Artifact::Finalize(_) => Ok(()),
     }
 }
 
-fn hand_certificate<S: CertificateScheme, D: Digest>(
+fn pass_certificate<S: CertificateScheme, D: Digest>(
     state: &mut State,
     certificate: Certificate<S, D>,
 ) -> Result<(), Fault>
-    requires going_on { state.old.is_failed ≡ false }
+    requires resumption { state.old.is_failed ≡ false }
     requires sound { certificate_error (certificate_facts S.certificate_bytes certificate) ≡ None }
     ensures after { OnOk result (state.new ≡ after state.old (update D.bytes (certificate_facts S.certificate_bytes certificate))) }
     ensures refused { IfErr result (λ fault. fault ≡ OutOfMemory) }
@@ -82,7 +82,7 @@ fn hand_certificate<S: CertificateScheme, D: Digest>(
 }
 
 /// Hands a verdict in, with the last notarization of its view.
-fn hand_verdict<S: CertificateScheme, D: Digest>(
+fn pass_verdict<S: CertificateScheme, D: Digest>(
     alloc: Global,
     state: &mut State,
     places: &Places,
@@ -90,7 +90,7 @@ fn hand_verdict<S: CertificateScheme, D: Digest>(
     view: View,
     success: bool,
 ) -> Result<(), Fault>
-    requires going_on { state.old.is_failed ≡ false }
+    requires resumption { state.old.is_failed ≡ false }
     requires noted { AreNoted S.certificate_bytes places.now before.now }
     requires sound { record_error (newest_first S.certificate_bytes before.now) ≡ None }
     ensures after { OnOk result (state.new ≡ all_after state.old

@@ -23,7 +23,7 @@ use std::marker::Model;
 
 /// A resolver that a driver keeps, and the views whose fetch is open: the effects of each call are applied to them.
 ///
-/// `HasBeenTold` says which calls it was told so far: `new` and `start` begin the list, each method says what it adds, and
+/// `HasReceivedCalls` says which calls it was told so far: `new` and `start` begin the list, each method says what it adds, and
 /// `keeps_the_laws` says what holds of the whole.
 #[derive(Drop)]
 pub struct LawfulResolver {
@@ -42,12 +42,12 @@ impl Model for LawfulResolver {
 }
 
 impl LawfulResolver {
-    ghost use Rattle.simplex_resolver.specs.CallHistory.{HasBeenTold, IsMade, IsToldMore, IsBegun, IsLeftBy, OfAllTold, OpensTheWanted, OpensNone, OpensNoneAgain, AnswersTheTold};
+    ghost use Rattle.simplex_resolver.specs.CallHistory.{HasReceivedCalls, IsMade, ReceivesMore, IsBegun, IsLeftBy, OfEachCallHistory, OpensTheOutstanding, OpensNone, OpensNoneAgain, AnswersTheReceived};
 
     /// A resolver that was told nothing. It opens no fetch before `replayed` is called.
     pub fn new(alloc: Global, term_length: TermLength) -> LawfulResolver
         ensures state { result.state ≡ empty term_length }
-        ensures begins { HasBeenTold term_length [] result }
+        ensures begins { HasReceivedCalls term_length [] result }
     {
         let _positive = term_length.get();
         LawfulResolver {
@@ -67,7 +67,7 @@ impl LawfulResolver {
         term_length: TermLength,
         entries: &[Artifact<S, D>],
     ) -> Result<LawfulResolver, ReplayError>
-        ensures begins { IfOk result (HasBeenTold term_length (replay_calls D.bytes S.certificate_bytes entries.now)) }
+        ensures begins { IfOk result (HasReceivedCalls term_length (replay_calls D.bytes S.certificate_bytes entries.now)) }
         ensures accepted { OnOk result (record_error (newest_first S.certificate_bytes entries.now) ≡ None) }
         ensures refused { IfErr result (IsDue (record_error (newest_first S.certificate_bytes entries.now))) }
     {
@@ -94,7 +94,7 @@ impl LawfulResolver {
     ) -> Result<Vec<Effect>, Fault>
         requires { 1 ≤ certificate_view certificate.now }
         ensures made { IfOk result (λ es. IsMade (update D.bytes (certificate_facts S.certificate_bytes certificate.now)) self.old es.items self.new) }
-        ensures told { OnOk result (IsToldMore self.old (update D.bytes (certificate_facts S.certificate_bytes certificate.now)) self.new) }
+        ensures told { OnOk result (ReceivesMore self.old (update D.bytes (certificate_facts S.certificate_bytes certificate.now)) self.new) }
         ensures accepted { OnOk result ((self.old.state.is_failed ≡ false) × (highest_view certificate.now < 2 ^ 63)) }
         ensures refused { IfErr result (λ fault. IsLeftBy self.old (highest_view certificate.now)
             (update D.bytes (certificate_facts S.certificate_bytes certificate.now)) fault self.new) }
@@ -118,7 +118,7 @@ impl LawfulResolver {
     ) -> Result<Vec<Effect>, Fault>
         requires { 1 ≤ notarization.proposal.round.view }
         ensures made { IfOk result (λ es. IsMade (verdict D.bytes (notarization_facts S.certificate_bytes notarization) success) self.old es.items self.new) }
-        ensures told { OnOk result (IsToldMore self.old (verdict D.bytes (notarization_facts S.certificate_bytes notarization) success) self.new) }
+        ensures told { OnOk result (ReceivesMore self.old (verdict D.bytes (notarization_facts S.certificate_bytes notarization) success) self.new) }
         ensures accepted { OnOk result ((self.old.state.is_failed ≡ false) × (highest_named notarization.proposal < 2 ^ 63)) }
         ensures refused { IfErr result (λ fault. IsLeftBy self.old (highest_named notarization.proposal)
             (verdict D.bytes (notarization_facts S.certificate_bytes notarization) success) fault self.new) }
@@ -136,7 +136,7 @@ impl LawfulResolver {
     /// As `updated`, but no view is too large.
     pub fn replayed(&mut self) -> Result<Vec<Effect>, Fault>
         ensures made { IfOk result (λ es. IsMade Replayed self.old es.items self.new) }
-        ensures told { OnOk result (IsToldMore self.old Replayed self.new) }
+        ensures told { OnOk result (ReceivesMore self.old Replayed self.new) }
         ensures accepted { OnOk result (self.old.state.is_failed ≡ false) }
         ensures refused { IfErr result (λ fault. IsLeftBy self.old 0 Replayed fault self.new) }
     {
@@ -186,9 +186,9 @@ impl LawfulResolver {
     /// - `again`: a certificate of a kind and view that it was told of before opens no fetch.
     /// - `answers`: what its state answers follows from what it was told.
     pub fn keeps_the_laws(&self)
-        ensures wanted { OfAllTold self.now (OpensTheWanted self.now) }
-        ensures none { OfAllTold self.now (OpensNone self.now) }
-        ensures again { OfAllTold self.now (OpensNoneAgain self.now) }
-        ensures answers { OfAllTold self.now (AnswersTheTold self.now) }
+        ensures wanted { OfEachCallHistory self.now (OpensTheOutstanding self.now) }
+        ensures none { OfEachCallHistory self.now (OpensNone self.now) }
+        ensures again { OfEachCallHistory self.now (OpensNoneAgain self.now) }
+        ensures answers { OfEachCallHistory self.now (AnswersTheReceived self.now) }
     {}
 }

@@ -52,7 +52,7 @@ impl Places {
         let Some(noted) = place.checked_add(1) else {
             return;
         };
-        if keep_place(&mut self.by_view, artifact, place).is_ok() {
+        if store_position(&mut self.by_view, artifact, place).is_ok() {
             self.noted = noted;
         }
     }
@@ -79,7 +79,7 @@ impl Places {
 }
 
 /// Keeps the place of an entry, if it is a notarization.
-fn keep_place<S: CertificateScheme, D: Digest>(
+fn store_position<S: CertificateScheme, D: Digest>(
     places: &mut Tracked<usize>,
     artifact: &Artifact<S, D>,
     place: usize,

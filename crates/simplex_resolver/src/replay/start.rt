@@ -4,7 +4,7 @@ ghost use Rattle.std.specs.Prelude.{◌≡◌, ℕ, false, None, IfOk, IfErr, On
 ghost use Rattle.std.specs.List.{AllByRecursion};
 ghost use Rattle.simplex_types.specs.declared.types.fault.Fault.TheVariants.{OutOfMemory};
 ghost use Rattle.simplex_resolver.specs.Steps.{Replayed, effects};
-ghost use Rattle.simplex_resolver.specs.ReceivedFacts.{NamesAView, is_wanted};
+ghost use Rattle.simplex_resolver.specs.ReceivedFacts.{NamesAView, is_needed};
 ghost use Rattle.simplex_resolver.specs.Repair.{facts_of, is_outstanding};
 ghost use Rattle.simplex_resolver.specs.ReplayErrors.{IsDue};
 ghost use Rattle.simplex_resolver.specs.RecordCalls.{newest_first, record_calls, replay_calls, all_after};
@@ -12,7 +12,7 @@ ghost use Rattle.simplex_resolver.specs.RecordRules.{record_error};
 
 use super::check::check_entries;
 use super::error::ReplayError;
-use super::calls::hand_all;
+use super::calls::pass_every;
 use crate::resolver::{Effect, State};
 use simplex_types::types::{Artifact, CertificateScheme, Digest, Fault, TermLength};
 use std::alloc::Global;
@@ -23,13 +23,13 @@ fn replay<S: CertificateScheme, D: Digest>(
     state: &mut State,
     entries: &[Artifact<S, D>],
 ) -> Result<Vec<Effect>, Fault>
-    requires going_on { state.old.is_failed ≡ false }
+    requires resumption { state.old.is_failed ≡ false }
     requires sound { record_error (newest_first S.certificate_bytes entries.now) ≡ None }
     ensures after { OnOk result (state.new ≡ all_after state.old (replay_calls D.bytes S.certificate_bytes entries.now)) }
     ensures effects { IfOk result (λ es. es.items ≡ effects (all_after state.old (record_calls D.bytes S.certificate_bytes entries.now)) Replayed) }
     ensures refused { IfErr result (λ fault. fault ≡ OutOfMemory) }
 {
-    hand_all(alloc, state, entries)?;
+    pass_every(alloc, state, entries)?;
     state.replayed()
 }
 
@@ -54,7 +54,7 @@ pub fn replay_record<S: CertificateScheme, D: Digest>(
         ≡ effects (facts_of term_length (record_calls D.bytes S.certificate_bytes entries.now)) Replayed) }
     ensures named { OnOk result (AllByRecursion NamesAView (replay_calls D.bytes S.certificate_bytes entries.now)) }
     ensures wanted { IfOk result (λ made. (v : ℕ) → is_outstanding made.1.items v
-        ≡ is_wanted term_length (replay_calls D.bytes S.certificate_bytes entries.now) v) }
+        ≡ is_needed term_length (replay_calls D.bytes S.certificate_bytes entries.now) v) }
     ensures accepted { OnOk result (record_error (newest_first S.certificate_bytes entries.now) ≡ None) }
     ensures refused { IfErr result (IsDue (record_error (newest_first S.certificate_bytes entries.now))) }
 {

@@ -29,7 +29,7 @@ pub(super) fn put<V: Drop>(tracked: &mut Tracked<V>, view: View, value: V) -> Re
 }
 
 /// Keeps the nullification's encoding, unless the view has one.
-pub(super) fn keep_nullification<S: CertificateScheme, D: Digest>(
+pub(super) fn store_nullification<S: CertificateScheme, D: Digest>(
     alloc: Global,
     nullifications: &mut ByTerm<Bytes>,
     view: View,
@@ -52,7 +52,7 @@ pub(super) fn keep_nullification<S: CertificateScheme, D: Digest>(
 }
 
 /// Keeps the finalization of the higher view.
-pub(super) fn keep_finalization<S: CertificateScheme, D: Digest>(
+pub(super) fn store_finalization<S: CertificateScheme, D: Digest>(
     alloc: Global,
     finalization: &mut Option<(View, Bytes)>,
     view: View,

@@ -14,7 +14,7 @@ use simplex_types::types::{
 use std::alloc::Global;
 
 /// Stores a certificate where none is stored yet. Returns whether it did.
-fn keep_first<C: Drop>(stored: &mut Option<C>, certificate: C) -> bool
+fn store_first<C: Drop>(stored: &mut Option<C>, certificate: C) -> bool
     ensures first { result ≡ not (is_some stored.old) }
     ensures stored { stored.new ≡ (if is_some stored.old then stored.old else Some certificate) }
 {
@@ -83,7 +83,7 @@ impl<S: CertificateScheme, D: Digest> Round<S, D> {
         ensures facts { self.new ≡ with_notarization (same_proposal D.eq) self.old (notarization_facts S.certificate_bytes notarization) }
     {
         let proposal = notarization.proposal;
-        if keep_first(&mut self.notarization, notarization) {
+        if store_first(&mut self.notarization, notarization) {
             (true, self.add_recovered_proposal(&proposal))
         } else {
             (false, None)
@@ -95,7 +95,7 @@ impl<S: CertificateScheme, D: Digest> Round<S, D> {
         ensures added { result ≡ not (is_some self.old.nullification) }
         ensures facts { self.new ≡ with_nullification self.old (nullification_facts S.certificate_bytes nullification) }
     {
-        keep_first(&mut self.nullification, nullification)
+        store_first(&mut self.nullification, nullification)
     }
 
     /// Takes a finalization and its proposal. Answers whether it was newly added, with the key
@@ -109,7 +109,7 @@ impl<S: CertificateScheme, D: Digest> Round<S, D> {
         ensures facts { self.new ≡ with_finalization (same_proposal D.eq) self.old (finalization_facts S.certificate_bytes finalization) }
     {
         let proposal = finalization.proposal;
-        if keep_first(&mut self.finalization, finalization) {
+        if store_first(&mut self.finalization, finalization) {
             (true, self.add_recovered_proposal(&proposal))
         } else {
             (false, None)

@@ -97,7 +97,7 @@ impl<S: CertificateScheme, L: Elector<S>, D: Digest> State<S, L, D> {
         if self.is_failed() {
             return Err(Fault::Failed);
         }
-        match self.rounds.hand_out_notarization(view) {
+        match self.rounds.return_notarization(view) {
             Ok(certificate) => Ok(certificate),
             Err(fault) => {
                 self.fail();
@@ -120,7 +120,7 @@ impl<S: CertificateScheme, L: Elector<S>, D: Digest> State<S, L, D> {
         if self.is_failed() {
             return Err(Fault::Failed);
         }
-        match self.rounds.hand_out_nullification(view) {
+        match self.rounds.return_nullification(view) {
             Ok(certificate) => Ok(certificate),
             Err(fault) => {
                 self.fail();
@@ -146,7 +146,7 @@ impl<S: CertificateScheme, L: Elector<S>, D: Digest> State<S, L, D> {
         if self.is_failed() {
             return Err(Fault::Failed);
         }
-        match self.rounds.hand_out_finalization(view) {
+        match self.rounds.return_finalization(view) {
             Ok(certificate) => Ok(certificate),
             Err(fault) => {
                 self.fail();

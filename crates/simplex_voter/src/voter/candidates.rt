@@ -17,7 +17,7 @@ use simplex_types::types::{CertificateScheme, Digest, Elector, Fault, Proposal, 
 
 /// Notes a view, which may be noted already.
 #[tactic(auto, using(crate::proofs::RoundsKept::noted))]
-pub(super) fn note_view(views: &mut ByTerm<()>, view: View) -> Result<(), Fault>
+pub(super) fn insert_view(views: &mut ByTerm<()>, view: View) -> Result<(), Fault>
     requires { 1 ≤ view }
     ensures same_terms { views.new.term_length ≡ views.old.term_length }
     ensures noted { OnOk result (views.new ≡ record views.old { by_view = map.insert views.old.by_view view tt }) }
@@ -29,7 +29,7 @@ pub(super) fn note_view(views: &mut ByTerm<()>, view: View) -> Result<(), Fault>
 
 /// Names a view, which may be named already.
 #[tactic(auto, using(crate::proofs::RoundsKept::noted))]
-pub(super) fn name_view(views: &mut Tracked<()>, view: View) -> Result<(), Fault>
+pub(super) fn add_candidate(views: &mut Tracked<()>, view: View) -> Result<(), Fault>
     ensures named { OnOk result (views.new ≡ map.insert views.old view tt) }
     ensures refused { IfErr result (λ fault. fault ≡ OutOfMemory) }
 {
@@ -88,7 +88,7 @@ impl<S: CertificateScheme, L: Elector<S>, D: Digest> State<S, L, D> {
         if view <= self.finalized {
             return Ok(());
         }
-        name_view(&mut self.candidates, view)
+        add_candidate(&mut self.candidates, view)
     }
 
     /// The proposal of a view that is offered for certification: its parent lies below, and what it requires is certified.

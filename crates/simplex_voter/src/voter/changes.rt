@@ -25,7 +25,7 @@ impl<S: CertificateScheme, D: Digest> Rounds<S, D> {
     ghost use Rattle.simplex_voter.specs.ProposalRequests.{build_requested};
 
     /// Keeps the first notarization of a view. Answers whether it is that, with the key of a leader found to equivocate.
-    pub(super) fn keep_notarization(
+    pub(super) fn store_notarization(
         &mut self,
         view: View,
         notarization: Notarization<S, D>,
@@ -46,7 +46,7 @@ impl<S: CertificateScheme, D: Digest> Rounds<S, D> {
     }
 
     /// Keeps the first nullification of a view.
-    pub(super) fn keep_nullification(
+    pub(super) fn store_nullification(
         &mut self,
         view: View,
         nullification: Nullification<S>,
@@ -65,7 +65,7 @@ impl<S: CertificateScheme, D: Digest> Rounds<S, D> {
     }
 
     /// Keeps the first finalization of a view. Answers whether it is that, with the key of a leader found to equivocate.
-    pub(super) fn keep_finalization(
+    pub(super) fn store_finalization(
         &mut self,
         view: View,
         finalization: Finalization<S, D>,
@@ -79,7 +79,7 @@ impl<S: CertificateScheme, D: Digest> Rounds<S, D> {
         ensures origin { HasSameOrigin self.old self.new }
     {
         self.track(view)?;
-        self.bounds.allow_finalized(view);
+        self.bounds.raise_finalized_bound(view);
         let Some(round) = self.by_view.get_mut(view) else {
             unreachable!()
         };
@@ -106,7 +106,7 @@ impl<S: CertificateScheme, D: Digest> Rounds<S, D> {
     }
 
     /// Hands out the notarization of a view, once.
-    pub(super) fn hand_out_notarization(
+    pub(super) fn return_notarization(
         &mut self,
         view: View,
     ) -> Result<Option<Notarization<S, D>>, Fault>
@@ -127,7 +127,7 @@ impl<S: CertificateScheme, D: Digest> Rounds<S, D> {
     }
 
     /// Hands out the nullification of a view, once.
-    pub(super) fn hand_out_nullification(
+    pub(super) fn return_nullification(
         &mut self,
         view: View,
     ) -> Result<Option<Nullification<S>>, Fault>
@@ -148,7 +148,7 @@ impl<S: CertificateScheme, D: Digest> Rounds<S, D> {
     }
 
     /// Hands out the finalization of a view, once.
-    pub(super) fn hand_out_finalization(
+    pub(super) fn return_finalization(
         &mut self,
         view: View,
     ) -> Result<Option<Finalization<S, D>>, Fault>

@@ -103,7 +103,7 @@ impl<S: CertificateScheme, L: Elector<S>, D: Digest> State<S, L, D> {
     {
         let view = finalization.view();
         self.pass(view, now, deadlines, &finalization.certificate)?;
-        let added = self.keep_finalization(finalization)?;
+        let added = self.store_finalization(finalization)?;
         if !added.0 {
             return Ok(added);
         }
@@ -112,7 +112,7 @@ impl<S: CertificateScheme, L: Elector<S>, D: Digest> State<S, L, D> {
         Ok(added)
     }
 
-    fn keep_finalization(
+    fn store_finalization(
         &mut self,
         finalization: Finalization<S, D>,
     ) -> Result<(bool, Option<S::PublicKey>), Fault>
@@ -123,6 +123,6 @@ impl<S: CertificateScheme, L: Elector<S>, D: Digest> State<S, L, D> {
         ensures setup { HasSameSetup self.old self.new }
     {
         let view = finalization.view();
-        self.rounds.keep_finalization(view, finalization)
+        self.rounds.store_finalization(view, finalization)
     }
 }

@@ -53,7 +53,7 @@ impl<S: CertificateScheme, L: Elector<S>, D: Digest> State<S, L, D> {
         ensures setup { HasSameSetup self.old self.new }
     {
         self.note_moment(now);
-        self.keep_genesis(payload);
+        self.store_genesis(payload);
         let first = View::new(1);
         self.enter_view(first, now, deadlines)?;
         let leader = self.early_leader(first);
@@ -132,13 +132,13 @@ impl<S: CertificateScheme, L: Elector<S>, D: Digest> State<S, L, D> {
     {
         let copy = finalization.clone(self.alloc)?;
         match self.accept_finalization(finalization, now, deadlines) {
-            Ok(_) => self.hand_back(copy),
+            Ok(_) => self.return_floor(copy),
             Err(fault) => Err(fault),
         }
     }
 
     /// A finalization that is kept counts as handed out. Answers it.
-    fn hand_back(
+    fn return_floor(
         &mut self,
         finalization: Finalization<S, D>,
     ) -> Result<Option<Finalization<S, D>>, Fault>

@@ -58,7 +58,7 @@ impl<S: CertificateScheme, L: Elector<S>, D: Digest> State<S, L, D> {
     {
         let view = notarization.view();
         self.elect(view.next(), Some(&notarization.certificate))?;
-        let added = self.keep_notarization(notarization)?;
+        let added = self.store_notarization(notarization)?;
         if !added.0 {
             return Ok(added);
         }
@@ -68,7 +68,7 @@ impl<S: CertificateScheme, L: Elector<S>, D: Digest> State<S, L, D> {
         Ok(added)
     }
 
-    fn keep_notarization(
+    fn store_notarization(
         &mut self,
         notarization: Notarization<S, D>,
     ) -> Result<(bool, Option<S::PublicKey>), Fault>
@@ -79,6 +79,6 @@ impl<S: CertificateScheme, L: Elector<S>, D: Digest> State<S, L, D> {
         ensures setup { HasSameSetup self.old self.new }
     {
         let view = notarization.view();
-        self.rounds.keep_notarization(view, notarization)
+        self.rounds.store_notarization(view, notarization)
     }
 }

@@ -5,7 +5,7 @@ ghost use Rattle.simplex_types.specs.Terms.{IsVotable, next_term_start};
 ghost use Rattle.simplex_types.specs.Certificates.{nullification_facts};
 ghost use Rattle.simplex_types.specs.declared.types.fault.Fault.TheVariants.{OutOfMemory};
 
-use super::candidates::note_view;
+use super::candidates::insert_view;
 use super::rounds::Deadlines;
 use super::state::State;
 use simplex_types::types::{
@@ -89,7 +89,7 @@ impl<S: CertificateScheme, L: Elector<S>, D: Digest> State<S, L, D> {
         self.note_moment(now);
         // needs no look at what is finalized: a view above the current one alone is entered
         self.enter_led(next, now, deadlines, &nullification.certificate)?;
-        self.keep_nullification(nullification)?;
+        self.store_nullification(nullification)?;
         self.nullify_view(view)
     }
 
@@ -100,16 +100,16 @@ impl<S: CertificateScheme, L: Elector<S>, D: Digest> State<S, L, D> {
         ensures refused { IfErr result (λ fault. fault ≡ OutOfMemory) }
         ensures setup { HasSameSetup self.old self.new }
     {
-        note_view(&mut self.nullified, view)
+        insert_view(&mut self.nullified, view)
     }
 
-    fn keep_nullification(&mut self, nullification: Nullification<S>) -> Result<(), Fault>
+    fn store_nullification(&mut self, nullification: Nullification<S>) -> Result<(), Fault>
         requires { IsVotable nullification.round.view }
         ensures kept { OnOk result (self.new ≡ with_nullification_at self.old (nullification_facts S.certificate_bytes nullification)) }
         ensures refused { IfErr result (λ fault. fault ≡ OutOfMemory) }
         ensures setup { HasSameSetup self.old self.new }
     {
         let view = nullification.view();
-        self.rounds.keep_nullification(view, nullification)
+        self.rounds.store_nullification(view, nullification)
     }
 }

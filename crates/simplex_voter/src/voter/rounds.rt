@@ -58,7 +58,7 @@ impl Bounds {
     }
 
     /// The view may be finalized.
-    pub(super) fn allow_finalized(&mut self, view: View)
+    pub(super) fn raise_finalized_bound(&mut self, view: View)
         ensures wider { IsWider self.old self.new }
         ensures explicit { view ≤ self.new.explicit }
     {
@@ -72,7 +72,7 @@ impl Bounds {
         ensures refused { IfErr result (λ fault. fault ≡ OutOfMemory) }
     {
         if success {
-            self.allow_finalized(view);
+            self.raise_finalized_bound(view);
             return Ok(());
         }
         let _standing = self.refused.insert(view, ())?;

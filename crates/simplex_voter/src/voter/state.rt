@@ -208,7 +208,7 @@ impl<S: CertificateScheme, L: Elector<S>, D: Digest> State<S, L, D> {
         self.last_moment = now;
     }
 
-    pub(super) fn keep_genesis(&mut self, payload: D)
+    pub(super) fn store_genesis(&mut self, payload: D)
         ensures { self.new ≡ record self.old { genesis = Some payload } }
     {
         self.genesis = Some(payload);

@@ -87,7 +87,7 @@ fn fetch_once<S: CertificateScheme, D: Digest>(
 }
 
 /// Where a search for work goes on: from a view past the near ones at once with the last one.
-fn onward(next: View, near: View, last: View) -> View
+fn next_scanned(next: View, near: View, last: View) -> View
     ensures { result ≡ (if nat_lt near next && nat_lt next last then last else next) }
 {
     if next > near && next < last {
@@ -186,7 +186,7 @@ impl<S: CertificateScheme, L: Elector<S>, D: Digest> State<S, L, D> {
             if let Some(answer) = self.visit(view) {
                 return answer;
             }
-            from = onward(view.next(), near, last);
+            from = next_scanned(view.next(), near, last);
         }
         Verify::Wait
     }

@@ -3,7 +3,7 @@
 ghost use Rattle.std.specs.Prelude.{◌≡◌, ◌||◌, ◌≤◌, IfSome, IfOk, IfErr, OnOk, OnSome, Err, None, Some, true, is_some, option_map, if◌then◌else◌};
 ghost use Rattle.simplex_types.specs.declared.types.fault.Fault.TheVariants.{OutOfMemory};
 
-use super::candidates::note_view;
+use super::candidates::insert_view;
 use super::state::State;
 use simplex_round::round::Decision;
 use simplex_types::reasons::TimeoutReason;
@@ -113,7 +113,7 @@ impl<S: CertificateScheme, L: Elector<S>, D: Digest> State<S, L, D> {
         ensures refused { IfErr result (λ fault. fault ≡ OutOfMemory) }
         ensures setup { HasSameSetup self.old self.new }
     {
-        note_view(&mut self.nullify_votes, view)
+        insert_view(&mut self.nullify_votes, view)
     }
 
     /// Whether the current view may be voted to nullify, and whether that was decided before. The vote covers the rest of the

@@ -40,7 +40,7 @@ fn below(view: u64) -> u64 {
 }
 
 /// What comes to a member is handed in.
-fn hand_in(member: &mut PlainMember, event: Event) -> Result<(), Refusal> {
+fn submit(member: &mut PlainMember, event: Event) -> Result<(), Refusal> {
     match event {
         Event::Proposed(view) => {
             member.set_proposal(View::new(view), proposal(view, below(view), 7))?;
@@ -77,7 +77,7 @@ fn timeout_behind(
     now: u64,
 ) -> Result<Option<(u64, TimeoutReason)>, Refusal> {
     for event in events {
-        hand_in(member, *event)?;
+        submit(member, *event)?;
     }
     Ok(member.next_timeout(now).ok())
 }

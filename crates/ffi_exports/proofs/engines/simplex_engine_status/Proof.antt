@@ -1,11 +1,11 @@
--- `simplex_engine_status` answers at null, and else lends what lies at the pointer for the call of `hand_status`, and has it back.
+-- `simplex_engine_status` answers at null, and else lends what lies at the pointer for the call of `pass_status`, and has it back.
 use Rattle.ffi_exports.proofs.Steps.{◌≡◌, ℕ, [], ◌∷◌, refl, MutBor, proved, full_share, id⊢, Lft, ftrue, flft, flent, fsep, named, vptr, fact, tables, ‵, raw, ◌⊛◌, some, later, prop, at_ret, ◌$◌, ◌∵◌, !, qed, done, move, keep, drop, use1, use3, split, join, fsplit, fjoin, fpack, pick, await, regoal, suffices, group, lft_new, lft_end, enter, of_opd, addr, stop, no_more, and_then, first, blocks, exec, returns, alloc_all, pass_all, free_all, look_at, get, through, sets, sets_last, lands_as, env, yes, Is, shows, lends_ref, ref_back, Body, mem, Ptr, RawPtr, block_ptr, lies_at, rawptr_vals, rawptr_Tells, MutRef, mut_vals, plain, nothing, heard, peeks, calls_at, lasts, Lasts, on_entry, triple_of, framed, Stays, walk_of, stay_dropped, Goes-dropped, ends_at, rewrite, inl, inr, lit<, fpick, bin, lit, skips, branches, returns_within, null_ptr, Testable, tests_null, null_or_not}
 use prog.Wp.{WpFn}
 use Rattle.ffi_exports.specs.contracts.engines.simplex_engine_status as f
 use Rattle.ffi_exports.proofs.engines.simplex_engine_status.Statement.{statement}
 use Rattle.ffi_exports.proofs.engines.simplex_engine_status.Code as code
-use Rattle.ffi_exports.specs.contracts.engines.hand_status as g
-use Rattle.ffi_exports.proofs.engines.hand_status.Met.{met}
+use Rattle.ffi_exports.specs.contracts.engines.pass_status as g
+use Rattle.ffi_exports.proofs.engines.pass_status.Met.{met}
 use Rattle.ffi_engine.specs.contracts.absent.engine_status as n
 use Rattle.ffi_engine.proofs.null_handle.engine_status.Met.{met as met_null}
 use Rattle.ffi_engine.specs.contracts.held.HeldEngine.{the_row as R}
@@ -71,7 +71,7 @@ simplex_engine_status_spec 𝓤 𝓛 𝓜 𝓡 wired =
           let z : G.Ghost = (((κ, tt), (full_share, tt), tt, (r, tt), (mut_vals r, tt)), tt) in
           nothing ! $ move ! (1 ∷ 0 ∷ []) $ fjoin ! $
           nothing ! $ move ! (3 ∷ 0 ∷ []) $ join ! $ join ! $ nothing ! $ move ! (1 ∷ 0 ∷ []) $ join ! $ use1 𝓛 (raw (G.pre z)) (id⊢ 𝓤 _) $
-          calls_at ! (framed 𝓤 𝓛.H 𝓜 (tables 𝓤 𝓛.H 𝓜 𝓡 𝓡.env)) G (met 𝓤 𝓛 𝓜 𝓡 (code.calls-ffi_exports::engines::hand_status 𝓡.env wired)) z
+          calls_at ! (framed 𝓤 𝓛.H 𝓜 (tables 𝓤 𝓛.H 𝓜 𝓡 𝓡.env)) G (met 𝓤 𝓛 𝓜 𝓡 (code.calls-ffi_exports::engines::pass_status 𝓡.env wired)) z
           (and_then ! (get ! refl) (no_more !)) (λ v.
           use1 𝓛 (later (some (λ (u : FlatStatus). ((‵ (flft κ full_share) ⊛ ‵ ftrue) ⊛ ‵ (A.own_val u (v ∷ []))) ⊛
           some (λ (ws : Lasts g.ended z.0.0 z.0.3). ‵ (lasts g.ended z.0.0 z.0.3 ws) ⊛ raw (fact 𝓤 (IsRead held ws.0 (ShowsStatus held u))))))) (id⊢ 𝓤 _) $

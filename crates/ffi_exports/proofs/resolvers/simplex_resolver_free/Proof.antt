@@ -1,4 +1,4 @@
--- `simplex_resolver_free` does nothing at null, and else makes a `Loose` of what lies at the pointer, and hands it to `end`.
+-- `simplex_resolver_free` does nothing at null, and else makes a `RawBox` of what lies at the pointer, and hands it to `end`.
 use Rattle.ffi_exports.proofs.Steps.{◌≡◌, [], ◌∷◌, refl, ap, proved, ftrue, Val, vptr, tables, ‵, raw, ◌⊛◌, some, later, prop, ◌$◌, ◌∵◌, !, qed, done, move, drop, use1, split, join, fjoin, pick, await, regoal, suffices, group, id⊢, enter, of_opd, no_more, and_then, returns, alloc_all, pass_all, free_all, look_at, get, sets, lands_as, yes, Is, Ptr, RawPtr, block_ptr, in_a_block, rawptr_vals, rawptr_Tells, plain, nothing, owned, calls_at, lasts, Lasts, on_entry, triple_of, framed, Stays, walk_of, stay_dropped, Goes-dropped, ends_at, rewrite, inl, inr, lit<, fpick, fsplit, bin, lit, skips, branches, returns_within, null_ptr, Testable, tests_null, null_or_not, exec, at_ret, env, first}
 use base.Logic.{never, fst∗}
 use denote.Builtin.{unit}

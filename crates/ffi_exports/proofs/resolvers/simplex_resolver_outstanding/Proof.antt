@@ -1,11 +1,11 @@
--- `simplex_resolver_outstanding` answers at null, and else lends what lies at the pointer for the call of `hand_outstanding`, and has it back.
+-- `simplex_resolver_outstanding` answers at null, and else lends what lies at the pointer for the call of `pass_outstanding`, and has it back.
 use Rattle.ffi_exports.proofs.Steps.{◌≡◌, ℕ, [], ◌∷◌, refl, MutBor, proved, full_share, id⊢, Lft, ftrue, flft, flent, fex, fsep, named, vptr, fact, tables, ‵, raw, ◌⊛◌, some, later, prop, at_ret, ◌$◌, ◌∵◌, !, qed, done, move, keep, drop, use1, use3, split, join, fsplit, fjoin, fpack, pick, await, regoal, suffices, group, lft_new, lft_end, enter, of_opd, addr, stop, no_more, and_then, first, blocks, exec, returns, alloc_all, pass_all, free_all, look_at, get, through, sets, sets_last, lands_as, env, yes, Is, shows, lends_ref, ref_back, Body, mem, Ptr, RawPtr, block_ptr, lies_at, rawptr_vals, rawptr_Tells, MutRef, mut_vals, plain, nothing, heard, peeks, calls_at, lasts, Lasts, on_entry, triple_of, framed, Stays, walk_of, stay_dropped, Goes-dropped, ends_at, rewrite, inl, inr, lit<, fpick, bin, lit, skips, branches, returns_within, null_ptr, Testable, tests_null, null_or_not}
 use prog.Wp.{WpFn}
 use Rattle.ffi_exports.specs.contracts.resolvers.simplex_resolver_outstanding as f
 use Rattle.ffi_exports.proofs.resolvers.simplex_resolver_outstanding.Statement.{statement}
 use Rattle.ffi_exports.proofs.resolvers.simplex_resolver_outstanding.Code as code
-use Rattle.ffi_exports.specs.contracts.resolvers.hand_outstanding as g
-use Rattle.ffi_exports.proofs.resolvers.hand_outstanding.Met.{met}
+use Rattle.ffi_exports.specs.contracts.resolvers.pass_outstanding as g
+use Rattle.ffi_exports.proofs.resolvers.pass_outstanding.Met.{met}
 use Rattle.ffi_member.specs.contracts.absent.outstanding as n
 use Rattle.ffi_member.proofs.null_handle.outstanding.Met.{met as met_null}
 use Rattle.ffi_member.specs.contracts.resolving.HeldResolver.{the_row as R}
@@ -70,7 +70,7 @@ simplex_resolver_outstanding_spec 𝓤 𝓛 𝓜 𝓡 wired =
           let z : G.Ghost = (((κ, tt), (full_share, tt), tt, (r, tt), (mut_vals r, tt)), tt) in
           nothing ! $ move ! (1 ∷ 0 ∷ []) $ fjoin ! $
           nothing ! $ move ! (3 ∷ 0 ∷ []) $ join ! $ join ! $ nothing ! $ move ! (1 ∷ 0 ∷ []) $ join ! $ use1 𝓛 (raw (G.pre z)) (id⊢ 𝓤 _) $
-          calls_at ! (framed 𝓤 𝓛.H 𝓜 (tables 𝓤 𝓛.H 𝓜 𝓡 𝓡.env)) G (met 𝓤 𝓛 𝓜 𝓡 (code.calls-ffi_exports::resolvers::hand_outstanding 𝓡.env wired)) z
+          calls_at ! (framed 𝓤 𝓛.H 𝓜 (tables 𝓤 𝓛.H 𝓜 𝓡 𝓡.env)) G (met 𝓤 𝓛 𝓜 𝓡 (code.calls-ffi_exports::resolvers::pass_outstanding 𝓡.env wired)) z
           (and_then ! (get ! refl) (no_more !)) (λ v.
           use1 𝓛 (later (some (λ (u : FlatOutstanding). ((‵ (flft κ full_share) ⊛ ‵ ftrue) ⊛ ‵ (A.own_val u (v ∷ []))) ⊛
           some (λ (ws : Lasts g.ended z.0.0 z.0.3). ‵ (lasts g.ended z.0.0 z.0.3 ws) ⊛ raw (fact 𝓤 (AreOutstanding held u ws.0)))))) (id⊢ 𝓤 _) $

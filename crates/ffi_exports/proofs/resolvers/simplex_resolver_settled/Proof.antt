@@ -1,11 +1,11 @@
--- `simplex_resolver_settled` answers at null, and else lends what lies at the pointer for the call of `hand_settled`, and has it back.
+-- `simplex_resolver_settled` answers at null, and else lends what lies at the pointer for the call of `pass_settled`, and has it back.
 use Rattle.ffi_exports.proofs.Steps.{◌≡◌, ℕ, [], ◌∷◌, ◌++◌, refl, w64, MutBor, proved, full_share, id⊢, Lft, ftrue, flft, flent, fex, fsep, named, vptr, fact, tables, ‵, raw, ◌⊛◌, some, later, prop, at_ret, ◌$◌, ◌∵◌, !, qed, done, move, keep, drop, use1, use3, split, join, fsplit, fjoin, fpack, pick, await, regoal, suffices, group, lft_new, lft_end, enter, of_opd, addr, stop, no_more, and_then, first, blocks, exec, returns, alloc_all, pass_all, free_all, look_at, get, through, sets, sets_last, lands_as, env, u64, yes, Is, shows, lends_ref, ref_back, Body, mem, uint_Makes, uint_vals, uint_Tells, Ptr, RawPtr, block_ptr, lies_at, rawptr_vals, rawptr_Tells, MutRef, mut_vals, plain, nothing, owned, heard, peeks, calls_at, lasts, Lasts, on_entry, triple_of, framed, Stays, walk_of, stay_dropped, Goes-dropped, ends_at, rewrite, inl, inr, lit<, fpick, bin, lit, skips, branches, returns_within, null_ptr, Testable, tests_null, null_or_not}
 use prog.Wp.{WpFn}
 use Rattle.ffi_exports.specs.contracts.resolvers.simplex_resolver_settled as f
 use Rattle.ffi_exports.proofs.resolvers.simplex_resolver_settled.Statement.{statement}
 use Rattle.ffi_exports.proofs.resolvers.simplex_resolver_settled.Code as code
-use Rattle.ffi_exports.specs.contracts.resolvers.hand_settled as g
-use Rattle.ffi_exports.proofs.resolvers.hand_settled.Met.{met}
+use Rattle.ffi_exports.specs.contracts.resolvers.pass_settled as g
+use Rattle.ffi_exports.proofs.resolvers.pass_settled.Met.{met}
 use Rattle.ffi_member.specs.contracts.absent.settled as n
 use Rattle.ffi_member.proofs.null_handle.settled.Met.{met as met_null}
 use Rattle.ffi_member.specs.contracts.resolving.HeldResolver.{the_row as R}
@@ -73,7 +73,7 @@ simplex_resolver_settled_spec 𝓤 𝓛 𝓜 𝓡 wired =
           let z : G.Ghost = (((κ, tt), (full_share, tt), tt, (r, (number, tt)), (mut_vals r, (uint_vals w64 number, tt))), tt) in
           nothing ! $ owned ! u64 (Is u64) (uint_Makes 𝓛 w64) number _ (refl, are.1.0.1) $ fjoin ! $ move ! (1 ∷ 0 ∷ []) $ fjoin ! $
           nothing ! $ move ! (3 ∷ 0 ∷ []) $ join ! $ join ! $ nothing ! $ move ! (1 ∷ 0 ∷ []) $ join ! $ use1 𝓛 (raw (G.pre z)) (id⊢ 𝓤 _) $
-          calls_at ! (framed 𝓤 𝓛.H 𝓜 (tables 𝓤 𝓛.H 𝓜 𝓡 𝓡.env)) G (met 𝓤 𝓛 𝓜 𝓡 (code.calls-ffi_exports::resolvers::hand_settled 𝓡.env wired)) z
+          calls_at ! (framed 𝓤 𝓛.H 𝓜 (tables 𝓤 𝓛.H 𝓜 𝓡 𝓡.env)) G (met 𝓤 𝓛 𝓜 𝓡 (code.calls-ffi_exports::resolvers::pass_settled 𝓡.env wired)) z
           (and_then ! (get ! refl) (and_then ! (get ! refl) (no_more !))) (λ v.
           use1 𝓛 (later (some (λ (u : FlatSettled). ((‵ (flft κ full_share) ⊛ ‵ ftrue) ⊛ ‵ (A.own_val u (v ∷ []))) ⊛
           some (λ (ws : Lasts g.ended z.0.0 z.0.3). ‵ (lasts g.ended z.0.0 z.0.3 ws) ⊛ raw (fact 𝓤 (IsRead held ws.0 (IsSettledAt held.resolver number u))))))) (id⊢ 𝓤 _) $

@@ -10,7 +10,7 @@ use Rattle.ffi_member.specs.contracts.absent.effects as n
 use Rattle.ffi_member.proofs.null_handle.effects.Met.{met as met_null}
 use Rattle.ffi_member.specs.contracts.resolving.HeldResolver.{the_row as R}
 use Rattle.ffi_member.specs.declared.resolver_calls.HeldResolver.{HeldResolver}
-use Rattle.ffi_member.specs.contracts.resolved.FlatTold.{the_row as P}
+use Rattle.ffi_member.specs.contracts.resolved.FlatResolverReply.{the_row as P}
 use Rattle.ffi_member.specs.contracts.resolved.FlatEffects.{the_row as A}
 use Rattle.ffi_member.specs.declared.resolver_types.FlatEffects.{FlatEffects}
 use Rattle.ffi_member.proofs.resolver_types.FlatEffects.TheLaws as answer

@@ -5,10 +5,10 @@ ghost use Rattle.simplex_types.specs.Certificates.{notarization_facts, nullifica
 ghost use Rattle.simplex_member.specs.Calls.{AddNotarization, AddNullification, AddFinalization, Added, AddedNullification};
 ghost use Rattle.simplex_member.specs.MemberFacts.{IsCall};
 ghost use Rattle.simplex_member.specs.CallSemantics.{if_new};
-ghost use Rattle.simplex_member.specs.MethodContracts.{told_of, UnchangedButLife, IsAnswered};
+ghost use Rattle.simplex_member.specs.MethodContracts.{told_of, UnchangedButLifetime, IsAnswered};
 
 use crate::member::life::Member;
-use crate::member::recorded_calls::{is_added, is_nullification_added, keep_new, with_room};
+use crate::member::recorded_calls::{is_added, is_nullification_added, store_new, with_room};
 use crate::member::refusal::{Refusal, is_lost};
 use simplex_types::types::{
     Artifact, Digest, Elector, Fault, Finalization, Notarization, Nullification, Scheme,
@@ -29,7 +29,7 @@ impl<S: Scheme<D>, L: Elector<S>, D: Digest> Member<S, L, D> {
             (told_of (λ added. Added added.0 added.1) result) self.new.facts }
         ensures answered { IfOk result (λ added. IsAnswered D.eq L.elect self.old.facts
             (AddNotarization (notarization_facts S.certificate_bytes notarization)) (Added added.0 added.1) self.new.facts) }
-        ensures kept { IfErr result (λ refusal. UnchangedButLife self.old.facts refusal self.new.facts) }
+        ensures kept { IfErr result (λ refusal. UnchangedButLifetime self.old.facts refusal self.new.facts) }
         ensures votes { self.new.votes ≡ self.old.votes }
         ensures recorded { IfOk result (λ added. self.new.facts.entries
             ≡ self.old.facts.entries ++ if_new added.0 (Accepted (Notarized (notarization_facts S.certificate_bytes notarization)))) }
@@ -42,7 +42,7 @@ impl<S: Scheme<D>, L: Elector<S>, D: Digest> Member<S, L, D> {
         }
         let copy = with_room(&mut self.artifacts, notarization.clone(self.alloc))?;
         let made = self.state.add_notarization(notarization);
-        keep_new(
+        store_new(
             &mut self.artifacts,
             is_added(&made),
             Artifact::Notarization(copy),
@@ -66,7 +66,7 @@ impl<S: Scheme<D>, L: Elector<S>, D: Digest> Member<S, L, D> {
             (told_of (λ is_new. AddedNullification is_new) result) self.new.facts }
         ensures answered { IfOk result (λ is_new. IsAnswered D.eq L.elect self.old.facts
             (AddNullification (nullification_facts S.certificate_bytes nullification) now) (AddedNullification is_new) self.new.facts) }
-        ensures kept { IfErr result (λ refusal. UnchangedButLife self.old.facts refusal self.new.facts) }
+        ensures kept { IfErr result (λ refusal. UnchangedButLifetime self.old.facts refusal self.new.facts) }
         ensures votes { self.new.votes ≡ self.old.votes }
         ensures recorded { IfOk result (λ is_new. self.new.facts.entries
             ≡ self.old.facts.entries ++ if_new is_new (Accepted (Nullified (nullification_facts S.certificate_bytes nullification)))) }
@@ -79,7 +79,7 @@ impl<S: Scheme<D>, L: Elector<S>, D: Digest> Member<S, L, D> {
         }
         let copy = with_room(&mut self.artifacts, nullification.clone(self.alloc))?;
         let made = self.state.add_nullification(nullification, now);
-        keep_new(
+        store_new(
             &mut self.artifacts,
             is_nullification_added(&made),
             Artifact::Nullification(copy),
@@ -105,7 +105,7 @@ impl<S: Scheme<D>, L: Elector<S>, D: Digest> Member<S, L, D> {
             (told_of (λ added. Added added.0 added.1) result) self.new.facts }
         ensures answered { IfOk result (λ added. IsAnswered D.eq L.elect self.old.facts
             (AddFinalization (finalization_facts S.certificate_bytes finalization) now) (Added added.0 added.1) self.new.facts) }
-        ensures kept { IfErr result (λ refusal. UnchangedButLife self.old.facts refusal self.new.facts) }
+        ensures kept { IfErr result (λ refusal. UnchangedButLifetime self.old.facts refusal self.new.facts) }
         ensures votes { self.new.votes ≡ self.old.votes }
         ensures recorded { IfOk result (λ added. self.new.facts.entries
             ≡ self.old.facts.entries ++ if_new added.0 (Accepted (Finalized (finalization_facts S.certificate_bytes finalization)))) }
@@ -118,7 +118,7 @@ impl<S: Scheme<D>, L: Elector<S>, D: Digest> Member<S, L, D> {
         }
         let copy = with_room(&mut self.artifacts, finalization.clone(self.alloc))?;
         let made = self.state.add_finalization(finalization, now);
-        keep_new(
+        store_new(
             &mut self.artifacts,
             is_added(&made),
             Artifact::Finalization(copy),

@@ -2,10 +2,10 @@
 
 ghost use Rattle.std.specs.Prelude.{◌≡◌, option_map, OnOk, IsNone, IfOk, IfErr};
 ghost use Rattle.simplex_types.specs.Certificates.{certificate_facts};
-ghost use Rattle.simplex_member.specs.Calls.{BroadcastNotarization, BroadcastNullification, BroadcastFinalization, GetBestCertificate, Prune, Handed, Dropped};
+ghost use Rattle.simplex_member.specs.Calls.{BroadcastNotarization, BroadcastNullification, BroadcastFinalization, GetBestCertificate, Prune, Returned, Dropped};
 ghost use Rattle.simplex_voter.specs.StateAnswers.{broadcast_notarization_answer, broadcast_nullification_answer, broadcast_finalization_answer};
 ghost use Rattle.simplex_member.specs.MemberFacts.{IsCall};
-ghost use Rattle.simplex_member.specs.MethodContracts.{told_of, UnchangedButLife, IsAnswered, HasNoneLeft};
+ghost use Rattle.simplex_member.specs.MethodContracts.{told_of, UnchangedButLifetime, IsAnswered, HasNoneLeft};
 
 use crate::member::broadcasts::{
     broadcast_finalization, broadcast_notarization, broadcast_nullification,
@@ -24,10 +24,10 @@ impl<S: Scheme<D>, L: Elector<S>, D: Digest> Member<S, L, D> {
         view: View,
     ) -> Result<Option<Certificate<S, D>>, Refusal>
         ensures made { IsCall D.eq L.elect self.old.facts (BroadcastNotarization view)
-            (told_of (λ certificate. Handed (option_map (certificate_facts S.certificate_bytes) certificate)) result) self.new.facts }
+            (told_of (λ certificate. Returned (option_map (certificate_facts S.certificate_bytes) certificate)) result) self.new.facts }
         ensures answered { IfOk result (λ certificate. IsAnswered D.eq L.elect self.old.facts (BroadcastNotarization view)
-            (Handed (option_map (certificate_facts S.certificate_bytes) certificate)) self.new.facts) }
-        ensures kept { IfErr result (λ refusal. UnchangedButLife self.old.facts refusal self.new.facts) }
+            (Returned (option_map (certificate_facts S.certificate_bytes) certificate)) self.new.facts) }
+        ensures kept { IfErr result (λ refusal. UnchangedButLifetime self.old.facts refusal self.new.facts) }
         ensures votes { self.new.votes ≡ self.old.votes }
         ensures once { OnOk result (HasNoneLeft broadcast_notarization_answer self.new.facts view) }
         ensures none_left { HasNoneLeft broadcast_notarization_answer self.old.facts view → IfOk result (λ certificate. IsNone certificate) }
@@ -49,10 +49,10 @@ impl<S: Scheme<D>, L: Elector<S>, D: Digest> Member<S, L, D> {
         view: View,
     ) -> Result<Option<Certificate<S, D>>, Refusal>
         ensures made { IsCall D.eq L.elect self.old.facts (BroadcastNullification view)
-            (told_of (λ certificate. Handed (option_map (certificate_facts S.certificate_bytes) certificate)) result) self.new.facts }
+            (told_of (λ certificate. Returned (option_map (certificate_facts S.certificate_bytes) certificate)) result) self.new.facts }
         ensures answered { IfOk result (λ certificate. IsAnswered D.eq L.elect self.old.facts (BroadcastNullification view)
-            (Handed (option_map (certificate_facts S.certificate_bytes) certificate)) self.new.facts) }
-        ensures kept { IfErr result (λ refusal. UnchangedButLife self.old.facts refusal self.new.facts) }
+            (Returned (option_map (certificate_facts S.certificate_bytes) certificate)) self.new.facts) }
+        ensures kept { IfErr result (λ refusal. UnchangedButLifetime self.old.facts refusal self.new.facts) }
         ensures votes { self.new.votes ≡ self.old.votes }
         ensures once { OnOk result (HasNoneLeft broadcast_nullification_answer self.new.facts view) }
         ensures none_left { HasNoneLeft broadcast_nullification_answer self.old.facts view → IfOk result (λ certificate. IsNone certificate) }
@@ -74,10 +74,10 @@ impl<S: Scheme<D>, L: Elector<S>, D: Digest> Member<S, L, D> {
         view: View,
     ) -> Result<Option<Certificate<S, D>>, Refusal>
         ensures made { IsCall D.eq L.elect self.old.facts (BroadcastFinalization view)
-            (told_of (λ certificate. Handed (option_map (certificate_facts S.certificate_bytes) certificate)) result) self.new.facts }
+            (told_of (λ certificate. Returned (option_map (certificate_facts S.certificate_bytes) certificate)) result) self.new.facts }
         ensures answered { IfOk result (λ certificate. IsAnswered D.eq L.elect self.old.facts (BroadcastFinalization view)
-            (Handed (option_map (certificate_facts S.certificate_bytes) certificate)) self.new.facts) }
-        ensures kept { IfErr result (λ refusal. UnchangedButLife self.old.facts refusal self.new.facts) }
+            (Returned (option_map (certificate_facts S.certificate_bytes) certificate)) self.new.facts) }
+        ensures kept { IfErr result (λ refusal. UnchangedButLifetime self.old.facts refusal self.new.facts) }
         ensures votes { self.new.votes ≡ self.old.votes }
         ensures once { OnOk result (HasNoneLeft broadcast_finalization_answer self.new.facts view) }
         ensures none_left { HasNoneLeft broadcast_finalization_answer self.old.facts view → IfOk result (λ certificate. IsNone certificate) }
@@ -96,10 +96,10 @@ impl<S: Scheme<D>, L: Elector<S>, D: Digest> Member<S, L, D> {
     #[tactic(auto, unfolding(crate::specs::Lives::IsCall))]
     pub fn get_best_certificate(&mut self) -> Result<Option<Certificate<S, D>>, Refusal>
         ensures made { IsCall D.eq L.elect self.old.facts GetBestCertificate
-            (told_of (λ certificate. Handed (option_map (certificate_facts S.certificate_bytes) certificate)) result) self.new.facts }
+            (told_of (λ certificate. Returned (option_map (certificate_facts S.certificate_bytes) certificate)) result) self.new.facts }
         ensures answered { IfOk result (λ certificate. IsAnswered D.eq L.elect self.old.facts GetBestCertificate
-            (Handed (option_map (certificate_facts S.certificate_bytes) certificate)) self.new.facts) }
-        ensures kept { IfErr result (λ refusal. UnchangedButLife self.old.facts refusal self.new.facts) }
+            (Returned (option_map (certificate_facts S.certificate_bytes) certificate)) self.new.facts) }
+        ensures kept { IfErr result (λ refusal. UnchangedButLifetime self.old.facts refusal self.new.facts) }
         ensures votes { self.new.votes ≡ self.old.votes }
     {
         if self.failed {
@@ -115,7 +115,7 @@ impl<S: Scheme<D>, L: Elector<S>, D: Digest> Member<S, L, D> {
     pub fn prune(&mut self) -> Result<Vec<View>, Refusal>
         ensures made { IsCall D.eq L.elect self.old.facts Prune (told_of (λ views. Dropped views.items) result) self.new.facts }
         ensures answered { IfOk result (λ views. IsAnswered D.eq L.elect self.old.facts Prune (Dropped views.items) self.new.facts) }
-        ensures kept { IfErr result (λ refusal. UnchangedButLife self.old.facts refusal self.new.facts) }
+        ensures kept { IfErr result (λ refusal. UnchangedButLifetime self.old.facts refusal self.new.facts) }
         ensures votes { self.new.votes ≡ self.old.votes }
     {
         if self.failed {

@@ -3,7 +3,7 @@
 ghost use Rattle.std.specs.Prelude.{◌≡◌, Some, IfOk, IfErr};
 ghost use Rattle.simplex_member.specs.Calls.{TriggerTimeout, NextTimeout, TimesOut, Triggered};
 ghost use Rattle.simplex_member.specs.MemberFacts.{IsCall};
-ghost use Rattle.simplex_member.specs.MethodContracts.{told_of, UnchangedButLife, IsAnswered};
+ghost use Rattle.simplex_member.specs.MethodContracts.{told_of, UnchangedButLifetime, IsAnswered};
 
 use crate::member::life::Member;
 use crate::member::refusal::Refusal;
@@ -23,7 +23,7 @@ impl<S: Scheme<D>, L: Elector<S>, D: Digest> Member<S, L, D> {
     ) -> Result<bool, Refusal>
         ensures made { IsCall D.eq L.elect self.old.facts (TriggerTimeout view reason now) (told_of (λ latched. Triggered latched) result) self.new.facts }
         ensures answered { IfOk result (λ latched. IsAnswered D.eq L.elect self.old.facts (TriggerTimeout view reason now) (Triggered latched) self.new.facts) }
-        ensures kept { IfErr result (λ refusal. UnchangedButLife self.old.facts refusal self.new.facts) }
+        ensures kept { IfErr result (λ refusal. UnchangedButLifetime self.old.facts refusal self.new.facts) }
         ensures votes { self.new.votes ≡ self.old.votes }
     {
         if self.failed {
@@ -39,7 +39,7 @@ impl<S: Scheme<D>, L: Elector<S>, D: Digest> Member<S, L, D> {
     pub fn next_timeout(&mut self, now: u64) -> Result<(u64, TimeoutReason), Refusal>
         ensures made { IsCall D.eq L.elect self.old.facts (NextTimeout now) (told_of (λ timeout. TimesOut (Some timeout)) result) self.new.facts }
         ensures answered { IfOk result (λ timeout. IsAnswered D.eq L.elect self.old.facts (NextTimeout now) (TimesOut (Some timeout)) self.new.facts) }
-        ensures kept { IfErr result (λ refusal. UnchangedButLife self.old.facts refusal self.new.facts) }
+        ensures kept { IfErr result (λ refusal. UnchangedButLifetime self.old.facts refusal self.new.facts) }
         ensures votes { self.new.votes ≡ self.old.votes }
     {
         if self.failed {

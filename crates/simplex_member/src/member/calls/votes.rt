@@ -1,17 +1,17 @@
 //! The calls for votes, each as a method.
 
 ghost use Rattle.std.specs.Prelude.{◌++◌, ◌≡◌, IsNone, IfOk, IfErr, IfSome, OnErr};
-ghost use Rattle.simplex_member.specs.Calls.{ConstructNotarize, ConstructNullify, ConstructFinalize, told_notarize, told_nullify, told_finalize};
+ghost use Rattle.simplex_member.specs.Calls.{ConstructNotarize, ConstructNullify, ConstructFinalize, reply_notarize, reply_nullify, reply_finalize};
 ghost use Rattle.simplex_member.specs.Calls as told;
 ghost use Rattle.simplex_member.specs.MemberFacts.{IsCall};
 ghost use Rattle.simplex_member.specs.CallSemantics.{unrepeated_vote, vote_entry};
 ghost use Rattle.simplex_member.specs.ReplySignatures.{IsSignedReply, signed_notarize, signed_nullify, signed_finalize};
-ghost use Rattle.simplex_member.specs.MethodContracts.{told_of, UnchangedButLife, IsAnswered, HasNotarizeVote, HasNullifyVote, HasFinalizeVote};
+ghost use Rattle.simplex_member.specs.MethodContracts.{told_of, UnchangedButLifetime, IsAnswered, HasNotarizeVote, HasNullifyVote, HasFinalizeVote};
 ghost use Rattle.simplex_member.specs.declared.member.calls.Reply.TheVariants as reply;
 
 use crate::member::life::Member;
 use crate::member::refusal::{Refusal, is_lost};
-use crate::member::votes::{keep_finalize, keep_notarize, keep_nullify};
+use crate::member::votes::{store_finalize, store_notarize, store_nullify};
 use simplex_types::reasons::TimeoutReason;
 use simplex_types::types::{Digest, Elector, Fault, Finalize, Notarize, Nullify, Scheme, View};
 
@@ -22,12 +22,12 @@ impl<S: Scheme<D>, L: Elector<S>, D: Digest> Member<S, L, D> {
     #[tactic(auto, unfolding(crate::specs::Lives::IsCall))]
     pub fn construct_notarize(&mut self, view: View) -> Result<Option<Notarize<S, D>>, Refusal>
         ensures made { IsCall D.eq L.elect self.old.facts (ConstructNotarize view)
-            (told_of (λ vote. told.Notarize (told_notarize vote)) result) self.new.facts }
+            (told_of (λ vote. told.Notarize (reply_notarize vote)) result) self.new.facts }
         ensures answered { IfOk result (λ vote. IsAnswered D.eq L.elect self.old.facts (ConstructNotarize view)
-            (told.Notarize (told_notarize vote)) self.new.facts) }
-        ensures kept { IfErr result (λ refusal. UnchangedButLife self.old.facts refusal self.new.facts) }
+            (told.Notarize (reply_notarize vote)) self.new.facts) }
+        ensures kept { IfErr result (λ refusal. UnchangedButLifetime self.old.facts refusal self.new.facts) }
         ensures signed { IfOk result (λ vote. IfSome self.old.facts.life (IsSignedReply S.IsSignature (reply.Notarize vote))) }
-        ensures recorded { IfOk result (λ vote. self.new.facts.entries ≡ self.old.facts.entries ++ vote_entry (told_notarize vote)) }
+        ensures recorded { IfOk result (λ vote. self.new.facts.entries ≡ self.old.facts.entries ++ vote_entry (reply_notarize vote)) }
         ensures votes { IfOk result (λ vote. self.new.votes ≡ self.old.votes ++ signed_notarize vote) }
         ensures same_votes { OnErr result (self.new.votes ≡ self.old.votes) }
         ensures decided { IfOk result (λ vote. IfSome vote (λ _. HasNotarizeVote self.new.facts view)) }
@@ -38,7 +38,7 @@ impl<S: Scheme<D>, L: Elector<S>, D: Digest> Member<S, L, D> {
         }
         self.artifacts.reserve(1)?;
         let made = self.state.construct_notarize(view);
-        let kept = keep_notarize(self.alloc, &mut self.artifacts, made);
+        let kept = store_notarize(self.alloc, &mut self.artifacts, made);
         self.failed = is_lost(&kept);
         kept.map_err(Refusal::Fault)
     }
@@ -54,12 +54,12 @@ impl<S: Scheme<D>, L: Elector<S>, D: Digest> Member<S, L, D> {
         reason: TimeoutReason,
     ) -> Result<Option<(bool, Nullify<S>)>, Refusal>
         ensures made { IsCall D.eq L.elect self.old.facts (ConstructNullify view)
-            (told_of (λ vote. told.Nullify (told_nullify vote)) result) self.new.facts }
+            (told_of (λ vote. told.Nullify (reply_nullify vote)) result) self.new.facts }
         ensures answered { IfOk result (λ vote. IsAnswered D.eq L.elect self.old.facts (ConstructNullify view)
-            (told.Nullify (told_nullify vote)) self.new.facts) }
-        ensures kept { IfErr result (λ refusal. UnchangedButLife self.old.facts refusal self.new.facts) }
+            (told.Nullify (reply_nullify vote)) self.new.facts) }
+        ensures kept { IfErr result (λ refusal. UnchangedButLifetime self.old.facts refusal self.new.facts) }
         ensures signed { IfOk result (λ vote. IfSome self.old.facts.life (IsSignedReply S.IsSignature (reply.Nullify vote))) }
-        ensures recorded { IfOk result (λ vote. self.new.facts.entries ≡ self.old.facts.entries ++ unrepeated_vote (told_nullify vote)) }
+        ensures recorded { IfOk result (λ vote. self.new.facts.entries ≡ self.old.facts.entries ++ unrepeated_vote (reply_nullify vote)) }
         ensures votes { IfOk result (λ vote. self.new.votes ≡ self.old.votes ++ signed_nullify vote) }
         ensures same_votes { OnErr result (self.new.votes ≡ self.old.votes) }
         ensures decided { IfOk result (λ vote. IfSome vote (λ _. HasNullifyVote self.new.facts view)) }
@@ -70,7 +70,7 @@ impl<S: Scheme<D>, L: Elector<S>, D: Digest> Member<S, L, D> {
         }
         self.artifacts.reserve(1)?;
         let made = self.state.construct_nullify(view, reason);
-        let kept = keep_nullify(self.alloc, &mut self.artifacts, made);
+        let kept = store_nullify(self.alloc, &mut self.artifacts, made);
         self.failed = is_lost(&kept);
         kept.map_err(Refusal::Fault)
     }
@@ -81,12 +81,12 @@ impl<S: Scheme<D>, L: Elector<S>, D: Digest> Member<S, L, D> {
     #[tactic(auto, unfolding(crate::specs::Lives::IsCall))]
     pub fn construct_finalize(&mut self, view: View) -> Result<Option<Finalize<S, D>>, Refusal>
         ensures made { IsCall D.eq L.elect self.old.facts (ConstructFinalize view)
-            (told_of (λ vote. told.Finalize (told_finalize vote)) result) self.new.facts }
+            (told_of (λ vote. told.Finalize (reply_finalize vote)) result) self.new.facts }
         ensures answered { IfOk result (λ vote. IsAnswered D.eq L.elect self.old.facts (ConstructFinalize view)
-            (told.Finalize (told_finalize vote)) self.new.facts) }
-        ensures kept { IfErr result (λ refusal. UnchangedButLife self.old.facts refusal self.new.facts) }
+            (told.Finalize (reply_finalize vote)) self.new.facts) }
+        ensures kept { IfErr result (λ refusal. UnchangedButLifetime self.old.facts refusal self.new.facts) }
         ensures signed { IfOk result (λ vote. IfSome self.old.facts.life (IsSignedReply S.IsSignature (reply.Finalize vote))) }
-        ensures recorded { IfOk result (λ vote. self.new.facts.entries ≡ self.old.facts.entries ++ vote_entry (told_finalize vote)) }
+        ensures recorded { IfOk result (λ vote. self.new.facts.entries ≡ self.old.facts.entries ++ vote_entry (reply_finalize vote)) }
         ensures votes { IfOk result (λ vote. self.new.votes ≡ self.old.votes ++ signed_finalize vote) }
         ensures same_votes { OnErr result (self.new.votes ≡ self.old.votes) }
         ensures decided { IfOk result (λ vote. IfSome vote (λ _. HasFinalizeVote self.new.facts view)) }
@@ -98,7 +98,7 @@ impl<S: Scheme<D>, L: Elector<S>, D: Digest> Member<S, L, D> {
         }
         self.artifacts.reserve(1)?;
         let made = self.state.construct_finalize(view);
-        let kept = keep_finalize(self.alloc, &mut self.artifacts, made);
+        let kept = store_finalize(self.alloc, &mut self.artifacts, made);
         self.failed = is_lost(&kept);
         kept.map_err(Refusal::Fault)
     }

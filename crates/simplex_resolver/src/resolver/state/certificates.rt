@@ -6,7 +6,7 @@ ghost use Rattle.simplex_types.specs.Certificates.{certificate_facts};
 ghost use Rattle.simplex_types.specs.Encoding.{encoding};
 ghost use Rattle.simplex_types.specs.MessageViews.{certificate_view};
 ghost use Rattle.simplex_resolver.specs.Facts.{term_length};
-ghost use Rattle.simplex_resolver.specs.Steps.{update, after, effects, after_scan, scan_fetches, after_raise, raise_effects, after_nullification, nullification_effects, after_notarization, notarization_effects, with_kept_finalization, without_finalized, after_finalization, finalization_effects};
+ghost use Rattle.simplex_resolver.specs.Steps.{update, after, effects, after_scan, scan_fetches, after_raise, raise_effects, after_nullification, nullification_effects, after_notarization, notarization_effects, with_stored_finalization, without_finalized, after_finalization, finalization_effects};
 
 use crate::resolver::effect::Effect;
 use crate::resolver::state::State;
@@ -76,7 +76,7 @@ impl State {
         if end <= finalized {
             return Ok(());
         }
-        served::keep_nullification(self.alloc, &mut self.nullifications, view, certificate)?;
+        served::store_nullification(self.alloc, &mut self.nullifications, view, certificate)?;
         effects.push(Effect::Settled {
             kind: Kind::Nullification,
             start: view,
@@ -108,17 +108,17 @@ impl State {
     }
 
     /// The current view and the highest finalization take the certificate in.
-    fn keep_finalization<S: CertificateScheme, D: Digest>(
+    fn store_finalization<S: CertificateScheme, D: Digest>(
         &mut self,
         view: View,
         certificate: &Certificate<S, D>,
     ) -> Result<(), Fault>
         requires { view < 2 ^ 63 }
         ensures after { OnOk result (self.new
-            ≡ with_kept_finalization self.old view (encoding D.bytes (certificate_facts S.certificate_bytes certificate.now))) }
+            ≡ with_stored_finalization self.old view (encoding D.bytes (certificate_facts S.certificate_bytes certificate.now))) }
         ensures same_terms { term_length self.new ≡ term_length self.old }
     {
-        served::keep_finalization(self.alloc, &mut self.finalization, view, certificate)?;
+        served::store_finalization(self.alloc, &mut self.finalization, view, certificate)?;
         self.current_view = self.current_view.max(view);
         Ok(())
     }
@@ -144,7 +144,7 @@ impl State {
         ensures same_terms { term_length self.new ≡ term_length self.old }
     {
         let finalized = self.last_finalized().max(view);
-        self.keep_finalization(view, certificate)?;
+        self.store_finalization(view, certificate)?;
         self.drop_finalized(finalized);
         effects.push(Effect::Finalized(finalized))?;
         self.raise(view, effects)

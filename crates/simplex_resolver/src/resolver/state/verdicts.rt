@@ -21,7 +21,7 @@ use simplex_types::types::{
 
 impl State {
     /// Keeps the encoding of a certified notarization above the last finalized view.
-    fn keep_encoding(&mut self, view: View, encoding: Bytes) -> Result<(), Fault>
+    fn store_encoding(&mut self, view: View, encoding: Bytes) -> Result<(), Fault>
         requires { last_finalized self.old < view }
         ensures after { OnOk result (self.new ≡ with_certified self.old view encoding) }
         ensures same_terms { term_length self.new ≡ term_length self.old }
@@ -29,7 +29,7 @@ impl State {
         self.notarizations.certify(view, encoding)
     }
 
-    fn keep_certified<S: CertificateScheme, D: Digest>(
+    fn store_certified<S: CertificateScheme, D: Digest>(
         &mut self,
         notarization: Notarization<S, D>,
     ) -> Result<(), Fault>
@@ -42,7 +42,7 @@ impl State {
             return Ok(());
         }
         let encoding = Certificate::Notarization(notarization).encode(self.alloc)?;
-        self.keep_encoding(view, encoding)
+        self.store_encoding(view, encoding)
     }
 
     fn record_success<S: CertificateScheme, D: Digest>(
@@ -61,13 +61,13 @@ impl State {
             start: view,
             end: view,
         })?;
-        self.keep_certified(notarization)?;
+        self.store_certified(notarization)?;
         self.raise(view, &mut effects)?;
         self.fetch_missing(view, &mut effects)?;
         Ok(effects)
     }
 
-    fn keep_failure(&mut self, view: View) -> Result<(), Fault>
+    fn store_failure(&mut self, view: View) -> Result<(), Fault>
         ensures after { OnOk result (self.new ≡ after_failure self.old view) }
         ensures same_terms { term_length self.new ≡ term_length self.old }
     {
@@ -95,7 +95,7 @@ impl State {
             end: view,
         })?;
         let needed = !self.replaying && self.needs_nullification(view);
-        self.keep_failure(view)?;
+        self.store_failure(view)?;
         if needed {
             effects.push(Effect::Fetch {
                 view,

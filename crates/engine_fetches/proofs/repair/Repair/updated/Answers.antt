@@ -1,6 +1,6 @@
 -- That the effects are carried out, and no wanted view is left out by them.
 use Rattle.std.proofs.Common.{◌∙◌, ap, refl, sym, subst}
-use Rattle.engine_fetches.specs.OutstandingFetches.{after_effects, AsksForWanted, OpensNoOther}
+use Rattle.engine_fetches.specs.OutstandingFetches.{after_effects, FetchesTheOutstanding, OpensNoOther}
 use Rattle.engine_fetches.proofs.Opening.{opens_after}
 use Rattle.engine_fetches.proofs.Repairs.{is_repaired}
 use Rattle.engine_fetches.proofs.OutstandingFetches.{asks_after}
@@ -27,6 +27,6 @@ invariant_of-self-2 g c =
     let fetches = old.fetches.wanted.items in
     let after = c.in_ok-apply.ensures.after ∙ ap (λ es. after_effects c.args.moment es fetches) c.deref.ensures.value in
     record {
-      complete = λ up. subst (AsksForWanted old.passed c.updated.new.self.open_fetches) (sym after)
+      complete = λ up. subst (FetchesTheOutstanding old.passed c.updated.new.self.open_fetches) (sym after)
           (asks_after old.passed c.args.moment old.resolver.open_fetches c.updated.new.self.open_fetches c.in_ok-effects.effects.items fetches c.in_ok-effects.ensures.made.applied (old.complete up));
     }

@@ -28,7 +28,7 @@ returns-clause-kept g c =
     let entries = member.facts.entries in
     let same_length : length c.record-stored.result.now ≡ length all.result.now = sym (counted bytes_of c.record-stored.result.now entries c.record-stored.ensures.entries) ∙ counted bytes_of all.result.now entries all.ensures.entries in
     begun bytes_of member c.new-outbox.result c.replace.new.self (length c.record-stored.result.now) c.lowest_of-reach.result c.new-outbox.ensures.begins c.new-outbox.ensures.empty.0 c.in_ok-replace.ensures.queued.2.told_is
-    (subst (λ t. IfSome member.facts.life (λ x. t ≡ x.finalized)) (sym c.new-outbox.ensures.empty.2) c.last_finalized.ensures) c.replace.ensures.goes_on all.result.now same_length all.ensures.entries all.ensures.votes
+    (subst (λ t. IfSome member.facts.life (λ x. t ≡ x.finalized)) (sym c.new-outbox.ensures.empty.2) c.last_finalized.ensures) c.replace.ensures.continues all.result.now same_length all.ensures.entries all.ensures.votes
     (subst (λ beside. IsReplaced bytes_of all.result.now beside c.new-outbox.result c.replace.new.self) c.stored.ensures c.in_ok-replace.ensures.queued)
     (reaches_whole c.lowest_of-reach.result (length c.record-stored.result.now) entries (counted bytes_of c.record-stored.result.now entries c.record-stored.ensures.entries)
     (c.lowest_of-reach.ensures ∙ ap (λ v. lowest_of v (entries_of bytes_of c.record-2.result.now)) c.new.ensures ∙ ap (lowest_of (2 ^ 64 - 1)) c.record-2.ensures.entries))

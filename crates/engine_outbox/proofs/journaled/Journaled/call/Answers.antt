@@ -4,8 +4,8 @@ use Rattle.std.proofs.lemmas.List.Elements.{All-nil}
 use Rattle.simplex_member.specs.Calls.{asked, told}
 use Rattle.simplex_member.specs.ReplySignatures.{signed_reply}
 use Rattle.laws_safety.specs.ObservedTraces.{votes_in, taken_by}
-use Rattle.engine_outbox.specs.SubjectActions.{IsDoneOn}
-use Rattle.engine_outbox.specs.Finalizations.{finals_by, raised_to, TellsRising}
+use Rattle.engine_outbox.specs.SubjectActions.{IsActionOn}
+use Rattle.engine_outbox.specs.Finalizations.{finals_by, raised_to, ReportsRising}
 use Rattle.engine_outbox.proofs.SubjectActions.{call_on}
 use Rattle.engine_outbox.proofs.Dropping.{refused_left, dropped_left}
 use Rattle.engine_outbox.proofs.Finalizing.{told_by_call, final_none}
@@ -30,14 +30,14 @@ returns-clause-signed g c =
     (λ i key. call_signed same elect g.S.Scheme.IsSignature i key bytes_of old.member.facts left.facts _ c.call.result c.call.ensures.answered c.call.ensures.exact c.call.ensures.signed)
     None (refl, refl, refl)
 
-pub returns-clause-goes_on : goal.returns-clause-goes_on
-returns-clause-goes_on g c taken may no_final =
+pub returns-clause-continues : goal.returns-clause-continues
+returns-clause-continues g c taken may no_final =
     let bytes_of = g.S.CertificateScheme.certificate_bytes in
     let old = c.args.self.now in
     let none = final_none c.args.call c.call.result no_final in
     let new = record old { member = c.call.new.self } in
-    let rising : TellsRising (finals_by (taken_by c.args.call c.call.result ++ votes_in c.call.result)) old.outbox old.outbox =
-    subst (λ ps. TellsRising ps old.outbox old.outbox) (sym none) (tells_none old.outbox old.outbox refl refl) in
+    let rising : ReportsRising (finals_by (taken_by c.args.call c.call.result ++ votes_in c.call.result)) old.outbox old.outbox =
+    subst (λ ps. ReportsRising ps old.outbox old.outbox) (sym none) (tells_none old.outbox old.outbox refl refl) in
     let keeps = called bytes_of old new refl refl refl c.call.ensures.grown (signed_reply c.call.result) c.call.ensures.votes c.call.ensures.stored
     (λ given lawful. lawful) None (refl, refl, refl)
     (λ last. told_by_call g.D.PartialEq.eq g.L.Elector.elect bytes_of old.member.facts c.call.new.self.facts c.args.call c.call.result c.call.ensures.answered
@@ -46,8 +46,8 @@ returns-clause-goes_on g c taken may no_final =
       kept = keeps;
       more = taken_by c.args.call c.call.result ++ votes_in c.call.result;
       on_this = call_on taken c.args.call c.call.result may;
-      done = c.call.ensures.goes_on;
-      traced = traced_call g.D.PartialEq.eq g.L.Elector.elect bytes_of old new (taken_by c.args.call c.call.result ++ votes_in c.call.result) refl refl keeps c.call.ensures.goes_on
+      done = c.call.ensures.continues;
+      traced = traced_call g.D.PartialEq.eq g.L.Elector.elect bytes_of old new (taken_by c.args.call c.call.result ++ votes_in c.call.result) refl refl keeps c.call.ensures.continues
           c.record-record.result.now c.record-record.ensures.entries c.record-record.ensures.votes
           (call_grows g.D.PartialEq.eq g.L.Elector.elect old.member.facts c.call.new.self.facts _ _ c.call.ensures.answered) c.call.ensures.stored
           (signed_reply c.call.result) c.call.ensures.votes (reply_signed c.args.call c.call.result) None (refl, refl, refl) rising;
@@ -58,7 +58,7 @@ returns-clause-goes_on g c taken may no_final =
     }
 
 pub returns-clause-quiet : goal.returns-clause-quiet
-returns-clause-quiet g c none = returns-clause-goes_on g c None (subst (All (IsDoneOn None)) (sym none) (All-nil (IsDoneOn None))) (ap finals_by none)
+returns-clause-quiet g c none = returns-clause-continues g c None (subst (All (IsActionOn None)) (sym none) (All-nil (IsActionOn None))) (ap finals_by none)
 
 pub returns-clause-refused : goal.returns-clause-refused
 returns-clause-refused g c refused =

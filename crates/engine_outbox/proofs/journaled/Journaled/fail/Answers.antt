@@ -10,8 +10,8 @@ use Rattle.engine_outbox.proofs.journaled.Journaled.fail.Goals as goal
 pub returns-clause-signed : goal.returns-clause-signed
 returns-clause-signed g c = same_stayed g.S.Scheme.IsSignature c.args.self.now (record c.args.self.now { failed = true }) refl (refl, refl, refl)
 
-pub returns-clause-goes_on : goal.returns-clause-goes_on
-returns-clause-goes_on g c =
+pub returns-clause-continues : goal.returns-clause-continues
+returns-clause-continues g c =
     let old = c.args.self.now in
     let new = record old { failed = true } in
     let keeps = ended g.S.CertificateScheme.certificate_bytes old new refl (λ reaches. reaches) (λ given lawful. lawful) (λ last. last) in

@@ -29,8 +29,8 @@ returns-clause-last g c given kept =
     let it = c.args.self.now in
     ends_last (finals_in (given ++ it.outbox.queue.items)) it.member.facts.life it.outbox.told kept.told kept.lawful.told
 
-pub returns-clause-leaving : goal.returns-clause-leaving
-returns-clause-leaving g c given kept lives = kept.leaving lives
+pub returns-clause-emitted : goal.returns-clause-emitted
+returns-clause-emitted g c given kept lives = kept.emitted lives
 
 -- a host may stop anywhere
 pub returns-clause-stops : goal.returns-clause-stops

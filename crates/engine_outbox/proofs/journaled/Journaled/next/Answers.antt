@@ -2,7 +2,7 @@
 use Rattle.std.proofs.Common.{◌≡◌, ◌++◌, ap, sym, subst, ◌∙◌, append_assoc}
 use Rattle.std.specs.Prelude.{IfSome, option_to_list}
 use Rattle.engine_outbox.specs.Finalizations.{finals_in, WereAccepted}
-use Rattle.engine_outbox.specs.EmittedVotes.{AllLeave}
+use Rattle.engine_outbox.specs.EmittedVotes.{AllAreReturned}
 use Rattle.engine_outbox.specs.Journals.{journal_of, IsBeginningOf}
 use Rattle.engine_outbox.specs.HostStops.{MayStopAfterEach, MayStopAmid}
 use Rattle.engine_outbox.specs.Entries.{votes_of_entries}
@@ -15,12 +15,12 @@ returns-clause-kept g c = λ given kept.
     let old = c.args.self.now in
     let out = option_to_list c.next.result in
     record {
-      lawful = c.next.ensures.goes_on given kept.lawful;
+      lawful = c.next.ensures.continues given kept.lawful;
       stored = λ lives.
           subst (IsBeginningOf g.S.CertificateScheme.certificate_bytes old.member old.stored)
           (ap (λ queued. journal_of (given ++ queued)) c.next.ensures.front ∙ ap journal_of (sym (append_assoc given out c.next.new.self.queue.items)))
           (kept.stored lives);
-      leaving = λ lives. subst AllLeave (ap (λ queued. given ++ queued) c.next.ensures.front ∙ sym (append_assoc given out c.next.new.self.queue.items)) (kept.leaving lives);
+      emitted = λ lives. subst AllAreReturned (ap (λ queued. given ++ queued) c.next.ensures.front ∙ sym (append_assoc given out c.next.new.self.queue.items)) (kept.emitted lives);
       told = subst (λ t. IfSome old.member.facts.life (λ x. t ≡ x.finalized)) (sym c.next.ensures.told) kept.told;
       reaching = kept.reaching;
     }

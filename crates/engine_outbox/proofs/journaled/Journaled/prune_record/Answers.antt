@@ -13,8 +13,8 @@ anyway (Err e) holds = tt
 still_waiting : {K L D : Type 0} (old new : MemberFacts K L D) → new ≡ pruned_member old → new.outstanding_work ≡ old.outstanding_work
 still_waiting {K} {L} {D} old new is = ap (λ (m : MemberFacts K L D). m.outstanding_work) is
 
-pub returns-clause-goes_on : goal.returns-clause-goes_on
-returns-clause-goes_on g c = goes_further c.store.ensures.goes_on c.replace.ensures.goes_on
+pub returns-clause-continues : goal.returns-clause-continues
+returns-clause-continues g c = goes_further c.store.ensures.continues c.replace.ensures.continues
 
 pub returns-clause-pruned : goal.returns-clause-pruned
 returns-clause-pruned g c = anyway c.replace.result (c.replace.ensures.pruned ∙ ap (λ m. pruned_member m.facts) c.store.ensures.member)

@@ -15,18 +15,18 @@ returns-clause-signed g c =
     (λ is. same_plain g.S.Scheme.IsSignature old new refl (output.Work c.args.work) refl is.queue)
     (same_stayed g.S.Scheme.IsSignature old new refl)
 
-pub returns-clause-goes_on : goal.returns-clause-goes_on
-returns-clause-goes_on g c =
+pub returns-clause-continues : goal.returns-clause-continues
+returns-clause-continues g c =
     let bytes_of = g.S.CertificateScheme.certificate_bytes in
     let old = c.args.self.now in
     let new = record old { outbox = c.push.new.self } in
     does_no_more old new refl
     (by_result c.push.result c.push.ensures.queued c.push.ensures.kept
-    (pushed bytes_of old new refl refl refl refl c.push.ensures.goes_on c.args.work)
-    (kept_as_it_was bytes_of old new refl refl refl refl c.push.ensures.goes_on))
+    (pushed bytes_of old new refl refl refl refl c.push.ensures.continues c.args.work)
+    (kept_as_it_was bytes_of old new refl refl refl refl c.push.ensures.continues))
     (by_result c.push.result c.push.ensures.queued c.push.ensures.kept
-    (λ is. traced_pushed g.D.PartialEq.eq g.L.Elector.elect g.S.CertificateScheme.certificate_bytes old new refl refl (pushed bytes_of old new refl refl refl refl c.push.ensures.goes_on c.args.work is) refl c.args.work is)
-    (λ is. traced_stayed g.D.PartialEq.eq g.L.Elector.elect g.S.CertificateScheme.certificate_bytes old new refl refl (kept_as_it_was bytes_of old new refl refl refl refl c.push.ensures.goes_on is) refl is))
+    (λ is. traced_pushed g.D.PartialEq.eq g.L.Elector.elect g.S.CertificateScheme.certificate_bytes old new refl refl (pushed bytes_of old new refl refl refl refl c.push.ensures.continues c.args.work is) refl c.args.work is)
+    (λ is. traced_stayed g.D.PartialEq.eq g.L.Elector.elect g.S.CertificateScheme.certificate_bytes old new refl refl (kept_as_it_was bytes_of old new refl refl refl refl c.push.ensures.continues is) refl is))
     (returns-clause-signed g c)
     (by_result c.push.result c.push.ensures.queued c.push.ensures.kept
     (become_tells (output.Work c.args.work ∷ []) old.outbox.repeat old.outbox new.outbox refl)

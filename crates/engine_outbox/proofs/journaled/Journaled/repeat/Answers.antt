@@ -14,18 +14,18 @@ returns-clause-signed g c =
     (same_repeated g.S.Scheme.IsSignature old new refl c.args.view)
     (same_stayed g.S.Scheme.IsSignature old new refl)
 
-pub returns-clause-goes_on : goal.returns-clause-goes_on
-returns-clause-goes_on g c =
+pub returns-clause-continues : goal.returns-clause-continues
+returns-clause-continues g c =
     let bytes_of = g.S.CertificateScheme.certificate_bytes in
     let old = c.args.self.now in
     let new = record old { outbox = c.repeat.new.self } in
     does_no_more old new refl
     (by_answer c.repeat.result c.repeat.ensures.queued c.repeat.ensures.kept
-    (repeated bytes_of old new refl refl refl refl c.repeat.ensures.goes_on c.args.view)
-    (kept_as_it_was bytes_of old new refl refl refl refl c.repeat.ensures.goes_on))
+    (repeated bytes_of old new refl refl refl refl c.repeat.ensures.continues c.args.view)
+    (kept_as_it_was bytes_of old new refl refl refl refl c.repeat.ensures.continues))
     (by_answer c.repeat.result c.repeat.ensures.queued c.repeat.ensures.kept
-    (λ sent is. traced_repeated g.D.PartialEq.eq g.L.Elector.elect g.S.CertificateScheme.certificate_bytes old new refl refl (repeated bytes_of old new refl refl refl refl c.repeat.ensures.goes_on c.args.view sent is) refl c.args.view sent is)
-    (λ is. traced_stayed g.D.PartialEq.eq g.L.Elector.elect g.S.CertificateScheme.certificate_bytes old new refl refl (kept_as_it_was bytes_of old new refl refl refl refl c.repeat.ensures.goes_on is) refl is))
+    (λ sent is. traced_repeated g.D.PartialEq.eq g.L.Elector.elect g.S.CertificateScheme.certificate_bytes old new refl refl (repeated bytes_of old new refl refl refl refl c.repeat.ensures.continues c.args.view sent is) refl c.args.view sent is)
+    (λ is. traced_stayed g.D.PartialEq.eq g.L.Elector.elect g.S.CertificateScheme.certificate_bytes old new refl refl (kept_as_it_was bytes_of old new refl refl refl refl c.repeat.ensures.continues is) refl is))
     (returns-clause-signed g c)
     (by_answer c.repeat.result c.repeat.ensures.queued c.repeat.ensures.kept
     (repeated_tells bytes_of old new c.args.view)

@@ -8,7 +8,7 @@ use Rattle.simplex_member.specs.Pruning.{pruned_member, stays_within}
 use Rattle.simplex_record.specs.Entries.{entries_of, entry_view}
 use Rattle.engine_outbox.proofs.HostStops.{signed_left}
 use Rattle.engine_outbox.specs.HostStops.{WereSigned, votes_recorded}
-use Rattle.engine_outbox.specs.SubjectActions.{IsDoneOn}
+use Rattle.engine_outbox.specs.SubjectActions.{IsActionOn}
 use Rattle.engine_outbox.specs.Continuity.{HasRisen}
 use Rattle.engine_outbox.specs.Outboxes.{IsReplaced}
 use Rattle.engine_outbox.proofs.Finalizations.{stayed_tells}
@@ -43,8 +43,8 @@ returns-in-Err-clause-signed g c =
     signed_stayed g.S.Scheme.IsSignature old new (λ i key signs. subst (SignsBy i key) (sym c.prune_record.ensures.pruned) signs)
     (λ i key _. pruned_signed g.S.Scheme.IsSignature old new (λ v. stays_within old.member.facts (entry_view v.vote)) c.prune_record.ensures.votes i key) c.in-Err.ensures.kept
 
-pub returns-in-Ok-clause-goes_on : goal.returns-in-Ok-clause-goes_on
-returns-in-Ok-clause-goes_on g c =
+pub returns-in-Ok-clause-continues : goal.returns-in-Ok-clause-continues
+returns-in-Ok-clause-continues g c =
     let bytes_of = g.S.CertificateScheme.certificate_bytes in
     let old = c.args.self.now in
     let all = c.record-3 in
@@ -53,43 +53,43 @@ returns-in-Ok-clause-goes_on g c =
     let same_length : length c.record.result.now ≡ length all.result.now = sym (counted bytes_of c.record.result.now entries c.record.ensures.entries) ∙ counted bytes_of all.result.now entries all.ensures.entries in
     let is_replaced : IsReplaced bytes_of all.result.now (stored_of c.prune_record.new.self.facts) old.outbox c.replace.new.self =
     subst (λ beside. IsReplaced bytes_of all.result.now beside old.outbox c.replace.new.self) c.stored.ensures c.in-Ok.ensures.queued in
-    let keeps : Keeps bytes_of old new = λ given kept. replaced bytes_of old new given c.replace.ensures.goes_on all.result.now same_length all.ensures.entries all.ensures.votes
+    let keeps : Keeps bytes_of old new = λ given kept. replaced bytes_of old new given c.replace.ensures.continues all.result.now same_length all.ensures.entries all.ensures.votes
     is_replaced
-    (λ lives. still_leaving bytes_of old new given (stays_within old.member.facts) (kept.leaving lives) (c.requires given kept lives)
+    (λ lives. still_leaving bytes_of old new given (stays_within old.member.facts) (kept.emitted lives) (c.requires given kept lives)
     all.result.now (all.ensures.votes ∙ c.prune_record.ensures.votes) c.stored.result c.in-Ok.ensures.queued)
     (still_told old.member.facts c.prune_record.new.self.facts c.prune_record.ensures.pruned old.outbox.told c.replace.new.self.told c.in-Ok.ensures.queued.2.told_is)
     (reaches_whole c.lowest_of-self.result (length c.record.result.now) entries (counted bytes_of c.record.result.now entries c.record.ensures.entries)
     (c.lowest_of-self.ensures ∙ ap (λ v. lowest_of v (entries_of bytes_of c.record-2.result.now)) c.new.ensures ∙ ap (lowest_of (2 ^ 64 - 1)) c.record-2.ensures.entries)) kept in
     record {
       kept = keeps;
-      traced = traced_replaced g.D.PartialEq.eq g.L.Elector.elect bytes_of old new refl keeps c.prune_record.ensures.goes_on (λ v. stays_within old.member.facts (entry_view v.vote)) c.prune_record.ensures.votes
+      traced = traced_replaced g.D.PartialEq.eq g.L.Elector.elect bytes_of old new refl keeps c.prune_record.ensures.continues (λ v. stays_within old.member.facts (entry_view v.vote)) c.prune_record.ensures.votes
           all.result.now same_length all.ensures.entries all.ensures.votes is_replaced (replaced_tells bytes_of old new all.result.now c.stored.result c.in-Ok.ensures.queued);
       more = [];
-      on_this = All-nil (IsDoneOn None);
-      done = c.prune_record.ensures.goes_on;
+      on_this = All-nil (IsActionOn None);
+      done = c.prune_record.ensures.continues;
       signed = returns-in-Ok-clause-signed g c;
       told = replaced_tells bytes_of old new all.result.now c.stored.result c.in-Ok.ensures.queued;
       queued = c.replace.ensures.grown;
       risen = subst (λ m. WhileAlive HasRisen old.member.facts.life m.life) (sym c.prune_record.ensures.pruned) (risen_not old.member.facts);
     }
 
-pub returns-in-Err-clause-goes_on : goal.returns-in-Err-clause-goes_on
-returns-in-Err-clause-goes_on g c =
+pub returns-in-Err-clause-continues : goal.returns-in-Err-clause-continues
+returns-in-Err-clause-continues g c =
     let bytes_of = g.S.CertificateScheme.certificate_bytes in
     let old = c.args.self.now in
     let entries = c.prune_record.new.self.facts.entries in
     let new = record old { member = c.prune_record.new.self; outbox = c.replace.new.self; stored = length c.record.result.now; reach = c.lowest_of-self.result; failed = true } in
     let keeps = ended bytes_of old new refl
     (λ _. reaches_whole c.lowest_of-self.result (length c.record.result.now) entries (counted bytes_of c.record.result.now entries c.record.ensures.entries)
-    (c.lowest_of-self.ensures ∙ ap (λ v. lowest_of v (entries_of bytes_of c.record-2.result.now)) c.new.ensures ∙ ap (lowest_of (2 ^ 64 - 1)) c.record-2.ensures.entries)) c.replace.ensures.goes_on
+    (c.lowest_of-self.ensures ∙ ap (λ v. lowest_of v (entries_of bytes_of c.record-2.result.now)) c.new.ensures ∙ ap (lowest_of (2 ^ 64 - 1)) c.record-2.ensures.entries)) c.replace.ensures.continues
     (still_told old.member.facts c.prune_record.new.self.facts c.prune_record.ensures.pruned old.outbox.told c.replace.new.self.told c.in-Err.ensures.kept.2) in
     record {
       kept = keeps;
-      traced = traced_end g.D.PartialEq.eq g.L.Elector.elect bytes_of old new refl keeps c.prune_record.ensures.goes_on
+      traced = traced_end g.D.PartialEq.eq g.L.Elector.elect bytes_of old new refl keeps c.prune_record.ensures.continues
           (λ all signed. subst (λ vs. WereSigned all (votes_recorded vs)) (sym c.prune_record.ensures.votes) (signed_left all (λ v. stays_within old.member.facts (entry_view v.vote)) old.member.votes signed)) (stayed_tells old.outbox c.replace.new.self c.in-Err.ensures.kept);
       more = [];
-      on_this = All-nil (IsDoneOn None);
-      done = c.prune_record.ensures.goes_on;
+      on_this = All-nil (IsActionOn None);
+      done = c.prune_record.ensures.continues;
       signed = returns-in-Err-clause-signed g c;
       told = stayed_tells old.outbox c.replace.new.self c.in-Err.ensures.kept;
       queued = c.replace.ensures.grown;

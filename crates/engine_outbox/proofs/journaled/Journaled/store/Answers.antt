@@ -25,8 +25,8 @@ returns-in_err-store-clause-signed g c =
 pub returns-then-count-self-clause-signed : goal.returns-then-count-self-clause-signed
 returns-then-count-self-clause-signed g c i key given is = is
 
-pub returns-clause-goes_on : goal.returns-clause-goes_on
-returns-clause-goes_on g c =
+pub returns-clause-continues : goal.returns-clause-continues
+returns-clause-continues g c =
     let bytes_of = g.S.CertificateScheme.certificate_bytes in
     let old = c.args.self.now in
     let all = c.record-count in
@@ -35,23 +35,23 @@ returns-clause-goes_on g c =
     let keeps = stored bytes_of old new refl refl
     (λ reaches. reaches_all old.reach c.lowest_of-reach.result old.stored (length all.result.now) old.member.facts.entries reaches
     (counted bytes_of all.result.now old.member.facts.entries all.ensures.entries) (c.lowest_of-reach.ensures ∙ ap (lowest_of old.reach) c.record_since.ensures.entries))
-    c.store.ensures.goes_on all.result.now fresh.result.now refl all.ensures.entries all.ensures.votes fresh.ensures.entries fresh.ensures.votes c.in_ok-store.ensures.queued in
+    c.store.ensures.continues all.result.now fresh.result.now refl all.ensures.entries all.ensures.votes fresh.ensures.entries fresh.ensures.votes c.in_ok-store.ensures.queued in
     does_no_more old new refl keeps
     (traced_stored g.D.PartialEq.eq g.L.Elector.elect g.S.CertificateScheme.certificate_bytes old new refl refl keeps all.result.now fresh.result.now refl all.ensures.entries all.ensures.votes fresh.ensures.entries fresh.ensures.votes c.in_ok-store.ensures.queued)
     (returns-clause-signed g c)
     (stored_tells bytes_of old new fresh.result.now c.in_ok-store.ensures.queued) c.store.ensures.grown
 
-pub returns-in_err-store-clause-goes_on : goal.returns-in_err-store-clause-goes_on
-returns-in_err-store-clause-goes_on g c =
+pub returns-in_err-store-clause-continues : goal.returns-in_err-store-clause-continues
+returns-in_err-store-clause-continues g c =
     let old = c.args.self.now in
     let new = record old { outbox = c.store.new.self } in
-    does_no_more old new refl (kept_as_it_was g.S.CertificateScheme.certificate_bytes old new refl refl refl refl c.store.ensures.goes_on c.in_err-store.ensures.kept)
-    (traced_stayed g.D.PartialEq.eq g.L.Elector.elect g.S.CertificateScheme.certificate_bytes old new refl refl (kept_as_it_was g.S.CertificateScheme.certificate_bytes old new refl refl refl refl c.store.ensures.goes_on c.in_err-store.ensures.kept) refl c.in_err-store.ensures.kept)
+    does_no_more old new refl (kept_as_it_was g.S.CertificateScheme.certificate_bytes old new refl refl refl refl c.store.ensures.continues c.in_err-store.ensures.kept)
+    (traced_stayed g.D.PartialEq.eq g.L.Elector.elect g.S.CertificateScheme.certificate_bytes old new refl refl (kept_as_it_was g.S.CertificateScheme.certificate_bytes old new refl refl refl refl c.store.ensures.continues c.in_err-store.ensures.kept) refl c.in_err-store.ensures.kept)
     (returns-in_err-store-clause-signed g c)
     (stayed_tells old.outbox new.outbox c.in_err-store.ensures.kept) c.store.ensures.grown
 
-pub returns-then-count-self-clause-goes_on : goal.returns-then-count-self-clause-goes_on
-returns-then-count-self-clause-goes_on g c = stays c.args.self.now
+pub returns-then-count-self-clause-continues : goal.returns-then-count-self-clause-continues
+returns-then-count-self-clause-continues g c = stays c.args.self.now
 
 pub returns-clause-whole : goal.returns-clause-whole
 returns-clause-whole g c =

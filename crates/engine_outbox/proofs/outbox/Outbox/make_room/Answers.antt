@@ -3,8 +3,8 @@ use Rattle.engine_outbox.proofs.Lawfully.{stayed_lawful}
 use Rattle.engine_outbox.proofs.Queued.{stayed_more}
 use Rattle.engine_outbox.proofs.outbox.Outbox.make_room.Goals as goal
 
-pub returns-clause-goes_on : goal.returns-clause-goes_on
-returns-clause-goes_on g c = λ given lawful.
+pub returns-clause-continues : goal.returns-clause-continues
+returns-clause-continues g c = λ given lawful.
     stayed_lawful given c.args.self.now (record c.args.self.now { queue = c.reserve.new.self }) lawful (c.reserve.ensures.items, refl, refl)
 
 pub returns-clause-grown : goal.returns-clause-grown

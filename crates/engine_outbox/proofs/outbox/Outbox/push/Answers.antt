@@ -2,8 +2,8 @@ use Rattle.engine_outbox.proofs.Lawfully.{by_result, pushed_lawful, stayed_lawfu
 use Rattle.engine_outbox.proofs.Queued.{become_more, stayed_more}
 use Rattle.engine_outbox.proofs.outbox.Outbox.push.Goals as goal
 
-pub returns-clause-goes_on : goal.returns-clause-goes_on
-returns-clause-goes_on g c = λ given lawful.
+pub returns-clause-continues : goal.returns-clause-continues
+returns-clause-continues g c = λ given lawful.
     by_result c.queue_work.result c.queue_work.ensures.queued c.queue_work.ensures.kept
     (pushed_lawful given c.args.self.now c.queue_work.new.self lawful c.args.work)
     (stayed_lawful given c.args.self.now c.queue_work.new.self lawful)

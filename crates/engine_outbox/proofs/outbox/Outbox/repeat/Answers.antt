@@ -2,8 +2,8 @@ use Rattle.engine_outbox.proofs.Lawfully.{by_answer, repeated_lawful, stayed_law
 use Rattle.engine_outbox.proofs.Queued.{repeated_more, stayed_more}
 use Rattle.engine_outbox.proofs.outbox.Outbox.repeat.Goals as goal
 
-pub returns-clause-goes_on : goal.returns-clause-goes_on
-returns-clause-goes_on g c = λ given lawful.
+pub returns-clause-continues : goal.returns-clause-continues
+returns-clause-continues g c = λ given lawful.
     by_answer c.queue_repeat.result c.queue_repeat.ensures.queued c.queue_repeat.ensures.kept
     (repeated_lawful given c.args.self.now c.queue_repeat.new.self lawful c.args.view)
     (stayed_lawful given c.args.self.now c.queue_repeat.new.self lawful)

@@ -2,8 +2,8 @@ use Rattle.engine_outbox.proofs.Lawfully.{by_result, replaced_lawful, stayed_law
 use Rattle.engine_outbox.proofs.Queued.{become_more, stayed_more}
 use Rattle.engine_outbox.proofs.outbox.Outbox.replace.Goals as goal
 
-pub returns-clause-goes_on : goal.returns-clause-goes_on
-returns-clause-goes_on g c = λ given lawful.
+pub returns-clause-continues : goal.returns-clause-continues
+returns-clause-continues g c = λ given lawful.
     by_result c.queue_record.result c.queue_record.ensures.queued c.queue_record.ensures.kept
     (replaced_lawful given c.args.self.now c.queue_record.new.self lawful g.S.CertificateScheme.certificate_bytes c.args.all.now c.args.beside)
     (stayed_lawful given c.args.self.now c.queue_record.new.self lawful)

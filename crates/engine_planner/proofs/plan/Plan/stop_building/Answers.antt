@@ -4,5 +4,5 @@ use Rattle.engine_planner.proofs.plan.Plan.stop_building.Goals as goal
 
 pub returns : goal.returns
 returns g c =
-    on_ok c.tell_stopped.result c.tell_stopped.ensures
-    (stopped c.args.view c.is_asked-is_told.result c.args.self.now c.end_building.new.self c.tell_stopped.new.self c.is_asked-is_told.ensures c.end_building.ensures)
+    on_ok c.push_stop.result c.push_stop.ensures
+    (stopped c.args.view c.is_asked-is_reported.result c.args.self.now c.end_building.new.self c.push_stop.new.self c.is_asked-is_reported.ensures c.end_building.ensures)

@@ -6,10 +6,10 @@ use Rattle.simplex_codec.specs.Digests.{bytes_in_digest}
 use Rattle.ffi_scheme.specs.Host.{certificate_bytes, IsOrder}
 use Rattle.engine_planner.specs.PlannedWork.{AreAmong}
 use Rattle.engine_outbox.specs.Outputs.{work_in}
-use Rattle.simplex_engine.specs.Provenance.{forgettable, held_by, Comes}
-use Rattle.simplex_engine.specs.ApplicationWork.{work_ahead, HasToldAll}
-use Rattle.engine_outbox.specs.Finalizations.{TellsNoMore}
-use Rattle.engine_outbox.specs.Continuity.{EmitsOn, IsKept}
+use Rattle.simplex_engine.specs.Provenance.{forgettable, held_by, IsCaused}
+use Rattle.simplex_engine.specs.ApplicationWork.{work_ahead, HasReportedAll}
+use Rattle.engine_outbox.specs.Finalizations.{ReportsNoMore}
+use Rattle.engine_outbox.specs.Continuity.{EmitsOn, IsJournaled}
 use Rattle.ffi_member.specs.Numbers.{fault_status}
 use Rattle.ffi_member.specs.MemberHandles.{host_leader, same_host_payload}
 use Rattle.ffi_engine.specs.Outputs.{HostOutput}
@@ -34,13 +34,13 @@ returns-in-Ok-Some c =
           votes = rw rest.0 c.in-Ok-Some.ensures.votes;
           held = rw rest.0 c.in-Ok-Some.ensures.held;
           bounded = rw rest.0 c.in-Ok-Some.ensures.bounded;
-          duties = λ _. has_told c.in-Ok-Some.output c.args.self.now.stored c.give_out.result c.args.self.now c.give_out.new.self
-              (rw rest.0 (rw c.in-Ok-Some.field-0-is at c.in-Ok-Some.ensures.duties)) c.give_out.ensures.given;
+          due_work = λ _. has_told c.in-Ok-Some.output c.args.self.now.stored c.give_out.result c.args.self.now c.give_out.new.self
+              (rw rest.0 (rw c.in-Ok-Some.field-0-is at c.in-Ok-Some.ensures.due_work)) c.give_out.ensures.given;
           works = λ _. works_given c.in-Ok-Some.output c.args.self.now.stored c.give_out.result c.args.self.now c.give_out.new.self
               (rw rest.0 (rw c.in-Ok-Some.field-0-is at c.in-Ok-Some.ensures.works)) c.give_out.ensures.given;
-          comes = λ _. comes_given c.args.now c.in-Ok-Some.output c.args.self.now.stored c.give_out.result c.args.self.now c.give_out.new.self
-              (rw rest.0 (rw c.in-Ok-Some.field-0-is at c.in-Ok-Some.ensures.comes)) c.give_out.ensures.given;
-          heights = λ _. rw rest.0 c.in-Ok-Some.ensures.heights;
+          provenance = λ _. comes_given c.args.now c.in-Ok-Some.output c.args.self.now.stored c.give_out.result c.args.self.now c.give_out.new.self
+              (rw rest.0 (rw c.in-Ok-Some.field-0-is at c.in-Ok-Some.ensures.provenance)) c.give_out.ensures.given;
+          fetch_heights = λ _. rw rest.0 c.in-Ok-Some.ensures.fetch_heights;
           near = λ _. rw rest.0 c.in-Ok-Some.ensures.near;
           seen = λ _. rw rest.0 c.in-Ok-Some.ensures.seen;
           early = λ _. rw rest.0 c.in-Ok-Some.ensures.early;
@@ -63,9 +63,9 @@ returns-in-Ok-None c =
       inr (
         going,
         record {
-          given = λ before all alive. subst (λ last. IsKept certificate_bytes (before ++ option_to_list last) c.poll.new.self.core)
+          given = λ before all alive. subst (λ last. IsJournaled certificate_bytes (before ++ option_to_list last) c.poll.new.self.core)
               (sym c.requires.last) (given before (all going));
-          told = λ alive. subst (λ last. TellsNoMore (option_to_list last) c.args.self.now.engine.core.outbox c.poll.new.self.core.outbox)
+          told = λ alive. subst (λ last. ReportsNoMore (option_to_list last) c.args.self.now.engine.core.outbox c.poll.new.self.core.outbox)
               (sym c.requires.last) (rw none at c.in-Ok-None.ensures.told);
           traced = λ alive. subst (λ last. EmitsOn same_host_payload host_leader certificate_bytes (IsOrder bytes_in_digest) None (option_to_list last) c.args.self.now.engine.core c.poll.new.self.core)
               (sym c.requires.last) (rw none at c.in-Ok-None.ensures.traced);
@@ -73,14 +73,14 @@ returns-in-Ok-None c =
           votes = c.in-Ok-None.ensures.votes;
           held = c.in-Ok-None.ensures.held;
           bounded = c.in-Ok-None.ensures.bounded;
-          duties = λ _ alive. subst (λ last. (before : List HostOutput) → HasToldAll before c.args.self.now.engine → HasToldAll (before ++ option_to_list last) c.poll.new.self)
-              (sym c.requires.last) (rw none at c.in-Ok-None.ensures.duties);
+          due_work = λ _ alive. subst (λ last. (before : List HostOutput) → HasReportedAll before c.args.self.now.engine → HasReportedAll (before ++ option_to_list last) c.poll.new.self)
+              (sym c.requires.last) (rw none at c.in-Ok-None.ensures.due_work);
           works = λ _ alive. subst (λ last. AreAmong (work_ahead c.args.self.now.engine) (work_in (option_to_list last) ++ work_ahead c.poll.new.self))
               (sym c.requires.last) (rw none at c.in-Ok-None.ensures.works);
-          comes = λ _ alive. subst (λ last. Comes same_host_payload host_leader bytes_in_digest certificate_bytes c.args.now (forgettable c.poll.new.self.core.member.facts) (work_in (option_to_list last)) (held_by c.poll.new.self)
+          provenance = λ _ alive. subst (λ last. IsCaused same_host_payload host_leader bytes_in_digest certificate_bytes c.args.now (forgettable c.poll.new.self.core.member.facts) (work_in (option_to_list last)) (held_by c.poll.new.self)
               c.args.self.now.engine c.poll.new.self)
-              (sym c.requires.last) (rw none at c.in-Ok-None.ensures.comes);
-          heights = λ _. c.in-Ok-None.ensures.heights;
+              (sym c.requires.last) (rw none at c.in-Ok-None.ensures.provenance);
+          fetch_heights = λ _. c.in-Ok-None.ensures.fetch_heights;
           near = λ _. c.in-Ok-None.ensures.near;
           seen = λ _. c.in-Ok-None.ensures.seen;
           early = λ _. c.in-Ok-None.ensures.early;
@@ -114,9 +114,9 @@ returns-in-Err c =
       inr (
         going,
         record {
-          given = λ before all alive. subst (λ last. IsKept certificate_bytes (before ++ option_to_list last) c.poll.new.self.core)
+          given = λ before all alive. subst (λ last. IsJournaled certificate_bytes (before ++ option_to_list last) c.poll.new.self.core)
               (sym c.requires.last) (c.in-Err.ensures.given before (all going));
-          told = λ alive. subst (λ last. TellsNoMore (option_to_list last) c.args.self.now.engine.core.outbox c.poll.new.self.core.outbox)
+          told = λ alive. subst (λ last. ReportsNoMore (option_to_list last) c.args.self.now.engine.core.outbox c.poll.new.self.core.outbox)
               (sym c.requires.last) c.in-Err.ensures.told;
           traced = λ alive. subst (λ last. EmitsOn same_host_payload host_leader certificate_bytes (IsOrder bytes_in_digest) None (option_to_list last) c.args.self.now.engine.core c.poll.new.self.core)
               (sym c.requires.last) c.in-Err.ensures.traced;
@@ -124,10 +124,10 @@ returns-in-Err c =
           votes = c.in-Err.ensures.votes;
           held = c.in-Err.ensures.held;
           bounded = c.in-Err.ensures.bounded;
-          duties = λ alive. absurd (false≢true (sym alive ∙ failed));
+          due_work = λ alive. absurd (false≢true (sym alive ∙ failed));
           works = λ alive. absurd (false≢true (sym alive ∙ failed));
-          comes = λ alive. absurd (false≢true (sym alive ∙ failed));
-          heights = λ alive. absurd (false≢true (sym alive ∙ failed));
+          provenance = λ alive. absurd (false≢true (sym alive ∙ failed));
+          fetch_heights = λ alive. absurd (false≢true (sym alive ∙ failed));
           near = λ alive. absurd (false≢true (sym alive ∙ failed));
           seen = λ alive. absurd (false≢true (sym alive ∙ failed));
           early = λ alive. absurd (false≢true (sym alive ∙ failed));

@@ -3,7 +3,7 @@ use Rattle.std.proofs.Common.{refl, sym, subst}
 use Rattle.simplex_codec.specs.Digests.{bytes_in_digest}
 use Rattle.ffi_scheme.specs.HostLeaders.{host_terms}
 use Rattle.ffi_scheme.specs.Host.{host_keys, host_signer}
-use Rattle.simplex_engine.specs.EngineStart.{with_a_retry, HasBegunWith}
+use Rattle.simplex_engine.specs.EngineStart.{with_a_retry, HasStartedWith}
 use Rattle.ffi_engine.specs.EngineStarts.{IsEngineNotResumed}
 use Rattle.ffi_engine.proofs.Refused.{engine_refused, member_refused}
 use Rattle.ffi_engine.proofs.held.HeldEngine.resume.Goals as goal
@@ -23,10 +23,10 @@ returns-in-Ok-resume-clause-resumed c =
       from = c.in-Ok.ensures.from;
       whole = c.in-Ok.ensures.whole;
       resumed = rw c.new.ensures.engine c.in-Ok-resume.ensures.resumed;
-      goes_on = rw c.new.ensures.engine c.in-Ok-resume.ensures.goes_on;
+      continues = rw c.new.ensures.engine c.in-Ok-resume.ensures.continues;
       votes = rw c.new.ensures.engine c.in-Ok-resume.ensures.votes;
       begun_by = rw c.new.ensures.engine
-          (subst (λ options. HasBegunWith bytes_in_digest host_keys (host_keys from.start.settings.scheme) (host_signer from.start.settings.scheme)
+          (subst (λ options. HasStartedWith bytes_in_digest host_keys (host_keys from.start.settings.scheme) (host_signer from.start.settings.scheme)
           (host_terms from.start.settings.elector).term_length (with_a_retry options) c.in-Ok-resume.engine) c.options_in-options.ensures c.in-Ok-resume.ensures.begun);
       nothing = record {
         kept = λ _. rw c.new.ensures.engine c.in-Ok-resume.ensures.kept;
@@ -36,9 +36,9 @@ returns-in-Ok-resume-clause-resumed c =
         queued = rw c.new.ensures.engine c.in-Ok-resume.ensures.queued;
         told = rw c.new.ensures.engine c.in-Ok-resume.ensures.told;
         bounded = rw c.new.ensures.engine c.in-Ok-resume.ensures.bounded;
-        duties = rw c.new.ensures.engine c.in-Ok-resume.ensures.duties;
+        due_work = rw c.new.ensures.engine c.in-Ok-resume.ensures.due_work;
         none_at_hand = rw c.new.ensures.engine c.in-Ok-resume.ensures.nothing;
-        heights = rw c.new.ensures.engine c.in-Ok-resume.ensures.heights;
+        fetch_heights = rw c.new.ensures.engine c.in-Ok-resume.ensures.fetch_heights;
         draws = c.new.ensures.draws;
         fresh = c.new.ensures.fresh;
       };
@@ -48,7 +48,7 @@ pub returns-in-Err-resume-clause-refused : goal.returns-in-Err-resume-clause-ref
 returns-in-Err-resume-clause-refused c =
     let from = c.in-Ok.from in
     subst (IsEngineNotResumed c.args.flat.now c.args.leaders.now c.args.certificate.now c.args.options.now c.args.now c.args.stored.now c.args.journal.now)
-    (sym c.not_begun.ensures)
+    (sym c.engine_not_started.ensures)
     (engine_refused c.args.flat.now c.args.leaders.now c.args.certificate.now c.args.options.now c.args.now c.args.stored.now c.args.journal.now
     c.in-Err-resume.error (record {
       start = from.start;

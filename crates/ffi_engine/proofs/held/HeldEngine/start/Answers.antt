@@ -3,8 +3,8 @@ use Rattle.std.proofs.Common.{refl, sym, subst}
 use Rattle.simplex_codec.specs.Digests.{bytes_in_digest}
 use Rattle.ffi_scheme.specs.HostLeaders.{host_terms}
 use Rattle.ffi_scheme.specs.Host.{host_keys, host_signer}
-use Rattle.simplex_engine.specs.EngineStart.{with_a_retry, HasBegunWith}
-use Rattle.ffi_engine.specs.EngineStarts.{IsEngineNotBegun}
+use Rattle.simplex_engine.specs.EngineStart.{with_a_retry, HasStartedWith}
+use Rattle.ffi_engine.specs.EngineStarts.{IsEngineNotStarted}
 use Rattle.ffi_engine.proofs.Refused.{start_refused}
 use Rattle.ffi_engine.proofs.held.HeldEngine.start.Goals as goal
 
@@ -17,7 +17,7 @@ returns-in-Ok-start-clause-begun c = record {
   votes = rw c.new.ensures.engine c.in-Ok-start.ensures.votes;
   begins = rw c.new.ensures.engine c.in-Ok-start.ensures.begins;
   begun_by = rw c.new.ensures.engine
-      (subst (λ options. HasBegunWith bytes_in_digest host_keys (host_keys c.in-Ok.start.settings.scheme) (host_signer c.in-Ok.start.settings.scheme)
+      (subst (λ options. HasStartedWith bytes_in_digest host_keys (host_keys c.in-Ok.start.settings.scheme) (host_signer c.in-Ok.start.settings.scheme)
       (host_terms c.in-Ok.start.settings.elector).term_length (with_a_retry options) c.in-Ok-start.engine) c.options_in.ensures c.in-Ok-start.ensures.begun);
   nothing = record {
     kept = λ _. rw c.new.ensures.engine c.in-Ok-start.ensures.kept;
@@ -27,9 +27,9 @@ returns-in-Ok-start-clause-begun c = record {
     queued = rw c.new.ensures.engine c.in-Ok-start.ensures.queued;
     told = rw c.new.ensures.engine c.in-Ok-start.ensures.told;
     bounded = rw c.new.ensures.engine c.in-Ok-start.ensures.bounded;
-    duties = rw c.new.ensures.engine c.in-Ok-start.ensures.duties;
+    due_work = rw c.new.ensures.engine c.in-Ok-start.ensures.due_work;
     none_at_hand = rw c.new.ensures.engine c.in-Ok-start.ensures.nothing;
-    heights = rw c.new.ensures.engine c.in-Ok-start.ensures.heights;
+    fetch_heights = rw c.new.ensures.engine c.in-Ok-start.ensures.fetch_heights;
     draws = c.new.ensures.draws;
     fresh = c.new.ensures.fresh;
   };
@@ -37,7 +37,7 @@ returns-in-Ok-start-clause-begun c = record {
 
 pub returns-in-Err-start-clause-refused : goal.returns-in-Err-start-clause-refused
 returns-in-Err-start-clause-refused c =
-    subst (IsEngineNotBegun c.args.flat.now c.args.leaders.now c.args.certificate.now c.args.options.now c.args.now) (sym c.not_begun.ensures)
+    subst (IsEngineNotStarted c.args.flat.now c.args.leaders.now c.args.certificate.now c.args.options.now c.args.now) (sym c.engine_not_started.ensures)
     (start_refused c.args.flat.now c.args.leaders.now c.args.certificate.now c.args.options.now c.args.now c.in-Err-start.error (record {
       start = c.in-Ok.start;
       by = c.in-Ok.ensures.made;

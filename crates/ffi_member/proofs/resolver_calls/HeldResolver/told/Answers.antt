@@ -5,7 +5,7 @@ use Rattle.simplex_types.specs.Certificates.{certificate_facts}
 use Rattle.simplex_codec.specs.Digests.{bytes_in_digest}
 use Rattle.ffi_scheme.specs.Host.{certificate_bytes}
 use Rattle.simplex_resolver.specs.Steps.{highest_view, update}
-use Rattle.ffi_member.specs.ResolverHandles.{IsFlatCertificate, highest_told}
+use Rattle.ffi_member.specs.ResolverHandles.{IsFlatCertificate, highest_passed}
 use Rattle.ffi_member.proofs.resolver_calls.HeldResolver.told.Goals as goal
 
 pub returns-in-Ok-Some : goal.returns-in-Ok-Some
@@ -14,5 +14,5 @@ returns-in-Ok-Some c =
     let kind : (0 < flat.kind) × (flat.kind < 4) = rw is at c.in-Ok-Some.ensures.kind in
     let view : 1 ≤ flat.proposal.round.view = grind (arith, common_steps, c.if-flat-eq0.false) in
     let made : IsFlatCertificate flat.kind flat c.args.certificate.now handed = rw is at c.in-Ok-Some.ensures.made in
-    let highest : highest_view c.in-Ok-Some.it ≡ highest_told flat = rw is at c.in-Ok-Some.ensures.highest in
+    let highest : highest_view c.in-Ok-Some.it ≡ highest_passed flat = rw is at c.in-Ok-Some.ensures.highest in
     inr ((kind.0, omega (arith, kind.1), c.in-Some.ensures.1, view), (update (bytes_in_digest {n = 32}) handed, inl (handed, made, refl), rw (sym highest) c.updated.ensures))

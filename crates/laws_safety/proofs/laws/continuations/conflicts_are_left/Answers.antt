@@ -12,5 +12,5 @@ returns-clause-few c = (refl, refl)
 pub returns-clause-divided : goal.returns-clause-divided
 returns-clause-divided c = none_notarized
 
-pub returns-clause-goes_on : goal.returns-clause-goes_on
-returns-clause-goes_on c = divided_goes_on
+pub returns-clause-continues : goal.returns-clause-continues
+returns-clause-continues c = divided_goes_on

@@ -12,5 +12,5 @@ returns-clause-few c = (refl, refl)
 pub returns-clause-lacks : goal.returns-clause-lacks
 returns-clause-lacks c = (none_skipped, none_notarized)
 
-pub returns-clause-goes_on : goal.returns-clause-goes_on
-returns-clause-goes_on c = lacking_goes_on
+pub returns-clause-continues : goal.returns-clause-continues
+returns-clause-continues c = lacking_goes_on

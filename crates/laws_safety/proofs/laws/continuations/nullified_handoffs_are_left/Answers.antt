@@ -15,5 +15,5 @@ returns-clause-voted c = leader_voted
 pub returns-clause-stuck : goal.returns-clause-stuck
 returns-clause-stuck c = none_notarized
 
-pub returns-clause-goes_on : goal.returns-clause-goes_on
-returns-clause-goes_on c = taken_over_goes_on
+pub returns-clause-continues : goal.returns-clause-continues
+returns-clause-continues c = taken_over_goes_on

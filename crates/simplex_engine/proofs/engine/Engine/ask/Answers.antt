@@ -3,12 +3,12 @@ use Rattle.std.proofs.Common.{None, sym, subst, ap, ◌∙◌}
 use Rattle.std.proofs.lemmas.Result.{IfOk-weaker}
 use Rattle.simplex_member.specs.Calls.{told}
 use Rattle.simplex_member.specs.MemberFacts.{IsCall}
-use Rattle.engine_outbox.specs.Continuity.{GoesOn}
+use Rattle.engine_outbox.specs.Continuity.{Continues}
 use Rattle.engine_planner.specs.Tasks.{call_of}
 use Rattle.simplex_engine.proofs.Tells.{tells_called}
 use Rattle.engine_planner.proofs.PlanStates.{on_ok_both}
 use Rattle.engine_outbox.specs.Outputs.{work_in}
-use Rattle.engine_planner.specs.Causes.{given_by}
+use Rattle.engine_planner.specs.Causes.{reply_causes}
 use Rattle.simplex_engine.proofs.Provenance.{comes_called, hand_asked}
 use Rattle.simplex_engine.proofs.engine.Engine.ask.Goals as goal
 
@@ -19,20 +19,20 @@ returns g c =
     let bytes_of = g.S.CertificateScheme.certificate_bytes in
     let before = c.args.self.now.core.member.facts in
     let answer = told bytes_of c.call-reply.result in
-    let goes = subst (GoesOn same elect bytes_of g.S.Scheme.IsSignature None c.args.self.now.core) (sym c.follow.ensures.core) (c.call-reply.ensures.quiet c.call.ensures.plain) in
+    let goes = subst (Continues same elect bytes_of g.S.Scheme.IsSignature None c.args.self.now.core) (sym c.follow.ensures.core) (c.call-reply.ensures.quiet c.call.ensures.plain) in
     let answered = subst (λ core. IsCall same elect before (call_of c.args.task c.args.now) answer core.member.facts) (sym c.follow.ensures.core)
     (subst (λ call. IsCall same elect before call answer c.call-reply.new.self.member.facts) c.call.ensures.asked c.call-reply.ensures.answered) in
     record {
-      goes_on = goes;
+      continues = goes;
       batcher = c.follow.ensures.batcher;
       acted = IfOk-weaker c.follow.result _ _ (λ is_of_use of_use. record {
         answer = answer;
         answered = answered;
         told = of_use;
       }) c.follow.ensures.of_use;
-      duties = on_ok_both c.follow.result c.follow.ensures.seen c.follow.ensures.planned
+      due_work = on_ok_both c.follow.result c.follow.ensures.seen c.follow.ensures.planned
           (tells_called c.args.self.now c.follow.new.self c.args.task c.args.now answer answered goes);
-      comes = on_ok_both c.follow.result c.follow.ensures.matters c.follow.ensures.asks (λ matters asks came none meant. comes_called (call_of c.args.task c.args.now) c.call-reply.result none meant answered
-          (hand_asked c.args.self.now c.follow.new.self came (given_by c.args.now c.call-reply.result (call_of c.args.task c.args.now))
-          (ap (λ core. work_in core.outbox.queue.items) c.follow.ensures.core ∙ ap (λ outbox. work_in outbox.queue.items) c.call-reply.ensures.outbox) matters) asks);
+      provenance = on_ok_both c.follow.result c.follow.ensures.causes c.follow.ensures.asks (λ causes asks came none meant. comes_called (call_of c.args.task c.args.now) c.call-reply.result none meant answered
+          (hand_asked c.args.self.now c.follow.new.self came (reply_causes c.args.now c.call-reply.result (call_of c.args.task c.args.now))
+          (ap (λ core. work_in core.outbox.queue.items) c.follow.ensures.core ∙ ap (λ outbox. work_in outbox.queue.items) c.call-reply.ensures.outbox) causes) asks);
     }

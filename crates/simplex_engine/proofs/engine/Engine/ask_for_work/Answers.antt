@@ -23,12 +23,12 @@ returns-clause-nothing g c = λ is.
     let i2 = and_parts _ _ i3.0 in
     (c.ask_for.new.self.core.member.facts, c.in_ok-has_none.ensures.nothing i2.0, (c.ask_for-2.new.self.core.member.facts, c.in_ok-has_none-2.ensures.nothing i2.1, (c.ask_for-3.new.self.core.member.facts, c.in_ok-has_none-3.ensures.nothing i3.1, refl)))
 
-pub returns-clause-duties : goal.returns-clause-duties
-returns-clause-duties g c = tells_further c.in_ok-has_none.ensures.duties (tells_further c.in_ok-has_none-2.ensures.duties c.in_ok-has_none-3.ensures.duties)
+pub returns-clause-due_work : goal.returns-clause-due_work
+returns-clause-due_work g c = tells_further c.in_ok-has_none.ensures.due_work (tells_further c.in_ok-has_none-2.ensures.due_work c.in_ok-has_none-3.ensures.due_work)
 
-pub returns-clause-comes : goal.returns-clause-comes
-returns-clause-comes g c =
+pub returns-clause-provenance : goal.returns-clause-provenance
+returns-clause-provenance g c =
     comes_on
-    (comes_on (c.in_ok-has_none.ensures.comes [] (λ kind view. refl) (inl (task.Verify, refl, among_none _, tt))) c.in_ok-has_none-2.ensures.duties.risen
-    (c.in_ok-has_none-2.ensures.comes [] (λ kind view. refl) (inl (task.Propose, refl, among_none _, tt))))
-    c.in_ok-has_none-3.ensures.duties.risen (c.in_ok-has_none-3.ensures.comes [] (λ kind view. refl) (inl (task.Candidates, refl, among_none _, tt)))
+    (comes_on (c.in_ok-has_none.ensures.provenance [] (λ kind view. refl) (inl (task.Verify, refl, among_none _, tt))) c.in_ok-has_none-2.ensures.due_work.risen
+    (c.in_ok-has_none-2.ensures.provenance [] (λ kind view. refl) (inl (task.Propose, refl, among_none _, tt))))
+    c.in_ok-has_none-3.ensures.due_work.risen (c.in_ok-has_none-3.ensures.provenance [] (λ kind view. refl) (inl (task.Candidates, refl, among_none _, tt)))

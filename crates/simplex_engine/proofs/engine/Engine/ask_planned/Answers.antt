@@ -6,27 +6,27 @@ use Rattle.engine_planner.specs.Causes.{of_task}
 use Rattle.engine_planner.proofs.Causes.{among_last}
 use Rattle.engine_planner.proofs.PlannedWork.{among_more}
 use Rattle.engine_planner.proofs.PlanStates.{on_ok}
-use Rattle.simplex_engine.specs.Provenance.{at_hand}
+use Rattle.simplex_engine.specs.Provenance.{pending_causes}
 use Rattle.simplex_engine.proofs.Provenance.{comes_still, needs_no_offer, task_lacks_none}
 use Rattle.simplex_engine.proofs.engine.Engine.ask_planned.Goals as goal
 
 pub returns-then-is_verdict : goal.returns-then-is_verdict
 returns-then-is_verdict g c = record {
-  goes_on = stays c.args.self.now.core;
+  continues = stays c.args.self.now.core;
   batcher = refl;
-  duties = tells_still c.args.self.now;
-  comes = comes_still refl refl (task_lacks_none g.row.S.Denot g.row.S-PublicKey.Denot g.row.S-Signature.Denot g.row.S-Certificate.Denot c.args.task)
-      (among_last (of_task c.args.task) (at_hand c.args.self.now));
+  due_work = tells_still c.args.self.now;
+  provenance = comes_still refl refl (task_lacks_none g.row.S.Denot g.row.S-PublicKey.Denot g.row.S-Signature.Denot g.row.S-Certificate.Denot c.args.task)
+      (among_last (of_task c.args.task) (pending_causes c.args.self.now));
 }
 
 pub returns : goal.returns
 returns g c =
     let own = needs_no_offer c.args.self.now.core.member.facts c.args.now c.args.task (sym c.is_verdict.ensures ∙ c.if-is_verdict.false) in
     record {
-      goes_on = c.ask.ensures.goes_on;
+      continues = c.ask.ensures.continues;
       batcher = c.ask.ensures.batcher;
-      duties = c.ask.ensures.duties;
-      comes = on_ok c.ask.result c.ask.ensures.comes (λ comes. comes (of_task c.args.task)
+      due_work = c.ask.ensures.due_work;
+      provenance = on_ok c.ask.result c.ask.ensures.provenance (λ provenance. provenance (of_task c.args.task)
           (task_lacks_none g.row.S.Denot g.row.S-PublicKey.Denot g.row.S-Signature.Denot g.row.S-Certificate.Denot c.args.task)
-          (inl (c.args.task, refl, among_more (of_task c.args.task) (at_hand c.args.self.now), own)));
+          (inl (c.args.task, refl, among_more (of_task c.args.task) (pending_causes c.args.self.now), own)));
     }

@@ -9,7 +9,7 @@ use Rattle.engine_planner.specs.Causes.{Message}
 use Rattle.engine_planner.proofs.Causes.{among_last}
 use Rattle.engine_planner.proofs.PlannedWork.{among_more}
 use Rattle.engine_planner.proofs.PlanStates.{on_ok}
-use Rattle.simplex_engine.specs.Provenance.{at_hand}
+use Rattle.simplex_engine.specs.Provenance.{pending_causes}
 use Rattle.simplex_engine.proofs.Provenance.{comes_still}
 use Rattle.simplex_engine.proofs.engine.Engine.build.Goals as goal
 
@@ -17,12 +17,12 @@ pub returns-then-not-is_building : goal.returns-then-not-is_building
 returns-then-not-is_building g c =
     let facts = c.args.self.now.core.member.facts in
     record {
-      goes_on = stays c.args.self.now.core;
+      continues = stays c.args.self.now.core;
       batcher = refl;
       acted = subst (λ is_asked. IsBlockTaken g.D.PartialEq.eq g.L.Elector.elect is_asked c.args.context.now.round.view c.args.payload c.args.now facts facts false)
           (sym c.if-not-is_building.true ∙ c.is_building.ensures) (refl, refl);
-      duties = tells_still c.args.self.now;
-      comes = comes_still refl refl (λ kind view. refl) (among_last (Message (task.Proposed c.args.context.now.round.view c.args.payload) ∷ []) (at_hand c.args.self.now));
+      due_work = tells_still c.args.self.now;
+      provenance = comes_still refl refl (λ kind view. refl) (among_last (Message (task.Proposed c.args.context.now.round.view c.args.payload) ∷ []) (pending_causes c.args.self.now));
     }
 
 pub returns : goal.returns
@@ -31,11 +31,11 @@ returns g c =
     let before = c.args.self.now.core.member.facts in
     let after = c.ask.new.self.core.member.facts in
     record {
-      goes_on = c.ask.ensures.goes_on;
+      continues = c.ask.ensures.continues;
       batcher = c.ask.ensures.batcher;
       acted = IfOk-weaker c.ask.result _ _ (λ is_of_use done.
           subst (λ is_asked. IsBlockTaken g.D.PartialEq.eq g.L.Elector.elect is_asked c.args.context.now.round.view c.args.payload c.args.now before after is_of_use)
           (sym c.if-not-is_building.false ∙ c.is_building.ensures) done) c.ask.ensures.acted;
-      duties = c.ask.ensures.duties;
-      comes = on_ok c.ask.result c.ask.ensures.comes (λ comes. comes (Message asked ∷ []) (λ kind view. refl) (inl (asked, refl, among_more (Message asked ∷ []) (at_hand c.args.self.now), tt)));
+      due_work = c.ask.ensures.due_work;
+      provenance = on_ok c.ask.result c.ask.ensures.provenance (λ provenance. provenance (Message asked ∷ []) (λ kind view. refl) (inl (asked, refl, among_more (Message asked ∷ []) (pending_causes c.args.self.now), tt)));
     }

@@ -10,7 +10,7 @@ use Rattle.simplex_engine.specs.ApplicationWork.{work_ahead}
 use Rattle.simplex_engine.proofs.BuildBounds.{early_anyway}
 use Rattle.engine_planner.proofs.Causes.{among_last}
 use Rattle.simplex_engine.specs.declared.input.Input.TheVariants as input
-use Rattle.simplex_engine.specs.Provenance.{at_hand, came_in}
+use Rattle.simplex_engine.specs.Provenance.{pending_causes, input_causes}
 use Rattle.simplex_engine.proofs.Provenance.{comes_still, vote_lacks_none}
 use Rattle.simplex_engine.proofs.engine.Engine.count.Goals as goal
 
@@ -19,7 +19,7 @@ returns-then-not-admits_votes g c =
     let engine = c.args.self.now in
     let keys_of = g.S.CertificateScheme.participants in
     record {
-      goes_on = stays engine.core;
+      continues = stays engine.core;
       votes = takes_anyway (takes_nothing engine.batcher);
       held = tt;
       backed = backed_by_none (length (keys_of engine.batcher.scheme)) (stays engine.core);
@@ -28,9 +28,9 @@ returns-then-not-admits_votes g c =
       bounded = bounded_same keys_of engine.core engine.core engine.batcher refl;
       acted = λ is. absurd (false≢true
           (sym c.if-not-admits_votes.true ∙ c.admits_votes.ensures ∙ ap (λ round. is_so (λ x. admits_votes x round) engine.core.member.facts) c.round_of.ensures.round ∙ is));
-      duties = record { stays = λ work told. told; works = among_still (work_ahead engine); near = λ near. near; seen = λ come. come; early = λ come. early_anyway engine engine (among_still engine.plan.early.proposals.items); constants = refl };
+      due_work = record { stays = λ work told. told; works = among_still (work_ahead engine); near = λ near. near; seen = λ come. come; early = λ come. early_anyway engine engine (among_still engine.plan.early.proposals.items); constants = refl };
       ignored = refl;
-      comes = comes_still refl refl (vote_lacks_none g.S.CertificateScheme.certificate_bytes engine.batcher c.args.vote) (among_last (came_in g.S.CertificateScheme.certificate_bytes engine.batcher (input.Vote c.args.vote)) (at_hand engine));
+      provenance = comes_still refl refl (vote_lacks_none g.S.CertificateScheme.certificate_bytes engine.batcher c.args.vote) (among_last (input_causes g.S.CertificateScheme.certificate_bytes engine.batcher (input.Vote c.args.vote)) (pending_causes engine));
     }
 
 pub returns : goal.returns

@@ -5,7 +5,7 @@ use Rattle.simplex_voter.specs.Windows.{min_active}
 use Rattle.simplex_engine.specs.OwnSteps.{ForgetsNoOther}
 use Rattle.simplex_engine.specs.CertificateVotes.{TakesNone}
 use Rattle.engine_votes.specs.StoredVotes.{HoldsFrom}
-use Rattle.engine_outbox.specs.Continuity.{GoesOn}
+use Rattle.engine_outbox.specs.Continuity.{Continues}
 use Rattle.engine_planner.specs.PlanStates.{IsIdle}
 use Rattle.simplex_engine.proofs.OwnSteps.{alone_still, forgets_by, forgets_none}
 use Rattle.simplex_engine.proofs.CertificateVotes.{takes_no_more, takes_same}
@@ -14,7 +14,7 @@ use Rattle.engine_planner.proofs.PlanStates.{on_ok}
 use Rattle.simplex_engine.proofs.Tells.{tells_further, tells_planned}
 use Rattle.engine_outbox.specs.Outputs.{work_in}
 use Rattle.simplex_engine.proofs.Provenance.{comes_on, comes_same, forgets_lowest, hand_alone, risen_facts}
-use Rattle.simplex_engine.specs.Provenance.{forgettable, held_by, Comes}
+use Rattle.simplex_engine.specs.Provenance.{forgettable, held_by, IsCaused}
 use Rattle.simplex_engine.proofs.engine.Engine.drop_unretained.Goals as goal
 
 pub returns-in_err-lowest-clause-alone : goal.returns-in_err-lowest-clause-alone
@@ -40,8 +40,8 @@ returns g c =
     let core = c.report_forgotten.new.self.core in
     record {
       alone = record {
-        goes_on = subst (GoesOn g.D.PartialEq.eq g.L.Elector.elect g.S.CertificateScheme.certificate_bytes g.S.Scheme.IsSignature None c.args.self.now.core) (sym c.drop_final_fetches.ensures.core)
-            c.report_forgotten.ensures.alone.goes_on;
+        continues = subst (Continues g.D.PartialEq.eq g.L.Elector.elect g.S.CertificateScheme.certificate_bytes g.S.Scheme.IsSignature None c.args.self.now.core) (sym c.drop_final_fetches.ensures.core)
+            c.report_forgotten.ensures.alone.continues;
         votes = subst (TakesNone c.args.self.now.batcher) (sym c.drop_final_fetches.ensures.batcher)
             (takes_no_more (takes_same c.report_forgotten.ensures.alone.batcher)
             (record { are_given = c.forget.ensures.given; were_held = c.forget.ensures.fewer; scheme = c.forget.ensures.scheme }));
@@ -61,16 +61,16 @@ returns g c =
           (kept_from core.member.facts.life c.in_ok-lowest.lowest c.forget.new.self
           (subst (λ m. IfSome m.facts.life (λ x. min_active x ≡ c.in_ok-lowest.lowest)) (sym c.report_forgotten.ensures.member) c.in_ok-lowest.ensures.lowest) c.forget.ensures.lowest)));
       lacking = c.drop_final_fetches.ensures.lacking;
-      duties = on_ok c.drop_final_fetches.result c.drop_final_fetches.ensures.lacking (λ _. tells_further c.in_ok-report_forgotten.ensures.duties
+      due_work = on_ok c.drop_final_fetches.result c.drop_final_fetches.ensures.lacking (λ _. tells_further c.in_ok-report_forgotten.ensures.due_work
           (let keeps = tells_planned (record (c.report_forgotten.new.self) { batcher = c.forget.new.self }) c.drop_final_fetches.new.self
           c.drop_final_fetches.ensures.core c.drop_final_fetches.ensures.planned in
           record { stays = keeps.stays; works = keeps.works; near = keeps.near; seen = keeps.seen; early = keeps.early; risen = keeps.risen; constants = keeps.constants; ignored = keeps.ignored }));
-      comes = on_ok c.drop_final_fetches.result c.drop_final_fetches.ensures.asks (λ asks now.
-          subst (λ came. Comes g.D.PartialEq.eq g.L.Elector.elect g.D.Digest.bytes g.S.CertificateScheme.certificate_bytes now came [] (held_by c.drop_final_fetches.new.self) c.args.self.now c.drop_final_fetches.new.self)
+      provenance = on_ok c.drop_final_fetches.result c.drop_final_fetches.ensures.asks (λ asks now.
+          subst (λ came. IsCaused g.D.PartialEq.eq g.L.Elector.elect g.D.Digest.bytes g.S.CertificateScheme.certificate_bytes now came [] (held_by c.drop_final_fetches.new.self) c.args.self.now c.drop_final_fetches.new.self)
           (forgets_lowest c.args.self.now.core.member.facts c.in_ok-lowest.lowest c.in_ok-lowest.ensures.alive
           ∙ ap (λ m. forgettable m.facts) (sym (ap (λ core. core.member) c.drop_final_fetches.ensures.core ∙ c.report_forgotten.ensures.member)))
-          (comes_on (c.in_ok-report_forgotten.ensures.comes now)
+          (comes_on (c.in_ok-report_forgotten.ensures.provenance now)
           (risen_facts (ap (λ core. core.member.facts) c.drop_final_fetches.ensures.core)) (comes_same (ap (λ core. core.member.facts) c.drop_final_fetches.ensures.core)
           (hand_alone (record (c.report_forgotten.new.self) { batcher = c.forget.new.self }) c.drop_final_fetches.new.self (ap (λ core. work_in core.outbox.queue.items) c.drop_final_fetches.ensures.core)
-          c.drop_final_fetches.ensures.matters) asks)));
+          c.drop_final_fetches.ensures.causes) asks)));
     }

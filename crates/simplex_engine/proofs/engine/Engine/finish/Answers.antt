@@ -21,10 +21,10 @@ returns g c = record {
   quiet = subst (λ m. HasNothingNew g.D.PartialEq.eq g.L.Elector.elect m.facts) (sym c.settle.ensures.member) c.in_ok-run_to_short.ensures.quiet;
   idle = c.settle.ensures.idle c.args.now c.in_ok-run_to_short.ensures.idle;
   ahead = ahead_still c.run_to_short.new.self c.settle.new.self c.settle.ensures.member c.settle.ensures.builds c.in_ok-run_to_short.ensures.ahead;
-  short = λ given kept. short_still c.run_to_short.new.self c.settle.new.self (ap (λ (constants : Constants). constants.options) c.in_ok-settle.ensures.duties.constants)
+  short = λ given kept. short_still c.run_to_short.new.self c.settle.new.self (ap (λ (constants : Constants). constants.options) c.in_ok-settle.ensures.due_work.constants)
       c.settle.ensures.member (c.in_ok-run_to_short.ensures.short given kept);
   lowest = c.in_ok-settle.ensures.lowest;
   lacking = c.in_ok-settle.ensures.lacking;
-  duties = tells_further c.in_ok-run_to_short.ensures.duties c.in_ok-settle.ensures.duties;
-  comes = comes_later (forgets_no_lack _ _ _ c.settle.new.self.core.member.facts) c.in_ok-run_to_short.ensures.comes c.in_ok-settle.ensures.duties.risen (c.in_ok-settle.ensures.comes c.args.now);
+  due_work = tells_further c.in_ok-run_to_short.ensures.due_work c.in_ok-settle.ensures.due_work;
+  provenance = comes_later (forgets_no_lack _ _ _ c.settle.new.self.core.member.facts) c.in_ok-run_to_short.ensures.provenance c.in_ok-settle.ensures.due_work.risen (c.in_ok-settle.ensures.provenance c.args.now);
 }

@@ -11,31 +11,31 @@ use Rattle.engine_planner.proofs.StillAsking.{asks_over, asks_then, followed_ask
 use Rattle.simplex_engine.specs.Provenance.{is_final}
 use Rattle.simplex_engine.proofs.engine.Engine.follow.Goals as goal
 
-pub returns-in_err-see-clause-core : goal.returns-in_err-see-clause-core
-returns-in_err-see-clause-core g c = c.see.ensures.core
+pub returns-in_err-update_views-clause-core : goal.returns-in_err-update_views-clause-core
+returns-in_err-update_views-clause-core g c = c.update_views.ensures.core
 
-pub returns-in_err-see-clause-batcher : goal.returns-in_err-see-clause-batcher
-returns-in_err-see-clause-batcher g c = c.see.ensures.batcher
+pub returns-in_err-update_views-clause-batcher : goal.returns-in_err-update_views-clause-batcher
+returns-in_err-update_views-clause-batcher g c = c.update_views.ensures.batcher
 
 pub returns-in_err-follow-clause-core : goal.returns-in_err-follow-clause-core
-returns-in_err-follow-clause-core g c = c.see.ensures.core
+returns-in_err-follow-clause-core g c = c.update_views.ensures.core
 
 pub returns-in_err-follow-clause-batcher : goal.returns-in_err-follow-clause-batcher
-returns-in_err-follow-clause-batcher g c = c.see.ensures.batcher
+returns-in_err-follow-clause-batcher g c = c.update_views.ensures.batcher
 
 pub returns : goal.returns
 returns g c =
     let bytes_of = g.S.CertificateScheme.certificate_bytes in
-    let follows = followed_plans c.see.new.self.plan c.follow.new.self g.D.Digest.bytes bytes_of c.args.now c.args.task c.args.reply c.in_ok-follow.ensures.followed in
+    let follows = followed_plans c.update_views.new.self.plan c.follow.new.self g.D.Digest.bytes bytes_of c.args.now c.args.task c.args.reply c.in_ok-follow.ensures.followed in
     record {
-      core = c.see.ensures.core;
-      batcher = c.see.ensures.batcher;
+      core = c.update_views.ensures.core;
+      batcher = c.update_views.ensures.batcher;
       of_use = ap not c.says_nothing-is_of_use.ensures;
-      planned = plans_seen c.args.self.now.plan c.see.new.self.plan c.follow.new.self c.args.task (told bytes_of c.args.reply) c.in_ok-see.ensures.planned follows;
-      seen = come_same c.see.new.self (record (c.see.new.self) { plan = c.follow.new.self }) refl follows.reached c.in_ok-see.ensures.seen;
-      matters = among_further
-          (followed_by g.D.Digest.bytes bytes_of c.args.now c.args.task (call_of c.args.task c.args.now) c.args.reply c.see.new.self.plan c.follow.new.self c.in_ok-follow.ensures.followed)
-          (among_both c.in_ok-see.ensures.matters (among_still _));
-      asks = asks_then c.in_ok-see.ensures.asks (asks_over (λ kind view. is_final c.see.new.self.core.member.facts view)
-          (followed_asks g.D.Digest.bytes bytes_of c.args.now c.args.task c.args.reply c.see.new.self.plan c.follow.new.self c.in_ok-follow.ensures.followed));
+      planned = plans_seen c.args.self.now.plan c.update_views.new.self.plan c.follow.new.self c.args.task (told bytes_of c.args.reply) c.in_ok-update_views.ensures.planned follows;
+      seen = come_same c.update_views.new.self (record (c.update_views.new.self) { plan = c.follow.new.self }) refl follows.reached c.in_ok-update_views.ensures.seen;
+      causes = among_further
+          (followed_by g.D.Digest.bytes bytes_of c.args.now c.args.task (call_of c.args.task c.args.now) c.args.reply c.update_views.new.self.plan c.follow.new.self c.in_ok-follow.ensures.followed)
+          (among_both c.in_ok-update_views.ensures.causes (among_still _));
+      asks = asks_then c.in_ok-update_views.ensures.asks (asks_over (λ kind view. is_final c.update_views.new.self.core.member.facts view)
+          (followed_asks g.D.Digest.bytes bytes_of c.args.now c.args.task c.args.reply c.update_views.new.self.plan c.follow.new.self c.in_ok-follow.ensures.followed));
     }

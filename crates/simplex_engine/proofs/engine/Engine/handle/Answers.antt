@@ -10,7 +10,7 @@ use Rattle.simplex_engine.proofs.CertificateVotes.{input_backed_by_none, input_b
 use Rattle.simplex_engine.proofs.Bounds.{bounded_still, bounded_further, bounded_same}
 use Rattle.simplex_engine.proofs.Provenance.{input_lacks_none}
 use Rattle.simplex_engine.proofs.InputResults.{keeps_votes}
-use Rattle.simplex_engine.proofs.heights.Engines.{no_higher}
+use Rattle.simplex_engine.proofs.fetch_heights.Engines.{no_higher}
 use Rattle.simplex_engine.proofs.engine.Engine.handle.Goals as goal
 
 pub returns-then-has_failed : goal.returns-then-has_failed
@@ -18,7 +18,7 @@ returns-then-has_failed g c =
     let engine = c.args.self.now in
     let keys_of = g.S.CertificateScheme.participants in
     record {
-      goes_on = stays engine.core;
+      continues = stays engine.core;
       votes = takes_anyway (takes_nothing engine.batcher);
       held = keeps_votes c.args.input engine.batcher engine.batcher refl;
       backed = input_backed_by_none (length (keys_of engine.batcher.scheme)) c.args.input engine.batcher engine.core engine.core (stays engine.core);
@@ -26,13 +26,13 @@ returns-then-has_failed g c =
       unadmitted = λ _. tt;
       bounded = bounded_same keys_of engine.core engine.core engine.batcher refl;
       acted = λ _. tt;
-      duties = tt;
+      due_work = tt;
       ignored = tt;
       failed = sym c.has_failed.ensures ∙ c.if-has_failed.true;
       error = ap (λ had_failed. if had_failed then Failed else OutOfMemory) (sym (sym c.has_failed.ensures ∙ c.if-has_failed.true));
       refused = λ _. (refl, refl);
-      comes = tt;
-      heights = tt;
+      provenance = tt;
+      fetch_heights = tt;
     }
 
 pub returns-in-Ok : goal.returns-in-Ok
@@ -43,7 +43,7 @@ returns-in-Ok g c =
     c.args.input engine (ignoring engine) c.take.new.self) c.in-Ok.is c.take.ensures
     in
     record {
-      goes_on = taken.goes_on;
+      continues = taken.continues;
       votes = taken.votes;
       held = taken.held;
       backed = taken.backed;
@@ -51,14 +51,14 @@ returns-in-Ok g c =
       unadmitted = taken.unadmitted;
       bounded = taken.bounded;
       acted = taken.acted;
-      duties = taken.duties;
+      due_work = taken.due_work;
       ignored = taken.ignored;
       failed = tt;
       error = tt;
       refused = λ failed. absurd (false≢true (sym c.if-has_failed.false ∙ c.has_failed.ensures ∙ failed));
-      comes = taken.comes;
-      heights = λ term_length i all done. no_higher g.D.PartialEq.eq g.met.D.Digest.equal_is_same g.met.D.Digest.same_is_equal g.L.Elector.elect g.D.Digest.bytes
-          g.S.CertificateScheme.certificate_bytes c.args.now term_length i all done (input_lacks_none g.S.CertificateScheme.certificate_bytes engine.batcher c.args.input) taken.comes;
+      provenance = taken.provenance;
+      fetch_heights = λ term_length i all done. no_higher g.D.PartialEq.eq g.met.D.Digest.equal_is_same g.met.D.Digest.same_is_equal g.L.Elector.elect g.D.Digest.bytes
+          g.S.CertificateScheme.certificate_bytes c.args.now term_length i all done (input_lacks_none g.S.CertificateScheme.certificate_bytes engine.batcher c.args.input) taken.provenance;
     }
 
 pub returns-in-Err : goal.returns-in-Err
@@ -66,20 +66,20 @@ returns-in-Err g c =
     let engine = c.args.self.now in
     let keys_of = g.S.CertificateScheme.participants in
     record {
-      goes_on = goes_further c.take.ensures.goes_on (goes_on_anyway c.fail.ensures.goes_on);
+      continues = goes_further c.take.ensures.continues (goes_on_anyway c.fail.ensures.continues);
       votes = c.take.ensures.votes;
       held = c.take.ensures.held;
       backed = input_backed_then (length (keys_of engine.batcher.scheme)) c.args.input engine.batcher engine.core c.take.new.self.core c.fail.new.self
-          c.take.ensures.backed c.fail.ensures.goes_on;
+          c.take.ensures.backed c.fail.ensures.continues;
       dropped = tt;
       unadmitted = λ _. tt;
-      bounded = bounded_further keys_of c.take.ensures.bounded (bounded_still keys_of c.fail.ensures.goes_on (takes_nothing c.take.new.self.batcher));
+      bounded = bounded_further keys_of c.take.ensures.bounded (bounded_still keys_of c.fail.ensures.continues (takes_nothing c.take.new.self.batcher));
       acted = λ _. tt;
-      duties = tt;
+      due_work = tt;
       ignored = tt;
       failed = ap has_failed c.fail.ensures.failed;
       error = ap (λ had_failed. if had_failed then Failed else OutOfMemory) (sym (sym c.has_failed.ensures ∙ c.if-has_failed.false));
       refused = λ failed. absurd (false≢true (sym c.if-has_failed.false ∙ c.has_failed.ensures ∙ failed));
-      comes = tt;
-      heights = tt;
+      provenance = tt;
+      fetch_heights = tt;
     }

@@ -4,9 +4,9 @@ use Rattle.std.specs.Prelude.{option_to_list, IfErr, IsNone}
 use Rattle.std.proofs.lemmas.Bool.{true≢false}
 use Rattle.simplex_types.specs.declared.types.fault.Fault.{Fault}
 use Rattle.simplex_types.specs.declared.types.fault.Fault.TheVariants.{OutOfMemory, Failed}
-use Rattle.engine_outbox.specs.Finalizations.{TellsNoMore}
+use Rattle.engine_outbox.specs.Finalizations.{ReportsNoMore}
 use Rattle.simplex_engine.specs.Failures.{IsFailure}
-use Rattle.simplex_engine.specs.Inputs.{given_out}
+use Rattle.simplex_engine.specs.Inputs.{returned_outputs}
 use Rattle.simplex_engine.specs.AtRest.{ReturnsFirst}
 use Rattle.engine_outbox.proofs.Finalizations.{tells_still}
 use Rattle.simplex_engine.proofs.OwnSteps.{forgets_nothing}
@@ -19,9 +19,9 @@ use Rattle.simplex_engine.proofs.Tells.{tells_given, still_told, works_given}
 use Rattle.engine_planner.proofs.Causes.{among_last}
 use Rattle.engine_planner.proofs.PlannedWork.{among_further, among_still}
 use Rattle.engine_planner.proofs.PlanStates.{on_ok}
-use Rattle.simplex_engine.specs.Provenance.{at_hand, forgettable}
+use Rattle.simplex_engine.specs.Provenance.{pending_causes, forgettable}
 use Rattle.simplex_engine.proofs.Provenance.{comes_before, comes_still, forgets_no_lack, hand_given}
-use Rattle.simplex_engine.proofs.heights.Engines.{no_higher}
+use Rattle.simplex_engine.proofs.fetch_heights.Engines.{no_higher}
 use Rattle.simplex_engine.proofs.engine.Engine.poll.Goals as goal
 
 pub returns-then-has_failed-clause-does : goal.returns-then-has_failed-clause-does
@@ -34,12 +34,12 @@ pub returns-then-has_failed-clause-told : goal.returns-then-has_failed-clause-to
 returns-then-has_failed-clause-told g c = record { queued = refl; told = refl }
 
 pub returns-in-Some-clause-told : goal.returns-in-Some-clause-told
-returns-in-Some-clause-told g c = subst (λ out. TellsNoMore (option_to_list out) c.args.self.now.core.outbox c.next.new.self.outbox) c.in-Some.is c.next.ensures.told
+returns-in-Some-clause-told g c = subst (λ out. ReportsNoMore (option_to_list out) c.args.self.now.core.outbox c.next.new.self.outbox) c.in-Some.is c.next.ensures.told
 
 pub returns-in-None-clause-told : goal.returns-in-None-clause-told
 returns-in-None-clause-told g c =
-    tells_still (given_out c.poll_after_work.result) c.args.self.now.core.outbox c.next.new.self.outbox c.poll_after_work.new.self.core.outbox
-    (subst (λ out. TellsNoMore (option_to_list out) c.args.self.now.core.outbox c.next.new.self.outbox) c.in-None.is c.next.ensures.told) c.poll_after_work.ensures.told
+    tells_still (returned_outputs c.poll_after_work.result) c.args.self.now.core.outbox c.next.new.self.outbox c.poll_after_work.new.self.core.outbox
+    (subst (λ out. ReportsNoMore (option_to_list out) c.args.self.now.core.outbox c.next.new.self.outbox) c.in-None.is c.next.ensures.told) c.poll_after_work.ensures.told
 
 pub returns-then-has_failed-clause-bounded : goal.returns-then-has_failed-clause-bounded
 returns-then-has_failed-clause-bounded g c = bounded_same g.S.CertificateScheme.participants c.args.self.now.core c.args.self.now.core c.args.self.now.batcher refl
@@ -55,14 +55,14 @@ returns-in-None-clause-admitted g c = λ within.
     (λ out lowest none. bounded_admitted keys_of c.poll_after_work.new.self.core c.poll_after_work.new.self.batcher
     (c.poll_after_work.ensures.bounded.stays (same.stays within)) (lowest none))
 
-pub returns-in-Some-clause-duties : goal.returns-in-Some-clause-duties
-returns-in-Some-clause-duties g c =
+pub returns-in-Some-clause-due_work : goal.returns-in-Some-clause-due_work
+returns-in-Some-clause-due_work g c =
     tells_given c.args.self.now (record c.args.self.now { core = c.next.new.self }) _ c.next.ensures.same.0 refl
     (subst (λ out. c.args.self.now.core.outbox.queue.items ≡ option_to_list out ++ c.next.new.self.outbox.queue.items) c.in-Some.is c.next.ensures.front)
 
-pub returns-in-None-clause-duties : goal.returns-in-None-clause-duties
-returns-in-None-clause-duties g c =
-    on_ok c.poll_after_work.result c.poll_after_work.ensures.duties (λ more given told. more given (still_told c.args.self.now c.next.new.self c.next.ensures.same.0
+pub returns-in-None-clause-due_work : goal.returns-in-None-clause-due_work
+returns-in-None-clause-due_work g c =
+    on_ok c.poll_after_work.result c.poll_after_work.ensures.due_work (λ more given told. more given (still_told c.args.self.now c.next.new.self c.next.ensures.same.0
     (subst (λ out. c.args.self.now.core.outbox.queue.items ≡ option_to_list out ++ c.next.new.self.outbox.queue.items) c.in-None.is c.next.ensures.front) given told))
 
 pub returns-in-None-clause-waiting : goal.returns-in-None-clause-waiting
@@ -114,16 +114,16 @@ returns-in-None-clause-early g c =
     on_ok c.poll_after_work.result c.poll_after_work.ensures.early
     (λ more come. more (come_beside c.args.self.now (record c.args.self.now { core = c.next.new.self }) c.next.ensures.same.0 refl come))
 
-pub returns-in-Some-clause-comes : goal.returns-in-Some-clause-comes
-returns-in-Some-clause-comes g c =
+pub returns-in-Some-clause-provenance : goal.returns-in-Some-clause-provenance
+returns-in-Some-clause-provenance g c =
     let came = forgettable c.next.new.self.member.facts in
     comes_still (ap (λ m. m.facts) c.next.ensures.same.0) refl (forgets_no_lack _ _ _ c.next.new.self.member.facts)
     (among_further (hand_given c.args.self.now (record c.args.self.now { core = c.next.new.self }) (c.in-Some.output ∷ [])
-    (subst (λ out. c.args.self.now.core.outbox.queue.items ≡ option_to_list out ++ c.next.new.self.outbox.queue.items) c.in-Some.is c.next.ensures.front) refl) (among_last came (at_hand c.args.self.now)))
+    (subst (λ out. c.args.self.now.core.outbox.queue.items ≡ option_to_list out ++ c.next.new.self.outbox.queue.items) c.in-Some.is c.next.ensures.front) refl) (among_last came (pending_causes c.args.self.now)))
 
-pub returns-in-None-clause-comes : goal.returns-in-None-clause-comes
-returns-in-None-clause-comes g c =
-    on_ok c.poll_after_work.result c.poll_after_work.ensures.comes (comes_before (ap (λ m. m.facts) c.next.ensures.same.0) refl
+pub returns-in-None-clause-provenance : goal.returns-in-None-clause-provenance
+returns-in-None-clause-provenance g c =
+    on_ok c.poll_after_work.result c.poll_after_work.ensures.provenance (comes_before (ap (λ m. m.facts) c.next.ensures.same.0) refl
     (hand_given c.args.self.now (record c.args.self.now { core = c.next.new.self }) []
     (subst (λ out. c.args.self.now.core.outbox.queue.items ≡ option_to_list out ++ c.next.new.self.outbox.queue.items) c.in-None.is c.next.ensures.front) refl))
 
@@ -134,16 +134,16 @@ pub returns-in-None-clause-error : goal.returns-in-None-clause-error
 returns-in-None-clause-error g c =
     subst (λ had_failed. IfErr c.poll_after_work.result (IsFailure had_failed)) (sym (sym c.has_failed.ensures ∙ c.if-has_failed.false)) c.poll_after_work.ensures.error
 
-pub returns-in-Some-clause-heights : goal.returns-in-Some-clause-heights
-returns-in-Some-clause-heights g c term_length i all done =
+pub returns-in-Some-clause-fetch_heights : goal.returns-in-Some-clause-fetch_heights
+returns-in-Some-clause-fetch_heights g c term_length i all done =
     no_higher g.D.PartialEq.eq g.met.D.Digest.equal_is_same g.met.D.Digest.same_is_equal g.L.Elector.elect g.D.Digest.bytes g.S.CertificateScheme.certificate_bytes c.args.now term_length i all done
-    (forgets_no_lack _ _ _ c.next.new.self.member.facts) (returns-in-Some-clause-comes g c)
+    (forgets_no_lack _ _ _ c.next.new.self.member.facts) (returns-in-Some-clause-provenance g c)
 
-pub returns-in-None-clause-heights : goal.returns-in-None-clause-heights
-returns-in-None-clause-heights g c =
-    on_ok c.poll_after_work.result (returns-in-None-clause-comes g c)
-    (λ comes term_length i all done. no_higher g.D.PartialEq.eq g.met.D.Digest.equal_is_same g.met.D.Digest.same_is_equal g.L.Elector.elect g.D.Digest.bytes g.S.CertificateScheme.certificate_bytes
-    c.args.now term_length i all done (forgets_no_lack _ _ _ c.poll_after_work.new.self.core.member.facts) comes)
+pub returns-in-None-clause-fetch_heights : goal.returns-in-None-clause-fetch_heights
+returns-in-None-clause-fetch_heights g c =
+    on_ok c.poll_after_work.result (returns-in-None-clause-provenance g c)
+    (λ provenance term_length i all done. no_higher g.D.PartialEq.eq g.met.D.Digest.equal_is_same g.met.D.Digest.same_is_equal g.L.Elector.elect g.D.Digest.bytes g.S.CertificateScheme.certificate_bytes
+    c.args.now term_length i all done (forgets_no_lack _ _ _ c.poll_after_work.new.self.core.member.facts) provenance)
 
 pub returns-then-has_failed-clause-traced : goal.returns-then-has_failed-clause-traced
 returns-then-has_failed-clause-traced g c = gives_none (stays c.args.self.now.core)
@@ -159,7 +159,7 @@ returns-in-Some-clause-traced g c =
 pub returns-in-None-clause-traced : goal.returns-in-None-clause-traced
 returns-in-None-clause-traced g c =
     let old = c.args.self.now.core in
-    gives_later {a = old} {b = c.next.new.self} {c = c.poll_after_work.new.self.core} (given_out c.poll_after_work.result)
+    gives_later {a = old} {b = c.next.new.self} {c = c.poll_after_work.new.self.core} (returned_outputs c.poll_after_work.result)
     (subst (λ out. EmitsTraced g.D.PartialEq.eq g.L.Elector.elect g.S.CertificateScheme.certificate_bytes (option_to_list out) old c.next.new.self) c.in-None.is c.next.ensures.traced)
     (subst (λ out. EmitsSigned g.S.Scheme.IsSignature (option_to_list out) old c.next.new.self) c.in-None.is c.next.ensures.signed)
     c.next.ensures.same.0 c.poll_after_work.ensures.traced

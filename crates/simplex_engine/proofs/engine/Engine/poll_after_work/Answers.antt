@@ -3,7 +3,7 @@ use Rattle.std.proofs.Common.{◌≡◌, [], true, refl, ap, sym, subst, length,
 use Rattle.std.specs.Prelude.{IfSome, option_to_list}
 use Rattle.simplex_voter.specs.Windows.{min_active}
 use Rattle.engine_votes.specs.StoredVotes.{HoldsFrom}
-use Rattle.engine_fetches.specs.OutstandingFetches.{holds, AsksForTheLacking}
+use Rattle.engine_fetches.specs.OutstandingFetches.{holds, FetchesTheMissing}
 use Rattle.engine_outbox.specs.Continuity.{has_failed}
 use Rattle.engine_outbox.specs.RecordReach.{IsShort}
 use Rattle.simplex_engine.specs.NothingDue.{HasNothingNew}
@@ -16,24 +16,24 @@ use Rattle.engine_outbox.specs.Outputs.{work_in}
 use Rattle.engine_planner.specs.Blocks.{builds_from}
 use Rattle.engine_planner.proofs.PlannedWork.{among_further}
 use Rattle.simplex_engine.proofs.BuildBounds.{come_beside, near_same}
-use Rattle.simplex_engine.specs.MemberViews.{StaysEarly}
-use Rattle.simplex_engine.specs.Provenance.{forgettable, held_by, Comes}
+use Rattle.simplex_engine.specs.MemberViews.{StaysStoredEarly}
+use Rattle.simplex_engine.specs.Provenance.{forgettable, held_by, IsCaused}
 use Rattle.simplex_engine.proofs.Provenance.{comes_still, comes_then, hand_given, risen_facts}
 use Rattle.std.specs.Option.{option_map_or}
 use Rattle.simplex_engine.proofs.engine.Engine.poll_after_work.Goals as goal
 
 pub returns-in-Ok-clause-given : goal.returns-in-Ok-clause-given
-returns-in-Ok-clause-given g c = λ given kept. c.next.ensures.kept given (c.work.ensures.alone.goes_on.kept given kept)
+returns-in-Ok-clause-given g c = λ given kept. c.next.ensures.kept given (c.work.ensures.alone.continues.kept given kept)
 
 pub returns-in-Ok-clause-does : goal.returns-in-Ok-clause-does
-returns-in-Ok-clause-does g c = does_more c.args.self.now.core c.work.new.self.core c.next.new.self c.work.ensures.alone.goes_on c.next.ensures.same.0
+returns-in-Ok-clause-does g c = does_more c.args.self.now.core c.work.new.self.core c.next.new.self c.work.ensures.alone.continues c.next.ensures.same.0
 
 pub returns-in-Ok-clause-told : goal.returns-in-Ok-clause-told
 returns-in-Ok-clause-told g c =
-    tells_no_other_then c.args.self.now.core c.work.new.self.core c.work.ensures.alone.goes_on c.next.new.self (option_to_list c.next.result) c.next.ensures.told
+    tells_no_other_then c.args.self.now.core c.work.new.self.core c.work.ensures.alone.continues c.next.new.self (option_to_list c.next.result) c.next.ensures.told
 
 pub returns-in-Err-clause-told : goal.returns-in-Err-clause-told
-returns-in-Err-clause-told g c = tells_no_other c.args.self.now.core c.fail.new.self (goes_further c.work.ensures.alone.goes_on c.fail.ensures.goes_on)
+returns-in-Err-clause-told g c = tells_no_other c.args.self.now.core c.fail.new.self (goes_further c.work.ensures.alone.continues c.fail.ensures.continues)
 
 pub returns-in-Ok-clause-none : goal.returns-in-Ok-clause-none
 returns-in-Ok-clause-none g c = λ none. record {
@@ -50,11 +50,11 @@ pub returns-in-Ok-clause-votes : goal.returns-in-Ok-clause-votes
 returns-in-Ok-clause-votes g c = c.work.ensures.alone.votes
 
 pub returns-in-Err-clause-given : goal.returns-in-Err-clause-given
-returns-in-Err-clause-given g c = gives_nothing (goes_further c.work.ensures.alone.goes_on c.fail.ensures.goes_on)
+returns-in-Err-clause-given g c = gives_nothing (goes_further c.work.ensures.alone.continues c.fail.ensures.continues)
 
 pub returns-in-Err-clause-does : goal.returns-in-Err-clause-does
 returns-in-Err-clause-does g c =
-    does_more c.args.self.now.core c.fail.new.self c.fail.new.self (goes_further c.work.ensures.alone.goes_on c.fail.ensures.goes_on) refl
+    does_more c.args.self.now.core c.fail.new.self c.fail.new.self (goes_further c.work.ensures.alone.continues c.fail.ensures.continues) refl
 
 pub returns-in-Err-clause-votes : goal.returns-in-Err-clause-votes
 returns-in-Err-clause-votes g c = c.work.ensures.alone.votes
@@ -73,27 +73,27 @@ returns-in-Ok-clause-ahead g c none =
 pub returns-in-Ok-clause-lacking : goal.returns-in-Ok-clause-lacking
 returns-in-Ok-clause-lacking g c none =
     let repair = c.work.new.self.plan.repair in
-    subst (λ m. IfSome m.facts.life (λ x. AsksForTheLacking repair.resolver.open_fetches x repair.fetches.wanted.items)) (sym c.next.ensures.same.0) c.in-Ok.ensures.lacking
+    subst (λ m. IfSome m.facts.life (λ x. FetchesTheMissing repair.resolver.open_fetches x repair.fetches.wanted.items)) (sym c.next.ensures.same.0) c.in-Ok.ensures.lacking
 
 pub returns-in-Ok-clause-bounded : goal.returns-in-Ok-clause-bounded
 returns-in-Ok-clause-bounded g c =
-    bounded_further g.S.CertificateScheme.participants (bounded_still g.S.CertificateScheme.participants c.work.ensures.alone.goes_on c.work.ensures.alone.votes)
+    bounded_further g.S.CertificateScheme.participants (bounded_still g.S.CertificateScheme.participants c.work.ensures.alone.continues c.work.ensures.alone.votes)
     (bounded_same g.S.CertificateScheme.participants c.work.new.self.core c.next.new.self c.work.new.self.batcher c.next.ensures.same.0)
 
 pub returns-in-Err-clause-bounded : goal.returns-in-Err-clause-bounded
 returns-in-Err-clause-bounded g c =
-    bounded_further g.S.CertificateScheme.participants (bounded_still g.S.CertificateScheme.participants c.work.ensures.alone.goes_on c.work.ensures.alone.votes)
-    (bounded_still g.S.CertificateScheme.participants c.fail.ensures.goes_on (takes_nothing c.work.new.self.batcher))
+    bounded_further g.S.CertificateScheme.participants (bounded_still g.S.CertificateScheme.participants c.work.ensures.alone.continues c.work.ensures.alone.votes)
+    (bounded_still g.S.CertificateScheme.participants c.fail.ensures.continues (takes_nothing c.work.new.self.batcher))
 
-pub returns-in-Ok-clause-duties : goal.returns-in-Ok-clause-duties
-returns-in-Ok-clause-duties g c = λ given told.
+pub returns-in-Ok-clause-due_work : goal.returns-in-Ok-clause-due_work
+returns-in-Ok-clause-due_work g c = λ given told.
     tells_given c.work.new.self (record (c.work.new.self) { core = c.next.new.self }) (option_to_list c.next.result) c.next.ensures.same.0 refl c.next.ensures.front given
-    (c.in-Ok.ensures.duties.stays (work_in given) told)
+    (c.in-Ok.ensures.due_work.stays (work_in given) told)
 
 pub returns-in-Ok-clause-waiting : goal.returns-in-Ok-clause-waiting
 returns-in-Ok-clause-waiting g c = λ none given told.
     all_left c.work.new.self (record (c.work.new.self) { core = c.next.new.self }) c.next.result none c.next.ensures.same.0 (c.next.ensures.none none) c.in-Ok.ensures.idle.steps refl c.next.ensures.front given
-    (c.in-Ok.ensures.duties.stays (work_in given) told)
+    (c.in-Ok.ensures.due_work.stays (work_in given) told)
 
 pub returns-in-Ok-clause-held : goal.returns-in-Ok-clause-held
 returns-in-Ok-clause-held g c = forgets_as c.work.new.self.core c.next.new.self c.args.self.now.batcher c.work.new.self.batcher c.next.ensures.same.0 c.work.ensures.alone.forgets
@@ -104,7 +104,7 @@ returns-in-Err-clause-held g c =
 
 pub returns-in-Ok-clause-works : goal.returns-in-Ok-clause-works
 returns-in-Ok-clause-works g c =
-    among_further c.in-Ok.ensures.duties.works
+    among_further c.in-Ok.ensures.due_work.works
     (works_given c.work.new.self (record (c.work.new.self) { core = c.next.new.self }) (option_to_list c.next.result) refl c.next.ensures.front)
 
 pub returns-in-Ok-clause-short : goal.returns-in-Ok-clause-short
@@ -113,27 +113,27 @@ returns-in-Ok-clause-short g c given kept none =
 
 pub returns-in-Ok-clause-near : goal.returns-in-Ok-clause-near
 returns-in-Ok-clause-near g c near =
-    near_same c.work.new.self (record (c.work.new.self) { core = c.next.new.self }) c.next.ensures.same.0 refl (c.in-Ok.ensures.duties.near near)
+    near_same c.work.new.self (record (c.work.new.self) { core = c.next.new.self }) c.next.ensures.same.0 refl (c.in-Ok.ensures.due_work.near near)
 
 pub returns-in-Ok-clause-seen : goal.returns-in-Ok-clause-seen
 returns-in-Ok-clause-seen g c come =
-    come_beside c.work.new.self (record (c.work.new.self) { core = c.next.new.self }) c.next.ensures.same.0 refl (c.in-Ok.ensures.duties.seen come)
+    come_beside c.work.new.self (record (c.work.new.self) { core = c.next.new.self }) c.next.ensures.same.0 refl (c.in-Ok.ensures.due_work.seen come)
 
 pub returns-in-Ok-clause-early : goal.returns-in-Ok-clause-early
 returns-in-Ok-clause-early g c come =
-    subst (λ m. StaysEarly c.args.self.now.plan m.facts c.work.new.self.plan) (sym c.next.ensures.same.0) (c.in-Ok.ensures.duties.early come)
+    subst (λ m. StaysStoredEarly c.args.self.now.plan m.facts c.work.new.self.plan) (sym c.next.ensures.same.0) (c.in-Ok.ensures.due_work.early come)
 
-pub returns-in-Ok-clause-comes : goal.returns-in-Ok-clause-comes
-returns-in-Ok-clause-comes g c =
+pub returns-in-Ok-clause-provenance : goal.returns-in-Ok-clause-provenance
+returns-in-Ok-clause-provenance g c =
     let repair = c.work.new.self.plan.repair in
-    comes_then (subst (λ came. Comes g.D.PartialEq.eq g.L.Elector.elect g.D.Digest.bytes g.S.CertificateScheme.certificate_bytes c.args.now came [] (held_by c.work.new.self) c.args.self.now c.work.new.self)
-    (ap (λ m. forgettable m.facts) (sym c.next.ensures.same.0)) c.in-Ok.ensures.comes)
+    comes_then (subst (λ came. IsCaused g.D.PartialEq.eq g.L.Elector.elect g.D.Digest.bytes g.S.CertificateScheme.certificate_bytes c.args.now came [] (held_by c.work.new.self) c.args.self.now c.work.new.self)
+    (ap (λ m. forgettable m.facts) (sym c.next.ensures.same.0)) c.in-Ok.ensures.provenance)
     (λ kind view un. subst (λ m. option_map_or (λ x. holds repair.resolver.open_fetches x kind view) m.facts.life true ≡ false) c.next.ensures.same.0 un)
     (risen_facts (ap (λ m. m.facts) c.next.ensures.same.0)) (comes_still (ap (λ m. m.facts) c.next.ensures.same.0) refl (λ kind view. refl)
     (hand_given c.work.new.self (record (c.work.new.self) { core = c.next.new.self }) (option_to_list c.next.result) c.next.ensures.front refl))
 
 pub returns-in-Ok-clause-traced : goal.returns-in-Ok-clause-traced
-returns-in-Ok-clause-traced g c = gives_then c.next.new.self (option_to_list c.next.result) c.work.ensures.alone.goes_on c.next.ensures.traced c.next.ensures.signed c.next.ensures.same.0
+returns-in-Ok-clause-traced g c = gives_then c.next.new.self (option_to_list c.next.result) c.work.ensures.alone.continues c.next.ensures.traced c.next.ensures.signed c.next.ensures.same.0
 
 pub returns-in-Err-clause-traced : goal.returns-in-Err-clause-traced
-returns-in-Err-clause-traced g c = gives_none (goes_further c.work.ensures.alone.goes_on c.fail.ensures.goes_on)
+returns-in-Err-clause-traced g c = gives_none (goes_further c.work.ensures.alone.continues c.fail.ensures.continues)

@@ -11,11 +11,11 @@ returns-clause-planned g c = plans_opened _ _ c.args.self.now.plan c.resolve.new
 pub returns-in_err-resolve-clause-planned : goal.returns-in_err-resolve-clause-planned
 returns-in_err-resolve-clause-planned g c = plans_opened _ _ c.args.self.now.plan c.resolve.new.self c.resolve.result c.resolve.ensures.same c.resolve.ensures.opened c.resolve.ensures.refused
 
-pub returns-clause-matters : goal.returns-clause-matters
-returns-clause-matters g c = resolved c.resolve.result _ _ _ _ c.args.self.now.plan c.resolve.new.self c.resolve.ensures.same c.resolve.ensures.opened c.resolve.ensures.refused
+pub returns-clause-causes : goal.returns-clause-causes
+returns-clause-causes g c = resolved c.resolve.result _ _ _ _ c.args.self.now.plan c.resolve.new.self c.resolve.ensures.same c.resolve.ensures.opened c.resolve.ensures.refused
 
-pub returns-in_err-resolve-clause-matters : goal.returns-in_err-resolve-clause-matters
-returns-in_err-resolve-clause-matters g c = resolved c.resolve.result _ _ _ _ c.args.self.now.plan c.resolve.new.self c.resolve.ensures.same c.resolve.ensures.opened c.resolve.ensures.refused
+pub returns-in_err-resolve-clause-causes : goal.returns-in_err-resolve-clause-causes
+returns-in_err-resolve-clause-causes g c = resolved c.resolve.result _ _ _ _ c.args.self.now.plan c.resolve.new.self c.resolve.ensures.same c.resolve.ensures.opened c.resolve.ensures.refused
 
 pub returns-clause-asks : goal.returns-clause-asks
 returns-clause-asks g c = resolves_asks {X = Unit {0}} {E = Unit {0}} (Ok tt) _ _ _ _ c.args.self.now.plan c.resolve.new.self c.resolve.ensures.same c.in_ok-resolve.ensures.opened tt

@@ -3,14 +3,14 @@ use Rattle.std.proofs.Common.{◌≡◌, sym, subst, ap, ◌∙◌, refl, inr, O
 use Rattle.simplex_record.specs.Entries.{entries_of}
 use Rattle.simplex_record.specs.Start.{start_facts}
 use Rattle.simplex_member.specs.Journal.{IsResumed}
-use Rattle.laws_safety.specs.MemberHistory.{HasGoneOn}
+use Rattle.laws_safety.specs.MemberHistory.{HasContinued}
 use Rattle.simplex_engine.proofs.Bounds.{bounded_empty}
 use Rattle.engine_outbox.proofs.Continuity.{where_ok}
 use Rattle.simplex_engine.proofs.Tells.{restart_waits, tells_none}
 use Rattle.std.proofs.lemmas.Bool.{eqb-true}
-use Rattle.simplex_engine.proofs.EngineStart.{has_retry, not_begun}
+use Rattle.simplex_engine.proofs.EngineStart.{has_retry, engine_not_started}
 use Rattle.simplex_engine.proofs.Provenance.{both_ok, nothing_held}
-use Rattle.simplex_engine.proofs.heights.Engines.{heights_begun}
+use Rattle.simplex_engine.proofs.fetch_heights.Engines.{heights_begun}
 use Rattle.simplex_record.specs.Votes.{votes_of}
 use Rattle.simplex_engine.proofs.engine.Engine.resume.Goals as goal
 
@@ -22,11 +22,11 @@ returns-in-Ok-clause-resumed g c =
     (start_facts g.S.CertificateScheme.me g.S.CertificateScheme.participants g.L.Elector.terms g.L.Elector.elects_early g.S.CertificateScheme.certificate_bytes c.args.start)
     m.facts) (sym is) c.in-Ok.ensures.resumed)
 
-pub returns-in-Ok-clause-goes_on : goal.returns-in-Ok-clause-goes_on
-returns-in-Ok-clause-goes_on g c =
+pub returns-in-Ok-clause-continues : goal.returns-in-Ok-clause-continues
+returns-in-Ok-clause-continues g c =
     where_ok c.begin.result c.begin.ensures.member
-    (λ engine is. subst (λ m. HasGoneOn g.D.PartialEq.eq g.L.Elector.elect g.S.CertificateScheme.me g.L.Elector.terms c.args.stored
-    (entries_of g.S.CertificateScheme.certificate_bytes c.args.entries.items) c.args.start m.facts) (sym is) c.in-Ok.ensures.goes_on)
+    (λ engine is. subst (λ m. HasContinued g.D.PartialEq.eq g.L.Elector.elect g.S.CertificateScheme.me g.L.Elector.terms c.args.stored
+    (entries_of g.S.CertificateScheme.certificate_bytes c.args.entries.items) c.args.start m.facts) (sym is) c.in-Ok.ensures.continues)
 
 pub returns-in-Ok-clause-bounded : goal.returns-in-Ok-clause-bounded
 returns-in-Ok-clause-bounded g c =
@@ -34,13 +34,13 @@ returns-in-Ok-clause-bounded g c =
     (λ engine begun. bounded_empty g.S.CertificateScheme.participants engine.core engine.batcher begun.votes)
 
 pub returns-in-Ok-clause-refused : goal.returns-in-Ok-clause-refused
-returns-in-Ok-clause-refused g c = not_begun c.begin.result _ _ _ c.in-Ok.member.facts c.in-Ok.ensures.resumed c.begin.ensures.refused
+returns-in-Ok-clause-refused g c = engine_not_started c.begin.result _ _ _ c.in-Ok.member.facts c.in-Ok.ensures.resumed c.begin.ensures.refused
 
 pub returns-in-Err-clause-refused : goal.returns-in-Err-clause-refused
 returns-in-Err-clause-refused g c = inr c.in-Err.ensures.refused
 
-pub returns-in-Ok-clause-duties : goal.returns-in-Ok-clause-duties
-returns-in-Ok-clause-duties g c =
+pub returns-in-Ok-clause-due_work : goal.returns-in-Ok-clause-due_work
+returns-in-Ok-clause-due_work g c =
     where_ok c.begin.result c.begin.ensures.member
     (λ engine is. tells_none engine (ap (λ m. m.facts.outstanding_work) is ∙ restart_waits g.D.PartialEq.eq g.L.Elector.elect _ _ (Ok tt) _ refl c.in-Ok.ensures.resumed.restarted))
 
@@ -49,8 +49,8 @@ returns-in-Ok-clause-nothing g c =
     both_ok c.begin.result c.begin.ensures.queued (c.begin.ensures.begun _ _ _ c.in_ok-company.ensures)
     (λ engine queued begun. nothing_held g.D.Digest.bytes g.S.CertificateScheme.certificate_bytes g.S.CertificateScheme.participants _ _ _ _ engine queued begun)
 
-pub returns-in-Ok-clause-heights : goal.returns-in-Ok-clause-heights
-returns-in-Ok-clause-heights g c =
+pub returns-in-Ok-clause-fetch_heights : goal.returns-in-Ok-clause-fetch_heights
+returns-in-Ok-clause-fetch_heights g c =
     where_ok c.begin.result (c.begin.ensures.begun _ _ _ c.in_ok-company.ensures)
     (λ engine begun. heights_begun g.D.Digest.bytes g.S.CertificateScheme.participants _ _ _ _ engine begun)
 

@@ -3,7 +3,7 @@ use Rattle.std.proofs.Common.{refl}
 use Rattle.simplex_engine.proofs.OwnSteps.{alone_still, alone_further}
 use Rattle.simplex_engine.proofs.Tells.{tells_still, tells_further}
 use Rattle.engine_planner.proofs.PlannedWork.{among_still}
-use Rattle.simplex_engine.specs.Provenance.{at_hand}
+use Rattle.simplex_engine.specs.Provenance.{pending_causes}
 use Rattle.simplex_engine.proofs.Provenance.{comes_on, comes_still}
 use Rattle.simplex_engine.proofs.engine.Engine.run_all.Goals as goal
 
@@ -16,19 +16,19 @@ returns-then-branch g c = record {
   quiet = c.in_ok-run_and_ask.ensures.quiet c.if-branch.true;
   idle = c.in_ok-run_and_ask.ensures.idle c.if-branch.true;
   ahead = c.in_ok-run_and_ask.ensures.ahead c.if-branch.true;
-  duties = tells_further c.loop.invariant.duties c.in_ok-run_and_ask.ensures.duties;
-  comes = comes_on c.loop.invariant.comes c.in_ok-run_and_ask.ensures.duties.risen c.in_ok-run_and_ask.ensures.comes;
+  due_work = tells_further c.loop.invariant.due_work c.in_ok-run_and_ask.ensures.due_work;
+  provenance = comes_on c.loop.invariant.provenance c.in_ok-run_and_ask.ensures.due_work.risen c.in_ok-run_and_ask.ensures.provenance;
 }
 
 pub loop-init : goal.loop-init
-loop-init g c = record { alone = alone_still c.args.self.now; duties = tells_still c.args.self.now; comes = comes_still refl refl (λ kind view. refl) (among_still (at_hand c.args.self.now)) }
+loop-init g c = record { alone = alone_still c.args.self.now; due_work = tells_still c.args.self.now; provenance = comes_still refl refl (λ kind view. refl) (among_still (pending_causes c.args.self.now)) }
 
 pub loop-preserved : goal.loop-preserved
 loop-preserved g c = record {
   alone = alone_further c.loop.invariant.alone c.run_and_ask.ensures.alone;
-  duties = tells_further c.loop.invariant.duties c.in_ok-run_and_ask.ensures.duties;
-  comes = comes_on c.loop.invariant.comes c.in_ok-run_and_ask.ensures.duties.risen c.in_ok-run_and_ask.ensures.comes;
+  due_work = tells_further c.loop.invariant.due_work c.in_ok-run_and_ask.ensures.due_work;
+  provenance = comes_on c.loop.invariant.provenance c.in_ok-run_and_ask.ensures.due_work.risen c.in_ok-run_and_ask.ensures.provenance;
 }
 
 pub returns : goal.returns
-returns g c = record { alone = c.loop.invariant.alone; quiet = tt; idle = tt; ahead = tt; duties = tt; comes = tt }
+returns g c = record { alone = c.loop.invariant.alone; quiet = tt; idle = tt; ahead = tt; due_work = tt; provenance = tt }

@@ -2,12 +2,12 @@
 use Rattle.std.proofs.Common.{None, sym, subst, ap}
 use Rattle.std.proofs.lemmas.Bool.{false≢true}
 use Rattle.std.proofs.lemmas.Result.{IfOk-weaker}
-use Rattle.engine_outbox.specs.Continuity.{GoesOn}
+use Rattle.engine_outbox.specs.Continuity.{Continues}
 use Rattle.engine_outbox.proofs.Continuity.{stays}
 use Rattle.engine_planner.specs.PlanStates.{IsIdle}
 use Rattle.engine_planner.proofs.PlanStates.{on_ok, on_ok_both}
 use Rattle.simplex_engine.specs.BuildBounds.{BuildsAhead}
-use Rattle.simplex_engine.specs.NothingDue.{for_work, AnswerNothing}
+use Rattle.simplex_engine.specs.NothingDue.{for_work, ReturnNothing}
 use Rattle.simplex_engine.proofs.OwnSteps.{alone_further, alone_with}
 use Rattle.simplex_engine.proofs.Tells.{tells_further, tells_planned}
 use Rattle.engine_outbox.specs.Outputs.{work_in}
@@ -27,8 +27,8 @@ returns-then-not-branch g c = record {
   quiet = λ is. absurd (false≢true is);
   idle = λ is. absurd (false≢true is);
   ahead = λ is. absurd (false≢true is);
-  duties = tells_further c.in_ok-run.ensures.duties c.in_ok-ask_for_work.ensures.duties;
-  comes = comes_on c.in_ok-run.ensures.comes c.in_ok-ask_for_work.ensures.duties.risen c.in_ok-ask_for_work.ensures.comes;
+  due_work = tells_further c.in_ok-run.ensures.due_work c.in_ok-ask_for_work.ensures.due_work;
+  provenance = comes_on c.in_ok-run.ensures.provenance c.in_ok-ask_for_work.ensures.due_work.risen c.in_ok-ask_for_work.ensures.provenance;
 }
 
 pub returns-then-not-is_idle : goal.returns-then-not-is_idle
@@ -37,8 +37,8 @@ returns-then-not-is_idle g c = record {
   quiet = λ is. absurd (false≢true is);
   idle = λ is. absurd (false≢true is);
   ahead = λ is. absurd (false≢true is);
-  duties = tells_further c.in_ok-run.ensures.duties c.in_ok-ask_for_work.ensures.duties;
-  comes = comes_on c.in_ok-run.ensures.comes c.in_ok-ask_for_work.ensures.duties.risen c.in_ok-ask_for_work.ensures.comes;
+  due_work = tells_further c.in_ok-run.ensures.due_work c.in_ok-ask_for_work.ensures.due_work;
+  provenance = comes_on c.in_ok-run.ensures.provenance c.in_ok-ask_for_work.ensures.due_work.risen c.in_ok-ask_for_work.ensures.provenance;
 }
 
 pub returns-then-not-builds_ahead : goal.returns-then-not-builds_ahead
@@ -47,8 +47,8 @@ returns-then-not-builds_ahead g c = record {
   quiet = λ is. absurd (false≢true is);
   idle = λ is. absurd (false≢true is);
   ahead = λ is. absurd (false≢true is);
-  duties = tells_further c.in_ok-run.ensures.duties c.in_ok-ask_for_work.ensures.duties;
-  comes = comes_on c.in_ok-run.ensures.comes c.in_ok-ask_for_work.ensures.duties.risen c.in_ok-ask_for_work.ensures.comes;
+  due_work = tells_further c.in_ok-run.ensures.due_work c.in_ok-ask_for_work.ensures.due_work;
+  provenance = comes_on c.in_ok-run.ensures.provenance c.in_ok-ask_for_work.ensures.due_work.risen c.in_ok-ask_for_work.ensures.provenance;
 }
 
 pub returns : goal.returns
@@ -61,19 +61,19 @@ returns g c =
     let is = c.plan_due_votes.ensures in
     record {
       alone = alone_further c.run.ensures.alone (alone_further c.ask_for_work.ensures.alone
-          (alone_with asked left (subst (GoesOn same elect g.S.CertificateScheme.certificate_bytes g.S.Scheme.IsSignature None asked.core) (sym is.core) (stays asked.core)) is.batcher));
+          (alone_with asked left (subst (Continues same elect g.S.CertificateScheme.certificate_bytes g.S.Scheme.IsSignature None asked.core) (sym is.core) (stays asked.core)) is.batcher));
       quiet = IfOk-weaker c.plan_due_votes.result _ _ (λ nothing holds none. record {
         before = before;
-        asked = subst (λ core. AnswerNothing same elect before for_work core.member.facts) (sym is.core) (c.in_ok-ask_for_work.ensures.nothing c.if-not-branch.false);
+        asked = subst (λ core. ReturnNothing same elect before for_work core.member.facts) (sym is.core) (c.in_ok-ask_for_work.ensures.nothing c.if-not-branch.false);
         own = (holds none).0;
       }) is.nothing;
       idle = IfOk-weaker c.plan_due_votes.result _ _ (λ nothing holds none. subst (IsIdle c.args.now) (sym (holds none).1) (c.is_idle.ensures.0 c.if-not-is_idle.false)) is.nothing;
       ahead = IfOk-weaker c.plan_due_votes.result _ _ (λ nothing holds none. subst (BuildsAhead left.core) (sym (holds none).1)
           (subst (λ core. BuildsAhead core asked.plan) (sym is.core) (c.builds_ahead.ensures c.if-not-builds_ahead.false))) is.nothing;
-      duties = on_ok c.plan_due_votes.result is.planned
-          (λ planned. tells_further c.in_ok-run.ensures.duties (tells_further c.in_ok-ask_for_work.ensures.duties (tells_planned asked left is.core planned)));
-      comes = on_ok_both c.plan_due_votes.result is.matters is.asks
-          (λ matters asks. comes_on (comes_on c.in_ok-run.ensures.comes c.in_ok-ask_for_work.ensures.duties.risen c.in_ok-ask_for_work.ensures.comes)
+      due_work = on_ok c.plan_due_votes.result is.planned
+          (λ planned. tells_further c.in_ok-run.ensures.due_work (tells_further c.in_ok-ask_for_work.ensures.due_work (tells_planned asked left is.core planned)));
+      provenance = on_ok_both c.plan_due_votes.result is.causes is.asks
+          (λ causes asks. comes_on (comes_on c.in_ok-run.ensures.provenance c.in_ok-ask_for_work.ensures.due_work.risen c.in_ok-ask_for_work.ensures.provenance)
           (risen_facts (ap (λ core. core.member.facts) is.core))
-          (comes_same (ap (λ core. core.member.facts) is.core) (hand_alone asked left (ap (λ core. work_in core.outbox.queue.items) is.core) matters) (asks_over _ asks)));
+          (comes_same (ap (λ core. core.member.facts) is.core) (hand_alone asked left (ap (λ core. work_in core.outbox.queue.items) is.core) causes) (asks_over _ asks)));
     }

@@ -3,14 +3,14 @@ use Rattle.std.proofs.Common.{◌≡◌, sym, subst, ap, inr, refl, ◌∙◌, [
 use Rattle.simplex_types.specs.Config.{floor_facts}
 use Rattle.simplex_record.specs.Start.{set_up}
 use Rattle.simplex_member.specs.Start.{started_member}
-use Rattle.laws_safety.specs.MemberHistory.{HasBegun}
+use Rattle.laws_safety.specs.MemberHistory.{HasStarted}
 use Rattle.simplex_engine.proofs.Bounds.{bounded_empty}
 use Rattle.engine_outbox.proofs.Continuity.{where_ok}
 use Rattle.simplex_engine.proofs.Tells.{tells_none}
 use Rattle.std.proofs.lemmas.Bool.{eqb-true}
-use Rattle.simplex_engine.proofs.EngineStart.{has_retry, not_begun}
+use Rattle.simplex_engine.proofs.EngineStart.{has_retry, engine_not_started}
 use Rattle.simplex_engine.proofs.Provenance.{both_ok, nothing_held}
-use Rattle.simplex_engine.proofs.heights.Engines.{heights_begun}
+use Rattle.simplex_engine.proofs.fetch_heights.Engines.{heights_begun}
 use Rattle.simplex_engine.proofs.engine.Engine.start.Goals as goal
 
 pub returns-in-Ok-clause-started : goal.returns-in-Ok-clause-started
@@ -23,7 +23,7 @@ returns-in-Ok-clause-started g c =
 pub returns-in-Ok-clause-begins : goal.returns-in-Ok-clause-begins
 returns-in-Ok-clause-begins g c =
     where_ok c.begin.result c.begin.ensures.member
-    (λ engine is. subst (λ m. HasBegun g.D.PartialEq.eq g.L.Elector.elect g.S.CertificateScheme.me g.L.Elector.terms c.args.start m.facts) (sym is) c.in-Ok.ensures.begins)
+    (λ engine is. subst (λ m. HasStarted g.D.PartialEq.eq g.L.Elector.elect g.S.CertificateScheme.me g.L.Elector.terms c.args.start m.facts) (sym is) c.in-Ok.ensures.begins)
 
 pub returns-in-Ok-clause-bounded : goal.returns-in-Ok-clause-bounded
 returns-in-Ok-clause-bounded g c =
@@ -31,13 +31,13 @@ returns-in-Ok-clause-bounded g c =
     (λ engine begun. bounded_empty g.S.CertificateScheme.participants engine.core engine.batcher begun.votes)
 
 pub returns-in-Ok-clause-refused : goal.returns-in-Ok-clause-refused
-returns-in-Ok-clause-refused g c = not_begun c.begin.result _ _ _ c.in-Ok.member.facts c.in-Ok.ensures.started c.begin.ensures.refused
+returns-in-Ok-clause-refused g c = engine_not_started c.begin.result _ _ _ c.in-Ok.member.facts c.in-Ok.ensures.started c.begin.ensures.refused
 
 pub returns-in-Err-clause-refused : goal.returns-in-Err-clause-refused
 returns-in-Err-clause-refused g c = inr (c.in-Err.error, refl, c.in-Err.ensures.refused)
 
-pub returns-in-Ok-clause-duties : goal.returns-in-Ok-clause-duties
-returns-in-Ok-clause-duties g c =
+pub returns-in-Ok-clause-due_work : goal.returns-in-Ok-clause-due_work
+returns-in-Ok-clause-due_work g c =
     where_ok c.begin.result c.begin.ensures.member
     (λ engine is. tells_none engine (ap (λ m. m.facts.outstanding_work) is ∙ ap (λ m. m.outstanding_work) c.in-Ok.ensures.started))
 
@@ -46,8 +46,8 @@ returns-in-Ok-clause-nothing g c =
     both_ok c.begin.result c.begin.ensures.queued (c.begin.ensures.begun _ _ _ c.in_ok-company.ensures)
     (λ engine queued begun. nothing_held g.D.Digest.bytes g.S.CertificateScheme.certificate_bytes g.S.CertificateScheme.participants _ _ _ _ engine queued begun)
 
-pub returns-in-Ok-clause-heights : goal.returns-in-Ok-clause-heights
-returns-in-Ok-clause-heights g c =
+pub returns-in-Ok-clause-fetch_heights : goal.returns-in-Ok-clause-fetch_heights
+returns-in-Ok-clause-fetch_heights g c =
     where_ok c.begin.result (c.begin.ensures.begun _ _ _ c.in_ok-company.ensures)
     (λ engine begun. heights_begun g.D.Digest.bytes g.S.CertificateScheme.participants _ _ _ _ engine begun)
 

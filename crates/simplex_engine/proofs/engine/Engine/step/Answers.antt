@@ -5,7 +5,7 @@ use Rattle.engine_planner.specs.PlannedWork.{AreAmong, IsPlanned, beside_of, wor
 use Rattle.engine_planner.proofs.StepSelection.{taken_keeps}
 use Rattle.engine_outbox.proofs.Continuity.{stays}
 use Rattle.simplex_engine.proofs.Tells.{tells_planned, tells_taken}
-use Rattle.engine_planner.specs.Causes.{of_steps, planned_matters}
+use Rattle.engine_planner.specs.Causes.{of_steps, planned_causes}
 use Rattle.engine_planner.proofs.Giving.{taken_alone}
 use Rattle.engine_planner.proofs.PlanStates.{on_ok}
 use Rattle.simplex_engine.proofs.Provenance.{asks_none, comes_same, comes_taken, hand_alone, taken_hand}
@@ -13,18 +13,18 @@ use Rattle.engine_planner.proofs.StillAsking.{taken_asks, AsksOn}
 use Rattle.simplex_engine.proofs.engine.Engine.step.Goals as goal
 
 pub returns-in_err-step-clause-alone : goal.returns-in_err-step-clause-alone
-returns-in_err-step-clause-alone g c = record { goes_on = stays c.args.self.now.core; batcher = refl }
+returns-in_err-step-clause-alone g c = record { continues = stays c.args.self.now.core; batcher = refl }
 
 pub returns-in-Some : goal.returns-in-Some
 returns-in-Some g c = record {
-  alone = record { goes_on = c.take_step.ensures.alone.goes_on; batcher = c.take_step.ensures.alone.batcher };
-  duties = tells_taken c.take_step.result c.in-Some.step c.args.self.now (record c.args.self.now { plan = c.next.new.self }) c.take_step.new.self refl
+  alone = record { continues = c.take_step.ensures.alone.continues; batcher = c.take_step.ensures.alone.batcher };
+  due_work = tells_taken c.take_step.result c.in-Some.step c.args.self.now (record c.args.self.now { plan = c.next.new.self }) c.take_step.new.self refl
       (subst (λ taken. IsPlanned [] (λ view. false) (work_planned c.args.self.now.plan.steps.items) (beside_of c.args.self.now.plan)
       (work_planned (option_to_list taken ++ c.next.new.self.steps.items)) (beside_of c.next.new.self)) c.in-Some.is
-      (taken_keeps c.args.now c.in_ok-step.field-0 c.args.self.now.plan c.next.new.self c.in_ok-step.ensures)) c.take_step.ensures.duties;
-  comes = on_ok c.take_step.result c.take_step.ensures.comes (comes_taken c.in-Some.step refl
+      (taken_keeps c.args.now c.in_ok-step.field-0 c.args.self.now.plan c.next.new.self c.in_ok-step.ensures)) c.take_step.ensures.due_work;
+  provenance = on_ok c.take_step.result c.take_step.ensures.provenance (comes_taken c.in-Some.step refl
       (taken_hand c.in-Some.step c.args.self.now (record c.args.self.now { plan = c.next.new.self }) refl
-      (subst (λ taken. AreAmong (of_steps (option_to_list taken) ++ planned_matters c.next.new.self) (planned_matters c.args.self.now.plan)) c.in-Some.is
+      (subst (λ taken. AreAmong (of_steps (option_to_list taken) ++ planned_causes c.next.new.self) (planned_causes c.args.self.now.plan)) c.in-Some.is
       (taken_alone c.args.now c.in_ok-step.field-0 c.args.self.now.plan c.next.new.self c.in_ok-step.ensures)))
       (subst (λ taken. AsksOn (option_to_list taken) c.args.self.now.plan c.next.new.self) c.in-Some.is
       (taken_asks c.args.now c.in_ok-step.field-0 c.args.self.now.plan c.next.new.self c.in_ok-step.ensures)));
@@ -32,13 +32,13 @@ returns-in-Some g c = record {
 
 pub returns-in-None : goal.returns-in-None
 returns-in-None g c = record {
-  alone = record { goes_on = stays c.args.self.now.core; batcher = refl };
-  duties = tells_planned c.args.self.now (record c.args.self.now { plan = c.next.new.self }) refl
+  alone = record { continues = stays c.args.self.now.core; batcher = refl };
+  due_work = tells_planned c.args.self.now (record c.args.self.now { plan = c.next.new.self }) refl
       (subst (λ taken. IsPlanned [] (λ view. false) (work_planned c.args.self.now.plan.steps.items) (beside_of c.args.self.now.plan)
       (work_planned (option_to_list taken ++ c.next.new.self.steps.items)) (beside_of c.next.new.self)) c.in-None.is
       (taken_keeps c.args.now c.in_ok-step.field-0 c.args.self.now.plan c.next.new.self c.in_ok-step.ensures));
-  comes = comes_same refl (hand_alone c.args.self.now (record c.args.self.now { plan = c.next.new.self }) refl
-      (subst (λ taken. AreAmong (of_steps (option_to_list taken) ++ planned_matters c.next.new.self) (planned_matters c.args.self.now.plan)) c.in-None.is
+  provenance = comes_same refl (hand_alone c.args.self.now (record c.args.self.now { plan = c.next.new.self }) refl
+      (subst (λ taken. AreAmong (of_steps (option_to_list taken) ++ planned_causes c.next.new.self) (planned_causes c.args.self.now.plan)) c.in-None.is
       (taken_alone c.args.now c.in_ok-step.field-0 c.args.self.now.plan c.next.new.self c.in_ok-step.ensures)))
       (asks_none (subst (λ taken. AsksOn (option_to_list taken) c.args.self.now.plan c.next.new.self) c.in-None.is
       (taken_asks c.args.now c.in_ok-step.field-0 c.args.self.now.plan c.next.new.self c.in_ok-step.ensures)));

@@ -5,7 +5,7 @@ use Rattle.simplex_engine.proofs.OwnSteps.{forgets_further}
 use Rattle.simplex_engine.proofs.Tells.{tells_further, tells_planned}
 use Rattle.engine_planner.proofs.PlannedWork.{among_all, plans_begun}
 use Rattle.engine_planner.proofs.PlanStates.{on_ok, on_ok_both}
-use Rattle.engine_planner.specs.Causes.{planned_matters}
+use Rattle.engine_planner.specs.Causes.{planned_causes}
 use Rattle.simplex_engine.proofs.Provenance.{comes_later, comes_same, forgets_no_lack, hand_alone}
 use Rattle.engine_planner.specs.FetchRequests.{asks}
 use Rattle.engine_planner.proofs.StillAsking.{keeps_asking}
@@ -14,7 +14,7 @@ use Rattle.simplex_engine.proofs.engine.Engine.work.Goals as goal
 
 pub returns : goal.returns
 returns g c = record {
-  alone = forgets_further (record { goes_on = stays c.args.self.now.core; batcher = refl }) c.finish.ensures.alone;
+  alone = forgets_further (record { continues = stays c.args.self.now.core; batcher = refl }) c.finish.ensures.alone;
   whole = c.finish.ensures.whole;
   quiet = c.finish.ensures.quiet;
   idle = c.finish.ensures.idle;
@@ -22,12 +22,12 @@ returns g c = record {
   short = c.finish.ensures.short;
   lowest = c.finish.ensures.lowest;
   lacking = c.finish.ensures.lacking;
-  duties = on_ok c.finish.result c.finish.ensures.duties
+  due_work = on_ok c.finish.result c.finish.ensures.due_work
       (tells_further (tells_planned c.args.self.now (record c.args.self.now { plan = c.begin.new.self }) refl
       (plans_begun c.args.self.now.plan c.begin.new.self c.begin.ensures)));
-  comes = on_ok_both c.finish.result c.finish.ensures.duties c.finish.ensures.comes (λ duties comes. comes_later (forgets_no_lack _ _ _ c.finish.new.self.core.member.facts)
-      (comes_same refl (hand_alone c.args.self.now (record c.args.self.now { plan = c.begin.new.self }) refl (among_all (ap planned_matters c.begin.ensures)))
+  provenance = on_ok_both c.finish.result c.finish.ensures.due_work c.finish.ensures.provenance (λ due_work provenance. comes_later (forgets_no_lack _ _ _ c.finish.new.self.core.member.facts)
+      (comes_same refl (hand_alone c.args.self.now (record c.args.self.now { plan = c.begin.new.self }) refl (among_all (ap planned_causes c.begin.ensures)))
       (keeps_asking (λ kind view. is_final c.args.self.now.core.member.facts view) (ap (λ plan. plan.repair.resolver) c.begin.ensures)
       (λ kind view asked un. ap (λ plan. asks plan kind view) c.begin.ensures ∙ asked)))
-      duties.risen comes);
+      due_work.risen provenance);
 }

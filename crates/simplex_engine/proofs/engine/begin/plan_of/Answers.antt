@@ -3,7 +3,7 @@ use Rattle.std.proofs.Common.{◌≡◌, ◌∙◌, ◌∷◌, ap, sym, subst, r
 use Rattle.std.specs.Prelude.{IfSome}
 use Rattle.simplex_resolver.specs.RecordCalls.{calls_of}
 use Rattle.simplex_resolver.specs.Steps.{Replayed}
-use Rattle.simplex_resolver.specs.CallHistory.{HasBeenTold}
+use Rattle.simplex_resolver.specs.CallHistory.{HasReceivedCalls}
 use Rattle.engine_fetches.specs.OutstandingFetches.{wanting}
 use Rattle.engine_planner.specs.declared.plan.Views.{Views}
 use Rattle.simplex_engine.proofs.EngineStart.{is_repair_of}
@@ -21,7 +21,7 @@ returns-clause-plan g c =
           (sym c.new-2.ensures.views) c.views_of.ensures;
       repair = is_repair_of bytes term_length c.args.member.now.facts.entries c.args.company.now.peers c.args.options.retry resolver c.in_ok-repair.repair
           c.new-2.result.repair c.new-2.ensures.repair
-          (subst (λ entries. HasBeenTold term_length (Replayed ∷ calls_of bytes (reverse entries)) resolver) c.record.ensures.entries c.in_ok-resolver.ensures.told)
+          (subst (λ entries. HasReceivedCalls term_length (Replayed ∷ calls_of bytes (reverse entries)) resolver) c.record.ensures.entries c.in_ok-resolver.ensures.told)
           c.in_ok-repair.ensures.resolver (c.in_ok-repair.ensures.fetches ∙ ap (wanting resolver.open_fetches) c.new-fetches.ensures.none)
           (c.in_ok-repair.ensures.same.0 ∙ c.new-fetches.ensures.parts.0) (c.in_ok-repair.ensures.same.1 ∙ c.new-fetches.ensures.parts.1)
           c.in_ok-repair.ensures.begun.1;

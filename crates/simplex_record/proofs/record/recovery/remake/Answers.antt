@@ -23,8 +23,8 @@ returns-in_err-state-clause-refused g c =
     let kept = none_broken _ _ _ c.in_ok-check_record.ensures in
     rw (p.1, p.2, refused_alike g.D.PartialEq.eq x (floor_facts bytes_of c.args.start.floor) c.args.start.now (entries_of bytes_of c.args.entries.now) kept) c.in_err-state.ensures.refused
 
-pub take_all-requires-clause-going_on : goal.take_all-requires-clause-going_on
-take_all-requires-clause-going_on g c =
+pub take_all-requires-clause-resumption : goal.take_all-requires-clause-resumption
+take_all-requires-clause-resumption g c =
     let x = set_up g.S.CertificateScheme.me g.S.CertificateScheme.participants g.L.Elector.terms g.L.Elector.elects_early c.args.start.settings in
     rw (c.deref_mut.ensures.value, c.in_ok-state.ensures.begun) (floor_goes g.D.PartialEq.eq g.L.Elector.elect x (floor_facts g.S.CertificateScheme.certificate_bytes c.args.start.floor) c.args.start.now refl).0
 
@@ -55,8 +55,8 @@ returns-in-Ok-clause-recovered g c =
     ∙ ap (λ y. after_entries same elect y now es) (c.deref_mut.ensures.value ∙ c.in_ok-state.ensures.begun)
     ∙ recovered_is same elect x (floor_facts bytes_of c.args.start.floor) now es
 
-pub returns-in-Ok-clause-going_on : goal.returns-in-Ok-clause-going_on
-returns-in-Ok-clause-going_on g c =
+pub returns-in-Ok-clause-resumption : goal.returns-in-Ok-clause-resumption
+returns-in-Ok-clause-resumption g c =
     let x = set_up g.S.CertificateScheme.me g.S.CertificateScheme.participants g.L.Elector.terms g.L.Elector.elects_early c.args.start.settings in
     let bytes_of = g.S.CertificateScheme.certificate_bytes in
     rw (c.in-Ok.ensures.after, c.deref_mut.ensures.value, c.in_ok-state.ensures.begun)

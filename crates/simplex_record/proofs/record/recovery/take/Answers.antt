@@ -9,21 +9,21 @@ use Rattle.simplex_record.specs.Events.{Replay}
 use Rattle.simplex_record.proofs.Recovery.{added_goes}
 use Rattle.simplex_record.proofs.record.recovery.take.Goals as goal
 
-pub replay-requires-clause-going_on : goal.replay-requires-clause-going_on
-replay-requires-clause-going_on g c =
+pub replay-requires-clause-resumption : goal.replay-requires-clause-resumption
+replay-requires-clause-resumption g c =
     let e = artifact_facts g.S.CertificateScheme.certificate_bytes c.args.artifact.now in
     let goes = added_goes g.D.PartialEq.eq g.L.Elector.elect c.args.state.now c.args.now e in
-    subst (λ (y : StateFacts _ _ _). y.failed ≡ false) (sym c.in_ok-add.ensures.after) (goes.failed ∙ c.requires.going_on)
+    subst (λ (y : StateFacts _ _ _). y.failed ≡ false) (sym c.in_ok-add.ensures.after) (goes.failed ∙ c.requires.resumption)
 
-pub give-requires-clause-going_on : goal.give-requires-clause-going_on
-give-requires-clause-going_on g c =
+pub give-requires-clause-resumption : goal.give-requires-clause-resumption
+give-requires-clause-resumption g c =
     let e = artifact_facts g.S.CertificateScheme.certificate_bytes c.args.artifact.now in
     let same = g.D.PartialEq.eq in
     let elect = g.L.Elector.elect in
     let goes = added_goes same elect c.args.state.now c.args.now e in
     let next = event_goes same elect (after_adding same elect c.args.state.now c.args.now e) (Replay e) in
     let is = c.in_ok-replay.ensures.after ∙ ap (λ (y : StateFacts _ _ _). after_replaying same elect y e) c.in_ok-add.ensures.after in
-    subst (λ (y : StateFacts _ _ _). y.failed ≡ false) (sym is) (next.failed ∙ goes.failed ∙ c.requires.going_on)
+    subst (λ (y : StateFacts _ _ _). y.failed ≡ false) (sym is) (next.failed ∙ goes.failed ∙ c.requires.resumption)
 
 pub give-requires-clause-in_time : goal.give-requires-clause-in_time
 give-requires-clause-in_time g c =

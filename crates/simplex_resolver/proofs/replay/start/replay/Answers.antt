@@ -8,5 +8,5 @@ use Rattle.simplex_resolver.proofs.replay.start.replay.Goals as goal
 pub returns-clause-refused : goal.returns-clause-refused
 returns-clause-refused g c =
     let calls = calls_of g.D.Digest.bytes (newest_first g.S.CertificateScheme.certificate_bytes c.args.entries.now) in
-    let live = ap (λ x. x.is_failed) c.in_ok-hand_all.ensures.after ∙ all_go_on c.args.state.now calls ∙ c.requires.going_on in
-    refused_alike c.replayed.result c.hand_all.new.state c.replayed.new.self live c.replayed.ensures.refused
+    let live = ap (λ x. x.is_failed) c.in_ok-pass_every.ensures.after ∙ all_go_on c.args.state.now calls ∙ c.requires.resumption in
+    refused_alike c.replayed.result c.pass_every.new.state c.replayed.new.self live c.replayed.ensures.refused

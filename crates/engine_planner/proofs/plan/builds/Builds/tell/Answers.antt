@@ -8,9 +8,9 @@ use Rattle.engine_planner.proofs.plan.builds.Builds.tell.Goals as goal
 pub invariant_of-self : goal.invariant_of-self
 invariant_of-self g c =
     let all = c.deref_mut.result.now in
-    let same = with_items_is c.args.self.now.buildings c.tell_waiting.new.builds
-    (ap length c.tell_waiting.ensures ∙ length-map all (told_by c.args.view) ∙ c.deref_mut.ensures.len) in
+    let same = with_items_is c.args.self.now.buildings c.mark_reported.new.builds
+    (ap length c.mark_reported.ensures ∙ length-map all (told_by c.args.view) ∙ c.deref_mut.ensures.len) in
     record {
-      once = subst (λ blocks. one_a_view blocks ≡ true) (sym (same ∙ c.tell_waiting.ensures))
+      once = subst (λ blocks. one_a_view blocks ≡ true) (sym (same ∙ c.mark_reported.ensures))
           (told_once c.args.view all (subst (λ blocks. one_a_view blocks ≡ true) (sym c.deref_mut.ensures.value) c.args.self.now.once));
     }

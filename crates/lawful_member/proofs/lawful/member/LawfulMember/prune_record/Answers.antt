@@ -8,6 +8,6 @@ returns-clause-pruned g c = rw (← c.self.view_is) c.prune_record.ensures.prune
 pub returns-clause-votes : goal.returns-clause-votes
 returns-clause-votes g c = rw (← c.self.view_is) c.prune_record.ensures.votes
 
-pub returns-clause-goes_on : goal.returns-clause-goes_on
-returns-clause-goes_on g c term_length i all done =
+pub returns-clause-continues : goal.returns-clause-continues
+returns-clause-continues g c term_length i all done =
     rw c.prune_record.ensures.pruned (prune_done g.D.PartialEq.eq g.L.Elector.elect term_length i c.self.inside.member.facts all (rw c.self.view_is done))

@@ -10,8 +10,8 @@ use Rattle.laws_safety.proofs.records.Resumes.{resumed_restart}
 use Rattle.laws_safety.proofs.executions.Shown.{begins_as, restart_shown}
 use Rattle.lawful_member.proofs.lawful.member.LawfulMember.resume.Goals as goal
 
-pub returns-in-Ok-clause-goes_on : goal.returns-in-Ok-clause-goes_on
-returns-in-Ok-clause-goes_on g c m same_stored same_entries term_length i all holds done =
+pub returns-in-Ok-clause-continues : goal.returns-in-Ok-clause-continues
+returns-in-Ok-clause-continues g c m same_stored same_entries term_length i all holds done =
     let me = g.S.CertificateScheme.me in
     let participants = g.S.CertificateScheme.participants in
     let terms = g.L.Elector.terms in

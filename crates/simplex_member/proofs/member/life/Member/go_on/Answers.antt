@@ -6,8 +6,8 @@ use Rattle.simplex_record.specs.Start.{start_facts}
 use Rattle.simplex_member.proofs.Restarts.{not_gone_on, gone_on}
 use Rattle.simplex_member.proofs.member.life.Member.go_on.Goals as goal
 
-pub returns-in_err-state-clause-goes_on : goal.returns-in_err-state-clause-goes_on
-returns-in_err-state-clause-goes_on g c =
+pub returns-in_err-state-clause-continues : goal.returns-in_err-state-clause-continues
+returns-in_err-state-clause-continues g c =
     let bytes_of = g.S.CertificateScheme.certificate_bytes in
     let start = start_facts g.S.CertificateScheme.me g.S.CertificateScheme.participants g.L.Elector.terms g.L.Elector.elects_early bytes_of c.args.start in
     let i = c.self.inside in
@@ -15,8 +15,8 @@ returns-in_err-state-clause-goes_on g c =
     let p = err_from_is_err_and c.from_residual.result c.from_residual.ensures.1 in
     rw (← c.self.view_is, p.1, p.2, c.in_err-state.ensures.same) (not_gone_on g.D.PartialEq.eq g.L.Elector.elect m start c.in_err-state.field-0.0 c.in_err-state.ensures.refused)
 
-pub returns-clause-goes_on : goal.returns-clause-goes_on
-returns-clause-goes_on g c =
+pub returns-clause-continues : goal.returns-clause-continues
+returns-clause-continues g c =
     let bytes_of = g.S.CertificateScheme.certificate_bytes in
     let start = start_facts g.S.CertificateScheme.me g.S.CertificateScheme.participants g.L.Elector.terms g.L.Elector.elects_early bytes_of c.args.start in
     let i = c.self.inside in

@@ -19,12 +19,12 @@ returns-clause-pruned g c =
       retention = inside.retention;
       least_retention = inside.least_retention;
     } in
-    let lowest = rw c.deref.ensures.value at c.lowest_kept-lowest.ensures in
+    let lowest = rw c.deref.ensures.value at c.lowest_retained-lowest.ensures in
     let left = rw (c.deref-2.ensures, lowest) at c.keep_within.ensures.left in
     let all = c.len-self-inside.ensures ∙ (c.keep_within.new.entries.ok.0 ∙ sym (length_entries bytes_of c.keep_within.new.entries.items)) in
     rw (← c.self.view_is) (closed_so m (entries_of bytes_of c.keep_within.new.entries.items) c.len-self-inside.result left all)
 
 pub returns-clause-votes : goal.returns-clause-votes
 returns-clause-votes g c =
-    let lowest = rw c.deref.ensures.value at c.lowest_kept-lowest.ensures in
+    let lowest = rw c.deref.ensures.value at c.lowest_retained-lowest.ensures in
     rw (← c.self.view_is) (rw (c.deref-2.ensures, lowest) at c.keep_within.ensures.votes)

@@ -12,4 +12,4 @@ invariant_of-result g c =
 
 pub returns-clause-started : goal.returns-clause-started
 returns-clause-started g c =
-    rw (c.in_ok-state.ensures.begun, c.retention_of-retention.ensures, c.in_ok-keep_finalization.ensures.kept, c.in_ok-state.ensures.floor, c.new-artifacts.ensures.items, c.new.ensures) refl
+    rw (c.in_ok-state.ensures.begun, c.retention_of-retention.ensures, c.in_ok-store_finalization.ensures.kept, c.in_ok-state.ensures.floor, c.new-artifacts.ensures.items, c.new.ensures) refl

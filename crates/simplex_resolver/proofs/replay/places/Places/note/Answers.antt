@@ -14,7 +14,7 @@ returns-then-is_ok g c =
     let count = c.requires.count in
     let all : c.args.self.now.noted ≡ length c.args.before.now = omega (arith, count, c.if-self-place.false) in
     let next : c.in-Some.noted ≡ length c.args.before.now + 1 = omega (arith, c.in-Some.ensures) in
-    one_noted _ _ _ _ _ c.requires all next (ok_gives _ c.if-is_ok.ensures.value c.keep_place.ensures.kept)
+    one_noted _ _ _ _ _ c.requires all next (ok_gives _ c.if-is_ok.ensures.value c.store_position.ensures.kept)
 
 pub returns-else-is_ok : goal.returns-else-is_ok
-returns-else-is_ok g c = rw (err_gives _ c.if-is_ok.ensures.value c.keep_place.ensures.refused) (not_noted _ _ _ _ c.requires)
+returns-else-is_ok g c = rw (err_gives _ c.if-is_ok.ensures.value c.store_position.ensures.refused) (not_noted _ _ _ _ c.requires)

@@ -10,5 +10,5 @@ enter_led-requires-clause-deadlines g c =
 pub returns-clause-accepted : goal.returns-clause-accepted
 returns-clause-accepted g c =
     let facts = nullification_facts g.S.CertificateScheme.certificate_bytes c.args.nullification in
-    nullification_accepted g.L.Elector.elect c.args.self.now c.note_moment.new.self c.enter_led.new.self c.keep_nullification.new.self c.nullify_view.new.self facts c.view-view.result c.args.next c.args.now c.nullify_view.result
-    c.view-view.ensures c.requires.next c.note_moment.ensures c.in_ok-enter_led.ensures.entered c.in_ok-keep_nullification.ensures.kept c.nullify_view.ensures.noted
+    nullification_accepted g.L.Elector.elect c.args.self.now c.note_moment.new.self c.enter_led.new.self c.store_nullification.new.self c.nullify_view.new.self facts c.view-view.result c.args.next c.args.now c.nullify_view.result
+    c.view-view.ensures c.requires.next c.note_moment.ensures c.in_ok-enter_led.ensures.entered c.in_ok-store_nullification.ensures.kept c.nullify_view.ensures.noted

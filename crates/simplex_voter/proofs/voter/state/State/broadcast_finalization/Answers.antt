@@ -6,7 +6,7 @@ use Rattle.simplex_voter.specs.Rounds.{has_round}
 use Rattle.simplex_voter.proofs.voter.state.State.broadcast_finalization.Goals as goal
 
 pub invariant_of-self : goal.invariant_of-self
-invariant_of-self g c = kept_with_rounds c.self.invariant c.hand_out_finalization.ensures.origin
+invariant_of-self g c = kept_with_rounds c.self.invariant c.return_finalization.ensures.origin
 
 pub returns-in-Ok-clause-answer : goal.returns-in-Ok-clause-answer
 returns-in-Ok-clause-answer g c = rw (← c.self.view_is) c.in-Ok.ensures.answer
@@ -16,4 +16,4 @@ returns-in-Ok-clause-after g c = rw (← c.self.view_is) (where_true _ _ c.self.
 
 pub returns-in-Err-clause-out_of_memory : goal.returns-in-Err-clause-out_of_memory
 returns-in-Err-clause-out_of_memory g c none =
-    (c.in-Err.ensures.refused, failed_now _ _ _ (same_setup _ _ c.self.view_is _ c.hand_out_finalization.ensures.origin) c.fail.ensures)
+    (c.in-Err.ensures.refused, failed_now _ _ _ (same_setup _ _ c.self.view_is _ c.return_finalization.ensures.origin) c.fail.ensures)

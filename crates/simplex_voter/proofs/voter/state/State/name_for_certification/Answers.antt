@@ -6,4 +6,4 @@ use Rattle.simplex_voter.proofs.voter.state.State.name_for_certification.Goals a
 
 pub returns-clause-named : goal.returns-clause-named
 returns-clause-named g c =
-    rw (← c.self.view_is) (on_ok c.name_view.result (named_shown _ _ _ _ refl (not_le _ _ c.if-le.ensures)) c.name_view.ensures.named)
+    rw (← c.self.view_is) (on_ok c.add_candidate.result (named_shown _ _ _ _ refl (not_le _ _ c.if-le.ensures)) c.add_candidate.ensures.named)

@@ -1,6 +1,6 @@
 -- How the contract of `optimistic_ancestry_payload` follows: what the view offers is decided where the walk is, and each end of it decides.
 use Rattle.std.proofs.Common.{Some, ap, ◌∙◌, subst, arith}
-use Rattle.simplex_voter.proofs.Chained.{reach, reach-below, WalkHasReached, nothing, begins, none_below, unbound, goes_on, ends}
+use Rattle.simplex_voter.proofs.Chained.{reach, reach-below, WalkHasReached, nothing, begins, none_below, unbound, continues, ends}
 use Rattle.simplex_voter.proofs.voter.state.State.optimistic_ancestry_payload.Goals as goal
 
 pub returns-in_err-top-clause-payload : goal.returns-in_err-top-clause-payload
@@ -28,7 +28,7 @@ loop-basis-smaller g c =
 pub loop-basis-preserved : goal.loop-basis-preserved
 loop-basis-preserved g c =
     let stands = subst (WalkHasReached g.D.PartialEq.eq g.L.Elector.elect c.args.self.now c.args.view c.in_ok-top.top) c.in-Vote.is c.loop-basis.invariant in
-    goes_on g.D.PartialEq.eq g.L.Elector.elect c.args.self.now c.args.view c.in_ok-top.top c.in-Vote.proposal c.in-Vote.bound stands c.in_ok-below.below c.in_ok-below.ensures.basis c.payload.result c.payload.ensures c.if-not-holds.ensures
+    continues g.D.PartialEq.eq g.L.Elector.elect c.args.self.now c.args.view c.in_ok-top.top c.in-Vote.proposal c.in-Vote.bound stands c.in_ok-below.below c.in_ok-below.ensures.basis c.payload.result c.payload.ensures c.if-not-holds.ensures
 
 pub returns-clause-payload : goal.returns-clause-payload
 returns-clause-payload g c =

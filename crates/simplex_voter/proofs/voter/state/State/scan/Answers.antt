@@ -39,13 +39,13 @@ next-requires g c =
 pub loop-view-smaller : goal.loop-view-smaller
 loop-view-smaller g c =
     let at = first_there c.loop-view.self.rounds _ _ _ c.in-Some.ensures.ordered c.in-Some.ensures.found in
-    let on = onward_within _ _ _ _ _ c.onward-from.ensures c.next.ensures at.3 in
+    let on = onward_within _ _ _ _ _ c.next_scanned-from.ensures c.next.ensures at.3 in
     omega (arith, at.2, at.3, c.next.ensures, on.0)
 
 pub loop-view-preserved : goal.loop-view-preserved
 loop-view-preserved g c =
     let at = first_there c.loop-view.self.rounds _ _ _ c.in-Some.ensures.ordered c.in-Some.ensures.found in
-    let on = onward_within _ _ _ _ _ c.onward-from.ensures c.next.ensures at.3 in
+    let on = onward_within _ _ _ _ _ c.next_scanned-from.ensures c.next.ensures at.3 in
     record {
       above = omega (arith, at.2, c.next.ensures, on.0, c.loop-view.invariant.above);
       within = on.1;
@@ -54,7 +54,7 @@ loop-view-preserved g c =
       near = c.loop-view.invariant.near;
       ordered = c.loop-view.invariant.ordered;
       passed =
-          goes_onward g.D.PartialEq.eq g.L.Elector.elect c.args.self.now _ _ _ _ _ c.loop-view.invariant.near c.loop-view.invariant.last (omega (arith, c.loop-view.invariant.room)) c.onward-from.ensures
+          goes_onward g.D.PartialEq.eq g.L.Elector.elect c.args.self.now _ _ _ _ _ c.loop-view.invariant.near c.loop-view.invariant.last (omega (arith, c.loop-view.invariant.room)) c.next_scanned-from.ensures
           (rw c.next.ensures (visited_on g.D.PartialEq.eq g.L.Elector.elect c.args.self.now c.loop-view.invariant.ordered c.loop-view.self c.loop-view.from c.loop-view.invariant.passed c.in-Some.ensures.ordered c.loop-view.invariant.above _ c.loop-view.invariant.last c.in-Some.view c.in-Some.ensures.found _ c.in_default-visit.ensures.left c.in_default-visit.ensures.answer));
     }
 

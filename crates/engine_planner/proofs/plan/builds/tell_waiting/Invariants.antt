@@ -1,7 +1,0 @@
--- Those so far were told of, and those that are left are as they were.
-use Rattle.std.proofs.Common.{◌≡◌, ◌++◌, drop, take, map}
-use Rattle.engine_planner.specs.Blocks.{told_by}
-use Rattle.engine_planner.proofs.plan.builds.tell_waiting.Given as goal
-
-abbrev pub invariant-loop-building : goal.invariant-loop-building
-invariant-loop-building g l = l.builds ≡ map (told_by l.view) (take l.building-index l.initial.builds) ++ drop l.building-index l.initial.builds
