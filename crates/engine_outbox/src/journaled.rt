@@ -21,8 +21,8 @@ mod reach;
 
 use crate::outbox::Outbox;
 use crate::output::{Output, Work};
-use reach::lowest_of;
 use lawful_member::lawful::LawfulMember;
+use reach::lowest_of;
 use simplex_member::member::{Call, Reply, Stored};
 use simplex_types::types::{
     Artifact, Certificate, CertificateScheme, Digest, Elector, Proposal, Scheme, View,

@@ -1,7 +1,7 @@
 //! The outputs of an engine, which its host carries out.
 
-use engine_votes::votes::Vote;
 use engine_fetches::fetches::Ask;
+use engine_votes::votes::Vote;
 use simplex_types::types::{Artifact, Certificate, CertificateScheme, Context, Proposal, View};
 
 /// One output. Carry outputs out in the order in which they are returned. `J` is what a journal stores beside its entries.

@@ -2,12 +2,12 @@
 //!
 //! Each call says just what it plans. An error is want of memory, or what the resolver answers; after one a plan is of no use any more.
 
-mod certificates;
 mod builds;
+mod certificates;
 mod due;
 mod early;
-mod views;
 mod replies;
+mod views;
 mod work;
 
 ghost use Rattle.std.specs.Prelude.{◌≡◌, ◌+◌, ◌-◌, ◌^◌, ℕ, min, max, true, [], ◌∷◌, ◌++◌, filter, OnOk, IfErr, IsOk, IsTrue, ◌↔◌, ◌≤◌, false};

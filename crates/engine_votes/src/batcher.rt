@@ -16,10 +16,10 @@ mod poll;
 use crate::votes::Vote;
 use poll::{Ballot, count};
 use simplex_types::types::assembly::Assembly;
-use simplex_view_maps::tracked::Tracked;
 use simplex_types::types::{
     Certificate, CertificateScheme, Digest, Participant, Subject, View, Viewable,
 };
+use simplex_view_maps::tracked::Tracked;
 use std::alloc::{AllocError, Global};
 
 /// What a vote comes to.

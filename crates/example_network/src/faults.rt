@@ -1,10 +1,10 @@
 //! What faulty members do where they lead: their proposals are held back, or differ from member to member.
 
 use crate::message::{Ballot, Message, proposal_of};
+use engine_votes::votes::Vote;
 use example_engine::digest::BlockDigest;
 use example_engine::parts::Block;
 use example_engine::scheme::SealScheme;
-use engine_votes::votes::Vote;
 use simplex_types::types::{Fault, Participant, Proposal, Scheme, Subject, View, Viewable};
 use std::alloc::Global;
 

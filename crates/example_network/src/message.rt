@@ -1,11 +1,11 @@
 //! What members send each other.
 
 use bytes::Bytes;
+use engine_fetches::fetches::FetchKind;
+use engine_votes::votes::Vote;
 use example_engine::digest::BlockDigest;
 use example_engine::parts::{Block, Proof};
 use example_engine::scheme::{SealScheme, Signature};
-use engine_votes::votes::Vote;
-use engine_fetches::fetches::FetchKind;
 use simplex_types::types::{CertificateScheme, Fault, Subject, View};
 use std::alloc::Global;
 

@@ -2,8 +2,8 @@
 
 ghost use Rattle.std.specs.Prelude.{◌<◌};
 
-mod outputs;
 mod inputs;
+mod outputs;
 
 use crate::disk::Disk;
 use crate::error::RunError;

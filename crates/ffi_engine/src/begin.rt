@@ -3,15 +3,15 @@
 ghost use Rattle.std.specs.Prelude.{◌≡◌, Err, IfOk, IfErr};
 ghost use Rattle.ffi_engine.specs.EngineStarts.{engine_not_started_number, engine_not_started_of, options_of};
 
-use crate::held::HeldEngine;
 use crate::flat::FlatOptions;
-use simplex_engine::engine::{Engine, Options, StartError};
+use crate::held::HeldEngine;
 use ffi_member::flat::FlatSettings;
-use ffi_member::resumption::{NotResumed, resumption};
 use ffi_member::resolver_calls::{NotReplayed, number_of_not_replayed};
+use ffi_member::resumption::{NotResumed, resumption};
 use ffi_member::settings::{SettingsError, start_of};
-use ffi_member::view_types::FlatStored;
 use ffi_member::statuses::number_of_not_resumed;
+use ffi_member::view_types::FlatStored;
+use simplex_engine::engine::{Engine, Options, StartError};
 use simplex_member::member::ResumeError;
 use simplex_record::record::StartError as RefusedStart;
 use simplex_resolver::replay::ReplayError;
@@ -113,10 +113,12 @@ fn engine_not_started(error: StartError) -> EngineNotStarted
     ensures { result ≡ engine_not_started_of error }
 {
     match error {
-        StartError::RetryZero => EngineNotStarted::Member(NotResumed::Settings(SettingsError::Refused(
-            RefusedStart::Config(ConfigError::RetryZero),
-        ))),
-        StartError::Resume(ResumeError::EntriesLost) => EngineNotStarted::Member(NotResumed::EntriesLost),
+        StartError::RetryZero => EngineNotStarted::Member(NotResumed::Settings(
+            SettingsError::Refused(RefusedStart::Config(ConfigError::RetryZero)),
+        )),
+        StartError::Resume(ResumeError::EntriesLost) => EngineNotStarted::Member(
+            NotResumed::EntriesLost,
+        ),
         StartError::Resume(ResumeError::Recover(error)) => {
             EngineNotStarted::Member(NotResumed::Recover(error))
         }

@@ -5,18 +5,18 @@ ghost use Rattle.ffi_member.specs.Journals.{framed};
 ghost use Rattle.ffi_member.specs.Resumption.{IsFlatStored};
 ghost use Rattle.ffi_member.specs.Statuses.{not_written_number};
 
+use crate::flat::{FlatInput, FlatOutput, FlatTaken};
 use crate::input::{HostInput, input_of};
 use crate::output::{
     HostEngine, HostOutput, NOTHING_STORED, flat_output, other_signature, output_of, signature_in,
 };
-use crate::flat::{FlatInput, FlatOutput, FlatTaken};
 use bytes::BytesMut;
+use engine_outbox::output::Output;
 use ffi_member::journal::{HostArtifact, NotWritten, write_entries};
 use ffi_member::numbers::{number_of_fault, number_of_flag};
-use ffi_member::view_types::FlatStored;
 use ffi_member::statuses::number_of_not_written;
+use ffi_member::view_types::FlatStored;
 use simplex_member::member::Stored;
-use engine_outbox::output::Output;
 use simplex_types::types::Fault;
 use std::alloc::Global;
 

@@ -8,14 +8,14 @@ ghost use Rattle.ffi_engine.specs.Inputs.{PassesBytes, HasKind, HasInputNumbers,
 use crate::flat::{FlatInput, FlatSubject};
 use bytes::Bytes;
 use engine_votes::votes::Vote;
-use simplex_engine::input::Input;
+use ffi_member::flat::FlatContext;
 use ffi_member::flat_calls::{
     finalization_of, notarization_of, nullification_of, proposal_of, round_in,
 };
-use ffi_member::flat::FlatContext;
 use ffi_member::kinds::{CertificateKind, VoteKind, certificate_kind_of, vote_kind_of};
 use ffi_member::numbers::{flag_of, reason_of};
 use ffi_scheme::scheme::{HostDigest, HostKey, HostScheme, Order};
+use simplex_engine::input::Input;
 use simplex_types::reasons::TimeoutReason;
 use simplex_types::types::{Certificate, Context, Participant, Subject, View};
 use std::alloc::{AllocError, Global};

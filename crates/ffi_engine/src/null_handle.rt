@@ -2,9 +2,9 @@
 
 ghost use Rattle.std.specs.Prelude.{◌≡◌};
 
+use crate::flat::{FlatOpen, FlatOutput, FlatStatus, FlatTaken};
 use crate::held::{no_output, untaken};
 use crate::views::not_open;
-use crate::flat::{FlatOpen, FlatOutput, FlatStatus, FlatTaken};
 use ffi_member::null_handle::STATUS_NO_HANDLE;
 
 /// Whether what came in was of use.

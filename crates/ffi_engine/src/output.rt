@@ -9,17 +9,17 @@ ghost use Rattle.ffi_engine.specs.Inputs.{IsOn};
 ghost use Rattle.ffi_engine.specs.Outputs.{HasOutputOf, IsOf, IsWork, certified_bytes, fetch_number, other_signature, first_bytes_in};
 
 use crate::flat::{FlatOutput, FlatSubject};
-use engine_votes::votes::Vote;
-use simplex_engine::engine::Engine;
 use engine_fetches::fetches::{Ask, FetchKind};
+use engine_outbox::output::{Output, Work};
+use engine_votes::votes::Vote;
 use ffi_member::flat::{FlatContext, FlatProposal, FlatRound};
-use ffi_member::kinds::{CertificateKind, number_of_certificate};
 use ffi_member::flat_replies::{flat_context, flat_proposal, flat_round};
+use ffi_member::kinds::{CertificateKind, number_of_certificate};
 use ffi_member::view_types::FlatStored;
 use ffi_scheme::elector::HostElector;
 use ffi_scheme::scheme::{HostDigest, HostKey, HostScheme, Order};
+use simplex_engine::engine::Engine;
 use simplex_member::member::Stored;
-use engine_outbox::output::{Output, Work};
 use simplex_types::types::{Certificate, Context, Participant, Proposal, Subject};
 
 /// An engine of the host.

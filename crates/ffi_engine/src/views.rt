@@ -2,13 +2,13 @@
 
 ghost use Rattle.std.specs.Prelude.{◌≡◌};
 
+use crate::flat::{FlatOpen, FlatStatus};
 use crate::held::HeldEngine;
 use crate::output::number_of_fetch;
-use crate::flat::{FlatOpen, FlatStatus};
-use ffi_member::resolver_types::FlatServed;
 use ffi_member::resolver_calls::serve_in;
-use ffi_member::views::{certificate_in, chunk_of, view_in};
+use ffi_member::resolver_types::FlatServed;
 use ffi_member::view_types::{FlatChunk, FlatFound, FlatView, FlatWithheld};
+use ffi_member::views::{certificate_in, chunk_of, view_in};
 use ffi_member::withheld::withheld_in;
 
 impl HeldEngine {

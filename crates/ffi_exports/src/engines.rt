@@ -12,16 +12,14 @@ ghost use Rattle.ffi_exports.specs.OpenStatuses.{IsStartedStatus, IsResumptionSt
 
 use crate::handles::EngineHandle;
 use crate::raw_box::RawBox;
-use ffi_member::null_handle;
+use ffi_engine::begin::number_of_engine_not_started;
+use ffi_engine::flat::{FlatInput, FlatOpen, FlatOptions, FlatOutput, FlatStatus, FlatTaken};
+use ffi_engine::held::HeldEngine;
+use ffi_engine::null_handle as absent_engine;
 use ffi_member::flat::FlatSettings;
+use ffi_member::null_handle;
 use ffi_member::resolver_types::FlatServed;
 use ffi_member::view_types::{FlatChunk, FlatFound, FlatStored, FlatView, FlatWithheld};
-use ffi_engine::null_handle as absent_engine;
-use ffi_engine::begin::number_of_engine_not_started;
-use ffi_engine::held::HeldEngine;
-use ffi_engine::flat::{
-    FlatInput, FlatOpen, FlatOptions, FlatOutput, FlatStatus, FlatTaken,
-};
 use std::alloc::Global;
 
 /// Begins an engine whose member never voted, and writes its handle. 0, or why there is none; then nothing is written.

@@ -15,16 +15,16 @@ ghost use Rattle.ffi_exports.specs.OpenStatuses.{IsRestartStatus, IsResumeStatus
 
 use crate::handles::MemberHandle;
 use crate::raw_box::RawBox;
-use ffi_member::null_handle;
 use ffi_member::flat::{FlatCall, FlatProposal, FlatReply, FlatSettings};
 use ffi_member::held::Held;
 use ffi_member::journal::scan;
-use ffi_member::views::subject_text;
+use ffi_member::null_handle;
+use ffi_member::statuses::{number_of_not_resumed, number_of_not_started, number_of_restart};
 use ffi_member::view_types::{
     FlatChunk, FlatEntries, FlatFound, FlatItem, FlatRestart, FlatScan, FlatStored, FlatText,
     FlatView, FlatWithheld,
 };
-use ffi_member::statuses::{number_of_not_resumed, number_of_not_started, number_of_restart};
+use ffi_member::views::subject_text;
 use std::alloc::Global;
 
 /// The number that rises when a struct, a number or a function here changes its meaning.

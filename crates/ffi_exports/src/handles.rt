@@ -7,9 +7,9 @@ ghost use Rattle.ffi_engine.specs.declared.held.HeldEngine.{HeldEngine};
 ghost use Rattle.ffi_exports.specs.HandleContents.{coded_engine, coded_held, coded_resolver};
 
 use crate::raw_box::RawBox;
+use ffi_engine::held::HeldEngine;
 use ffi_member::held::Held;
 use ffi_member::resolver_calls::HeldResolver;
-use ffi_engine::held::HeldEngine;
 use std::alloc::Global;
 use std::marker::Model;
 

@@ -12,10 +12,10 @@ ghost use Rattle.ffi_exports.specs.OpenStatuses.{IsReplayStatus};
 use crate::handles::ResolverHandle;
 use crate::raw_box::RawBox;
 use ffi_member::null_handle;
-use ffi_member::resolver_types::{
-    FlatEffect, FlatEffects, FlatOutstanding, FlatServed, FlatSettled, FlatResolverReply,
-};
 use ffi_member::resolver_calls::{HeldResolver, number_of_not_replayed};
+use ffi_member::resolver_types::{
+    FlatEffect, FlatEffects, FlatOutstanding, FlatResolverReply, FlatServed, FlatSettled,
+};
 use ffi_member::view_types::FlatChunk;
 use std::alloc::Global;
 

@@ -2,8 +2,8 @@
 
 ghost use Rattle.std.specs.Prelude.{IfOk, IfErr, ◌≡◌, ◌≤◌, MatchOption, Some, length, slice_get};
 
-use crate::flat_calls::call_of;
 use crate::flat::{FlatCall, FlatFetch, FlatProposal, FlatReply, FlatSettings};
+use crate::flat_calls::call_of;
 use crate::flat_replies::{HostReply, flat_proposal, flat_reply, unanswered};
 use crate::settings::{SettingsError, start_of};
 use bytes::BytesMut;

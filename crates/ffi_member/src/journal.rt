@@ -9,10 +9,10 @@ ghost use Rattle.ffi_member.specs.declared.journal.NotWritten.TheVariants.{TooLo
 
 use crate::view_types::FlatScan;
 use bytes::BytesMut;
+use ffi_scheme::scheme::{HostDigest, HostScheme};
 use simplex_codec::artifact::{decode_artifact, encode_artifact};
 use simplex_codec::error::DecodeError;
 use simplex_codec::frame::{NoFrame, read_frame, write_frame};
-use ffi_scheme::scheme::{HostDigest, HostScheme};
 use simplex_types::types::Artifact;
 use std::alloc::{AllocError, AllocFailed, Global};
 

@@ -4,12 +4,12 @@ ghost use Rattle.std.specs.Prelude.{◌≡◌};
 
 use crate::flat::FlatReply;
 use crate::flat_replies::unanswered;
-use crate::resolver_types::{FlatEffect, FlatEffects, FlatOutstanding, FlatServed, FlatSettled};
 use crate::resolver_calls::{no_effect, no_effects, unserved};
-use crate::views::{no_item, no_view, unfound};
+use crate::resolver_types::{FlatEffect, FlatEffects, FlatOutstanding, FlatServed, FlatSettled};
 use crate::view_types::{
     CHUNK, FlatChunk, FlatEntries, FlatFound, FlatItem, FlatStored, FlatView, FlatWithheld,
 };
+use crate::views::{no_item, no_view, unfound};
 use crate::withheld::no_reason;
 
 /// The status where a handle is null: nothing was done.

@@ -15,10 +15,10 @@ use crate::journal::{NotRead, read_entries};
 use crate::kinds::{CertificateKind, certificate_kind_of, number_of_missing};
 use crate::numbers::{flag_of, number_of_fault, number_of_flag};
 use crate::resolver_types::{
-    FlatEffect, FlatEffects, FlatOutstanding, FlatServed, FlatSettled, FlatResolverReply,
+    FlatEffect, FlatEffects, FlatOutstanding, FlatResolverReply, FlatServed, FlatSettled,
 };
-use crate::views::chunk_of;
 use crate::view_types::FlatChunk;
+use crate::views::chunk_of;
 use bytes::{BufMut, BytesMut};
 use ffi_scheme::scheme::{HostDigest, HostScheme};
 use simplex_resolver::replay::{LawfulResolver, ReplayError};

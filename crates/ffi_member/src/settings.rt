@@ -9,8 +9,8 @@ ghost use Rattle.ffi_member.specs.Settings.{IsConfig, IsSettingsErrorDue, IsElec
 ghost use Rattle.ffi_member.specs.Numbers.{flag_number};
 ghost use Rattle.ffi_member.specs.Settings.{config_error, elector_error, flag_error, names_members, signer_error, table_error, terms_error};
 
-use crate::flat_calls::finalization_of;
 use crate::flat::FlatSettings;
+use crate::flat_calls::finalization_of;
 use crate::numbers::flag_of;
 use ffi_scheme::elector::HostElector;
 use ffi_scheme::scheme::{HostDigest, HostScheme};

@@ -7,19 +7,19 @@ ghost use Rattle.ffi_member.specs.ShownFacts.{HasAnsweredIn, HasForwardable, IsC
 ghost use Rattle.simplex_voter.specs.Refusals.{is_started};
 ghost use Rattle.simplex_voter.specs.StateAnswers.{forwardable_of};
 
-use crate::flat_calls::{proposal_of, round_in};
 use crate::flat::{FlatFetch, FlatProposal, FlatRound};
+use crate::flat_calls::{proposal_of, round_in};
+use crate::flat_replies::{flat_proposal, flat_round};
 use crate::held::Held;
 use crate::journal::write_entries;
 use crate::kinds::{
     CertificateKind, VoteKind, certificate_kind_of, number_of_certificate, vote_kind_of,
 };
 use crate::numbers::number_of_flag;
-use crate::flat_replies::{flat_proposal, flat_round};
+use crate::statuses::number_of_not_written;
 use crate::view_types::{
     CHUNK, FlatChunk, FlatEntries, FlatFound, FlatItem, FlatStored, FlatText, FlatView,
 };
-use crate::statuses::number_of_not_written;
 use bytes::{BufMut, BytesMut};
 use ffi_scheme::elector::HostElector;
 use ffi_scheme::scheme::{HostDigest, HostScheme};

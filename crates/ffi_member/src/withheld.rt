@@ -6,8 +6,8 @@ ghost use Rattle.ffi_member.specs.Withheld.{IsWithheldIn, withheld_number, withh
 
 use crate::held::Held;
 use crate::kinds::{VoteKind, vote_kind_of};
-use crate::views::HostState;
 use crate::view_types::FlatWithheld;
+use crate::views::HostState;
 use simplex_types::types::View;
 use simplex_voter::voter::Withheld;
 

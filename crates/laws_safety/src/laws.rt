@@ -16,8 +16,8 @@ mod states;
 pub use continuations::{conflicts_are_left, gaps_are_closed, nullified_handoffs_are_left};
 pub use contradictions::{accountability, contradictions_need_faults};
 pub use instances::{
-    contradictions_are_answered_for, lifetimes_may_differ, refusals_accept_nothing, restarts_are_runs,
-    skipped_views_are_agreed_on, terms_are_agreed_on, views_ahead_are_agreed_on,
+    contradictions_are_answered_for, lifetimes_may_differ, refusals_accept_nothing,
+    restarts_are_runs, skipped_views_are_agreed_on, terms_are_agreed_on, views_ahead_are_agreed_on,
 };
 pub use lives::{current_views_time_out, lifetimes_keep_order, runs_keep_order};
 pub use network::{agreement, votes_are_lawful};

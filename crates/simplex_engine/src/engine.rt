@@ -8,23 +8,23 @@ ghost use Rattle.std.specs.Option.{option_copied};
 ghost use Rattle.simplex_types.specs.declared.types.fault.Fault.TheVariants.{OutOfMemory, Failed};
 ghost use Rattle.simplex_engine.specs.Failures.{IsFailure};
 
-mod calls;
 mod begin;
-mod votes;
+mod calls;
 mod inputs;
 mod steps;
+mod votes;
 
 use crate::input::Input;
 pub use begin::StartError;
-use simplex_types::types::assembly::Assembly;
-use engine_votes::batcher::Batcher;
 use engine_fetches::fetches::Fetches;
-use simplex_member::member::Stored;
 use engine_outbox::journaled::Journaled;
 use engine_outbox::output::Output;
 pub use engine_planner::plan::Options;
 use engine_planner::plan::Plan;
+use engine_votes::batcher::Batcher;
+use simplex_member::member::Stored;
 use simplex_resolver::replay::LawfulResolver;
+use simplex_types::types::assembly::Assembly;
 use simplex_types::types::{Artifact, CertificateScheme, Digest, Elector, Fault, View};
 use simplex_voter::voter::State;
 use std::alloc::Global;

@@ -7,11 +7,11 @@
 //! `State::produce` serves a peer that repairs below the current view.
 
 mod effect;
-mod served;
 mod laws;
 mod notarizations;
 mod outstanding;
 mod scan;
+mod served;
 mod state;
 mod views;
 

@@ -1,8 +1,8 @@
 ghost use Rattle.std.specs.Prelude.{◌≡◌};
 
+use simplex_types::types::{TermLength, View};
 use simplex_view_maps::by_term::ByTerm;
 use simplex_view_maps::tracked::Tracked;
-use simplex_types::types::{TermLength, View};
 use std::alloc::Global;
 use std::num::NonZeroU32;
 use std::test::Fail;

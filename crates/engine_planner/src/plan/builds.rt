@@ -33,11 +33,18 @@ impl<D: Digest, P: Copy> Builds<D, P> {
     }
 
     /// One more is to be built, in place of one of its view.
-    pub(super) fn put(&mut self, context: Context<D, P>, is_reported: bool) -> Result<(), AllocError>
+    pub(super) fn put(
+        &mut self,
+        context: Context<D, P>,
+        is_reported: bool,
+    ) -> Result<(), AllocError>
         ensures { OnOk result (self.new.buildings.items ≡ in_place (record { context = context; is_reported = is_reported }) self.old.buildings.items) }
     {
         self.end(view_of(&context));
-        self.buildings.push(Building { context, is_reported })?;
+        self.buildings.push(Building {
+            context,
+            is_reported,
+        })?;
         Ok(())
     }
 

@@ -8,8 +8,8 @@ ghost use Rattle.simplex_types.specs.MessageViews.{certificate_view};
 ghost use Rattle.engine_planner.specs.Consequences.{showing, IsResolverNotified, IsTakenInAbove, IsNewFollowed, IsAddedFollowed, IsCertificateFollowed};
 
 use super::Plan;
-use simplex_member::member::Reply;
 use engine_outbox::output::Work;
+use simplex_member::member::Reply;
 use simplex_types::types::{Certificate, CertificateScheme, Digest, Fault, View, Viewable};
 use std::alloc::AllocError;
 
@@ -70,7 +70,11 @@ impl<S: CertificateScheme, D: Digest> Plan<S, D> {
     }
 
     /// Shows that a leader signed two proposals, where one did.
-    fn report_equivocation(&mut self, view: View, equivocator: Option<S::PublicKey>) -> Result<(), AllocError>
+    fn report_equivocation(
+        &mut self,
+        view: View,
+        equivocator: Option<S::PublicKey>,
+    ) -> Result<(), AllocError>
         ensures { OnOk result (HasPlanned (showing view equivocator) self.old self.new) }
     {
         match equivocator {

@@ -11,8 +11,8 @@ use super::certificates::is_genesis;
 use super::{Plan, Step};
 use crate::task::Task;
 use engine_fetches::fetches::{FetchKind, fetch_kind};
-use simplex_member::member::Reply;
 use engine_outbox::output::Work;
+use simplex_member::member::Reply;
 use simplex_types::reasons::TimeoutReason;
 use simplex_types::types::{
     Certificate, CertificateScheme, Context, Digest, Fault, Notarization, Nullify, Proposal, View,

@@ -2,10 +2,10 @@
 
 use super::Node;
 use crate::message::{Ballot, Message, proposal_of};
+use engine_fetches::fetches::FetchKind;
 use example_engine::decode::decode;
 use example_engine::parts::Proof;
 use simplex_engine::input::Input;
-use engine_fetches::fetches::FetchKind;
 use simplex_types::types::{Fault, Scheme, Subject, View};
 
 impl Node {

@@ -3,13 +3,13 @@
 use super::Node;
 use crate::message::{Message, copy_vote};
 use crate::report::News;
+use engine_fetches::fetches::Ask;
+use engine_outbox::output::{Output, Work};
 use example_engine::digest::BlockDigest;
 use example_engine::parts::{Block, Proof};
 use example_engine::scheme::{MemberKey, SealScheme};
 use simplex_engine::input::Input;
-use engine_fetches::fetches::Ask;
 use simplex_member::member::Stored;
-use engine_outbox::output::{Output, Work};
 use simplex_types::types::{Context, Fault, View};
 
 /// The most outputs that are carried out in a row: a member alone goes from view to view without an event.

@@ -13,15 +13,15 @@ ghost use Rattle.engine_outbox.specs.Journals.{BeginsWith};
 ghost use Rattle.engine_outbox.specs.Signatures.{BeginsSigned};
 
 use super::Engine;
-use simplex_types::types::assembly::Assembly;
-use engine_votes::batcher::Batcher;
 use engine_fetches::fetches::{Fetches, Peers};
 use engine_fetches::repair::Repair;
-use lawful_member::lawful::LawfulMember;
-use simplex_member::member::{RecoverError, ResumeError, Start, Stored};
 use engine_outbox::journaled::Journaled;
 use engine_planner::plan::{Options, Plan, Views};
+use engine_votes::batcher::Batcher;
+use lawful_member::lawful::LawfulMember;
+use simplex_member::member::{RecoverError, ResumeError, Start, Stored};
 use simplex_resolver::replay::{LawfulResolver, ReplayError};
+use simplex_types::types::assembly::Assembly;
 use simplex_types::types::{
     Artifact, CertificateScheme, Digest, Elector, Scheme, TermLength, View,
 };

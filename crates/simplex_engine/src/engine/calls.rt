@@ -8,11 +8,11 @@ ghost use Rattle.simplex_engine.specs.NothingDue.{is_nothing, for_work};
 ghost use Rattle.engine_outbox.specs.Refusals.{is_lasting, says_nothing};
 
 use super::Engine;
-use simplex_types::types::assembly::Assembly;
 use engine_fetches::fetches::FetchKind;
-use simplex_member::member::Reply;
 use engine_planner::plan::Views;
 use engine_planner::task::Task;
+use simplex_member::member::Reply;
+use simplex_types::types::assembly::Assembly;
 use simplex_types::types::{CertificateScheme, Digest, Elector, Fault, Participant, View};
 use simplex_voter::voter::Verify;
 

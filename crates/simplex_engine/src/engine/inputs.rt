@@ -12,8 +12,8 @@ ghost use Rattle.engine_planner.specs.declared.task.Task.TheVariants.{Certified,
 use super::Engine;
 use super::votes::takes_votes;
 use crate::input::Input;
-use simplex_types::types::assembly::Assembly;
 use engine_planner::task::Task;
+use simplex_types::types::assembly::Assembly;
 use simplex_types::types::{
     Context, Digest, Elector, Fault, Participant, Proposal, Round, Scheme, View, Viewable,
 };

@@ -5,10 +5,10 @@ ghost use Rattle.std.specs.Prelude.{◌≡◌, ℕ, [], ◌∷◌, None, Some, O
 ghost use Rattle.simplex_engine.specs.Provenance.{is_verdict};
 
 use super::Engine;
-use simplex_types::types::assembly::Assembly;
 use engine_outbox::output::Work;
 use engine_planner::plan::Step;
 use engine_planner::task::Task;
+use simplex_types::types::assembly::Assembly;
 use simplex_types::types::{Digest, Elector, Fault, View};
 
 impl<S: Assembly<D>, L: Elector<S>, D: Digest> Engine<S, L, D> {

@@ -10,11 +10,11 @@ ghost use Rattle.simplex_engine.specs.Admission.{admits, admits_votes};
 
 use super::Engine;
 use super::calls::is_lasting;
-use simplex_types::types::assembly::Assembly;
+use engine_outbox::output::Work;
 use engine_votes::batcher::Counted;
 use engine_votes::votes::{Vote, round_of};
 use simplex_member::member::Reply;
-use engine_outbox::output::Work;
+use simplex_types::types::assembly::Assembly;
 use simplex_types::types::{Certificate, CertificateScheme, Digest, Elector, Fault, Round, Scheme};
 use simplex_voter::voter::State;
 

@@ -6,8 +6,8 @@ ghost use Rattle.std.specs.FinMap as map;
 ghost use Rattle.simplex_types.specs.declared.types.fault.Fault.TheVariants.{OutOfMemory};
 
 use super::waiting::Waiting;
-use simplex_view_maps::tracked::Tracked;
 use simplex_types::types::{Context, Digest, Fault, Proposal, View, Viewable};
+use simplex_view_maps::tracked::Tracked;
 use simplex_voter::voter::{ProposalRequest, Verify};
 use std::alloc::Global;
 use std::marker::Model;

@@ -6,8 +6,8 @@ ghost use Rattle.std.specs.FinMap.Entries.{find, put};
 ghost use Rattle.std.specs.Ordering.{nat_cmp};
 ghost use Rattle.simplex_types.specs.declared.types.fault.Fault.TheVariants.{OutOfMemory};
 
-use simplex_view_maps::tracked::Tracked;
 use simplex_types::types::{Fault, View};
+use simplex_view_maps::tracked::Tracked;
 use std::alloc::Global;
 use std::marker::Model;
 

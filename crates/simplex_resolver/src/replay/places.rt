@@ -7,10 +7,10 @@ ghost use Rattle.simplex_types.specs.Certificates.{artifact_facts, notarization_
 ghost use Rattle.simplex_resolver.specs.RecordCalls.{newest_first, notarization_at, newest_notarization};
 ghost use Rattle.simplex_resolver.specs.RecordPositions.{with_place, AreNoted};
 
-use simplex_view_maps::tracked::Tracked;
 use simplex_types::types::{
     AllocFailed, Artifact, CertificateScheme, Digest, Notarization, View, Viewable,
 };
+use simplex_view_maps::tracked::Tracked;
 use std::alloc::Global;
 
 /// The places of the newest notarizations among the first entries of a record.

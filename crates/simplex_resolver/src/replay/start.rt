@@ -10,9 +10,9 @@ ghost use Rattle.simplex_resolver.specs.ReplayErrors.{IsDue};
 ghost use Rattle.simplex_resolver.specs.RecordCalls.{newest_first, record_calls, replay_calls, all_after};
 ghost use Rattle.simplex_resolver.specs.RecordRules.{record_error};
 
+use super::calls::pass_every;
 use super::check::check_entries;
 use super::error::ReplayError;
-use super::calls::pass_every;
 use crate::resolver::{Effect, State};
 use simplex_types::types::{Artifact, CertificateScheme, Digest, Fault, TermLength};
 use std::alloc::Global;

@@ -10,8 +10,8 @@ ghost use Rattle.simplex_resolver.specs.Steps.{insert_new};
 use crate::resolver::served;
 use crate::resolver::views::Views;
 use bytes::Bytes;
-use simplex_view_maps::tracked::Tracked;
 use simplex_types::types::{Fault, View};
+use simplex_view_maps::tracked::Tracked;
 use std::alloc::Global;
 use std::marker::Model;
 

@@ -12,9 +12,9 @@ ghost use Rattle.simplex_resolver.specs.declared.resolver.effect.Effect.TheVaria
 use crate::resolver::effect::Effect;
 use crate::resolver::views::Views;
 use bytes::Bytes;
-use simplex_view_maps::by_term::ByTerm;
 use simplex_types::reasons::FetchReason;
 use simplex_types::types::{TermLength, View};
+use simplex_view_maps::by_term::ByTerm;
 use std::alloc::AllocError;
 
 /// The encoding of the nullification of the highest view that covers `view`.

@@ -10,9 +10,9 @@ ghost use Rattle.simplex_resolver.specs.Facts.{certified_encoding};
 ghost use Rattle.simplex_resolver.specs.Steps.{insert_new};
 
 use bytes::Bytes;
+use simplex_types::types::{Certificate, CertificateScheme, Digest, Fault, View};
 use simplex_view_maps::by_term::ByTerm;
 use simplex_view_maps::tracked::Tracked;
-use simplex_types::types::{Certificate, CertificateScheme, Digest, Fault, View};
 use std::alloc::Global;
 
 /// Puts the value in, in place of the one that the view has.

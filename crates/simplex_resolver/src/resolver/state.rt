@@ -14,11 +14,11 @@ ghost use Rattle.simplex_resolver.specs.Steps.{update, verdict, Replayed, Refuse
 use crate::resolver::effect::Effect;
 use crate::resolver::notarizations::Notarizations;
 use bytes::Bytes;
-use simplex_view_maps::by_term::ByTerm;
 use simplex_types::types::{
     Certificate, CertificateScheme, Digest, Fault, LARGEST_VIEW, Notarization, Proposal,
     TermLength, View, Viewable,
 };
+use simplex_view_maps::by_term::ByTerm;
 use std::alloc::Global;
 use std::marker::Model;
 

@@ -10,10 +10,10 @@ ghost use Rattle.simplex_round.specs.Round.{is_judged};
 
 use super::state::State;
 use simplex_round::round::{Certification, Round};
+use simplex_types::types::{CertificateScheme, Digest, Elector, Fault, Proposal, View};
 use simplex_view_maps::by_term::ByTerm;
 use simplex_view_maps::entries::Entries;
 use simplex_view_maps::tracked::Tracked;
-use simplex_types::types::{CertificateScheme, Digest, Elector, Fault, Proposal, View};
 
 /// Notes a view, which may be noted already.
 #[tactic(auto, using(crate::proofs::RoundsKept::noted))]

@@ -5,8 +5,8 @@ ghost use Rattle.std.specs.List.{find};
 
 use super::state::State;
 use simplex_round::round::Round;
-use simplex_view_maps::entries::Entries;
 use simplex_types::types::{CertificateScheme, Digest, Elector, View};
+use simplex_view_maps::entries::Entries;
 
 impl<S: CertificateScheme, L: Elector<S>, D: Digest> State<S, L, D> {
     ghost use Rattle.simplex_voter.specs.Facts.{round_of};

@@ -8,8 +8,8 @@ ghost use Rattle.simplex_voter.specs.Parents.{is_payload, is_parent, at_view};
 use super::leaders::before;
 use super::state::State;
 use simplex_round::round::Round;
-use simplex_view_maps::entries::Entries;
 use simplex_types::types::{CertificateScheme, Digest, Elector, Proposal, View};
+use simplex_view_maps::entries::Entries;
 
 /// A view with its payload, where it has one.
 fn at_view<D: Digest>(view: View, payload: Option<D>) -> Option<(View, D)>

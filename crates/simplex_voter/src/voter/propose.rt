@@ -8,8 +8,8 @@ ghost use Rattle.simplex_round.specs.Round.{should_propose};
 
 use super::state::State;
 use simplex_round::round::{Leader, Round};
-use simplex_view_maps::entries::Entries;
 use simplex_types::types::{CertificateScheme, Context, Digest, Elector, Fault, View, Viewable};
+use simplex_view_maps::entries::Entries;
 use std::alloc::AllocError;
 
 /// A proposal that this member is asked to build.

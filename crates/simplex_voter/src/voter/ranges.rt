@@ -12,9 +12,9 @@ ghost use Rattle.simplex_voter.specs.Rounds.{IsQuietBelow, is_refused_above};
 
 use super::rounds::Rounds;
 use simplex_round::round::{Certification, Round};
+use simplex_types::types::{CertificateScheme, Digest, Fault, View};
 use simplex_view_maps::entries::Entries;
 use simplex_view_maps::tracked::Tracked;
-use simplex_types::types::{CertificateScheme, Digest, Fault, View};
 
 /// Whether one of the rounds is notarized or finalized.
 fn has_notarized<S: CertificateScheme, D: Digest>(mut entries: Entries<'_, Round<S, D>>) -> bool

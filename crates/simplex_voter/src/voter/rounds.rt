@@ -7,9 +7,9 @@ ghost use Rattle.simplex_types.specs.declared.types.fault.Fault.TheVariants.{Out
 ghost use Rattle.simplex_view_maps.specs.Tracked.{at_or_above};
 
 use simplex_round::round::Round;
-use simplex_view_maps::tracked::Tracked;
 use simplex_types::types;
 use simplex_types::types::{CertificateScheme, Digest, Epoch, Fault, Participant, View};
+use simplex_view_maps::tracked::Tracked;
 use std::alloc::Global;
 use std::marker::Model;
 

@@ -6,12 +6,12 @@ ghost use Rattle.simplex_types.specs.declared.types.fault.Fault.TheVariants.{Out
 
 use super::rounds::{Deadlines, Rounds};
 use simplex_round::round::Round;
-use simplex_view_maps::by_term::ByTerm;
-use simplex_view_maps::tracked::Tracked;
 use simplex_types::types;
 use simplex_types::types::{
     CertificateScheme, Digest, Elector, Epoch, Fault, Participant, View, ViewDelta,
 };
+use simplex_view_maps::by_term::ByTerm;
+use simplex_view_maps::tracked::Tracked;
 use std::alloc::Global;
 use std::marker::Model;
 

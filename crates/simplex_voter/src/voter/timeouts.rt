@@ -9,9 +9,9 @@ ghost use Rattle.simplex_types.specs.declared.types.fault.Fault.TheVariants.{Tim
 
 use super::state::State;
 use simplex_round::round::{Decision, Round};
-use simplex_view_maps::entries::Entries;
 use simplex_types::reasons::TimeoutReason;
 use simplex_types::types::{CertificateScheme, Digest, Elector, Fault, TermLength, View};
+use simplex_view_maps::entries::Entries;
 
 /// The number of the term of a view, from 0. Genesis counts to the first term.
 fn index_of(view: View, length: TermLength) -> u64

@@ -10,7 +10,7 @@ ghost use Rattle.simplex_resolver.specs.Steps.{update, after, effects, after_sca
 
 use crate::resolver::effect::Effect;
 use crate::resolver::state::State;
-use crate::resolver::{served, scan};
+use crate::resolver::{scan, served};
 use simplex_types::reasons::Kind;
 use simplex_types::types::{Certificate, CertificateScheme, Digest, Fault, View, Viewable};
 
