@@ -125,7 +125,8 @@ def listed_names():
     """The crates that stand, and the wrong bodies that are tried, as the pages list them."""
     crates = {path.name for path in (ROOT / "crates").iterdir() if (path / "src").is_dir()}
     listed = {line.partition(":")[0].split(" ")[0] for line in text_of("crates.txt").splitlines()}
-    told = set(re.findall(r"^\| `(\w+)` \|", text_of("docs/DESIGN.md"), re.MULTILINE)) & (crates | listed)
+    cells = re.findall(r"^\| ((?:`\w+`(?:, )?)+) \|", text_of("docs/DESIGN.md"), re.MULTILINE)
+    told = {name for cell in cells for name in re.findall(r"\w+", cell)} & (crates | listed)
     yield from (f"{what} has other crates than stand: {names ^ crates}" for what, names in (("crates.txt", listed), ("docs/DESIGN.md", told)) if names != crates)
     for name in wrong_bodies.ALL_WRONG:
         if name.split("/")[1] not in text_of("docs/TESTED.md"):

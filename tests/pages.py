@@ -37,8 +37,9 @@ DIALECT = re.compile(
 IN_PLAIN_WORDS = ("README.md", "CONTRIBUTING.md", "CHANGELOG.md", "SECURITY.md", *(f"docs/{name}.md" for name in (
     "CALLERS", "DECISIONS", "DESIGN", "DIFFERENCES", "EMBEDDING", "GLOSSARY", "GUARANTEES", "PARTS", "PRODUCTION", "PROGRAM", "TESTED", "TRACE", "TUTORIAL")),
     "docs/inside/PROOFS.md", "docs/inside/CALLS.md",
-    *(f"crates/simplex_{name}/CALLING.md" for name in (
-        "codec", "engine", "flat", "host", "laws", "lawful", "member", "record", "resolver", "types", "voter")))
+    *(f"crates/{name}/CALLING.md" for name in (
+        "simplex_codec", "simplex_engine", "ffi_member", "ffi_scheme", "laws_safety", "lawful_member", "simplex_member", "simplex_record", "simplex_resolver",
+        "simplex_types", "simplex_voter")))
 LEAST = {"paths in blocks": 45, "paths between backquotes": 25, "names": 120}
 
 

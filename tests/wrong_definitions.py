@@ -63,8 +63,8 @@ EXAMPLES = {
         "laws::calls_were_received_before", "laws::nullifies_once_due", "laws::work_was_given", "laws::engines_run_on_offers")),
 }
 VOTER, RECORD, MEMBER, RESOLVER, LAWS, HISTORIES, PROGRESS, CHAINS, ENGINE = (
-    (f"simplex_{name}",) for name in (
-        "definitions", "record", "member", "resolver", "laws", "histories", "progress", "chains", "engine_definitions"))
+    (name,) for name in (
+        "laws_voter", "simplex_record", "simplex_member", "simplex_resolver", "laws_safety", "laws_history", "laws_progress", "laws_chains", "laws_engine"))
 
 
 class Wrong(NamedTuple):
@@ -277,7 +277,7 @@ WRONG_DEFINITIONS = (
     ),
     Wrong(
         "the first view above the floor is no anchor", "simplex_resolver/specs/Facts.antt",
-        (("is_anchor t floor v = nat_lt floor v && (is_term_start t v || v == floor + 1)", "is_anchor t floor v = nat_lt floor v && is_term_start t v"),), RESOLVER,
+        (("is_anchor t floor v = nat_lt floor v && (starts_term t v || v == floor + 1)", "is_anchor t floor v = nat_lt floor v && starts_term t v"),), RESOLVER,
     ),
     Wrong(
         "a failed view is not wanted", "simplex_resolver/specs/ReceivedFacts.antt",
@@ -430,11 +430,11 @@ WRONG_DEFINITIONS = (
     ),
     Wrong(
         "work may come of nothing", "simplex_engine/specs/Provenance.antt",
-        (("[] matters asked m left end = AreAmong left matters ×", "[] matters asked m left end = AreAmong left left ×"),), ENGINE,
+        (("[] causes asked m left end = AreAmong left causes ×", "[] matters asked m left end = AreAmong left left ×"),), ENGINE,
     ),
     Wrong(
         "views that are kept may be forgotten", "simplex_engine/specs/Provenance.antt",
-        (("Duty (Forget (min_active x))", "Duty (Forget x.finalized)"),), ENGINE,
+        (("WorkItem (Forget (min_active x))", "WorkItem (Forget x.finalized)"),), ENGINE,
     ),
     Wrong(
         "the last finalized view is not yet final", "simplex_engine/specs/Provenance.antt",
