@@ -37,7 +37,7 @@ abbrev pub WereSigned : {D G : Type 0} → List (TraceEvent D) → List (Vote D 
 WereSigned {D} {G} all votes = (vote : Vote D G) → Contains votes vote → Contains all (Signs vote.signer vote.subject)
 
 module _ {S D J K G C : Type 0} where
-  -- of these outputs the first ones were carried out, and of the `Store` behind them the first entries
+  -- of these outputs the first ones were carried out, and of the `Store` after them the first entries
   pub record IsTorn (outs carried : List (Output S D J K G C)) : Type 0 where
     pub front : List (Output S D J K G C)
     pub back : List (Output S D J K G C)
@@ -71,7 +71,7 @@ module _ {S L D K G C : Type 0} (same : D → D → Bool) (elect : Elect L) (byt
   MayStopAfterEach all [] = ⊥
   MayStopAfterEach all (first ∷ rest) = (carried : List (Output S D Stored K G C)) → MayBeCarriedOut rest carried → MayStopAfter all (first ∷ carried)
 
-  -- it may after these outputs and the first entries by which the record has grown since it had so many, however many of them
+  -- it may after these outputs and the first entries by which the record has grown since it had this number, however many of them
   abbrev pub MayStopAmid : List (TraceEvent D) → List (Output S D Stored K G C) → SignedMember K L D G → ℕ → Type 0
   MayStopAmid all outs member count =
       (part : Vec (Artifact S D K G C) Global) (rest : List (Artifact S D K G C))

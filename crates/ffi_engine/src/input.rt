@@ -1,4 +1,4 @@
-//! The inputs that flat ones stand for.
+//! The inputs that flat inputs represent.
 
 ghost use Rattle.std.specs.Prelude.{◌≡◌, ◌≤◌, ◌<◌, IfOk, OnErr, MatchOption};
 ghost use Rattle.ffi_member.specs.Numbers.{flag_number, reason_number};
@@ -23,8 +23,8 @@ use std::alloc::{AllocError, Global};
 /// An input of an engine of the host.
 pub type HostInput = Input<HostScheme, HostDigest>;
 
-/// The input that a flat one stands for, with the bytes of the signature or the certificate that it hands in; none where one of
-/// its numbers is none.
+/// Returns the input that a flat input represents, with the bytes of the signature or the certificate that it passes; `None` if one of its
+/// numbers is not valid.
 pub fn input_of(
     alloc: Global,
     flat: &FlatInput,
@@ -81,7 +81,7 @@ fn input_of_kind(
     })
 }
 
-/// A vote under a signature of these bytes; none where no vote has its kind.
+/// Returns a vote under a signature of these bytes; `None` if no vote has its kind.
 fn vote_of(
     alloc: Global,
     flat: &FlatSubject,
@@ -103,7 +103,7 @@ fn vote_of(
     }))
 }
 
-/// A certificate of these bytes; none where no certificate has its kind.
+/// Returns a certificate of these bytes; `None` if no certificate has its kind.
 fn certificate_of(
     alloc: Global,
     flat: &FlatSubject,
@@ -128,7 +128,7 @@ fn certificate_of(
     }))
 }
 
-/// A context, and who leads it.
+/// Returns a context, with its leader.
 fn context_of(flat: &FlatContext, leader: u32) -> Context<HostDigest, HostKey>
     ensures context { IsContext flat.now result }
     ensures leader { result.leader.0 ≡ leader }
@@ -140,7 +140,7 @@ fn context_of(flat: &FlatContext, leader: u32) -> Context<HostDigest, HostKey>
     }
 }
 
-/// What a vote of a kind is on; none where no vote has the kind.
+/// Returns the subject of a vote of a kind; `None` if no vote has the kind.
 fn subject_of(flat: &FlatSubject) -> Option<Subject<HostDigest>>
     ensures { MatchOption result (IsNoKind flat.now) (λ subject. HasKind flat.now × IsOn flat.now subject) }
 {

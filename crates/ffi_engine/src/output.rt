@@ -1,4 +1,4 @@
-//! What flat outputs tell.
+//! The flat form of an engine's outputs.
 
 ghost use Rattle.std.specs.Prelude.{◌≡◌};
 ghost use Rattle.engine_outbox.specs.declared.output.Work.TheVariants.{Fetch};
@@ -25,33 +25,33 @@ use simplex_types::types::{Certificate, Context, Participant, Proposal, Subject}
 /// An engine of the host.
 pub type HostEngine = Engine<HostScheme, HostElector, HostDigest>;
 
-/// What an engine of the host gives out.
+/// An output of an engine of the host.
 pub type HostOutput = Output<HostScheme, HostDigest, Stored>;
 
 /// A vote of a member of the host.
 pub type HostVote = Vote<HostDigest, Order>;
 
-/// What is to be carried out of the host, and is neither stored, nor a vote, nor final.
+/// An output of the host that is neither stored, nor a vote, nor final.
 pub type HostWork = Work<HostScheme, HostDigest>;
 
-/// The number of a fetch of whatever certificate decides a view: none of a certificate's kind.
+/// The number of a fetch of any certificate that decides a view: no certificate kind has it.
 const FETCH_DECISION: u32 = 4;
 
-/// A proposal with nothing in it.
+/// An empty proposal.
 const NO_PROPOSAL: FlatProposal = FlatProposal {
     round: FlatRound { epoch: 0, view: 0 },
     parent: 0,
     payload: [0; 32],
 };
 
-/// A subject with nothing in it.
+/// An empty subject.
 const NO_SUBJECT: FlatSubject = FlatSubject {
     kind: 0,
     member: u32::MAX,
     proposal: NO_PROPOSAL,
 };
 
-/// What an output tells, but for its bytes and for what is stored beside a journal.
+/// Returns the flat form of an output, without its bytes and without what is stored beside a journal.
 pub(crate) fn flat_output(output: &HostOutput) -> FlatOutput
     ensures output { HasOutputOf output.now result }
     ensures status { result.status ≡ 0 }
@@ -68,7 +68,7 @@ pub(crate) fn flat_output(output: &HostOutput) -> FlatOutput
     }
 }
 
-/// What work tells.
+/// Returns the flat form of work.
 fn flat_work(work: &HostWork) -> FlatOutput
     ensures work { IsWork work.now result }
     ensures status { result.status ≡ 0 }
@@ -96,7 +96,7 @@ fn flat_work(work: &HostWork) -> FlatOutput
     }
 }
 
-/// An output of a kind, with nothing in it.
+/// Returns an empty output of a kind.
 pub(crate) fn output_of(kind: u32) -> FlatOutput
     ensures kind { result.kind ≡ kind }
     ensures status { result.status ≡ 0 }
@@ -121,7 +121,7 @@ pub(crate) fn output_of(kind: u32) -> FlatOutput
     }
 }
 
-/// Beside a journal before anything was stored.
+/// The data stored beside a journal before anything was stored.
 pub(crate) const NOTHING_STORED: FlatStored = FlatStored {
     entries: 0,
     closed: 0,
@@ -190,7 +190,7 @@ fn proposal_subject(proposal: &Proposal<HostDigest>) -> FlatSubject
     }
 }
 
-/// What a vote is on, and who signed it.
+/// Returns the subject of a vote, and its signer.
 fn flat_vote(vote: &HostVote) -> FlatSubject
     ensures on { IsOn result vote.now.subject }
     ensures signer { result.member ≡ vote.now.signer }
@@ -221,7 +221,7 @@ fn flat_vote(vote: &HostVote) -> FlatSubject
     }
 }
 
-/// What a certificate is on.
+/// Returns the subject of a certificate.
 fn flat_certificate(certificate: &Certificate<HostScheme, HostDigest>) -> FlatSubject
     ensures { IsOf result certificate.now }
 {
@@ -260,7 +260,7 @@ fn subject_on(kind: CertificateKind, member: u32, proposal: FlatProposal) -> Fla
     }
 }
 
-/// What is nullified.
+/// Returns the subject of a nullification.
 fn of_round(round: FlatRound) -> FlatProposal
     ensures { result.round ≡ round }
 {
@@ -270,7 +270,7 @@ fn of_round(round: FlatRound) -> FlatProposal
     }
 }
 
-/// The number of what is fetched.
+/// Returns the number of a kind of fetch.
 pub(crate) fn number_of_fetch(kind: FetchKind) -> u32
     ensures { result ≡ fetch_number kind }
 {
@@ -281,7 +281,7 @@ pub(crate) fn number_of_fetch(kind: FetchKind) -> u32
     }
 }
 
-/// The index of a member, or the greatest number where there is none.
+/// Returns the index of a member, or the greatest number if there is none.
 fn number_of_peer(of: Option<Participant>) -> u32
     ensures { result ≡ index_number of }
 {
@@ -291,7 +291,7 @@ fn number_of_peer(of: Option<Participant>) -> u32
     }
 }
 
-/// What is to be signed, a certificate, or the first signature of two: what is read of an output that is no journal's.
+/// Returns the text to sign, a certificate, or the first signature of two: the bytes of an output that stores nothing.
 pub(crate) fn signature_in(output: &HostOutput) -> &[u8]
     ensures { result.now ≡ first_bytes_in output.now }
 {
@@ -303,7 +303,7 @@ pub(crate) fn signature_in(output: &HostOutput) -> &[u8]
     }
 }
 
-/// The second signature of two.
+/// Returns the second signature of two.
 pub(crate) fn other_signature(output: &HostOutput) -> &[u8]
     ensures { result.now ≡ other_signature output.now }
 {
@@ -313,7 +313,7 @@ pub(crate) fn other_signature(output: &HostOutput) -> &[u8]
     }
 }
 
-/// The bytes of a certificate.
+/// Returns the bytes of a certificate.
 fn bytes_of(certificate: &Certificate<HostScheme, HostDigest>) -> &[u8]
     ensures { result.now ≡ certified_bytes certificate.now }
 {

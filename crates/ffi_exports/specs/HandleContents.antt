@@ -1,4 +1,4 @@
--- What lies behind a handle.
+-- The value behind a handle.
 use Rattle.std.specs.Prelude.{◌≡◌, Option, Some, None}
 use Rattle.std.specs.Coded.{Coded, coded_option}
 use base.Fml.{Fml, ftrue, fex, fsep}
@@ -23,7 +23,7 @@ abbrev pub held_at : Ptr → Held → Fml
 held_at null_ptr now = ftrue
 held_at (block_ptr b o) now = fsep (fact_formula (Testable (block_ptr b o))) (lies_at held.the_row full_share (block_ptr b o) now)
 
--- some member is behind the handle of which this holds; or the handle is null, and this is answered
+-- some member is behind the handle of which this is true; or the handle is null, and this is returned
 abbrev pub member_left_at : Ptr → Type 0 → (Held → Type 0) → Fml
 member_left_at null_ptr answered P = fact_formula answered
 member_left_at (block_ptr b o) answered P = fex Held (λ now. fsep (fact_formula (P now)) (held_at (block_ptr b o) now))
@@ -43,11 +43,11 @@ abbrev pub passed_at : Ptr → Option Held → Fml
 passed_at at None = ftrue
 passed_at at (Some now) = in_block at (owned_at heap at now)
 
--- how a place of a handle stores what is behind it
+-- how a place of a handle stores the value behind it
 abbrev pub coded_held : Coded (Option Held)
 coded_held = coded_option held.the_row.coded
 
--- the same of a resolver
+-- the same for a resolver
 abbrev pub resolver_at : Ptr → HeldResolver → Fml
 resolver_at null_ptr now = ftrue
 resolver_at (block_ptr b o) now = fsep (fact_formula (Testable (block_ptr b o))) (lies_at resolver.the_row full_share (block_ptr b o) now)
@@ -68,7 +68,7 @@ resolver_passed_at at (Some now) = in_block at (resolver_owned_at heap at now)
 abbrev pub coded_resolver : Coded (Option HeldResolver)
 coded_resolver = coded_option resolver.the_row.coded
 
--- the same of an engine
+-- the same for an engine
 abbrev pub engine_at : Ptr → HeldEngine → Fml
 engine_at null_ptr now = ftrue
 engine_at (block_ptr b o) now = fsep (fact_formula (Testable (block_ptr b o))) (lies_at engine.the_row full_share (block_ptr b o) now)

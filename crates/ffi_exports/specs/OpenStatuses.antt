@@ -1,4 +1,4 @@
--- What C is answered of a start, a resume or a restart.
+-- What C receives for a start, a resume or a restart.
 use Rattle.std.specs.Prelude.{◌≡◌, ◌⊎◌, ℕ, List, Option, Some, Result}
 use Rattle.std.specs.Option.{IsSomeAnd}
 use Rattle.ffi_exports.specs.declared.handles.EngineHandle.{EngineHandle}
@@ -38,7 +38,7 @@ IsStartStatus f leaders bytes now status old new =
     ⊎ ((status ≡ 1) × (new ≡ old))
     ⊎ ((e : NotStarted) × IsNotStarted f leaders bytes now e × (status ≡ not_started_number e) × (new ≡ old))
 
--- the handle of the member that goes on was written; or there was no memory for it, or the resume is refused, and nothing was
+-- the handle of the member that resumes was written; or there was no memory for it, or the resume is refused, and nothing was
 abbrev pub IsResumeStatus : FlatSettings → List ℕ → List ℕ → ℕ → FlatStored → List ℕ → ℕ → MemberHandle → MemberHandle → Type 0
 IsResumeStatus f leaders bytes now beside journal status old new =
     ((status ≡ 0) × IsSomeAnd new.held (IsResumedBy f leaders bytes now beside journal))
@@ -64,7 +64,7 @@ IsStartedStatus f leaders bytes options now status old new =
     ⊎ ((status ≡ 1) × (new ≡ old))
     ⊎ ((e : EngineNotStarted) × IsEngineNotStarted f leaders bytes options now e × (status ≡ engine_not_started_number e) × (new ≡ old))
 
--- the handle of the engine that goes on was written; or there was no memory for it, or the resume is refused, and nothing was
+-- the handle of the engine that resumes was written; or there was no memory for it, or the resume is refused, and nothing was
 abbrev pub IsResumptionStatus : FlatSettings → List ℕ → List ℕ → FlatOptions → ℕ → FlatStored → List ℕ → ℕ → EngineHandle → EngineHandle
     → Type 0
 IsResumptionStatus f leaders bytes options now beside journal status old new =

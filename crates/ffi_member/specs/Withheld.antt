@@ -10,7 +10,7 @@ use Rattle.ffi_member.specs.Numbers.{IsNoKind, vote_number}
 use Rattle.ffi_member.specs.MemberHandles.{host_leader, same_host_payload}
 use Rattle.ffi_member.specs.ShownFacts.{HostFacts, HostState}
 
--- the number of a reason; 0 where the vote is not withheld
+-- the number of a reason; 0 if the vote is not withheld
 abbrev pub withheld_number : Option Withheld → ℕ
 withheld_number None = 0
 withheld_number (Some withheld.NoKey) = 1

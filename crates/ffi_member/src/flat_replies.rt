@@ -1,5 +1,5 @@
-//! What flat replies tell of a member's replies. None of it takes memory: a certificate, a text to sign and lists stay in the
-//! reply, of which they are read.
+//! The flat form of a member's replies. None of it takes memory: a certificate, a text to sign and lists stay in the reply, and are read
+//! from it.
 
 ghost use Rattle.std.specs.Prelude.{◌≡◌, option_map};
 ghost use Rattle.simplex_types.specs.Certificates.{certificate_facts};
@@ -22,7 +22,7 @@ use simplex_voter::voter::{ProposalRequest, Verify};
 /// A reply of a member of the host.
 pub type HostReply = Reply<HostScheme, HostDigest>;
 
-/// What a reply tells, but for what has no fixed size.
+/// Returns the flat form of a reply, without the parts that have no fixed size.
 pub fn flat_reply(reply: &HostReply) -> FlatReply
     ensures { RepresentsReply result (told certificate_bytes reply.now) }
 {
@@ -74,7 +74,7 @@ pub fn flat_reply(reply: &HostReply) -> FlatReply
     }
 }
 
-/// An answer of a kind with nothing in it.
+/// Returns an empty reply of a kind.
 fn answered(kind: u32) -> FlatReply
     ensures answered { HasAnswer kind result }
     ensures nothing { result.has ≡ 0 }
@@ -85,7 +85,7 @@ fn answered(kind: u32) -> FlatReply
     }
 }
 
-/// A reply of a status with nothing in it.
+/// Returns an empty reply of a status.
 pub(crate) fn unanswered(status: u32) -> FlatReply
     ensures status { result.status ≡ status }
     ensures nothing { result.has ≡ 0 }
@@ -127,7 +127,7 @@ fn flagged(kind: u32, flag: bool) -> FlatReply
     }
 }
 
-/// The numbers of a round.
+/// Returns the numbers of a round.
 pub fn flat_round(round: Round) -> FlatRound
     ensures { round ≡ flat_round result }
 {
@@ -137,7 +137,7 @@ pub fn flat_round(round: Round) -> FlatRound
     }
 }
 
-/// The numbers and bytes of a proposal.
+/// Returns the numbers and bytes of a proposal.
 pub fn flat_proposal(proposal: &Proposal<HostDigest>) -> FlatProposal
     ensures { IsFlatProposal result proposal.now }
 {
@@ -148,7 +148,7 @@ pub fn flat_proposal(proposal: &Proposal<HostDigest>) -> FlatProposal
     }
 }
 
-/// The numbers and bytes of a context.
+/// Returns the numbers and bytes of a context.
 pub fn flat_context(context: &Context<HostDigest, HostKey>) -> FlatContext
     ensures { IsContext result context.now }
 {

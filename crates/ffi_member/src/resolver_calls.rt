@@ -1,4 +1,4 @@
-//! A resolver behind a handle, with the effects of what it was told last, and what it last served.
+//! A resolver behind a handle, with the effects of its last input, and what it last served.
 
 ghost use Rattle.std.specs.Prelude.{◌≡◌, ◌⊎◌, ◌<◌, ◌≤◌, ◌++◌, [], Some, OnOk, OnErr, IfOk, IfErr, IfSome, MatchOption, length};
 ghost use Rattle.simplex_types.specs.Certificates.{certificate_facts, notarization_facts};
@@ -39,11 +39,11 @@ pub enum NotReplayed {
     NoTerm,
     /// The journal is no record.
     Journal(NotRead),
-    /// The record is refused, or memory is wanting.
+    /// The record is refused, or memory ran out.
     Replay(ReplayError),
 }
 
-/// A resolver, the effects of what it was told last, and what it last served.
+/// A resolver, the effects of its last input, and what it last served.
 #[derive(Drop)]
 pub struct HeldResolver {
     alloc: Global,
@@ -55,7 +55,7 @@ pub struct HeldResolver {
 impl HeldResolver {
     ghost use Rattle.ffi_member.specs.ResolverHandles.{AreOutstanding, IsReplayedFrom, IsEffectAt, IsHeard, IsHeardAs, IsNotReplayedFrom, IsServedFor, IsSettledAt};
 
-    /// A resolver that starts from the bytes of a journal, with its first fetches open.
+    /// Starts a resolver from the bytes of a journal, with its first fetches open.
     pub fn start(
         alloc: Global,
         term_length: u32,
@@ -82,7 +82,7 @@ impl HeldResolver {
         }
     }
 
-    /// Tells of a certificate that was newly accepted, or of a verdict. The effects are read below until it is told again.
+    /// Passes a newly accepted certificate, or a verdict, to the resolver. The functions below read the effects until the next input.
     pub fn told(&mut self, flat: &FlatResolverReply, certificate: &[u8]) -> FlatEffects
         ensures { IsHeard self.old flat.now certificate.now result self.new }
     {
@@ -141,7 +141,7 @@ impl HeldResolver {
         }
     }
 
-    /// Keeps the effects of what was told.
+    /// Stores the effects of an input.
     fn keep(&mut self, effects: Vec<Effect>) -> FlatEffects
         ensures told { (result.status ≡ 0) × (result.count ≡ length effects.items) × (result.fetches ≡ length self.old.resolver.open_fetches) }
         ensures kept { self.new ≡ record self.old { last = effects } }
@@ -156,7 +156,7 @@ impl HeldResolver {
         }
     }
 
-    /// Keeps that nothing was told.
+    /// Clears the effects after an input that failed.
     fn lose(&mut self, fault: Fault) -> FlatEffects
         ensures told { HasNoEffects (fault_status fault) result }
         ensures kept { (self.new.resolver ≡ self.old.resolver) × (self.new.served ≡ self.old.served) }
@@ -166,7 +166,7 @@ impl HeldResolver {
         no_effects(number_of_fault(fault))
     }
 
-    /// An effect of what was told last.
+    /// Returns an effect of the last input.
     pub fn effect(&self, index: u64) -> FlatEffect
         ensures { IsEffectAt self.now.last.items index result }
     {
@@ -176,7 +176,7 @@ impl HeldResolver {
         }
     }
 
-    /// What the resolver knows of a view.
+    /// Returns what the resolver knows of a view.
     pub fn settled(&self, view: u64) -> FlatSettled
         ensures { IsSettledAt self.now.resolver view result }
     {
@@ -193,7 +193,7 @@ impl HeldResolver {
         }
     }
 
-    /// Shows the views whose fetch is open, rising.
+    /// Loads the views with an open fetch, rising.
     pub fn outstanding(&mut self) -> FlatOutstanding
         ensures { AreOutstanding self.old result self.new }
     {
@@ -215,14 +215,14 @@ impl HeldResolver {
         }
     }
 
-    /// Shows what a peer is served for a view.
+    /// Loads what a peer is served for a view.
     pub fn produce(&mut self, view: u64) -> FlatServed
         ensures { IsServedFor self.old view result self.new }
     {
         serve_in(&self.resolver, view, &mut self.served)
     }
 
-    /// A part of what was served last.
+    /// Returns a part of what was served last.
     pub fn chunk(&self, from: u64) -> FlatChunk
         ensures { IsChunk self.now.served.items from result }
     {
@@ -230,7 +230,7 @@ impl HeldResolver {
     }
 }
 
-/// Shows what a resolver serves a peer for a view, in place of what was shown.
+/// Loads what a resolver serves a peer for a view, in place of what was loaded before.
 pub fn serve_in(resolver: &LawfulResolver, view: u64, served: &mut BytesMut) -> FlatServed
     ensures view { result.view ≡ view }
     ensures served { HasServedOf resolver.now.state view result served.new.items }
@@ -260,7 +260,7 @@ fn serve(view: u64, bytes: &[u8], served: &mut BytesMut) -> FlatServed
     }
 }
 
-/// Views are written behind the bytes of `out`, eight bytes each.
+/// Appends views to the bytes of `out`, eight bytes each.
 fn put_views(out: &mut BytesMut, views: &BTreeSet<View>) -> Result<(), AllocError>
     ensures { OnOk result (out.new.items ≡ out.old.items ++ view_bytes views.now.keys) }
 {
@@ -271,7 +271,7 @@ fn put_views(out: &mut BytesMut, views: &BTreeSet<View>) -> Result<(), AllocErro
     Ok(())
 }
 
-/// The certificate that is handed in; none where no certificate has the kind.
+/// Returns the certificate that is passed; `None` if no certificate has the kind.
 fn certificate_in(
     alloc: Global,
     flat: &FlatResolverReply,
@@ -311,7 +311,7 @@ pub(crate) fn no_effects(status: u32) -> FlatEffects
     }
 }
 
-/// That a peer is served nothing.
+/// Returns the result that a peer is served nothing.
 pub fn unserved(view: u64, status: u32) -> FlatServed
     ensures status { result.status ≡ status }
     ensures view { result.view ≡ view }
@@ -364,7 +364,7 @@ fn flat_effect(effect: Effect) -> FlatEffect
     }
 }
 
-/// That there is no effect.
+/// Returns the result that there is no effect.
 pub(crate) fn no_effect() -> FlatEffect
     ensures { (result.status ≡ 0) × (result.kind ≡ 0) }
 {
@@ -379,7 +379,7 @@ pub(crate) fn no_effect() -> FlatEffect
     }
 }
 
-/// The number of what refuses the start of a resolver.
+/// Returns the number of an error of a resolver's start.
 pub fn number_of_not_replayed(error: NotReplayed) -> u32
     ensures { result ≡ not_replayed_number error }
 {

@@ -1,4 +1,4 @@
--- What each set-up of a run's lives begins with, and each event keeps, holds of each state of the run.
+-- What the set-up of each lifetime of a run begins with, and each event preserves, is true of each state of the run.
 use Rattle.std.proofs.Common.{◌≡◌, refl, ap, ◌∙◌, sym, subst, ℕ, inl, inr, Bool, true, false, List, [], ◌∷◌, Contains, Option, Some, None, Result, Ok, Err, arith}
 use Rattle.std.specs.Prelude.{MatchOption}
 use Rattle.simplex_voter.specs.Facts.{StateFacts, Elect}
@@ -61,7 +61,7 @@ module _ {K L D : Type 0} (same : D → D → Bool) (elect : Elect L) (P : State
   state_kept s x (m, run, alive) first later =
       subst (HoldsIn P) alive (run_keeps s.steps s.replies (new_member same elect s.start) m later (keeps (new_state s.start.setup) (SetFloor s.start.floor s.start.now) first) run)
 
--- how the life was set up stays
+-- the set-up of the lifetime stays
 module _ {K L D : Type 0} (same : D → D → Bool) (elect : Elect L) (x : StateFacts K L D) (e : Event K D) where
   pub early_kept : x.elects_early ≡ false → (after_event same elect x e).elects_early ≡ false
   early_kept is = (event_goes same elect x e).elects_early ∙ is

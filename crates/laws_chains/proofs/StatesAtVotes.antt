@@ -1,4 +1,4 @@
--- The state of a member where it signed a vote: the execution up to there, and the rule that held.
+-- The state of a member when it signed a vote: the execution up to there, and the rule that was true.
 use Rattle.std.proofs.Common.{◌≡◌, refl, ap, sym, ◌∙◌, subst, ℕ, inl, inr, Bool, List, [], ◌∷◌, ◌++◌, Contains, Option, Some, None, is_some, arith}
 use Rattle.std.specs.Prelude.{option_map}
 use Rattle.std.proofs.lemmas.Bool.{false≢true}

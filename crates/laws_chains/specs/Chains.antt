@@ -22,7 +22,7 @@ module _ {K L D : Type 0} where
   WasOffered q s =
       (offers : List (Proposal D)) × (fetches : List CertificateFetch) × Contains s.replies (Candidates offers fetches) × Contains offers q
 
-  -- an honest member receives the verdict that a proposal is good only where it offered the proposal
+  -- an honest member receives the verdict that a proposal is good only if it offered the proposal
   abbrev pub VerdictsAreOnOffers : List (Replica K L D) → Type 0
   VerdictsAreOnOffers network = EachHonest network (λ i s. (q : Proposal D) → Contains (judged_of s) (true, q) → WasOffered q s)
 
@@ -30,7 +30,7 @@ module _ {K L D : Type 0} where
   abbrev pub NoneVotesAhead : List (Replica K L D) → Type 0
   NoneVotesAhead network = EachHonest network (λ i s. EachLifetime (λ setup. setup.terms.optimistic_views ≡ 0) s)
 
-  -- a vote within a term, or a verdict, is given only once the parent is certified
+  -- a member votes within a term, or receives a verdict, only once the parent is certified
   abbrev pub ParentsAreAwaited : List (Replica K L D) → Type 0
   ParentsAreAwaited network = NoneVotesAhead network ⊎ VerdictsAreOnOffers network
 

@@ -25,7 +25,7 @@ verifies_on payload me =
     ∷ (Calls (ConstructNotarize 2), notarize_reply me two)
     ∷ []
 
--- it hears of the notarization of another proposal than its own, and of the leader's fault
+-- it receives the notarization of another proposal than its own, and learns of the leader's fault
 abbrev pub certifies_other : Proposal ℕ → List (StepFacts ℕ ℕ ℕ × ReplyFacts ℕ ℕ)
 certifies_other p =
     (Calls (AddNotarization (certificate p)), Added true (Some 3))

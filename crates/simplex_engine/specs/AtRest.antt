@@ -1,4 +1,4 @@
--- That nothing is left to be done.
+-- Nothing is left to be done.
 use Rattle.std.specs.Prelude.{◌≡◌, ℕ, Bool, List, [], ◌∷◌, Option, Some, Result, Ok}
 use Rattle.simplex_voter.specs.Facts.{Elect}
 use Rattle.simplex_member.specs.declared.member.journal.Stored.{Stored}
@@ -8,7 +8,7 @@ use Rattle.engine_outbox.specs.declared.output.Output.{Output}
 use Rattle.engine_outbox.specs.Continuity.{IsWhole}
 use Rattle.simplex_engine.specs.NothingDue.{HasNothingNew}
 
--- nothing is queued, all of the record was given out to be stored, and the member has nothing new
+-- nothing is queued, all of the record was returned to be stored, and the member has nothing new
 pub record IsEngineAtRest {S L D K G C : Type 0} (same : D → D → Bool) (elect : Elect L) (bytes_of : C → List ℕ) (member : Journaled S L D K G C) : Type 0 where
   pub idle : member.outbox.queue.items ≡ []
   pub whole : IsWhole bytes_of member

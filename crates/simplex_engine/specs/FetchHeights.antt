@@ -1,4 +1,4 @@
--- How high the views are of what an engine asks its peers for.
+-- The views of what an engine asks its peers for have a bound.
 use Rattle.std.specs.Prelude.{◌≡◌, ◌≤◌, ℕ, nat_lt, max, Bool, false, map, IfSome}
 use Rattle.std.specs.List.{list_any}
 use Rattle.simplex_types.specs.Terms.{next_term_start}
@@ -17,12 +17,12 @@ abbrev pub highest_received : {K L D : Type 0} → MemberFacts K L D → StateFa
 highest_received m x = max (next_term_start x.terms.term_length x.current) (greatest (map entry_view m.entries))
 
 module _ {S D K G C : Type 0} where
-  -- a step is to ask for a certificate of a view above this one
+  -- a step plans to ask for a certificate of a view above this one
   abbrev pub resolves_above : ℕ → Step S D K G C → Bool
   resolves_above top (Resolve kind view proposal) = nat_lt top view
   resolves_above top _ = false
 
-  -- of no view above this one is a certificate asked for, or to be asked for; nor does the resolver want or know of one
+  -- no certificate of a view above this one is asked for, or is planned to be; nor does the resolver want or know of one
   pub record FetchesUpTo (top : ℕ) (plan : Plan S D K G C) : Type 0 where
     pub asked : list_any (λ fetch. nat_lt top fetch.view) plan.repair.fetches.wanted.items ≡ false
     pub planned : list_any (resolves_above top) plan.steps.items ≡ false

@@ -1,4 +1,4 @@
--- What comes of an input.
+-- The effect of an input.
 use Rattle.std.specs.Prelude.{◌≡◌, ℕ, Bool, List, length, Result, IfOk, OnOk, IsTrue, IsFalse, if◌then◌else◌}
 use Rattle.simplex_types.specs.declared.types.messages.Subject.{Subject}
 use Rattle.simplex_voter.specs.Facts.{Elect}
@@ -14,7 +14,7 @@ use Rattle.simplex_engine.specs.ApplicationWork.{KeepsReports}
 use Rattle.engine_outbox.specs.Continuity.{Continues}
 use Rattle.simplex_engine.specs.Inputs.{subject_in}
 
--- what `Engine::handle` says of an engine before and after, by its answer; an input that is turned away leaves it as it passed
+-- what `Engine::handle` says of an engine before and after, by its result; an input that is not admitted leaves it as `passed`
 pub record IsInputTaken {S L D K G C E : Type 0} (same : D → D → Bool) (elect : Elect L) (bytes : D → List ℕ) (bytes_of : C → List ℕ)
     (is_signature : K → Subject D → G → Type 0) (IsMadeOf : S → Subject D → List (ℕ × G) → C → Type 0) (keys_of : S → List K) (now : ℕ) (what : Input S D K G C)
     (old passed new : Engine S L D K G C) (answer : Result Bool E) : Type 0 where

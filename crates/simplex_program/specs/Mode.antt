@@ -24,18 +24,18 @@ abbrev pub IsServed : Mode → Type 0
 IsServed (Voter members me term_length optimistic) = IsNetwork members me term_length × (optimistic < 2 ^ 64)
 IsServed (Resolver term_length) = (1 ≤ term_length) × (term_length < 2 ^ 32)
 
--- the mode that the words ask for, and none where they ask for no mode that is served
+-- the mode that the words ask for, and none if they ask for no mode that is served
 abbrev pub ReadsMode : List (List ℕ) → Option Mode → Type 0
 ReadsMode words r = MatchOption r
     ((mode : Mode) → IsServed mode → words ≢ mode_words mode)
     (λ mode. IsServed mode × (words ≡ mode_words mode))
 
--- the same of the words after `voter`
+-- the same for the words after `voter`
 abbrev pub ReadsVoterMode : List ℕ → List ℕ → List ℕ → List ℕ → Option Mode → Type 0
 ReadsVoterMode members me term_length optimistic =
     ReadsMode (codes "voter" ∷ members ∷ me ∷ term_length ∷ optimistic ∷ [])
 
--- the member that a word names among so many, or none for a dash
+-- the member that a word names among this number, or none for a dash
 abbrev pub ReadsMember : List ℕ → ℕ → Option (Option ℕ) → Type 0
 ReadsMember word members r = MatchOption r
     ((me : Option ℕ) → IfSome me (λ index. index < members) → word ≢ member_word me)

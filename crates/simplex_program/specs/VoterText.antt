@@ -34,7 +34,7 @@ PlainReply = Reply PlainScheme PlainDigest PlainKey PlainSignature PlainCertific
 abbrev pub PlainCertified : Type 0
 PlainCertified = Certificate PlainScheme PlainDigest PlainKey PlainSignature PlainCertificate
 
--- a payload is told as a number, whose bytes it is
+-- a payload is written as a number, whose bytes it is
 abbrev pub payload_word : PlainDigest → List ℕ
 payload_word payload = decimal (from_be_bytes w64 (digest_bytes payload))
 
@@ -67,7 +67,7 @@ verify_words (verify.Resolve proposal view kind target) =
     codes "resolve" ∷ decimal proposal ∷ decimal view ∷ kind_text kind ∷ key_word target ∷ []
 verify_words verify.Wait = codes "wait" ∷ []
 
--- the view of a proposal that is offered; and of one that waits, with the view whose notarization is to be fetched
+-- the view of an offered proposal; and of one that waits, with the view whose notarization is to be fetched
 abbrev pub offer_word : Proposal PlainDigest → List ℕ
 offer_word p = decimal p.round.view
 

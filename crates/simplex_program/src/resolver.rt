@@ -1,4 +1,4 @@
-//! A resolver behind lines: what each line does, and its reply.
+//! A resolver that lines call: what each line does, and its reply.
 
 ghost use Rattle.std.specs.Prelude.{◌≡◌, ◌≢◌, [], IfOk, OnOk, MatchOption, true};
 ghost use Rattle.simplex_types.specs.declared.types.fault.Fault.TheVariants.{OutOfMemory};
@@ -19,10 +19,10 @@ use simplex_types::types::{
 use std::alloc::{AllocError, Global};
 use std::collections::BTreeSet;
 
-/// The payload of every proposal that a line stands for.
+/// The payload of every proposal that a line names.
 const PAYLOAD: u64 = 0;
 
-/// A resolver, and the views whose fetch is open.
+/// A resolver, and the views with an open fetch.
 #[derive(Drop)]
 pub(crate) struct Resolver {
     state: State,
@@ -41,7 +41,7 @@ pub enum Answer {
 }
 
 impl Resolver {
-    /// A resolver that replays its journal: it fetches nothing before the line `replayed`.
+    /// Returns a resolver that replays its journal: it fetches nothing before the line `replayed`.
     pub(crate) fn new(alloc: Global, term_length: TermLength) -> Resolver
         ensures state { result.state ≡ empty term_length }
         ensures outstanding { result.outstanding.keys ≡ [] }
@@ -52,7 +52,7 @@ impl Resolver {
         }
     }
 
-    /// Does what the line asks. The one error is want of memory.
+    /// Does what the line asks. The only error is out of memory.
     pub(crate) fn answer(&mut self, alloc: Global, line: ResolverLine) -> Result<Answer, AllocError>
         ensures { IfOk result (λ answer. ResolverAnswers self.old.state self.old.outstanding.keys line answer self.new.state self.new.outstanding.keys) }
     {
@@ -145,7 +145,7 @@ impl Resolver {
         }
     }
 
-    /// Replies with the effects of a call, which are applied to the open fetches.
+    /// Replies with the effects of a call, and applies them to the open fetches.
     fn apply(&mut self, effects: Vec<Effect>) -> Result<Answer, AllocError>
         ensures state { self.new.state ≡ self.old.state }
         ensures applied { OnOk result (IsApplied self.old.outstanding.keys effects.items self.new.outstanding.keys) }
@@ -158,7 +158,7 @@ impl Resolver {
     }
 }
 
-/// The reply to a refused call, unless it found no memory.
+/// Returns the reply to a refused call, or an error if memory ran out.
 fn refused(fault: Fault) -> Result<Answer, AllocError>
     ensures { IfOk result (λ answer. (answer ≡ IsFault fault) × (fault ≢ OutOfMemory)) }
 {
@@ -168,7 +168,7 @@ fn refused(fault: Fault) -> Result<Answer, AllocError>
     }
 }
 
-/// The proposal of a view that a line stands for, which names the view before it as its parent.
+/// Returns the proposal of a view that a line names; its parent is the view before.
 fn proposal_of(view: View) -> Option<Proposal<PlainDigest>>
     ensures { MatchOption result (view ≡ 0) (IsProposedAt view) }
 {

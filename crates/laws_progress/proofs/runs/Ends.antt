@@ -16,7 +16,7 @@ use Rattle.laws_safety.proofs.records.RunsLawful.{LivesOn, run_lives, start_live
 use Rattle.laws_progress.proofs.runs.Owned.{Owns, event_owns, floor_owns}
 use Rattle.laws_progress.specs.NetworkStates.{RunsWith}
 
--- the lives of a member of a network share a length of terms
+-- the lifetimes of a member of a network share a length of terms
 pub terms_kept : {K L D : Type 0} (term_length i : ℕ) (steps : List (StepFacts K L D)) → ((r : _) → Contains steps (Restarts r) → BeginsAs term_length i r.start.setup) → KeepTerms term_length steps
 terms_kept term_length i [] later = tt
 terms_kept term_length i (Calls call ∷ steps) later = terms_kept term_length i steps (λ r h. later r (Contains-cons_rest (Calls call) steps (Restarts r) h))

@@ -1,4 +1,4 @@
-//! How an engine begins: a first life at a floor, or another from what was stored.
+//! How an engine begins: a first lifetime at a floor, or another one from what was stored.
 #![tactic(auto)]
 
 ghost use Rattle.std.specs.Prelude.{◌≡◌, ◌==◌, ℕ, List, Option, [], ◌∷◌, Err, IfOk, IfErr, IfSome, length, reverse};
@@ -29,10 +29,10 @@ use std::alloc::{AllocError, Global};
 use std::error::Error;
 use std::fmt;
 
-/// Why no engine begins.
+/// Why an engine could not begin.
 #[derive(Clone, Copy, PartialEq, Eq, Debug)]
 pub enum StartError {
-    /// `timeout_retry` is 0: pass a millisecond at least.
+    /// `timeout_retry` is 0: pass at least one millisecond.
     RetryZero,
     /// The floor or what was stored is refused.
     Resume(ResumeError),
@@ -65,7 +65,7 @@ impl From<AllocError> for StartError {
     }
 }
 
-/// What an engine has beside its member.
+/// The parts of an engine beside its member.
 #[derive(Drop)]
 struct Company<S: CertificateScheme, D> {
     batcher: Batcher<S, D>,
@@ -95,14 +95,14 @@ impl<S: Assembly<D>, L: Elector<S>, D: Digest> Engine<S, L, D> {
     /// - `started`, `votes`: its member is the one that `LawfulMember::start` makes, with no vote in its record.
     /// - `begins`: the member has accepted the floor's finalization, if there is one, and done nothing else.
     /// - `traced`: the empty list of outputs is traced by what the member did before (`IsTraced`).
-    /// - `signed`: the votes that are stored are signed under the member's key, where those of its record are (`IsSignedBy`).
-    /// - `kept`, `whole`, `queued`, `told`, `bounded`, `due_work`: no output was returned. The whole record is queued, in place of all that is
-    ///   stored, and nothing else is; nothing is to be reported as final, and the member waits for nothing.
-    /// - `begun`: no vote is held; certificates are made by the number of the scheme's participants; the resolver has received the record,
-    ///   and its outstanding fetches are due at once, from all participants but this member; no input was ignored.
+    /// - `signed`: the stored votes are signed under the member's key, if those of its record are (`IsSignedBy`).
+    /// - `kept`, `whole`, `queued`, `told`, `bounded`, `due_work`: no output was returned. Only the whole record is queued, in place of all
+    ///   that is stored. Nothing is to be reported as final, and the member waits for nothing.
+    /// - `begun`: no vote is stored; certificates are made by the number of the scheme's participants. The resolver has received the
+    ///   record, and its outstanding fetches are due at once, from all participants but this member. No input was ignored.
     /// - `nothing`: no work is queued or planned, no early proposal is stored, and each fetch is one that the resolver wants.
-    /// - `fetch_heights`: no fetch is of a view above both the next term's first and those of all entries.
-    /// - `no_retry`, `refused`: `RetryZero` exactly where `timeout_retry` is 0; the other errors as below.
+    /// - `fetch_heights`: no fetch is of a view above both the next term's first view and the views of all entries.
+    /// - `no_retry`, `refused`: `RetryZero` exactly if `timeout_retry` is 0; the other errors as below.
     ///
     /// # Errors
     ///
@@ -153,9 +153,10 @@ impl<S: Assembly<D>, L: Elector<S>, D: Digest> Engine<S, L, D> {
     /// The elector's members are the scheme's participants.
     ///
     /// - `resumed`, `votes`: its member is the one that `LawfulMember::resume` makes, with the votes of the entries.
-    /// - `continues`: in terms of the same length, and with the key of the same member or none, the member has done what it had done before,
-    ///   and has accepted the floor's finalization.
-    /// - `kept`, `traced`, `signed`, `whole`, `queued`, `told`, `bounded`, `due_work`, `begun`, `nothing`, `fetch_heights`, `no_retry`, `refused`: as of `start`.
+    /// - `continues`: with terms of the same length, and with the key of the same member or none, the member has done what it had done
+    ///   before, and has accepted the floor's finalization.
+    /// - `kept`, `traced`, `signed`, `whole`, `queued`, `told`, `bounded`, `due_work`, `begun`, `nothing`, `fetch_heights`, `no_retry`, `refused`:
+    ///   as of `start`.
     ///
     /// # Errors
     ///
@@ -205,14 +206,14 @@ impl<S: Assembly<D>, L: Elector<S>, D: Digest> Engine<S, L, D> {
     }
 }
 
-/// Returns whether a vote to nullify would be repeated after no time: `poll` would ask the member for it without end.
+/// Returns whether a vote to nullify would be repeated after no time: `poll` would then ask the member for it without end.
 fn has_no_retry<S: Scheme<D>, L: Elector<S>, D: Digest>(start: &Start<S, L, D>) -> bool
     ensures { result ≡ (start.entry.now.settings.timeout_retry == 0) }
 {
     start.settings.timeout_retry == 0
 }
 
-/// What an engine has beside its member, by its settings.
+/// Makes the parts beside the member from its settings.
 fn company_of<S: Assembly<D>, L: Elector<S>, D: Digest>(
     alloc: Global,
     start: &Start<S, L, D>,
@@ -231,7 +232,7 @@ fn company_of<S: Assembly<D>, L: Elector<S>, D: Digest>(
     })
 }
 
-/// An engine round a member that has begun: its resolver is told of the record, and what is wanted is asked for at once.
+/// Makes an engine around a member that has begun. Its resolver receives the record, and the resolver's fetches are due at once.
 fn begin<S: Assembly<D>, L: Elector<S>, D: Digest>(
     alloc: Global,
     member: LawfulMember<S, L, D>,
@@ -260,7 +261,7 @@ fn begin<S: Assembly<D>, L: Elector<S>, D: Digest>(
     })
 }
 
-/// What is looked after beside a member that has begun.
+/// Makes the plan of a member that has begun.
 fn plan_of<S: Scheme<D>, L: Elector<S>, D: Digest>(
     alloc: Global,
     member: &LawfulMember<S, L, D>,
@@ -276,7 +277,7 @@ fn plan_of<S: Scheme<D>, L: Elector<S>, D: Digest>(
     Ok(Plan::new(alloc, options, company.is_alone, views_of(member), repair))
 }
 
-/// The resolver of a record.
+/// Makes the resolver of a record.
 fn resolver_of<S: CertificateScheme, D: Digest>(
     alloc: Global,
     term_length: TermLength,
@@ -291,7 +292,7 @@ fn resolver_of<S: CertificateScheme, D: Digest>(
     }
 }
 
-/// The views that a member begins at.
+/// Returns the views that a member begins at.
 fn views_of<S: Scheme<D>, L: Elector<S>, D: Digest>(member: &LawfulMember<S, L, D>) -> Views
     ensures { IfSome member.now.facts.life (λ x. (result.current ≡ x.current) × (result.last_finalized ≡ x.finalized)) }
 {
