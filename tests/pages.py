@@ -26,7 +26,7 @@ RATTLE_PATH = re.compile(r"^Rattle\.([^\s{]+?)(?:\.\{([^}]*)\})?$")
 SIBLING = re.compile(r"^((?:\w+\.)*[A-Z]\w*)(?:\.\{([^}]*)\})?$")
 GENERATED = ("Goals", "Given", "Answers", "TheVariants")
 PACKAGE = "bindings/rust/src/lib.rs"
-WRITTEN_BY_SCRIPTS = ("DEFINITIONS.md", "REFUSED.md", "SPEED.md")
+WRITTEN_BY_SCRIPTS = ("DEFINITIONS.md", "REFUSED.md", "SPEED.md", "RESULTS.md")
 # Words of this repository's own, where the field has one (returns, passes, out of memory, lifetime, host ..), and pages that keep to the
 # field's.
 DIALECT = re.compile(
