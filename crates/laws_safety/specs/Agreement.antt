@@ -1,4 +1,4 @@
--- What the members of a network agree on.
+-- The agreement of a network's members.
 use Rattle.std.specs.Prelude.{◌≡◌, ℕ, ◌≤◌, ◌<◌, ◌⊎◌, ⊤, false, List, [], ◌∷◌, Contains}
 use Rattle.simplex_types.specs.Terms.{covers}
 use Rattle.simplex_types.specs.declared.types.messages.Proposal.{Proposal}
@@ -41,7 +41,7 @@ module _ {K L D : Type 0} (network : List (Replica K L D)) where
   Chain (p ∷ []) = Backed network (subject.Notarize p)
   Chain (p ∷ (q ∷ rest)) = Backed network (subject.Notarize p) × (p.parent ≡ q.round.view) × Chain (q ∷ rest)
 
-  -- a chain from above a finalized view down to it or below holds the finalized proposal
+  -- a chain from above a finalized view down to it or below has the finalized proposal
   abbrev pub ChainHoldsFinalized : Type 0
   ChainHoldsFinalized =
       (final high low : Proposal D) (chain : List (Proposal D)) → Backed network (subject.Finalize final) → Chain chain

@@ -21,7 +21,7 @@ ahead_start me = record (begin_at 2 me) {
 abbrev pub three : Proposal ℕ
 three = proposal 3 2
 
--- it votes for views 1 and 2 before it hears of any certificate; view 1 is certified then, and it votes to finalize it
+-- it votes for views 1 and 2 before it receives any certificate; then view 1 is certified, and it votes to finalize it
 abbrev pub votes_ahead : ℕ → List (StepFacts ℕ ℕ ℕ × ReplyFacts ℕ ℕ)
 votes_ahead me =
     hears one true ∷ verifies me 3 one ++ hears two true ∷ verifies me 3 two ++ certifies one ++ votes_for me one ∷ []

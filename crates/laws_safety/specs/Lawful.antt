@@ -1,4 +1,4 @@
--- The voting rules that a member keeps over all that it does.
+-- The voting rules that a member keeps in all its actions.
 use Rattle.std.specs.Prelude.{◌≡◌, ◌≢◌, ℕ, ◌≤◌, ◌<◌, true, false, List, ◌∷◌, ◌++◌, Contains}
 use Rattle.simplex_types.specs.Terms.{covers}
 use Rattle.simplex_types.specs.declared.types.messages.Proposal.{Proposal}
@@ -8,7 +8,7 @@ use Rattle.simplex_types.specs.declared.types.numbers.Round.{Round}
 use Rattle.laws_safety.specs.Traces.{TraceEvent, Accepts, Signs}
 
 module _ {D : Type 0} where
-  -- this vote was signed, whoever the signer was
+  -- this vote was signed, by any signer
   abbrev pub HasSigned : List (TraceEvent D) → Subject D → Type 0
   HasSigned trace vote = (signer : ℕ) × Contains trace (Signs signer vote)
 

@@ -1,4 +1,4 @@
--- A network of four of the plain parts, over which the program runs: the first view is finalized.
+-- A network of four of the plain parts that the program uses: the first view is finalized.
 use Rattle.std.specs.Prelude.{ℕ, true, List, [], ◌∷◌, ◌++◌, map, Some, None}
 use Rattle.simplex_types.specs.Certificates.{ProposalFacts, NotarizeVote, FinalizeVote}
 use Rattle.simplex_types.specs.Config.{Genesis}
@@ -17,7 +17,7 @@ use Rattle.laws_safety.specs.Replicas.{Replica, Faulty, Honest}
 use Rattle.laws_safety.specs.Executions.{Execution}
 use Rattle.laws_safety.specs.ScenarioSteps.{settings, round}
 
--- what a member of plain parts does
+-- an execution of a member of plain parts
 abbrev pub PlainExecution : Type 0
 PlainExecution = Execution PlainKey PlainElector PlainDigest
 
@@ -48,7 +48,7 @@ plain_first payload = record { round = round 1; parent = 0; payload = payload }
 abbrev pub plain_context : PlainDigest → Context PlainDigest PlainKey
 plain_context payload = record { round = round 1; leader = record { 0 = 0 }; parent = (0, payload) }
 
--- a good certificate of it
+-- a valid certificate of it
 abbrev pub plain_certificate : PlainDigest → ProposalFacts PlainDigest
 plain_certificate payload = record { proposal = plain_first payload; bytes = 1 ∷ [] }
 

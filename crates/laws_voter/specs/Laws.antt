@@ -1,4 +1,4 @@
--- The laws of the definitions, in the subject's own words. K are the members' keys, L the elector, D the payloads.
+-- The laws of the definitions. K are the members' keys, L the elector, D the payloads.
 use Rattle.std.specs.Prelude.{◌≡◌, ℕ, ◌<◌, ◌≤◌, ◌+◌, ◌↔◌, ◌⊎◌, ◌==◌, Bool, true, false, nat_le, Some, is_some, MatchOption, filter}
 use Rattle.std.specs.List.{list_any}
 use Rattle.std.specs.Ordering.{nat_cmp}
@@ -23,7 +23,7 @@ use Rattle.simplex_voter.specs.Acceptance.{nullified_also}
 abbrev pub CoveringStays : (K L D : Type 0) → Type 0
 CoveringStays K L D = (x : StateFacts K L D) (u w : ℕ) → is_covered x w ≡ true → is_covered (nullified_also x u) w ≡ true
 
--- the first gap is the lowest uncovered view between, and where there is none each view between is covered
+-- the first gap is the lowest uncovered view between, and if there is none each view between is covered
 abbrev pub FindsFirstGap : (K L D : Type 0) → Type 0
 FindsFirstGap K L D =
     (x : StateFacts K L D) (p v : ℕ) → 0 < x.terms.term_length → MatchOption (first_unnullified_view x p v) (IsGapless x p v) (IsFirstGap x p v)
@@ -35,7 +35,7 @@ GaplessJoins K L D =
 
 -- payloads
 
--- what a view offers, by what the views below it offer
+-- the payload that a view offers, given what the views below it offer
 abbrev pub OptimisticPayloadIs : (K L D : Type 0) → Type 0
 OptimisticPayloadIs K L D =
     (same : D → D → Bool) (elect : Elect L) (x : StateFacts K L D) (v : ℕ)
@@ -43,14 +43,14 @@ OptimisticPayloadIs K L D =
 
 -- parents
 
--- a parent may stand below a view: not under the last finalized view, without a gap, and inside a term just below
+-- a parent may lie below a view: not below the last finalized view, without a gap, and inside a term exactly one below
 pub record StandsBelow {K L D : Type 0} (x : StateFacts K L D) (v p : ℕ) : Type 0 where
   pub at_least_finalized : x.finalized ≤ p
   pub below : p < v
   pub just_below : is_term_start x v ≡ false → p + 1 ≡ v
   pub gapless : is_gapless x p v ≡ true
 
--- a parent is allowed exactly where it may stand below the view and has the payload that the view may build on
+-- a parent is allowed exactly if it may lie below the view and has the payload that the view may build on
 abbrev pub AllowedParentIs : (K L D : Type 0) → Type 0
 AllowedParentIs K L D =
     (same : D → D → Bool) (elect : Elect L) (x : StateFacts K L D) (v p : ℕ) (d : D)
@@ -62,7 +62,7 @@ pub record IsHandedOff {K L D : Type 0} (same : D → D → Bool) (elect : Elect
   pub handoff : is_handoff_parent elect x p ≡ true
   pub offered : optimistic_ancestry_payload same elect x p ≡ Some d
 
--- views are kept in order, and the last finalized one, if there is one, is known to be final
+-- views are stored in order, and the last finalized one, if there is one, is known to be final
 pub record KnowsFinalized {K L D : Type 0} (x : StateFacts K L D) : Type 0 where
   pub in_order : is_sorted nat_cmp x.rounds ≡ true
   pub known : 0 < x.finalized → is_some (find nat_cmp x.finalized x.rounds) ≡ true
@@ -85,15 +85,15 @@ MayNotarizeIs K L D =
     (same : D → D → Bool) (elect : Elect L) (x : StateFacts K L D) (v : ℕ)
     → (may_notarize same elect x v ≡ true) ↔ NotarizeRule same elect x v
 
--- the test of votes to nullify is theirs
+-- the test of votes to nullify is their rule
 abbrev pub MayNullifyIs : (K L D : Type 0) → Type 0
 MayNullifyIs K L D = (x : StateFacts K L D) (v : ℕ) → (may_nullify x v ≡ true) ↔ NullifyRule x v
 
--- the test of votes to finalize is theirs
+-- the test of votes to finalize is their rule
 abbrev pub MayFinalizeIs : (K L D : Type 0) → Type 0
 MayFinalizeIs K L D = (elect : Elect L) (x : StateFacts K L D) (v : ℕ) → (may_finalize elect x v ≡ true) ↔ FinalizeRule elect x v
 
--- what has to be certified first is the view before
+-- the view that must be certified first is the view before
 abbrev pub RequiredParentIsBefore : (K L D : Type 0) → Type 0
 RequiredParentIsBefore K L D =
     (elect : Elect L) (x : StateFacts K L D) (v q : ℕ) (p : Proposal D) → 0 < v → required_certification_parent elect x v p ≡ Some q → q + 1 ≡ v
@@ -119,7 +119,7 @@ OpenedViewsAre K L D =
     → 0 < x.terms.term_length
     → (list_any (λ u. u == w) (opened_views x v) ≡ true) ↔ ((v < w) × ((u : ℕ) → v < u → u ≤ w → (low : ℕ) × IsOpenedBy x v u low))
 
--- the facts' lists are what the sorted containers are seen as
+-- the facts' lists match the sorted containers
 
 -- what definitions do with lists is what the containers' maps do
 pub record ListsAreContainers (R : Type 0) : Type 0 where

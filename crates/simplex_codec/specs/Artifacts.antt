@@ -1,5 +1,5 @@
--- The bytes of an artifact: those of a certificate are its encoding; a vote is its kind, its signer in four bytes, what it
--- is on and last the signature; a verdict is its kind, its round and one byte.
+-- The bytes of an artifact: those of a certificate are its encoding; a vote is its kind, its signer in four bytes, its subject
+-- and last the signature; a verdict is its kind, its round and one byte.
 use Rattle.std.specs.Prelude.{◌≡◌, ◌<◌, ◌≤◌, ◌^◌, ℕ, zero, suc, Bool, List, [], ◌∷◌, ◌++◌, length, get_or, Option, Some, None, IfSome, Result, IfOk, IsOkUnless, if◌then◌else◌}
 use Rattle.std.specs.Int.{w32, to_be_bytes}
 use Rattle.simplex_types.specs.declared.types.numbers.Round.{Round}
@@ -44,11 +44,11 @@ IsEncodableArtifact (artifact.Nullify vote) = IsEncodableRound vote.round × (vo
 IsEncodableArtifact (artifact.Finalize vote) = IsEncodableProposal vote.proposal × (vote.signer < 2 ^ 32)
 IsEncodableArtifact (artifact.Certification round _) = IsEncodableRound round
 
--- the signature, where the artifact is a vote, is read back of its bytes
+-- the signature, if the artifact is a vote, can be read from its bytes
 abbrev pub HasReadableSignature : {S D K G C : Type 0} → (G → List ℕ) → (List ℕ → Option G) → Artifact S D K G C → Type 0
 HasReadableSignature signature_bytes signature_of a = IfSome (signature_in a) (λ s. signature_of (signature_bytes s) ≡ Some s)
 
--- a signer in four bytes, and what is behind it is refused so
+-- a signer in four bytes, and what follows it is refused for this reason
 pub record IsSignedRefusal (is_refusal : List ℕ → Type 0) (bytes : List ℕ) : Type 0 where
   pub signer : ℕ
   pub rest : List ℕ
@@ -77,7 +77,7 @@ IsVerdictRefusal bytes (UnknownVerdict verdict) = (17 ≤ length bytes) × (get_
 IsVerdictRefusal bytes TrailingBytes = (17 < length bytes) × (get_or bytes 16 0 ≤ 1)
 IsVerdictRefusal bytes _ = ⊥
 
--- why bytes are no artifact's encoding: by the kind it is what is wrong behind it
+-- why bytes are no artifact's encoding: by the kind it is what is wrong after it
 abbrev pub IsArtifactRefusal : {D G C : Type 0} → (D → List ℕ) → ℕ → (C → List ℕ) → (List ℕ → Option G) → List ℕ
     → DecodeError → Type 0
 IsArtifactRefusal payload size _ signature_of (suc (suc (suc zero)) ∷ rest) e = IsProposalVoteRefusal payload size signature_of rest e
@@ -86,7 +86,7 @@ IsArtifactRefusal payload size _ signature_of (suc (suc (suc (suc (suc zero)))) 
 IsArtifactRefusal payload size _ signature_of (suc (suc (suc (suc (suc (suc zero))))) ∷ rest) e = IsVerdictRefusal rest e
 IsArtifactRefusal payload size bytes_of _ bytes e = IsCertificateRefusal payload size bytes_of bytes e
 
--- an encoding of any artifact is read back, with the same facts and an equal signature, unless memory is wanting
+-- an encoding of any artifact is read back, with the same facts and an equal signature, unless memory runs out
 abbrev pub ReadsArtifacts : {S D K G C : Type 0} → (D → List ℕ) → (C → List ℕ) → (G → List ℕ) → (List ℕ → Option G) → List ℕ
     → Result (Artifact S D K G C) DecodeError → Type 0
 ReadsArtifacts {S} {D} {K} {G} {C} payload_bytes bytes_of signature_bytes signature_of bytes result =

@@ -1,4 +1,4 @@
-//! The parts of encodings, written behind what is there.
+//! The parts of encodings, written after the existing bytes.
 
 ghost use Rattle.std.specs.Prelude.{◌≡◌, ◌++◌, ◌∷◌, [], OnOk, Some};
 ghost use Rattle.std.specs.Int.{w32, w64, to_be_bytes};
@@ -31,7 +31,7 @@ fn put_proposal<D: Digest>(out: &mut BytesMut, proposal: &Proposal<D>) -> Result
     Ok(())
 }
 
-/// What a vote on the subject signs. Its numbers fit, as those of each subject do.
+/// Writes what a vote on the subject signs. Its numbers fit, as those of each subject do.
 pub(crate) fn put_subject<D: Digest>(
     out: &mut BytesMut,
     subject: &Subject<D>,
@@ -55,7 +55,7 @@ pub(crate) fn put_subject<D: Digest>(
     }
 }
 
-/// A kind, a proposal and a certificate.
+/// Writes a kind, a proposal and a certificate.
 pub(crate) fn put_proposal_certificate<S: SchemeCodec, D: Digest>(
     out: &mut BytesMut,
     kind: u8,
@@ -70,7 +70,7 @@ pub(crate) fn put_proposal_certificate<S: SchemeCodec, D: Digest>(
     Ok(())
 }
 
-/// A kind, a round and a certificate.
+/// Writes a kind, a round and a certificate.
 pub(crate) fn put_round_certificate<S: SchemeCodec>(
     out: &mut BytesMut,
     kind: u8,
@@ -85,7 +85,7 @@ pub(crate) fn put_round_certificate<S: SchemeCodec>(
     Ok(())
 }
 
-/// A kind, a signer, a proposal and a signature, which is read back of its bytes.
+/// Writes a kind, a signer, a proposal and a signature, which can be read from its bytes.
 pub(crate) fn put_proposal_vote<S: SchemeCodec, D: Digest>(
     out: &mut BytesMut,
     kind: u8,
@@ -104,7 +104,7 @@ pub(crate) fn put_proposal_vote<S: SchemeCodec, D: Digest>(
     Ok(())
 }
 
-/// A kind, a signer, a round and a signature, which is read back of its bytes.
+/// Writes a kind, a signer, a round and a signature, which can be read from its bytes.
 pub(crate) fn put_round_vote<S: SchemeCodec>(
     out: &mut BytesMut,
     kind: u8,
@@ -122,7 +122,7 @@ pub(crate) fn put_round_vote<S: SchemeCodec>(
     Ok(())
 }
 
-/// A round and its verdict.
+/// Writes a round and its verdict.
 pub(crate) fn put_verdict(out: &mut BytesMut, round: Round, success: bool) -> Result<(), AllocError>
     ensures { OnOk result (out.new.items ≡ out.old.items ++ 6 ∷ verdict_bytes round success) }
 {

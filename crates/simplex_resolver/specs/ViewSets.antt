@@ -1,4 +1,4 @@
--- Sets of views, and the notarizations that a resolver keeps, as finite maps. No public clause names them.
+-- Sets of views, and the notarizations that a resolver stores, as finite maps. No public clause names them.
 use Rattle.std.specs.Prelude.{◌≡◌, ℕ, true, false, ◌||◌, List, ◌++◌, Option, Some, None, map, refl}
 use Rattle.std.specs.Ordering.{nat_cmp}
 use Rattle.std.specs.Coded.{Coded, code_by, coded×, coded_ℕ, coded_list, coded_option}
@@ -10,7 +10,8 @@ use Rattle.std.specs.FinMap.{FinMap}
 abbrev pub keyed : List ℕ → List (ℕ × Unit {0})
 keyed vs = map (λ v. (v, tt)) vs
 
--- the notarized and judged views, each with its encoding where its last verdict was true, and those that a verdict has failed
+-- the notarized and judged views, each with its encoding if its last verdict was true, and those with a false
+-- verdict
 pub record NotarizationsFacts : Type 0 where
   pub by_view : FinMap nat_cmp (Option (List ℕ))
   pub failed : FinMap nat_cmp (Unit {0})

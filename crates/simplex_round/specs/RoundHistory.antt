@@ -1,4 +1,4 @@
--- What a round shows of its certificates, its votes and its moments, read off the list of its calls, the newest first.
+-- A round's certificates, votes and moments, read off the list of its calls, the newest first.
 use Rattle.std.specs.Prelude.{◌≡◌, ℕ, Bool, true, ◌+◌, if◌then◌else◌, List, [], ◌∷◌, Option, Some, None, is_some, unwrap_or}
 use Rattle.std.specs.Option.{option_map_or}
 use Rattle.simplex_types.specs.declared.types.numbers.Round.{Round}
@@ -12,9 +12,9 @@ use Rattle.simplex_round.specs.declared.round.Decision.TheVariants.{Pending, Nul
 use Rattle.simplex_round.specs.Slot.{SlotFacts}
 use Rattle.simplex_round.specs.Round.{RoundFacts, new_round, with_notarization, with_nullification, with_finalization, after_nullify, can_finalize, with_deadlines, with_latch, with_retry, TakesArtifact, after_replay}
 
--- a certificate was handed in; a vote was decided or replayed (nullify also where it was asked for in vain);
--- the view was entered; an own proposal was recorded; deadlines were armed; an explicit timeout came;
--- the next timeout was asked for, with the interval of repetitions
+-- a certificate was passed in; a vote was decided or replayed (nullify also if it was requested in vain); the view was
+-- entered; an own proposal was recorded; deadlines were armed; an explicit timeout came; the next timeout was polled, with
+-- the interval of repetitions
 pub data RoundCall (D : Type 0) : Type 0 where
   Notarized : ProposalFacts D → RoundCall D
   Nullified : NullificationFacts → RoundCall D
@@ -108,7 +108,7 @@ decision_by None calls = Pending (leader_deadline calls) (certification_deadline
 decision_by (Some ToNullify) calls = Nullify (retry_moment calls)
 decision_by (Some ToFinalize) calls = Finalize
 
--- the first vote stands
+-- the first vote decides
 abbrev pub decision_of : {D : Type 0} → List (RoundCall D) → Decision
 decision_of calls = decision_by (first_vote calls) calls
 

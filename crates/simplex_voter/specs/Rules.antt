@@ -12,8 +12,8 @@ use Rattle.simplex_voter.specs.Payloads.{explicit_ancestry_payload, optimistic_a
 use Rattle.simplex_voter.specs.Parents.{verification_matches}
 
 module _ {K L D : Type 0} where
-  -- the current view, where this member didn't vote to finalize it. Why: a vote to nullify covers the rest of the term, and
-  -- each view that this member voted to finalize lies below the current one, so none of them is covered by it.
+  -- the current view, if this member didn't vote to finalize it. Why: a vote to nullify covers the rest of the term, and each view
+  -- that this member voted to finalize lies below the current one, so none of them is covered by it.
   unfoldable pub may_nullify : StateFacts K L D → ℕ → Bool
   may_nullify x v = v == x.current && not (is_finalize (round_of x v).decision)
 
@@ -27,20 +27,20 @@ module _ {K L D : Type 0} (elect : Elect L) where
   abbrev pub was_handed_over : StateFacts K L D → ℕ → Bool
   was_handed_over x v = is_elected_early elect x v && (round_of x v).notarize_decided
 
-  -- the view that has to be certified before a proposal of this view: the one before, but at a term's start only after a handoff.
-  -- Why: in its window, or after a handoff, a proposal was voted for on a parent that may still be refused; to finalize it
-  -- would finalize the parent too.
+  -- the view that must be certified before a proposal of this view: the one before, but at a term's start only after a handoff. Why:
+  -- in its window, or after a handoff, a proposal was voted for on a parent that may still be refused; to finalize it would finalize
+  -- the parent too.
   unfoldable pub required_certification_parent : StateFacts K L D → ℕ → Proposal D → Option ℕ
   required_certification_parent x v p =
       if is_term_start x v
       then (if p.parent + 1 == v && was_handed_over x v then Some p.parent else None)
       else Some (v - 1)
 
-  -- what has to be certified before the proposal is
+  -- the view that must be certified before the proposal is certified
   abbrev pub explicit_parent_ready : StateFacts K L D → ℕ → Proposal D → Bool
   explicit_parent_ready x v p = option_map_or (λ q. is_some (explicit_ancestry_payload x q)) (required_certification_parent x v p) true
 
-  -- the view's held proposal, if there is one, has what it requires
+  -- the view's held proposal, if there is one, has the parent that it requires
   abbrev pub has_required_parent : StateFacts K L D → ℕ → Bool
   has_required_parent x v = option_map_or (explicit_parent_ready x v) (round_of x v).slot.held false
 
@@ -51,14 +51,14 @@ module _ {K L D : Type 0} (elect : Elect L) where
       nat_lt x.finalized v && is_admitted x v && not (has_conflicting_nullify x v) && has_required_parent x v && can_finalize (round_of x v)
 
 module _ {K L D : Type 0} (same : D → D → Bool) (elect : Elect L) where
-  -- inside its window a view needs the view before to offer a payload. Why: a vote there stands on votes that stand on others;
-  -- once one of them is refused, nothing above it may be voted for.
+  -- inside its window a view needs the view before to offer a payload. Why: a vote there depends on votes that depend on others; once
+  -- one of them is refused, nothing above it may be voted for.
   abbrev pub has_ancestry : StateFacts K L D → ℕ → Bool
   has_ancestry x v = not (in_issuance_window x v) || is_some (optimistic_ancestry_payload same elect x (v - 1))
 
   -- a vote to notarize the held proposal. Why: one vote a view, since two quorums share a correct member, and so the view has
-  -- certificates for one proposal alone; and the binding, since what was verified was the proposal on that payload of its
-  -- parent: on another one, which an equivocating leader may bring about, it was never verified.
+  -- certificates for only one proposal; and the binding, since what was verified was the proposal on that payload of its parent: on
+  -- another one, which an equivocating leader may bring about, it was never verified.
   unfoldable pub may_notarize : StateFacts K L D → ℕ → Bool
   may_notarize x v = is_admitted x v && can_notarize (round_of x v) && has_ancestry x v && verification_matches same elect x v
 

@@ -1,4 +1,4 @@
-//! The calls of a member that hand out certificates, each over its state.
+//! The calls of a member that return certificates for broadcast, each over its state.
 
 ghost use Rattle.std.specs.Prelude.{◌≡◌, true, false, IfOk, IfErr, OnOk, is_some, option_map};
 ghost use Rattle.simplex_types.specs.Certificates.{certificate_facts, Notarized, Nullified, Finalized};
@@ -9,7 +9,7 @@ ghost use Rattle.simplex_member.specs.PartialFailures.{Ends};
 use simplex_types::types::{Certificate, CertificateScheme, Digest, Elector, Fault, View};
 use simplex_voter::voter::State;
 
-/// Hands out a view's notarization, once. The state is lost where there is no memory for a copy.
+/// Returns a view's notarization, once. If there is no memory for a copy, the state is lost.
 pub(super) fn broadcast_notarization<S: CertificateScheme, L: Elector<S>, D: Digest>(
     state: &mut State<S, L, D>,
     view: View,
@@ -28,7 +28,7 @@ pub(super) fn broadcast_notarization<S: CertificateScheme, L: Elector<S>, D: Dig
     }
 }
 
-/// Hands out a view's nullification, once. The state is lost where there is no memory for a copy.
+/// Returns a view's nullification, once. If there is no memory for a copy, the state is lost.
 pub(super) fn broadcast_nullification<S: CertificateScheme, L: Elector<S>, D: Digest>(
     state: &mut State<S, L, D>,
     view: View,
@@ -47,7 +47,7 @@ pub(super) fn broadcast_nullification<S: CertificateScheme, L: Elector<S>, D: Di
     }
 }
 
-/// Hands out a view's finalization, once. The state is lost where there is no memory for a copy.
+/// Returns a view's finalization, once. If there is no memory for a copy, the state is lost.
 pub(super) fn broadcast_finalization<S: CertificateScheme, L: Elector<S>, D: Digest>(
     state: &mut State<S, L, D>,
     view: View,

@@ -1,4 +1,4 @@
-//! How what is handed in is recorded, and the calls of a member on certifications, each over its state and its record.
+//! Recording of what is passed in, and the calls of a member on certifications, each over its state and its record.
 
 ghost use Rattle.std.specs.Prelude.{◌≡◌, ◌<◌, ◌++◌, ◌∷◌, [], None, Ok, true, false, IfOk, IfErr, OnOk, OnErr, IsOkUnless, vec_len, vec_capacity, option_map};
 ghost use Rattle.simplex_types.specs.Certificates.{notarization_facts, artifact_facts, Verdict};
@@ -34,7 +34,7 @@ pub(super) fn keep<S: CertificateScheme, D: Digest>(
     }
 }
 
-/// Records an artifact for which there is room, where it is new. It is no vote.
+/// Records an artifact for which there is room, if it is new. It is no vote.
 pub(super) fn store_new<S: CertificateScheme, D: Digest>(
     artifacts: &mut Vec<Artifact<S, D>>,
     is_new: bool,
@@ -50,7 +50,7 @@ pub(super) fn store_new<S: CertificateScheme, D: Digest>(
     }
 }
 
-/// A copy of what is handed in, with room for it in the record. Where there is none for either, the record is as it was.
+/// A copy of what is passed in, with room for it in the record. If there is no memory for either, the record is unchanged.
 pub(super) fn with_room<S: CertificateScheme, D: Digest, C: Drop>(
     artifacts: &mut Vec<Artifact<S, D>>,
     copy: Result<C, Fault>,
@@ -67,22 +67,22 @@ pub(super) fn with_room<S: CertificateScheme, D: Digest, C: Drop>(
     }
 }
 
-/// Whether the state added a notarization or a finalization.
+/// Returns whether the state added a notarization or a finalization.
 pub(super) fn is_added<K>(made: &Result<(bool, Option<K>), Fault>) -> bool
     ensures { result ≡ is_new (λ added. added.0) made.now }
 {
     matches!(made, Ok((true, _)))
 }
 
-/// Whether the state added a nullification.
+/// Returns whether the state added a nullification.
 pub(super) fn is_nullification_added(made: &Result<bool, Fault>) -> bool
     ensures { result ≡ is_new (λ added. added) made.now }
 {
     matches!(made, Ok(true))
 }
 
-/// Gives a verdict, and records it where it is the first of a tracked view. After `OutOfMemory` the state is lost, and any other
-/// fault changes nothing.
+/// Records a verdict, in the record too if it is the first of a tracked view. After `OutOfMemory` the state is lost; any
+/// other fault changes nothing.
 pub(super) fn certified<S: CertificateScheme, L: Elector<S>, D: Digest>(
     state: &mut State<S, L, D>,
     outstanding_work: &mut OutstandingWork<D, S::PublicKey>,
@@ -120,7 +120,7 @@ pub(super) fn certified<S: CertificateScheme, L: Elector<S>, D: Digest>(
     }
 }
 
-/// Offers the proposals that are to be certified next. The state is lost where there is no memory for them.
+/// Offers the proposals to certify next. If there is no memory for them, the state is lost.
 pub(super) fn certify_candidates<S: CertificateScheme, L: Elector<S>, D: Digest>(
     state: &mut State<S, L, D>,
     outstanding_work: &mut OutstandingWork<D, S::PublicKey>,

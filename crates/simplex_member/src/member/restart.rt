@@ -1,4 +1,4 @@
-//! How a member is restarted from its record.
+//! Restarting a member from its record.
 
 ghost use Rattle.std.specs.Prelude.{◌≡◌, ◌⊎◌, ◌&&◌, ◌==◌, true, false, IfOk, IfErr, OnOk, OnErr, length, min, option_map};
 ghost use Rattle.simplex_types.specs.Certificates.{artifact_facts, finalization_facts};
@@ -24,12 +24,12 @@ use simplex_types::types::{
 use simplex_voter::voter::State;
 use std::alloc::Global;
 
-/// How a member is restarted.
+/// The parameters of a member's restart.
 #[derive(Drop)]
 pub struct Restart<S: CertificateScheme, L: Elector<S>, D> {
-    /// At most so many of the record's last entries are dropped, but never a vote nor anything before one.
+    /// At most this many of the record's last entries are dropped, but never a vote nor anything before one.
     pub drop: u64,
-    /// Whether the record is pruned then.
+    /// True if the restart prunes the record.
     pub prune: bool,
     pub start: Start<S, L, D>,
 }
@@ -37,15 +37,15 @@ pub struct Restart<S: CertificateScheme, L: Elector<S>, D> {
 impl<S: CertificateScheme, L: Elector<S>, D: Digest> Member<S, L, D> {
     ghost use Rattle.simplex_member.specs.Restarts.{restart_facts, retention_grows, cut_member, cut_votes, votes_left, RecoversByView, IsRestart};
 
-    /// Ends the member's life, also one that has failed, and begins another from its record.
+    /// Ends the member's lifetime, also if it has failed, and begins another from its record.
     ///
-    /// The last entries of the record are dropped and it is pruned, as asked: each entry more than the last life's
-    /// retention below the highest finalized view of the record is taken away, and what stays is closed to later drops. A
-    /// copy, sorted by view, makes the new state. The floor's finalization is recorded unless one of its view stands there.
+    /// The last entries of the record are dropped and it is pruned, as asked: each entry more than the last lifetime's
+    /// retention below the highest finalized view of the record is removed, and the rest is closed to later drops. A copy,
+    /// sorted by view, makes the new state. The floor's finalization is recorded unless the record has one of its view.
     ///
-    /// `RetentionGrown`, with nothing changed, where the record is or was pruned and the settings keep more views than a
-    /// life before. After each other error the record stays cut, and the member has failed until a restart succeeds: those
-    /// of `recover`, and `OutOfMemory`.
+    /// Returns `RetentionGrown`, with nothing changed, if the record is or was pruned and the settings retain more views
+    /// than an earlier lifetime. After any other error the record stays cut, and the member has failed until a restart
+    /// succeeds: those of `recover`, and `OutOfMemory`.
     #[tactic(auto, unfolding(crate::specs::Restarts::IsRestart))]
     pub fn restart(&mut self, restart: Restart<S, L, D>) -> Result<(), RecoverError>
         requires { L.members restart.start.settings.elector ≡ length (S.participants restart.start.settings.scheme) }
@@ -62,15 +62,15 @@ impl<S: CertificateScheme, L: Elector<S>, D: Digest> Member<S, L, D> {
         self.go_on(restart.start)
     }
 
-    /// Whether more views are to be kept than in a life before, of a record that is pruned now or was pruned: votes in
-    /// views that are gone from it could be cast again.
+    /// Returns whether more views are to be retained than in an earlier lifetime, of a record that is pruned now or was
+    /// pruned: votes in views that are gone from it could be cast again.
     fn retention_grows(&self, prune: bool, retention: ViewDelta) -> bool
         ensures { result ≡ retention_grows self.now.facts prune retention }
     {
         (prune || self.is_pruned) && self.least_retention < retention
     }
 
-    /// Drops the last entries, and prunes the record where asked.
+    /// Drops the last entries, and prunes the record if asked.
     fn cut(&mut self, drop: u64, prune: bool)
         ensures left { self.new.facts ≡ cut_member self.old.facts drop prune }
         ensures votes { self.new.votes ≡ cut_votes self.old.facts drop prune self.old.votes }
@@ -83,7 +83,7 @@ impl<S: CertificateScheme, L: Elector<S>, D: Digest> Member<S, L, D> {
         }
     }
 
-    /// Begins a life from the record as it stands.
+    /// Begins a lifetime from the record as it is.
     fn go_on(&mut self, start: Start<S, L, D>) -> Result<(), RecoverError>
         requires { L.members start.settings.elector ≡ length (S.participants start.settings.scheme) }
         ensures continues { RecoversByView D.eq L.elect self.old.facts
@@ -109,7 +109,7 @@ pub(super) fn lesser(retention: ViewDelta, other: ViewDelta) -> ViewDelta
     retention.min(other)
 }
 
-/// A state from a record, in which the floor's finalization is recorded then.
+/// Makes a state from a record, and then records the floor's finalization there.
 pub(super) fn renew<S: CertificateScheme, L: Elector<S>, D: Digest>(
     alloc: Global,
     start: Start<S, L, D>,
@@ -133,7 +133,7 @@ pub(super) fn renew<S: CertificateScheme, L: Elector<S>, D: Digest>(
     Ok(state)
 }
 
-/// A state from a copy of a record by view, with the floor's finalization.
+/// Makes a state from a copy of a record sorted by view, and returns it with the floor's finalization.
 fn remake_by_view<S: CertificateScheme, L: Elector<S>, D: Digest>(
     alloc: Global,
     start: Start<S, L, D>,
@@ -154,7 +154,7 @@ fn remake_by_view<S: CertificateScheme, L: Elector<S>, D: Digest>(
     remake(alloc, start, &copy)
 }
 
-/// A copy of a record, sorted by view.
+/// Returns a copy of a record, sorted by view.
 fn by_view<S: CertificateScheme, D: Digest>(
     alloc: Global,
     artifacts: &[Artifact<S, D>],
@@ -166,7 +166,7 @@ fn by_view<S: CertificateScheme, D: Digest>(
     Ok(copy)
 }
 
-/// A copy of a record.
+/// Returns a copy of a record.
 fn copy_of<S: CertificateScheme, D: Digest>(
     alloc: Global,
     artifacts: &[Artifact<S, D>],
@@ -180,7 +180,7 @@ fn copy_of<S: CertificateScheme, D: Digest>(
     Ok(copy)
 }
 
-/// Records a finalization, unless one of its view stands in the record.
+/// Records a finalization, unless the record has one of its view.
 pub(super) fn store_finalization<S: CertificateScheme, D: Digest>(
     artifacts: &mut Vec<Artifact<S, D>>,
     finalization: Option<Finalization<S, D>>,
@@ -202,7 +202,7 @@ pub(super) fn store_finalization<S: CertificateScheme, D: Digest>(
     Ok(())
 }
 
-/// Whether a finalization of the view stands in the record.
+/// Returns whether the record has a finalization of the view.
 fn is_finalized_in<S: CertificateScheme, D: Digest>(
     artifacts: &[Artifact<S, D>],
     view: View,
@@ -217,7 +217,7 @@ fn is_finalized_in<S: CertificateScheme, D: Digest>(
     false
 }
 
-/// Whether it is a finalization of the view.
+/// Returns whether the artifact is a finalization of the view.
 fn is_finalization_of<S: CertificateScheme, D: Digest>(
     artifact: &Artifact<S, D>,
     view: View,

@@ -24,8 +24,8 @@ pub enum Step<S: CertificateScheme, L: Elector<S>, D> {
 
 /// Starts a member and takes the steps in order, with one reply a step.
 ///
-/// The elector's members are the scheme's participants, of the start and of each restart. It ends early with the error of
-/// a start or a restart that is refused, and with `OutOfMemory` where there is no memory for the replies.
+/// The elector's members must be the scheme's participants, for the start and for each restart. It ends early with the
+/// error of a refused start or restart, and with `OutOfMemory` if there is no memory for the replies.
 #[tactic(auto, unfolding(crate::specs::Runs::IsRunFrom, crate::specs::Runs::EndsRunFrom))]
 pub fn run<S: Scheme<D>, L: Elector<S>, D: Digest>(
     alloc: Global,
@@ -75,7 +75,7 @@ fn push_reserved<T: Drop>(items: &mut Vec<T>, item: T)
     }
 }
 
-/// Takes a step, and answers its reply.
+/// Takes a step, and returns its reply.
 fn take_step<S: Scheme<D>, L: Elector<S>, D: Digest>(
     member: &mut Member<S, L, D>,
     step: Step<S, L, D>,

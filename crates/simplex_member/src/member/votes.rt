@@ -1,4 +1,4 @@
-//! How the votes of a member are recorded, each before it is handed out: the state counts as lost until it is.
+//! Recording of a member's votes, each before it is returned: the state counts as lost until the vote is recorded.
 
 ghost use Rattle.std.specs.Prelude.{◌≡◌, ◌⊎◌, ◌<◌, ◌++◌, Ok, Err, IfOk, IfErr, OnErr, vec_len, vec_capacity};
 ghost use Rattle.simplex_types.specs.declared.types.fault.Fault.TheVariants.{OutOfMemory};
@@ -14,7 +14,8 @@ use simplex_types::types::{
 };
 use std::alloc::Global;
 
-/// Records a vote to nullify that the state made, unless it is a repeat. Where there is no memory for a copy, the state is lost.
+/// Records a vote to nullify that the state made, unless it is a repeat. If there is no memory for a copy, the state is
+/// lost.
 pub(super) fn store_nullify<S: CertificateScheme, D: Digest>(
     alloc: Global,
     artifacts: &mut Vec<Artifact<S, D>>,
@@ -39,7 +40,7 @@ pub(super) fn store_nullify<S: CertificateScheme, D: Digest>(
     Ok(vote)
 }
 
-/// Records a vote to notarize that the state made. Where there is no memory for a copy, the state is lost.
+/// Records a vote to notarize that the state made. If there is no memory for a copy, the state is lost.
 pub(super) fn store_notarize<S: CertificateScheme, D: Digest>(
     alloc: Global,
     artifacts: &mut Vec<Artifact<S, D>>,
@@ -64,7 +65,7 @@ pub(super) fn store_notarize<S: CertificateScheme, D: Digest>(
     Ok(vote)
 }
 
-/// Records a vote to finalize that the state made. Where there is no memory for a copy, the state is lost.
+/// Records a vote to finalize that the state made. If there is no memory for a copy, the state is lost.
 pub(super) fn store_finalize<S: CertificateScheme, D: Digest>(
     alloc: Global,
     artifacts: &mut Vec<Artifact<S, D>>,

@@ -16,12 +16,12 @@ use simplex_types::types::{
     Artifact, CertificateScheme, Digest, Epoch, Participant, Proposal, Round, View, Viewable,
 };
 
-/// Tests whether a state can be made from a floor and a record in an epoch, by the scheme's member, and answers the
-/// first rule that is broken: the floor's finalization comes first, then the record's entries in order, each by
-/// the rules of `RecoverError` from `OutOfOrder` to `FinalizeWithoutVerdict` in that order.
+/// Tests whether a state can be made from a floor and a record in an epoch, by the scheme's member. Returns the first rule
+/// that is broken: the floor's finalization comes first, then the record's entries in order, each by the rules of
+/// `RecoverError` from `OutOfOrder` to `FinalizeWithoutVerdict` in that order.
 ///
-/// An entry is compared with those before it alone; the floor's view plays no part. It goes through the record
-/// once and takes no memory.
+/// An entry is compared only with those before it; the floor's view plays no part. The test reads the record once and takes
+/// no memory.
 #[tactic(auto, unfolding(crate::specs::Check::first_recover_error))]
 pub fn check_record<S: CertificateScheme, D: Digest>(
     scheme: &S,
@@ -70,7 +70,7 @@ fn check_entries<S: CertificateScheme, D: Digest>(
     Ok(())
 }
 
-/// Tests the next artifact, and keeps what it says of its view.
+/// Tests the next artifact, and notes its effect on its view.
 #[tactic(auto, using(crate::proofs::Seen::first_errors))]
 fn check_next<S: CertificateScheme, D: Digest>(
     scheme: &S,
@@ -157,7 +157,7 @@ fn check_round(epoch: Epoch, round: Round, parent: Option<View>) -> Result<(), R
     )
 }
 
-/// Whether this member cast the vote.
+/// Returns whether this member cast the vote.
 fn signs_as(me: Option<Participant>, signer: Participant) -> bool
     ensures { result ≡ signs_as me signer }
 {

@@ -1,4 +1,4 @@
-//! What a restart leaves of a record.
+//! The cuts that a restart makes in a record.
 
 ghost use Rattle.std.specs.Prelude.{◌≡◌, ◌-◌, ◌<◌, Bool, true, length, nat_le, filter};
 ghost use Rattle.simplex_types.specs.Certificates.{artifact_facts};
@@ -8,9 +8,9 @@ ghost use Rattle.simplex_record.specs.Votes.{votes_of, pruned_votes};
 
 use simplex_types::types::{Artifact, CertificateScheme, Digest, View, ViewDelta, Viewable};
 
-/// Drops at most so many last entries, never a vote nor anything before one, and none of the first `closed`.
+/// Drops at most `count` last entries, never a vote nor anything before one, and none of the first `closed`.
 ///
-/// A journal that lost its end still holds each vote that left, so what is dropped may be handed in again.
+/// A journal that lost its end still holds each vote that was sent, so what is dropped may be passed in again.
 pub fn drop_last<S: CertificateScheme, D: Digest>(
     entries: &mut Vec<Artifact<S, D>>,
     closed: usize,
@@ -40,7 +40,7 @@ pub fn prune_record<S: CertificateScheme, D: Digest>(
     keep_from(entries, lowest);
 }
 
-/// The lowest view that a record keeps: `retention` views below the highest finalized one, and 0 where there are fewer.
+/// The lowest view that a record retains: `retention` views below the highest finalized one, and 0 if there are fewer.
 pub fn lowest_retained<S: CertificateScheme, D: Digest>(
     entries: &[Artifact<S, D>],
     retention: ViewDelta,
@@ -81,7 +81,7 @@ fn finalized_by<S: CertificateScheme, D: Digest>(artifact: &Artifact<S, D>) -> V
     }
 }
 
-/// Whether the last entry may be dropped: it is no vote, and not closed.
+/// Returns whether the last entry may be dropped: it is no vote, and not closed.
 fn may_drop<S: CertificateScheme, D: Digest>(entries: &[Artifact<S, D>], closed: usize) -> bool
     ensures answer { result ≡ may_drop closed (entries_of S.certificate_bytes entries.now) }
     ensures something { result ≡ true → 0 < length entries.now }

@@ -1,4 +1,4 @@
-//! A state is made from a floor and a whole record, whose entries it takes again one after another.
+//! Rebuilding a state from a floor and a whole record, whose entries are replayed one after another.
 
 ghost use Rattle.std.specs.Prelude.{◌≡◌, true, false, None, IfOk, IfErr, OnOk, length, option_map};
 ghost use Rattle.simplex_types.specs.Certificates.{artifact_facts, finalization_facts};
@@ -69,7 +69,7 @@ fn add<S: CertificateScheme, L: Elector<S>, D: Digest>(
     }
 }
 
-/// Restores what an entry says.
+/// Replays an entry.
 fn replay<S: CertificateScheme, L: Elector<S>, D: Digest>(
     state: &mut State<S, L, D>,
     artifact: &Artifact<S, D>,
@@ -83,7 +83,7 @@ fn replay<S: CertificateScheme, L: Elector<S>, D: Digest>(
     state.replay(artifact)
 }
 
-/// Gives a verdict that was replayed.
+/// Passes on a verdict that was replayed.
 fn give<S: CertificateScheme, L: Elector<S>, D: Digest>(
     state: &mut State<S, L, D>,
     artifact: &Artifact<S, D>,
@@ -101,7 +101,7 @@ fn give<S: CertificateScheme, L: Elector<S>, D: Digest>(
     Ok(())
 }
 
-/// Takes an entry of a view that is kept: a certificate is added, each entry is replayed, a verdict is given.
+/// Takes an entry of a retained view: adds a certificate, replays each entry, and passes on a verdict.
 fn take<S: CertificateScheme, L: Elector<S>, D: Digest>(
     alloc: Global,
     state: &mut State<S, L, D>,
@@ -120,7 +120,7 @@ fn take<S: CertificateScheme, L: Elector<S>, D: Digest>(
     give(state, artifact, now)
 }
 
-/// Takes an entry, or passes it over where its view is below those that are kept.
+/// Takes an entry, or skips it if its view is below those that are retained.
 #[tactic(auto, unfolding(crate::specs::Recovery::after_kept_entry))]
 fn take_kept<S: CertificateScheme, L: Elector<S>, D: Digest>(
     alloc: Global,
@@ -159,7 +159,7 @@ fn take_all<S: CertificateScheme, L: Elector<S>, D: Digest>(
     Ok(())
 }
 
-/// What `recover` makes, on the heap, with the floor's finalization. Its errors are those of `recover`.
+/// Returns what `recover` makes, on the heap, with the floor's finalization. Its errors are those of `recover`.
 pub fn remake<S: CertificateScheme, L: Elector<S>, D: Digest>(
     alloc: Global,
     start: Start<S, L, D>,
@@ -189,15 +189,14 @@ pub fn remake<S: CertificateScheme, L: Elector<S>, D: Digest>(
     }
 }
 
-/// Makes a state from a floor and a whole record, oldest entry first: the floor is set, and the entries are taken in
-/// order. A certificate is added again, a vote and a verdict stand again, and a verdict has its effects. An entry of a
-/// view that isn't kept any more when its turn comes is passed over. What the state would hand out counts as handed out,
-/// as far as the record says so.
+/// Makes a state from a floor and a whole record, oldest entry first: sets the floor, and takes the entries in order. A
+/// certificate is added again, a vote and a verdict are restored, and a verdict has its effects. An entry whose view is no
+/// longer retained when it is reached is skipped. Certificates count as already broadcast as far as the record says so.
 ///
-/// The elector's members are the scheme's participants. The first error that is due, in the order of `RecoverError`: the
-/// first rule that the floor breaks, or else the record, as `check_record` says; then `TimeOverflow`, where a deadline
-/// passes 2^64 - 1 milliseconds. `OutOfMemory` comes only where none is due. There is no state then, and the record is as
-/// it was.
+/// The elector's members must be the scheme's participants. Returns the first error that applies, in the order of
+/// `RecoverError`: the first rule that the floor breaks, or else the record, as in `check_record`; then `TimeOverflow`, if
+/// a deadline passes 2^64 - 1 milliseconds. Returns `OutOfMemory` only if none of these applies. After an error there is no
+/// state, and the record is unchanged.
 pub fn recover<S: CertificateScheme, L: Elector<S>, D: Digest>(
     alloc: Global,
     start: Start<S, L, D>,

@@ -1,4 +1,4 @@
-//! The entries of a record that was tested are handed to a resolver, one after another.
+//! Passing the entries of a tested record to a resolver, one after another.
 
 ghost use Rattle.std.specs.Prelude.{◌≡◌, false, None, ◌∷◌, IfErr, OnOk};
 ghost use Rattle.simplex_types.specs.Certificates.{artifact_facts, certificate_facts};
@@ -13,7 +13,7 @@ use crate::resolver::State;
 use simplex_types::types::{Artifact, Certificate, CertificateScheme, Digest, Fault, View};
 use std::alloc::Global;
 
-/// Hands the entries in, in order.
+/// Passes the entries in, in order.
 pub(super) fn pass_every<S: CertificateScheme, D: Digest>(
     alloc: Global,
     state: &mut State,
@@ -33,7 +33,8 @@ pub(super) fn pass_every<S: CertificateScheme, D: Digest>(
     Ok(())
 }
 
-/// Hands an entry in, behind those before it, whose notarizations stand at the places. A vote tells a resolver nothing.
+/// Passes an entry in, after those before it, whose notarizations are at these places. A vote changes nothing
+/// in a resolver.
 fn hand<S: CertificateScheme, D: Digest>(
     alloc: Global,
     state: &mut State,
@@ -81,7 +82,7 @@ fn pass_certificate<S: CertificateScheme, D: Digest>(
     Ok(())
 }
 
-/// Hands a verdict in, with the last notarization of its view.
+/// Passes a verdict in, with the last notarization of its view.
 fn pass_verdict<S: CertificateScheme, D: Digest>(
     alloc: Global,
     state: &mut State,

@@ -1,4 +1,4 @@
-//! What is kept at views: steps over plain maps.
+//! Storing certificates at views: steps over plain maps.
 
 ghost use Rattle.std.specs.Prelude.{◌≡◌, ◌<◌, ◌^◌, ◌+◌, nat_lt, if◌then◌else◌, Some, OnOk, OnErr, is_some};
 ghost use Rattle.std.specs.Option.{option_copied, option_map_or};
@@ -15,7 +15,7 @@ use simplex_view_maps::by_term::ByTerm;
 use simplex_view_maps::tracked::Tracked;
 use std::alloc::Global;
 
-/// Puts the value in, in place of the one that the view has.
+/// Stores the value, in place of the one that the view has.
 pub(super) fn put<V: Drop>(tracked: &mut Tracked<V>, view: View, value: V) -> Result<(), Fault>
     ensures put { OnOk result (tracked.new ≡ map.insert tracked.old view value) }
     ensures refused { OnErr result (tracked.new ≡ tracked.old) }
@@ -28,7 +28,7 @@ pub(super) fn put<V: Drop>(tracked: &mut Tracked<V>, view: View, value: V) -> Re
     Ok(())
 }
 
-/// Keeps the nullification's encoding, unless the view has one.
+/// Stores the nullification's encoding, unless the view has one.
 pub(super) fn store_nullification<S: CertificateScheme, D: Digest>(
     alloc: Global,
     nullifications: &mut ByTerm<Bytes>,

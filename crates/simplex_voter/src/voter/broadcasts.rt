@@ -1,4 +1,4 @@
-//! Certificates that are handed out: each once to be broadcast, and the one that helps others into the current view.
+//! Certificates to broadcast: each is returned once; and the one that helps others into the current view.
 
 ghost use Rattle.std.specs.Prelude.{◌≡◌, ◌||◌, IfSome, IfOk, IfErr, Err, None, true, option_map, OnOk, OnErr, is_some};
 ghost use Rattle.std.specs.Option.{option_copied};
@@ -16,10 +16,12 @@ impl<S: CertificateScheme, L: Elector<S>, D: Digest> State<S, L, D> {
     ghost use Rattle.simplex_voter.specs.Refusals.{plain_refusal, is_started, HasFailed};
     ghost use Rattle.simplex_voter.specs.StateAnswers.{best_certificate, entry_certificate, entry_nullification, highest_nullification_in_term, broadcast_notarization_answer, after_broadcast_notarization, broadcast_nullification_answer, after_broadcast_nullification, broadcast_finalization_answer, after_broadcast_finalization};
 
-    /// A copy of the certificate that helps others into the current view: of the view before the finalization, else at a
-    /// term's start the last term's highest nullification where it is held there, else the notarization. None in view 1.
+    /// Returns a copy of the certificate that helps others into the current view. That is the previous view's finalization;
+    /// else, at a term's start, the last term's highest nullification if it is stored there; else the previous view's
+    /// notarization. `None` in view 1.
     ///
-    /// The state has a floor. Memory is taken for a copy alone. Nothing changes, so a call that finds none can be asked again.
+    /// The state must have a floor. Only the copy takes memory. Nothing changes, so a call that runs out of memory can be
+    /// repeated.
     pub fn get_best_certificate(&self) -> Result<Option<Certificate<S, D>>, Fault>
         requires { (self.now.failed || is_started self.now) ≡ true }
         ensures refused { IfSome (plain_refusal self.now) (λ fault. result ≡ Err fault) }
@@ -36,7 +38,7 @@ impl<S: CertificateScheme, L: Elector<S>, D: Digest> State<S, L, D> {
         self.entry_certificate(before(self.current))
     }
 
-    /// A copy of the certificate of a view that helps others past it.
+    /// Returns a copy of the certificate of a view that helps others past it.
     fn entry_certificate(&self, view: View) -> Result<Option<Certificate<S, D>>, Fault>
         ensures answer { IfOk result (λ answer. option_map (certificate_facts S.certificate_bytes) answer ≡ entry_certificate self.now view) }
         ensures refused { IfErr result (λ fault. fault ≡ OutOfMemory) }
@@ -46,7 +48,7 @@ impl<S: CertificateScheme, L: Elector<S>, D: Digest> State<S, L, D> {
             let copy = finalization.clone(self.alloc)?;
             return Ok(Some(Certificate::Finalization(copy)));
         }
-        // it proves that the views between were given up, which is what peers need to take the same way into the new term
+        // it proves that the views between were abandoned, which is what peers need to take the same way into the new term
         if let Some(nullification) = self.entry_nullification(view) {
             let copy = nullification.clone(self.alloc)?;
             return Ok(Some(Certificate::Nullification(copy)));
@@ -60,7 +62,7 @@ impl<S: CertificateScheme, L: Elector<S>, D: Digest> State<S, L, D> {
         }
     }
 
-    /// The nullification that covers a view and is held at the highest nullified view, where a term begins above.
+    /// The nullification that covers a view and is stored at the highest nullified view, if the current view starts a term.
     fn entry_nullification(&self, view: View) -> Option<&Nullification<S>>
         ensures { option_map (nullification_facts S.certificate_bytes) (option_copied result) ≡ entry_nullification self.now view }
     {
@@ -80,9 +82,9 @@ impl<S: CertificateScheme, L: Elector<S>, D: Digest> State<S, L, D> {
         }
     }
 
-    /// Hands out the notarization of a tracked view, if it is there and was not handed out or replayed before.
+    /// Returns the notarization of a tracked view for broadcast, unless it is missing or was returned or replayed before.
     ///
-    /// The state has a floor. Memory is taken for a copy alone, so nothing that is not handed out finds none.
+    /// The state must have a floor. Only the copy takes memory: a call with nothing to return cannot run out of it.
     pub fn broadcast_notarization(
         &mut self,
         view: View,
@@ -106,9 +108,9 @@ impl<S: CertificateScheme, L: Elector<S>, D: Digest> State<S, L, D> {
         }
     }
 
-    /// Hands out the nullification of a tracked view, if it is there and was not handed out or replayed before.
+    /// Returns the nullification of a tracked view for broadcast, unless it is missing or was returned or replayed before.
     ///
-    /// The state has a floor. Memory is taken for a copy alone, so nothing that is not handed out finds none.
+    /// The state must have a floor. Only the copy takes memory: a call with nothing to return cannot run out of it.
     pub fn broadcast_nullification(&mut self, view: View) -> Result<Option<Nullification<S>>, Fault>
         requires { (self.old.failed || is_started self.old) ≡ true }
         ensures refused { IfSome (plain_refusal self.old) (λ fault. (result ≡ Err fault) × (self.new ≡ self.old)) }
@@ -129,9 +131,9 @@ impl<S: CertificateScheme, L: Elector<S>, D: Digest> State<S, L, D> {
         }
     }
 
-    /// Hands out the finalization of a tracked view, if it is there and was not handed out or replayed before.
+    /// Returns the finalization of a tracked view for broadcast, unless it is missing or was returned or replayed before.
     ///
-    /// The state has a floor. Memory is taken for a copy alone, so nothing that is not handed out finds none.
+    /// The state must have a floor. Only the copy takes memory: a call with nothing to return cannot run out of it.
     pub fn broadcast_finalization(
         &mut self,
         view: View,

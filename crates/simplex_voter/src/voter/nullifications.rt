@@ -18,13 +18,13 @@ impl<S: CertificateScheme, L: Elector<S>, D: Digest> State<S, L, D> {
     ghost use Rattle.simplex_voter.specs.Refusals.{HasFailed};
     ghost use Rattle.simplex_voter.specs.Acceptance.{takes_nullification, nullification_refusal, nullification_added, after_add_nullification, nullified_also, with_nullification_at};
 
-    /// Takes a nullification: the rest of its term is passed over, and the next term's start is entered where that is
-    /// ahead, and led by the elector's choice after this certificate. Answers whether it is the first of its view.
-    /// A certification that is under way goes on, since the next leader may build on a notarized view that this member has not
-    /// judged yet: members that stopped there could disagree on valid parents for good.
+    /// Accepts a nullification: the rest of its term is skipped, and the next term's start is entered if it is ahead, led
+    /// by the elector's choice after this certificate. Returns whether it is the first of its view. A certification that is
+    /// under way continues, since the next leader may build on a notarized view that this member has not judged yet:
+    /// members that stopped there could disagree on valid parents for good.
     ///
-    /// It is of this epoch, and of a view that is kept. `ViewTooLarge` where its view is above 2^63 - 1, `TimeOverflow`
-    /// where a deadline of the view that would be entered passes 2^64 - 1 milliseconds.
+    /// It must be of this epoch and of a retained view. Returns `ViewTooLarge` if its view is above 2^63 - 1,
+    /// `TimeOverflow` if a deadline of the view to be entered passes 2^64 - 1 milliseconds.
     pub fn add_nullification(
         &mut self,
         nullification: Nullification<S>,
@@ -66,6 +66,7 @@ impl<S: CertificateScheme, L: Elector<S>, D: Digest> State<S, L, D> {
         ensures in_range { result ≤ largest_current }
     {
         let length = self.elector.terms().term_length;
+        // proof only: exposes that the term length is positive
         let _views = length.get();
         view.next_term_start(length)
     }
@@ -87,13 +88,13 @@ impl<S: CertificateScheme, L: Elector<S>, D: Digest> State<S, L, D> {
     {
         let view = nullification.view();
         self.note_moment(now);
-        // needs no look at what is finalized: a view above the current one alone is entered
+        // no test of what is finalized is needed: only a view above the current one is entered
         self.enter_led(next, now, deadlines, &nullification.certificate)?;
         self.store_nullification(nullification)?;
         self.nullify_view(view)
     }
 
-    /// The nullification's view and those behind it in its term are nullified.
+    /// Marks the nullification's view and the later ones of its term as nullified.
     pub(super) fn nullify_view(&mut self, view: View) -> Result<(), Fault>
         requires { 1 ≤ view }
         ensures noted { OnOk result (self.new ≡ nullified_also self.old view) }

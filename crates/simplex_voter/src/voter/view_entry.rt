@@ -36,7 +36,7 @@ impl<S: CertificateScheme, L: Elector<S>, D: Digest> State<S, L, D> {
         Ok(())
     }
 
-    /// Enters a view that is above the current one, and has the elector's choice, after this certificate, lead it.
+    /// Enters a view that is above the current one, led by the elector's choice after this certificate.
     pub(super) fn enter_led(
         &mut self,
         view: View,
@@ -55,8 +55,8 @@ impl<S: CertificateScheme, L: Elector<S>, D: Digest> State<S, L, D> {
         self.elect(view, Some(certificate))
     }
 
-    /// The last finalized view is this one, where that is above the one before; the next one is entered, where that is
-    /// ahead, and led by the elector's choice after this certificate.
+    /// Makes this view the last finalized one if it is above the one before, and enters the next view if that is ahead, led
+    /// by the elector's choice after this certificate.
     pub(super) fn pass(
         &mut self,
         view: View,

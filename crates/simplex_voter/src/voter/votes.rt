@@ -25,10 +25,10 @@ impl<S: CertificateScheme, L: Elector<S>, D: Digest> State<S, L, D> {
     ghost use Rattle.std.specs.BTreeSet.{insert_key};
     ghost use Rattle.simplex_round.specs.Round.{is_nullify, after_nullify, can_finalize};
 
-    /// Votes to nullify the current view, unless it was voted to finalize it: the decision is set, also without a key,
-    /// and the vote is answered, with whether it is a repeat, where the scheme has a key. Else nothing changes.
+    /// Votes to nullify the current view, unless this member voted to finalize it. The decision is set, also without a key.
+    /// Returns the vote, and whether it is a repeat, if the scheme has a key. Otherwise nothing changes.
     ///
-    /// The reason has no effect. The state has a floor.
+    /// The reason has no effect. The state must have a floor.
     pub fn construct_nullify(
         &mut self,
         view: View,
@@ -59,7 +59,7 @@ impl<S: CertificateScheme, L: Elector<S>, D: Digest> State<S, L, D> {
         }
     }
 
-    /// Decides the vote to nullify a view, and signs it where there is a key.
+    /// Decides the vote to nullify a view, and signs it if there is a key.
     fn cast_nullify(&mut self, view: View) -> Result<Option<Nullify<S>>, Fault>
     where
         S: Scheme<D>,
@@ -84,7 +84,7 @@ impl<S: CertificateScheme, L: Elector<S>, D: Digest> State<S, L, D> {
         }))
     }
 
-    /// Signs a vote as this member, where there is a key.
+    /// Signs a vote as this member, if there is a key.
     pub(super) fn sign(
         &self,
         subject: &Subject<D>,
@@ -106,7 +106,7 @@ impl<S: CertificateScheme, L: Elector<S>, D: Digest> State<S, L, D> {
         Ok(Some((signer, signature)))
     }
 
-    /// This member's vote to nullify a view is out.
+    /// Records that this member voted to nullify a view.
     pub(super) fn note_nullify_vote(&mut self, view: View) -> Result<(), Fault>
         requires { 1 ≤ view }
         ensures noted { OnOk result (self.new ≡ record self.old { nullify_votes = insert_key nat_cmp self.old.nullify_votes view }) }
@@ -116,8 +116,8 @@ impl<S: CertificateScheme, L: Elector<S>, D: Digest> State<S, L, D> {
         insert_view(&mut self.nullify_votes, view)
     }
 
-    /// Whether the current view may be voted to nullify, and whether that was decided before. The vote covers the rest of the
-    /// term, so it is of no view below, which may be finalized.
+    /// Returns whether the vote to nullify the current view was decided before; `None` if it may not be cast. The vote
+    /// covers the rest of the term, so it is never for a view below, which may be finalized.
     #[tactic(auto, unfolding(crate::specs::Rules::may_nullify))]
     fn nullify_retry(&self, view: View) -> Option<bool>
         ensures retry { result ≡ (if may_nullify self.now view then Some (is_nullify (round_of self.now view).decision) else None) }
@@ -136,10 +136,10 @@ impl<S: CertificateScheme, L: Elector<S>, D: Digest> State<S, L, D> {
         }
     }
 
-    /// Votes to finalize a view where the rule allows it: the decision is set, also without a key, and the vote is
-    /// answered where the scheme has a key. Else nothing changes, so the vote is cast once.
+    /// Votes to finalize a view if the rule allows it. The decision is set, also without a key. Returns the vote if the
+    /// scheme has a key. Otherwise nothing changes, so the vote is cast once.
     ///
-    /// The state has a floor.
+    /// The state must have a floor.
     pub fn construct_finalize(&mut self, view: View) -> Result<Option<Finalize<S, D>>, Fault>
     where
         S: Scheme<D>,
@@ -165,7 +165,7 @@ impl<S: CertificateScheme, L: Elector<S>, D: Digest> State<S, L, D> {
         }
     }
 
-    /// Decides the vote to finalize a view, and signs it where there is a key.
+    /// Decides the vote to finalize a view, and signs it if there is a key.
     fn cast_finalize(&mut self, view: View) -> Result<Option<Finalize<S, D>>, Fault>
     where
         S: Scheme<D>,

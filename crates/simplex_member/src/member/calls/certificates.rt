@@ -1,4 +1,4 @@
-//! The calls that hand in certificates, each as a method.
+//! The calls that pass certificates in, each as a method.
 
 ghost use Rattle.std.specs.Prelude.{◌++◌, ◌≡◌, IfOk, IfErr};
 ghost use Rattle.simplex_types.specs.Certificates.{notarization_facts, nullification_facts, finalization_facts, Accepted, Notarized, Nullified, Finalized};
@@ -15,11 +15,12 @@ use simplex_types::types::{
 };
 
 impl<S: Scheme<D>, L: Elector<S>, D: Digest> Member<S, L, D> {
-    /// Takes a notarization: the next view is led by the elector's choice after it, the first of its view is recorded, and its
-    /// view waits for certification. Answers whether it is the first of its view, with the key of a leader found to equivocate.
+    /// Accepts a notarization: the next view is led by the elector's choice after it, the first of its view is recorded,
+    /// and its view waits for certification. Returns whether it is the first of its view, and the key of a leader found to
+    /// equivocate.
     ///
-    /// `NotAllowed` where it is of another epoch or of a view that is not kept. `ViewTooLarge` where its view or its parent's is
-    /// above 2^63 - 1; `OutOfMemory`.
+    /// Returns `NotAllowed` if it is of another epoch or of a view that is not retained, `ViewTooLarge` if its view or its
+    /// parent's is above 2^63 - 1; `OutOfMemory`.
     #[tactic(auto, unfolding(crate::specs::Lives::IsCall))]
     pub fn add_notarization(
         &mut self,
@@ -51,11 +52,11 @@ impl<S: Scheme<D>, L: Elector<S>, D: Digest> Member<S, L, D> {
         made.map_err(Refusal::Fault)
     }
 
-    /// Takes a nullification: the rest of its term is passed over, the next term's start is entered at this moment, in
-    /// milliseconds, where it is ahead, and the first of its view is recorded. Answers whether it is the first of its view.
+    /// Accepts a nullification: the rest of its term is skipped, the next term's start is entered at this moment, in
+    /// milliseconds, if it is ahead, and the first of its view is recorded. Returns whether it is the first of its view.
     ///
-    /// `NotAllowed` where it is of another epoch or of a view that is not kept. `ViewTooLarge` where its view is above 2^63 - 1,
-    /// `TimeOverflow` where a deadline of the view that would be entered passes 2^64 - 1 milliseconds; `OutOfMemory`.
+    /// Returns `NotAllowed` if it is of another epoch or of a view that is not retained, `ViewTooLarge` if its view is
+    /// above 2^63 - 1, `TimeOverflow` if a deadline of the view to be entered passes 2^64 - 1 milliseconds; `OutOfMemory`.
     #[tactic(auto, unfolding(crate::specs::Lives::IsCall))]
     pub fn add_nullification(
         &mut self,
@@ -88,12 +89,12 @@ impl<S: Scheme<D>, L: Elector<S>, D: Digest> Member<S, L, D> {
         made.map_err(Refusal::Fault)
     }
 
-    /// Takes a finalization: its view is the last finalized one where that is above the one before, the next view is entered at
-    /// this moment, in milliseconds, where it is ahead, and the first of its view is recorded. Answers whether it is the first of
-    /// its view, with the key of a leader found to equivocate.
+    /// Accepts a finalization: its view becomes the last finalized one if it is above the one before, the next view is
+    /// entered at this moment, in milliseconds, if it is ahead, and the first of its view is recorded. Returns whether it
+    /// is the first of its view, and the key of a leader found to equivocate.
     ///
-    /// `NotAllowed` where it is of another epoch or of a view that is not kept. `ViewTooLarge` where its view or its parent's is
-    /// above 2^63 - 1, `TimeOverflow` where a deadline of the view that would be entered passes 2^64 - 1 milliseconds;
+    /// Returns `NotAllowed` if it is of another epoch or of a view that is not retained, `ViewTooLarge` if its view or its
+    /// parent's is above 2^63 - 1, `TimeOverflow` if a deadline of the view to be entered passes 2^64 - 1 milliseconds;
     /// `OutOfMemory`.
     #[tactic(auto, unfolding(crate::specs::Lives::IsCall))]
     pub fn add_finalization(

@@ -1,4 +1,4 @@
-//! The calls that hand out certificates or drop views, each as a method.
+//! The calls that return certificates or drop views, each as a method.
 
 ghost use Rattle.std.specs.Prelude.{◌≡◌, option_map, OnOk, IsNone, IfOk, IfErr};
 ghost use Rattle.simplex_types.specs.Certificates.{certificate_facts};
@@ -15,9 +15,9 @@ use crate::member::refusal::{Refusal, is_lost};
 use simplex_types::types::{Certificate, Digest, Elector, Fault, Scheme, View};
 
 impl<S: Scheme<D>, L: Elector<S>, D: Digest> Member<S, L, D> {
-    /// The notarization of a view, if it is there and was not handed out or replayed before.
+    /// Returns the notarization of a view for broadcast, unless it is missing or was returned or replayed before.
     ///
-    /// `OutOfMemory`, never where there is none.
+    /// Returns `OutOfMemory`, but never if there is none to return.
     #[tactic(auto, unfolding(crate::specs::Lives::IsCall))]
     pub fn broadcast_notarization(
         &mut self,
@@ -40,9 +40,9 @@ impl<S: Scheme<D>, L: Elector<S>, D: Digest> Member<S, L, D> {
         made.map_err(Refusal::Fault)
     }
 
-    /// The nullification of a view, if it is there and was not handed out or replayed before.
+    /// Returns the nullification of a view for broadcast, unless it is missing or was returned or replayed before.
     ///
-    /// `OutOfMemory`, never where there is none.
+    /// Returns `OutOfMemory`, but never if there is none to return.
     #[tactic(auto, unfolding(crate::specs::Lives::IsCall))]
     pub fn broadcast_nullification(
         &mut self,
@@ -65,9 +65,9 @@ impl<S: Scheme<D>, L: Elector<S>, D: Digest> Member<S, L, D> {
         made.map_err(Refusal::Fault)
     }
 
-    /// The finalization of a view, if it is there and was not handed out or replayed before.
+    /// Returns the finalization of a view for broadcast, unless it is missing or was returned or replayed before.
     ///
-    /// `OutOfMemory`, never where there is none.
+    /// Returns `OutOfMemory`, but never if there is none to return.
     #[tactic(auto, unfolding(crate::specs::Lives::IsCall))]
     pub fn broadcast_finalization(
         &mut self,
@@ -90,9 +90,9 @@ impl<S: Scheme<D>, L: Elector<S>, D: Digest> Member<S, L, D> {
         made.map_err(Refusal::Fault)
     }
 
-    /// A copy of the certificate that helps others into the current view; none in view 1.
+    /// Returns a copy of the certificate that helps others into the current view; `None` in view 1.
     ///
-    /// `OutOfMemory`, with nothing changed, and never where there is none.
+    /// Returns `OutOfMemory` with nothing changed, and never if there is none to return.
     #[tactic(auto, unfolding(crate::specs::Lives::IsCall))]
     pub fn get_best_certificate(&mut self) -> Result<Option<Certificate<S, D>>, Refusal>
         ensures made { IsCall D.eq L.elect self.old.facts GetBestCertificate
@@ -108,9 +108,9 @@ impl<S: Scheme<D>, L: Elector<S>, D: Digest> Member<S, L, D> {
         Ok(self.state.get_best_certificate()?)
     }
 
-    /// Drops the rounds below the lowest view that is kept, and answers their views, rising. The record stays.
+    /// Drops the rounds below the lowest retained view, and returns their views, rising. The record stays.
     ///
-    /// `OutOfMemory`.
+    /// Returns `OutOfMemory`.
     #[tactic(auto, unfolding(crate::specs::Lives::IsCall))]
     pub fn prune(&mut self) -> Result<Vec<View>, Refusal>
         ensures made { IsCall D.eq L.elect self.old.facts Prune (told_of (λ views. Dropped views.items) result) self.new.facts }

@@ -16,9 +16,10 @@ use simplex_types::reasons::TimeoutReason;
 use simplex_types::types::{Digest, Elector, Fault, Finalize, Notarize, Nullify, Scheme, View};
 
 impl<S: Scheme<D>, L: Elector<S>, D: Digest> Member<S, L, D> {
-    /// The vote to notarize what a view holds, where the rule allows it: recorded before it is answered, and answered once.
+    /// Returns the vote to notarize the held proposal of a view, if the rule allows it. The vote is recorded before it is
+    /// returned, and returned once.
     ///
-    /// `OutOfMemory`: nothing is answered that the record doesn't hold.
+    /// Returns `OutOfMemory`: no vote is returned that the record doesn't hold.
     #[tactic(auto, unfolding(crate::specs::Lives::IsCall))]
     pub fn construct_notarize(&mut self, view: View) -> Result<Option<Notarize<S, D>>, Refusal>
         ensures made { IsCall D.eq L.elect self.old.facts (ConstructNotarize view)
@@ -43,10 +44,10 @@ impl<S: Scheme<D>, L: Elector<S>, D: Digest> Member<S, L, D> {
         kept.map_err(Refusal::Fault)
     }
 
-    /// The vote to nullify the current view, unless it was voted to finalize it, with whether it is a repeat: recorded before it is
-    /// first answered. The reason has no effect.
+    /// Returns the vote to nullify the current view, unless this member voted to finalize it, and whether it is a repeat.
+    /// The vote is recorded before it is first returned. The reason has no effect.
     ///
-    /// `OutOfMemory`: nothing is answered that the record doesn't hold.
+    /// Returns `OutOfMemory`: no vote is returned that the record doesn't hold.
     #[tactic(auto, unfolding(crate::specs::Lives::IsCall))]
     pub fn construct_nullify(
         &mut self,
@@ -75,9 +76,10 @@ impl<S: Scheme<D>, L: Elector<S>, D: Digest> Member<S, L, D> {
         kept.map_err(Refusal::Fault)
     }
 
-    /// The vote to finalize a certified view, where the rule allows it: recorded before it is answered, and answered once.
+    /// Returns the vote to finalize a certified view, if the rule allows it. The vote is recorded before it is returned,
+    /// and returned once.
     ///
-    /// `OutOfMemory`: nothing is answered that the record doesn't hold.
+    /// Returns `OutOfMemory`: no vote is returned that the record doesn't hold.
     #[tactic(auto, unfolding(crate::specs::Lives::IsCall))]
     pub fn construct_finalize(&mut self, view: View) -> Result<Option<Finalize<S, D>>, Refusal>
         ensures made { IsCall D.eq L.elect self.old.facts (ConstructFinalize view)

@@ -1,4 +1,4 @@
-//! What a certificate changes, and the scan behind it.
+//! The effects of a certificate, and the scan after it.
 
 ghost use Rattle.std.specs.Prelude.{◌≡◌, ◌^◌, ◌<◌, ◌≤◌, ◌++◌, IfOk, OnOk, OnErr};
 ghost use Rattle.simplex_types.specs.Terms.{IsVotable};
@@ -15,7 +15,7 @@ use simplex_types::reasons::Kind;
 use simplex_types::types::{Certificate, CertificateScheme, Digest, Fault, View, Viewable};
 
 impl State {
-    /// Scans on from where the last scan ended, unless the replay goes on.
+    /// Continues the scan from where the last one ended, unless the replay is not over.
     pub(super) fn fetch_missing(
         &mut self,
         cause: View,
@@ -40,7 +40,7 @@ impl State {
         Ok(())
     }
 
-    /// The floor rises to the view, if it is higher.
+    /// Raises the floor to the view, if that is higher.
     pub(super) fn raise(&mut self, floor: View, effects: &mut Vec<Effect>) -> Result<(), Fault>
         requires { floor < 2 ^ 63 }
         ensures after { OnOk result (self.new ≡ after_raise self.old floor) }
@@ -107,7 +107,7 @@ impl State {
         Ok(())
     }
 
-    /// The current view and the highest finalization take the certificate in.
+    /// Updates the current view and the highest finalization by the certificate.
     fn store_finalization<S: CertificateScheme, D: Digest>(
         &mut self,
         view: View,

@@ -1,4 +1,4 @@
-//! What a verdict changes, and the end of the replay.
+//! The effects of a verdict, and the end of the replay.
 
 ghost use Rattle.std.specs.Prelude.{◌≡◌, ◌^◌, ◌<◌, ◌++◌, IfOk, OnOk, true, false, filter, [], ◌∷◌};
 ghost use Rattle.std.specs.FinMap as map;
@@ -20,7 +20,7 @@ use simplex_types::types::{
 };
 
 impl State {
-    /// Keeps the encoding of a certified notarization above the last finalized view.
+    /// Stores the encoding of a certified notarization above the last finalized view.
     fn store_encoding(&mut self, view: View, encoding: Bytes) -> Result<(), Fault>
         requires { last_finalized self.old < view }
         ensures after { OnOk result (self.new ≡ with_certified self.old view encoding) }
