@@ -790,7 +790,7 @@ static inline struct simplex_outstanding simplex_outstanding_views(simplex_resol
     return shown;
 }
 
-/** Lets a resolver go; nothing where the handle is null. It must not be used again. */
+/** Frees a resolver; does nothing where the handle is null. The handle must not be used again. */
 void simplex_resolver_free(simplex_resolver *at);
 
 #ifdef __cplusplus

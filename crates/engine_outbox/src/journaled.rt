@@ -5,7 +5,7 @@
 //! - a journal that carries its outputs out holds the member's record;
 //! - each vote comes after its entry;
 //! - exactly what the member accepts as final is reported, at rising views.
-#![tactic(auto, using(crate::proofs::Going::stays))]
+#![tactic(auto, using(crate::proofs::Continuity::stays))]
 
 ghost use Rattle.std.specs.Prelude.{◌≡◌, ◌++◌, ◌∷◌, [], true, false, All, Contains, Some, None, IfOk, IfSome, OnOk, OnErr, IsNone, IsTrue, ◌↔◌, option_to_list};
 ghost use Rattle.std.specs.Option.{option_copied};

@@ -71,7 +71,7 @@ fn check_entries<S: CertificateScheme, D: Digest>(
 }
 
 /// Tests the next artifact, and notes its effect on its view.
-#[tactic(auto, using(crate::proofs::Seen::first_errors))]
+#[tactic(auto, using(crate::proofs::CheckState::first_errors))]
 fn check_next<S: CertificateScheme, D: Digest>(
     scheme: &S,
     epoch: Epoch,

@@ -88,7 +88,7 @@ impl<S: CertificateScheme, L: Elector<S>, D: Digest> State<S, L, D> {
     /// the view isn't tracked, nullify was decided there, or another proposal is held. The moment is recorded always.
     ///
     /// The state must have a floor.
-    #[tactic(auto, unfolding(crate::specs::Proposing::proposed_answer))]
+    #[tactic(auto, unfolding(crate::specs::ProposalRequests::proposed_answer))]
     pub fn proposed(
         &mut self,
         context: &Context<D, S::PublicKey>,

@@ -109,7 +109,7 @@ impl<S: CertificateScheme, L: Elector<S>, D: Digest> State<S, L, D> {
 
     /// The standing of a view's proposal: there is something to do if another member leads the view, this member may work
     /// there, and the proposal was not returned for verification before.
-    #[tactic(auto, unfolding(crate::specs::Verifying::standing))]
+    #[tactic(auto, unfolding(crate::specs::Verification::standing))]
     pub(super) fn standing(&self, view: View, round: &Round<S, D>) -> Standing<D>
         ensures { result ≡ standing D.eq L.elect self.now (view, round.now) }
     {

@@ -21,7 +21,7 @@ impl<S: Scheme<D>, L: Elector<S>, D: Digest> Member<S, L, D> {
     ///
     /// Returns `NotAllowed` if it is of another epoch or of a view that is not retained, `ViewTooLarge` if its view or its
     /// parent's is above 2^63 - 1; `OutOfMemory`.
-    #[tactic(auto, unfolding(crate::specs::Lives::IsCall))]
+    #[tactic(auto, unfolding(crate::specs::MemberFacts::IsCall))]
     pub fn add_notarization(
         &mut self,
         notarization: Notarization<S, D>,
@@ -57,7 +57,7 @@ impl<S: Scheme<D>, L: Elector<S>, D: Digest> Member<S, L, D> {
     ///
     /// Returns `NotAllowed` if it is of another epoch or of a view that is not retained, `ViewTooLarge` if its view is
     /// above 2^63 - 1, `TimeOverflow` if a deadline of the view to be entered passes 2^64 - 1 milliseconds; `OutOfMemory`.
-    #[tactic(auto, unfolding(crate::specs::Lives::IsCall))]
+    #[tactic(auto, unfolding(crate::specs::MemberFacts::IsCall))]
     pub fn add_nullification(
         &mut self,
         nullification: Nullification<S>,
@@ -96,7 +96,7 @@ impl<S: Scheme<D>, L: Elector<S>, D: Digest> Member<S, L, D> {
     /// Returns `NotAllowed` if it is of another epoch or of a view that is not retained, `ViewTooLarge` if its view or its
     /// parent's is above 2^63 - 1, `TimeOverflow` if a deadline of the view to be entered passes 2^64 - 1 milliseconds;
     /// `OutOfMemory`.
-    #[tactic(auto, unfolding(crate::specs::Lives::IsCall))]
+    #[tactic(auto, unfolding(crate::specs::MemberFacts::IsCall))]
     pub fn add_finalization(
         &mut self,
         finalization: Finalization<S, D>,

@@ -17,7 +17,7 @@ impl<S: Scheme<D>, L: Elector<S>, D: Digest> Member<S, L, D> {
     /// A proposal is open until the verdict of its view.
     ///
     /// Returns `OutOfMemory`.
-    #[tactic(auto, unfolding(crate::specs::Lives::IsCall))]
+    #[tactic(auto, unfolding(crate::specs::MemberFacts::IsCall))]
     pub fn certify_candidates(
         &mut self,
     ) -> Result<(Vec<Proposal<D>>, Vec<CertificateFetch>), Refusal>
@@ -39,7 +39,7 @@ impl<S: Scheme<D>, L: Elector<S>, D: Digest> Member<S, L, D> {
     /// Marks the certification of a view's proposal as under way under a token, in place of an earlier one.
     ///
     /// Returns `NotAllowed` if the view's proposal wasn't offered, or has its verdict.
-    #[tactic(auto, unfolding(crate::specs::Lives::IsCall))]
+    #[tactic(auto, unfolding(crate::specs::MemberFacts::IsCall))]
     pub fn set_certify_handle(&mut self, view: View, token: u64) -> Result<(), Refusal>
         ensures made { IsCall D.eq L.elect self.old.facts (SetCertifyHandle view token) (told_of (λ _. Done) result) self.new.facts }
         ensures answered { IfOk result (λ _. IsAnswered D.eq L.elect self.old.facts (SetCertifyHandle view token) Done self.new.facts) }
@@ -64,7 +64,7 @@ impl<S: Scheme<D>, L: Elector<S>, D: Digest> Member<S, L, D> {
     ///
     /// Returns `NotAllowed` if a tracked view has no notarization or the other verdict, `TimeOverflow` if a deadline of the
     /// view to be entered passes 2^64 - 1 milliseconds; `OutOfMemory`.
-    #[tactic(auto, unfolding(crate::specs::Lives::IsCall))]
+    #[tactic(auto, unfolding(crate::specs::MemberFacts::IsCall))]
     pub fn certified(
         &mut self,
         view: View,

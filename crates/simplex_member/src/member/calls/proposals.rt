@@ -16,7 +16,7 @@ impl<S: Scheme<D>, L: Elector<S>, D: Digest> Member<S, L, D> {
     /// `supersede_proposal_request`, `release_proposal_request`, or another request there.
     ///
     /// Returns `OutOfMemory` with nothing changed: the member makes room for the request before it asks the state.
-    #[tactic(auto, unfolding(crate::specs::Lives::IsCall))]
+    #[tactic(auto, unfolding(crate::specs::MemberFacts::IsCall))]
     pub fn try_propose(&mut self) -> Result<Option<ProposalRequest<D, S::PublicKey>>, Refusal>
         ensures made { IsCall D.eq L.elect self.old.facts TryPropose (told_of (λ request. Requested request) result) self.new.facts }
         ensures answered { IfOk result (λ request. IsAnswered D.eq L.elect self.old.facts TryPropose (Requested request) self.new.facts) }
@@ -37,7 +37,7 @@ impl<S: Scheme<D>, L: Elector<S>, D: Digest> Member<S, L, D> {
     /// there, or another proposal is held. Returns whether it is recorded. The request is closed either way.
     ///
     /// Returns `NotAllowed` if no request is open in the view.
-    #[tactic(auto, unfolding(crate::specs::Lives::IsCall))]
+    #[tactic(auto, unfolding(crate::specs::MemberFacts::IsCall))]
     pub fn proposed(&mut self, view: View, payload: D, now: u64) -> Result<bool, Refusal>
         ensures made { IsCall D.eq L.elect self.old.facts (Proposed view payload now) (told_of (λ is_held. Answered is_held) result) self.new.facts }
         ensures answered { IfOk result (λ is_held. IsAnswered D.eq L.elect self.old.facts (Proposed view payload now) (Answered is_held) self.new.facts) }
@@ -59,7 +59,7 @@ impl<S: Scheme<D>, L: Elector<S>, D: Digest> Member<S, L, D> {
     /// view, so that it can be made again.
     ///
     /// Returns `NotAllowed` if no request is open in the view.
-    #[tactic(auto, unfolding(crate::specs::Lives::IsCall))]
+    #[tactic(auto, unfolding(crate::specs::MemberFacts::IsCall))]
     pub fn supersede_proposal_request(&mut self, view: View) -> Result<bool, Refusal>
         ensures made { IsCall D.eq L.elect self.old.facts (SupersedeProposalRequest view)
             (told_of (λ is_superseded. Answered is_superseded) result) self.new.facts }
@@ -84,7 +84,7 @@ impl<S: Scheme<D>, L: Elector<S>, D: Digest> Member<S, L, D> {
     /// Returns why a handoff that is being built in a view must be abandoned, or `None` if it may continue.
     ///
     /// Returns `NotAllowed` if no request is open in the view.
-    #[tactic(auto, unfolding(crate::specs::Lives::IsCall))]
+    #[tactic(auto, unfolding(crate::specs::MemberFacts::IsCall))]
     pub fn pending_handoff_abandonment(
         &mut self,
         view: View,
@@ -105,7 +105,7 @@ impl<S: Scheme<D>, L: Elector<S>, D: Digest> Member<S, L, D> {
 
     /// Closes the request to build in a view, so that it can be made again while no proposal is held there. Returns whether
     /// one was open.
-    #[tactic(auto, unfolding(crate::specs::Lives::IsCall))]
+    #[tactic(auto, unfolding(crate::specs::MemberFacts::IsCall))]
     pub fn release_proposal_request(&mut self, view: View) -> Result<bool, Refusal>
         ensures made { IsCall D.eq L.elect self.old.facts (ReleaseProposalRequest view) (told_of (λ was_open. Released was_open) result) self.new.facts }
         ensures answered { IfOk result (λ was_open. IsAnswered D.eq L.elect self.old.facts (ReleaseProposalRequest view) (Released was_open) self.new.facts) }

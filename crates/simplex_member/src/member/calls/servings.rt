@@ -18,7 +18,7 @@ impl<S: Scheme<D>, L: Elector<S>, D: Digest> Member<S, L, D> {
     /// Returns the notarization of a view for broadcast, unless it is missing or was returned or replayed before.
     ///
     /// Returns `OutOfMemory`, but never if there is none to return.
-    #[tactic(auto, unfolding(crate::specs::Lives::IsCall))]
+    #[tactic(auto, unfolding(crate::specs::MemberFacts::IsCall))]
     pub fn broadcast_notarization(
         &mut self,
         view: View,
@@ -43,7 +43,7 @@ impl<S: Scheme<D>, L: Elector<S>, D: Digest> Member<S, L, D> {
     /// Returns the nullification of a view for broadcast, unless it is missing or was returned or replayed before.
     ///
     /// Returns `OutOfMemory`, but never if there is none to return.
-    #[tactic(auto, unfolding(crate::specs::Lives::IsCall))]
+    #[tactic(auto, unfolding(crate::specs::MemberFacts::IsCall))]
     pub fn broadcast_nullification(
         &mut self,
         view: View,
@@ -68,7 +68,7 @@ impl<S: Scheme<D>, L: Elector<S>, D: Digest> Member<S, L, D> {
     /// Returns the finalization of a view for broadcast, unless it is missing or was returned or replayed before.
     ///
     /// Returns `OutOfMemory`, but never if there is none to return.
-    #[tactic(auto, unfolding(crate::specs::Lives::IsCall))]
+    #[tactic(auto, unfolding(crate::specs::MemberFacts::IsCall))]
     pub fn broadcast_finalization(
         &mut self,
         view: View,
@@ -93,7 +93,7 @@ impl<S: Scheme<D>, L: Elector<S>, D: Digest> Member<S, L, D> {
     /// Returns a copy of the certificate that helps others into the current view; `None` in view 1.
     ///
     /// Returns `OutOfMemory` with nothing changed, and never if there is none to return.
-    #[tactic(auto, unfolding(crate::specs::Lives::IsCall))]
+    #[tactic(auto, unfolding(crate::specs::MemberFacts::IsCall))]
     pub fn get_best_certificate(&mut self) -> Result<Option<Certificate<S, D>>, Refusal>
         ensures made { IsCall D.eq L.elect self.old.facts GetBestCertificate
             (told_of (λ certificate. Returned (option_map (certificate_facts S.certificate_bytes) certificate)) result) self.new.facts }
@@ -111,7 +111,7 @@ impl<S: Scheme<D>, L: Elector<S>, D: Digest> Member<S, L, D> {
     /// Drops the rounds below the lowest retained view, and returns their views, rising. The record stays.
     ///
     /// Returns `OutOfMemory`.
-    #[tactic(auto, unfolding(crate::specs::Lives::IsCall))]
+    #[tactic(auto, unfolding(crate::specs::MemberFacts::IsCall))]
     pub fn prune(&mut self) -> Result<Vec<View>, Refusal>
         ensures made { IsCall D.eq L.elect self.old.facts Prune (told_of (λ views. Dropped views.items) result) self.new.facts }
         ensures answered { IfOk result (λ views. IsAnswered D.eq L.elect self.old.facts Prune (Dropped views.items) self.new.facts) }

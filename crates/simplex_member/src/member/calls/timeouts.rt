@@ -15,7 +15,7 @@ impl<S: Scheme<D>, L: Elector<S>, D: Digest> Member<S, L, D> {
     /// milliseconds. Returns whether this timeout is the one that counts from now on. Only the last moment changes if the
     /// view is passed, isn't tracked, has such a timeout, or was voted on, or if a proposal without conflict contradicts
     /// `Inactivity`.
-    #[tactic(auto, unfolding(crate::specs::Lives::IsCall))]
+    #[tactic(auto, unfolding(crate::specs::MemberFacts::IsCall))]
     pub fn trigger_timeout(
         &mut self,
         view: View,
@@ -36,7 +36,7 @@ impl<S: Scheme<D>, L: Elector<S>, D: Digest> Member<S, L, D> {
     /// Returns the moment of the current view's next timeout, in milliseconds, and its reason.
     ///
     /// Returns `NotAllowed` if the current view has no timeout, `TimeOverflow` if the moment of a repeat passes 2^64 - 1.
-    #[tactic(auto, unfolding(crate::specs::Lives::IsCall))]
+    #[tactic(auto, unfolding(crate::specs::MemberFacts::IsCall))]
     pub fn next_timeout(&mut self, now: u64) -> Result<(u64, TimeoutReason), Refusal>
         ensures made { IsCall D.eq L.elect self.old.facts (NextTimeout now) (told_of (λ timeout. TimesOut (Some timeout)) result) self.new.facts }
         ensures answered { IfOk result (λ timeout. IsAnswered D.eq L.elect self.old.facts (NextTimeout now) (TimesOut (Some timeout)) self.new.facts) }

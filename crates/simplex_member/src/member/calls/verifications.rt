@@ -17,7 +17,7 @@ impl<S: Scheme<D>, L: Elector<S>, D: Digest> Member<S, L, D> {
     ///
     /// Returns `NotAllowed` if it is of another epoch or view, or of a view that is not retained, `ViewTooLarge` if its
     /// view or its parent's is above 2^63 - 1; `OutOfMemory`.
-    #[tactic(auto, unfolding(crate::specs::Lives::IsCall))]
+    #[tactic(auto, unfolding(crate::specs::MemberFacts::IsCall))]
     pub fn set_proposal(&mut self, view: View, proposal: Proposal<D>) -> Result<bool, Refusal>
         ensures made { IsCall D.eq L.elect self.old.facts (SetProposal view proposal) (told_of (λ is_new. Answered is_new) result) self.new.facts }
         ensures answered { IfOk result (λ is_new. IsAnswered D.eq L.elect self.old.facts (SetProposal view proposal) (Answered is_new) self.new.facts) }
@@ -39,7 +39,7 @@ impl<S: Scheme<D>, L: Elector<S>, D: Digest> Member<S, L, D> {
     /// nothing. A proposal is open until `verified` or `verification_failed`.
     ///
     /// Returns `OutOfMemory` with nothing changed: the member makes room for the verification before it asks the state.
-    #[tactic(auto, unfolding(crate::specs::Lives::IsCall))]
+    #[tactic(auto, unfolding(crate::specs::MemberFacts::IsCall))]
     pub fn try_verify(&mut self) -> Result<Verify<D, S::PublicKey>, Refusal>
         ensures made { IsCall D.eq L.elect self.old.facts TryVerify (told_of (λ verify. Standing verify) result) self.new.facts }
         ensures answered { IfOk result (λ verify. IsAnswered D.eq L.elect self.old.facts TryVerify (Standing verify) self.new.facts) }
@@ -59,7 +59,7 @@ impl<S: Scheme<D>, L: Elector<S>, D: Digest> Member<S, L, D> {
     /// was decided, another proposal was seen, or its binding no longer holds.
     ///
     /// Returns `NotAllowed` if no proposal of the view is being verified.
-    #[tactic(auto, unfolding(crate::specs::Lives::IsCall))]
+    #[tactic(auto, unfolding(crate::specs::MemberFacts::IsCall))]
     pub fn verified(&mut self, view: View) -> Result<bool, Refusal>
         ensures made { IsCall D.eq L.elect self.old.facts (Verified view) (told_of (λ is_marked. Answered is_marked) result) self.new.facts }
         ensures answered { IfOk result (λ is_marked. IsAnswered D.eq L.elect self.old.facts (Verified view) (Answered is_marked) self.new.facts) }
@@ -81,7 +81,7 @@ impl<S: Scheme<D>, L: Elector<S>, D: Digest> Member<S, L, D> {
     /// poll, for this reason and at this moment in milliseconds, unless the proposal's binding no longer holds.
     ///
     /// Returns `NotAllowed` if no proposal of the view is being verified.
-    #[tactic(auto, unfolding(crate::specs::Lives::IsCall))]
+    #[tactic(auto, unfolding(crate::specs::MemberFacts::IsCall))]
     pub fn verification_failed(
         &mut self,
         view: View,

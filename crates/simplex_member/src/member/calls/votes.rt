@@ -20,7 +20,7 @@ impl<S: Scheme<D>, L: Elector<S>, D: Digest> Member<S, L, D> {
     /// returned, and returned once.
     ///
     /// Returns `OutOfMemory`: no vote is returned that the record doesn't hold.
-    #[tactic(auto, unfolding(crate::specs::Lives::IsCall))]
+    #[tactic(auto, unfolding(crate::specs::MemberFacts::IsCall))]
     pub fn construct_notarize(&mut self, view: View) -> Result<Option<Notarize<S, D>>, Refusal>
         ensures made { IsCall D.eq L.elect self.old.facts (ConstructNotarize view)
             (told_of (λ vote. told.Notarize (reply_notarize vote)) result) self.new.facts }
@@ -48,7 +48,7 @@ impl<S: Scheme<D>, L: Elector<S>, D: Digest> Member<S, L, D> {
     /// The vote is recorded before it is first returned. The reason has no effect.
     ///
     /// Returns `OutOfMemory`: no vote is returned that the record doesn't hold.
-    #[tactic(auto, unfolding(crate::specs::Lives::IsCall))]
+    #[tactic(auto, unfolding(crate::specs::MemberFacts::IsCall))]
     pub fn construct_nullify(
         &mut self,
         view: View,
@@ -80,7 +80,7 @@ impl<S: Scheme<D>, L: Elector<S>, D: Digest> Member<S, L, D> {
     /// and returned once.
     ///
     /// Returns `OutOfMemory`: no vote is returned that the record doesn't hold.
-    #[tactic(auto, unfolding(crate::specs::Lives::IsCall))]
+    #[tactic(auto, unfolding(crate::specs::MemberFacts::IsCall))]
     pub fn construct_finalize(&mut self, view: View) -> Result<Option<Finalize<S, D>>, Refusal>
         ensures made { IsCall D.eq L.elect self.old.facts (ConstructFinalize view)
             (told_of (λ vote. told.Finalize (reply_finalize vote)) result) self.new.facts }
