@@ -8,7 +8,8 @@ ghost use Rattle.ffi_member.specs.Statuses.{not_written_number};
 use crate::flat::{FlatInput, FlatOutput, FlatTaken};
 use crate::input::{HostInput, input_of};
 use crate::output::{
-    HostEngine, HostOutput, NOTHING_STORED, flat_output, other_signature, output_of, signature_in,
+    HostEngine, HostOutput, NOTHING, NOTHING_STORED, flat_output, other_signature, output_of,
+    signature_in,
 };
 use bytes::BytesMut;
 use engine_outbox::output::Output;
@@ -302,6 +303,6 @@ pub(crate) fn no_output(status: u32) -> FlatOutput
 {
     FlatOutput {
         status,
-        ..output_of(0)
+        ..output_of(NOTHING)
     }
 }

@@ -34,6 +34,35 @@ pub type HostVote = Vote<HostDigest, Order>;
 /// An output of the host that is neither stored, nor a vote, nor final.
 pub type HostWork = Work<HostScheme, HostDigest>;
 
+/// The kinds of outputs, as the header numbers them.
+pub(crate) const NOTHING: u32 = 0;
+
+const STORE: u32 = 1;
+
+const REPLACE: u32 = 2;
+
+const VOTE: u32 = 3;
+
+const BROADCAST: u32 = 4;
+
+const VERIFY: u32 = 5;
+
+const BUILD: u32 = 6;
+
+const STOP_BUILDING: u32 = 7;
+
+const CERTIFY: u32 = 8;
+
+const ASK: u32 = 9;
+
+const FINAL: u32 = 10;
+
+const EQUIVOCATED: u32 = 11;
+
+const PROPOSED_TWICE: u32 = 12;
+
+const FORGET: u32 = 13;
+
 /// The number of a fetch of any certificate that decides a view: no certificate kind has it.
 const FETCH_DECISION: u32 = 4;
 
@@ -57,13 +86,13 @@ pub(crate) fn flat_output(output: &HostOutput) -> FlatOutput
     ensures status { result.status ≡ 0 }
 {
     match output {
-        Output::Store(_) => output_of(1),
-        Output::Replace(_, _) => output_of(2),
+        Output::Store(_) => output_of(STORE),
+        Output::Replace(_, _) => output_of(REPLACE),
         Output::Vote(vote) => FlatOutput {
             subject: flat_vote(vote),
-            ..output_of(3)
+            ..output_of(VOTE)
         },
-        Output::Finalized(proposal) => of_proposal(10, proposal),
+        Output::Finalized(proposal) => of_proposal(FINAL, proposal),
         Output::Work(work) => flat_work(work),
     }
 }
@@ -76,23 +105,23 @@ fn flat_work(work: &HostWork) -> FlatOutput
     match work {
         Work::Broadcast(certificate) => FlatOutput {
             subject: flat_certificate(certificate),
-            ..output_of(4)
+            ..output_of(BROADCAST)
         },
-        Work::Verify(context, proposal) => in_context(5, context, proposal_subject(proposal)),
-        Work::Build(context) => in_context(6, context, NO_SUBJECT),
-        Work::StopBuilding(view) => of_view(7, view.get()),
-        Work::Certify(proposal) => of_proposal(8, proposal),
+        Work::Verify(context, proposal) => in_context(VERIFY, context, proposal_subject(proposal)),
+        Work::Build(context) => in_context(BUILD, context, NO_SUBJECT),
+        Work::StopBuilding(view) => of_view(STOP_BUILDING, view.get()),
+        Work::Certify(proposal) => of_proposal(CERTIFY, proposal),
         Work::Fetch(ask) => flat_fetch(*ask),
         Work::Equivocated(first, second) => FlatOutput {
             subject: flat_vote(first),
             other: flat_vote(second),
-            ..output_of(11)
+            ..output_of(EQUIVOCATED)
         },
         Work::ProposedTwice(view, leader) => FlatOutput {
             member: leader.0,
-            ..of_view(12, view.get())
+            ..of_view(PROPOSED_TWICE, view.get())
         },
-        Work::Forget(view) => of_view(13, view.get()),
+        Work::Forget(view) => of_view(FORGET, view.get()),
     }
 }
 
@@ -177,7 +206,7 @@ fn flat_fetch(ask: Ask) -> FlatOutput
     FlatOutput {
         fetch: number_of_fetch(ask.kind),
         member: number_of_peer(ask.of),
-        ..of_view(9, ask.view.get())
+        ..of_view(ASK, ask.view.get())
     }
 }
 

@@ -11,6 +11,8 @@ ghost use Rattle.ffi_member.specs.ResolverHandles.{HasNoEffects, HasServed, HasS
 ghost use Rattle.ffi_member.specs.ShownFacts.{IsChunk};
 
 use crate::flat_calls::{finalization_of, notarization_of, nullification_of};
+use crate::flat_replies::STATUS_NOT_ALLOWED;
+use crate::held::{STATUS_NO_CALL, STATUS_NOT_MADE};
 use crate::journal::{NotRead, read_entries};
 use crate::kinds::{CertificateKind, certificate_kind_of, number_of_missing};
 use crate::numbers::{flag_of, number_of_fault, number_of_flag};
@@ -28,6 +30,9 @@ use simplex_types::types::{Certificate, Fault, Notarization, TermLength, View};
 use std::alloc::{AllocError, Global};
 use std::collections::BTreeSet;
 use std::num::NonZeroU32;
+
+/// The kind of a verdict among a resolver's inputs: the others have the numbers of certificates.
+const VERDICT: u32 = 4;
 
 /// A certificate of a member of the host.
 type HostCertified = Certificate<HostScheme, HostDigest>;
@@ -87,18 +92,18 @@ impl HeldResolver {
         ensures { IsHeard self.old flat.now certificate.now result self.new }
     {
         let Some(success) = flag_of(flat.success) else {
-            return no_effects(6);
+            return no_effects(STATUS_NO_CALL);
         };
         if flat.proposal.round.view == 0 {
-            return no_effects(5);
+            return no_effects(STATUS_NOT_ALLOWED);
         }
-        if flat.kind == 4 {
+        if flat.kind == VERDICT {
             return self.judged(flat, success, certificate);
         }
         match certificate_in(self.alloc, flat, certificate) {
             Ok(Some(it)) => self.updated(&it),
-            Ok(None) => no_effects(6),
-            Err(_) => no_effects(7),
+            Ok(None) => no_effects(STATUS_NO_CALL),
+            Err(_) => no_effects(STATUS_NOT_MADE),
         }
     }
 
@@ -111,7 +116,7 @@ impl HeldResolver {
     {
         match notarization_of(self.alloc, &flat.proposal, certificate) {
             Ok(it) => self.certified(it, success),
-            Err(_) => no_effects(7),
+            Err(_) => no_effects(STATUS_NOT_MADE),
         }
     }
 
@@ -325,6 +330,16 @@ pub fn unserved(view: u64, status: u32) -> FlatServed
     }
 }
 
+/// The kinds of effects, as the header numbers them.
+const FETCH: u32 = 1;
+
+const SETTLED: u32 = 2;
+
+const FINALIZED: u32 = 3;
+
+const RAISED: u32 = 4;
+
+/// Returns the flat form of an effect.
 fn flat_effect(effect: Effect) -> FlatEffect
     ensures effect { IsEffect effect result }
     ensures status { result.status ≡ 0 }
@@ -335,7 +350,7 @@ fn flat_effect(effect: Effect) -> FlatEffect
             cause,
             reason,
         } => FlatEffect {
-            kind: 1,
+            kind: FETCH,
             reason: match reason {
                 FetchReason::MissingNullification => 0,
                 FetchReason::CertificationFailed => 1,
@@ -345,19 +360,19 @@ fn flat_effect(effect: Effect) -> FlatEffect
             ..no_effect()
         },
         Effect::Settled { kind, start, end } => FlatEffect {
-            kind: 2,
+            kind: SETTLED,
             reason: number_of_missing(kind),
             view: start.get(),
             end: end.get(),
             ..no_effect()
         },
         Effect::Finalized(view) => FlatEffect {
-            kind: 3,
+            kind: FINALIZED,
             view: view.get(),
             ..no_effect()
         },
         Effect::Raised(view) => FlatEffect {
-            kind: 4,
+            kind: RAISED,
             view: view.get(),
             ..no_effect()
         },
