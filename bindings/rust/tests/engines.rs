@@ -1,4 +1,4 @@
-//! Engines through the package: networks of them, their lives, what they show, and what they refuse.
+//! Engines through the package: networks of them, their lifetimes, what they show, and what they refuse.
 
 #[path = "../examples/engine/network.rs"]
 mod network;

@@ -56,7 +56,7 @@ module _ {K L D : Type 0} (same : D → D → Bool) (elect : Elect L) (P : State
   run_keeps (Restarts q ∷ steps) (told ∷ replies) m end later holds (next, is_step, rest) =
       run_keeps steps replies next end (λ r h. later r (Contains-cons_rest (Restarts q) steps (Restarts r) h)) (restart_keeps m q is_step.0 next (later q (0, omega arith, refl)) holds is_step.1) rest
 
-  -- of a state that an execution lives with
+  -- of a state that an execution has
   pub state_kept : (s : Execution K L D) (x : StateFacts K L D) → RunsWith same elect s x → P (new_state s.start.setup) → ((r : RestartFacts K L D) → Contains s.steps (Restarts r) → P (new_state r.start.setup)) → P x
   state_kept s x (m, run, alive) first later =
       subst (HoldsIn P) alive (run_keeps s.steps s.replies (new_member same elect s.start) m later (keeps (new_state s.start.setup) (SetFloor s.start.floor s.start.now) first) run)

@@ -168,7 +168,7 @@ module _ {K L D : Type 0} (same : D → D → Bool) (elect : Elect L) where
 -- the execution up to there
 
 module _ {K L D : Type 0} (same : D → D → Bool) (elect : Elect L) (term_length member : ℕ) (s : Execution K L D) where
-  -- a state that the execution lives with on its way
+  -- a state that the execution has on its way
   pub record StateWhere (Holds : StateFacts K L D → Type 0) : Type 0 where
     pub steps : List (StepFacts K L D)
     pub replies : List (ReplyFacts K D)

@@ -54,7 +54,7 @@ module _ {K L D : Type 0} where
       with_entries (record { fresh = new_state start.setup; events = SetFloor start.floor start.now ∷ [] }) start.now entries
 
 module _ {K L D : Type 0} (same : D → D → Bool) (elect : Elect L) where
-  -- while the member lives, its state knows what the history says
+  -- while the member has not failed, its state knows what the history says
   abbrev pub DeterminesMember : History K L D → MemberFacts K L D → Type 0
   DeterminesMember history m = MatchOption m.life (Unit {0}) (DeterminesState same elect history)
 

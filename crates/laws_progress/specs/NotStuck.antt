@@ -23,7 +23,7 @@ module _ {K L D : Type 0} (same : D → D → Bool) (elect : Elect L) where
   -- the premises on a network, and on a term start that is to be finalized
   pub record MayContinue (term_length : ℕ) (network : List (Replica K L D)) (epoch : ℕ) (elector : L) (leader start : ℕ) : Type 0 where
     pub few_faulty : faults network ≤ max_faults (length network)
-    -- each honest member lives, signs as itself, shares the epoch and the elector, is below the start, and knows nothing of it
+    -- each honest member has not failed, signs as itself, shares the epoch and the elector, is below the start, and knows nothing of it
     pub alive : EachRuns same elect network (λ i x. IsSetUpAs epoch (length network) elector i x × (is_tracked x start ≡ false) × (x.current < start))
     pub consistent : AreConsistent epoch network
     -- the start begins a term, and lies below 2^63

@@ -7,7 +7,7 @@ use Rattle.laws_safety.specs.Executions.{OfEachMember}
 use Rattle.laws_progress.specs.NetworkStates.{RunsWith}
 
 module _ (K : Type 0) {L D : Type 0} (same : D → D → Bool) (elect : Elect L) where
-  -- while a member of a network lives, it decided to finalize no view from its current one on
+  -- while a member of a network has not failed, it decided to finalize no view from its current one on
   abbrev pub NoneIsDecidedAhead : Type 0
   NoneIsDecidedAhead =
       OfEachMember K same elect (λ term_length s. (x : StateFacts K L D) → RunsWith same elect s x

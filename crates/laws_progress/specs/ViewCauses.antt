@@ -57,13 +57,13 @@ pub data IsLedTo {D : Type 0} (term_length epoch : ℕ) (trace : List (TraceEven
   PastNullified : (below : ℕ) → HasNullified epoch trace below → view ≡ next_term_start term_length below → IsLedTo term_length epoch trace verdicts view
 
 module _ (K : Type 0) {L D : Type 0} (same : D → D → Bool) (elect : Elect L) where
-  -- while a member lives, its current view was led to in its epoch
+  -- while a member has not failed, its current view was led to in its epoch
   abbrev pub CurrentViewsAreLedTo : Type 0
   CurrentViewsAreLedTo =
       OfEachMember K same elect (λ term_length s. (x : StateFacts K L D) → RunsWith same elect s x
       → IsLedTo term_length x.settings.epoch (trace_of s) (judged_of s) x.current)
 
-  -- while a member lives, each view that a proposal may be built on, but genesis, was finalized or certified
+  -- while a member has not failed, each view that a proposal may be built on, but genesis, was finalized or certified
   abbrev pub ExplicitViewsAreAccepted : Type 0
   ExplicitViewsAreAccepted =
       OfEachMember K same elect (λ term_length s. (x : StateFacts K L D) → RunsWith same elect s x
@@ -83,7 +83,7 @@ module _ (K : Type 0) {L D : Type 0} (same : D → D → Bool) (elect : Elect L)
       → (earlier : Execution K L D) × ExecutionContinues earlier s × (trace_of earlier ≡ before)
       × IsLedTo term_length round.epoch before (judged_of earlier) round.view)
 
-  -- while a member lives, each verdict that it stores was received
+  -- while a member has not failed, each verdict that it stores was received
   abbrev pub VerdictsAreReported : Type 0
   VerdictsAreReported =
       OfEachMember K same elect (λ term_length s. (x : StateFacts K L D) → RunsWith same elect s x

@@ -126,7 +126,7 @@ received_in bytes bytes_of (_ ∷ rest) = received_in bytes bytes_of rest
 
 module _ {S L D K G C : Type 0} (same : D → D → Bool) (elect : Elect L) (bytes_of : C → List ℕ) (now : ℕ) where
   -- from a member with this at hand to another with that, by these steps and their replies, in order. What is at hand, with what the
-  -- replies before it bring, causes each step, and also what is at hand in the end. Each certificate that was asked for, or that a reply
+  -- replies before it bring, causes each step, and also what is pending at the end. Each certificate that was asked for, or that a reply
   -- names as missing, is asked for in the end, unless that is over
   abbrev pub IsCausedBy : (asks_now is_over : FetchKind → ℕ → Bool) → List (StepFacts K L D × Reply S D K G C) → List (Cause S D K G C)
       → (FetchKind → ℕ → Bool) → MemberFacts K L D → List (Cause S D K G C) → MemberFacts K L D → Type 0

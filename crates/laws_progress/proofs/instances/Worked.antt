@@ -28,7 +28,7 @@ some_is : {A : Type 0} (o : Option A) (a : A) → is_some o ≡ true → o ≡ S
 some_is None a is = absurd (false≢true is)
 some_is (Some b) a is = refl
 
--- where it lives
+-- where it has not failed
 pub lives_there : (s : Execution ℕ ℕ ℕ) → FitsIn s → told_in s ≡ s.replies → is_some (end_from nat_eq in_turn (new_member nat_eq in_turn s.start) s.steps).life ≡ true → RunsWith nat_eq in_turn s (state_at_end s)
 lives_there s fits told alive =
     let m = new_member nat_eq in_turn s.start in (
@@ -37,7 +37,7 @@ lives_there s fits told alive =
       some_is (end_from nat_eq in_turn m s.steps).life (new_state s.start.setup) alive,
     )
 
--- what is computed of a member: it received what its execution says, lives at the end, was set up so, and its view lies below the start,
+-- what is computed of a member: it received what its execution says, has not failed at the end, was set up so, and its view lies below the start,
 -- which it doesn't know
 pub record IsWorked (term_length start i : ℕ) (s : Execution ℕ ℕ ℕ) : Type 0 where
   pub told : told_in s ≡ s.replies
@@ -46,11 +46,11 @@ pub record IsWorked (term_length start i : ℕ) (s : Execution ℕ ℕ ℕ) : Ty
   pub unknown : is_tracked (state_at_end s) start ≡ false
   pub below : nat_lt (state_at_end s).current start ≡ true
 
--- so it lives
+-- so it has not failed
 pub lives_by : (term_length start i : ℕ) (s : Execution ℕ ℕ ℕ) → FitsIn s → IsWorked term_length start i s → (x : StateFacts ℕ ℕ ℕ) × RunsWith nat_eq in_turn s x × (IsSetUpAs 1 4 term_length i x × (is_tracked x start ≡ false) × (x.current < start))
 lives_by term_length start i s fits worked = (state_at_end s, lives_there s fits worked.told worked.alive, (worked.set_up, worked.unknown, ltb-true (state_at_end s).current start worked.below))
 
--- each honest member lives so, one after another
+-- the same for each honest member, one after another
 abbrev pub AllLive : (ℕ → StateFacts ℕ ℕ ℕ → Type 0) → List (Replica ℕ ℕ ℕ) → Type 0
 AllLive P [] = Unit {0}
 AllLive P (Faulty ∷ network) = AllLive (λ i. P (suc i)) network

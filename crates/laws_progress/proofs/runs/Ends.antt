@@ -23,7 +23,7 @@ terms_kept term_length i (Calls call ∷ steps) later = terms_kept term_length i
 terms_kept term_length i (Prunes ∷ steps) later = terms_kept term_length i steps (λ r h. later r (Contains-cons_rest Prunes steps (Restarts r) h))
 terms_kept term_length i (Restarts q ∷ steps) later = ((later q (0, omega arith, refl)).terms, terms_kept term_length i steps (λ r h. later r (Contains-cons_rest (Restarts q) steps (Restarts r) h)))
 
--- what the run shows of a state that lives at its end
+-- what the run shows of a state at its end
 pub record Shown {K L D : Type 0} (term_length : ℕ) (s : Execution K L D) (m : MemberFacts K L D) (x : StateFacts K L D) : Type 0 where
   pub owns : Owns x
   pub times_out : TimesOut x

@@ -1,4 +1,4 @@
--- Over a member's lifetimes: while it lives, its current view was led to, and so was each view that it voted to nullify.
+-- Over a member's lifetimes: while it has not failed, its current view was led to, and so was each view that it voted to nullify.
 use Rattle.std.proofs.Common.{◌≡◌, refl, ap, sym, ◌∙◌, subst, inl, inr, ℕ, zero, suc, ◌-◌, ◌<◌, Bool, true, false, ◌&&◌, if◌then◌else◌, nat_lt, List, [], ◌∷◌, ◌++◌, append_assoc, length, take, drop, map, Contains, Option, Some, None, Result, Ok, Err, is_some, unwrap_or, arith}
 use Rattle.std.specs.Prelude.{MatchOption, ◌==◌}
 use Rattle.std.proofs.lemmas.Bool.{false≢true, eqb-true}

@@ -24,13 +24,13 @@ pub fn fresh_starts_are_finalized<S: Scheme<D>, L: Elector<S>, D: Digest>()
     ensures meets { MembersThatMeetContinue S.PublicKey D.eq L.elect }
 {}
 
-/// Does nothing: its contract is the law. While a member of a network lives, it has decided to finalize no view from its current one on,
+/// Does nothing: its contract is the law. While a member of a network has not failed, it has decided to finalize no view from its current one on,
 /// whatever its calls and restarts; so nothing prevents it from abandoning the view.
 pub fn none_is_decided_ahead<S: Scheme<D>, L: Elector<S>, D: Digest>()
     ensures { NoneIsDecidedAhead S.PublicKey D.eq L.elect }
 {}
 
-/// Does nothing: its contract follows from that of `none_is_decided_ahead`. While a member of a network lives, its rule of votes to nullify
+/// Does nothing: its contract follows from that of `none_is_decided_ahead`. While a member of a network has not failed, its rule of votes to nullify
 /// lets it abandon its current view, whatever its calls and restarts: with a key it signs the vote when it is asked.
 pub fn current_views_may_be_given_up<S: Scheme<D>, L: Elector<S>, D: Digest>()
     ensures { CurrentViewsMayBeAbandoned S.PublicKey D.eq L.elect }

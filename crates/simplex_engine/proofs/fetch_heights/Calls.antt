@@ -112,7 +112,7 @@ module _ {K L D : Type 0} (same : D → D → Bool) (elect : Elect L) (m : Membe
           omega (arith, below, grows)
   told_below call = omega arith
 
-  -- the member has failed, or it lives, and what it received is of no view above those that it has heard of
+  -- the member has failed, or it has not, and what it received is of no view above those that it has heard of
   pub record HasHeard (call : CallFacts D) (told : ReplyFacts K D) (left : MemberFacts K L D) : Type 0 where
     pub state : StateFacts K L D
     pub alive : left.life ≡ Some state
