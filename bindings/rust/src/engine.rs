@@ -2,11 +2,13 @@
 
 mod input;
 mod output;
+mod snapshot;
 #[cfg(test)]
 mod tests;
 
 pub use input::Input;
 pub use output::{Fetch, FetchKind, OpenFetch, Order, Output};
+pub use snapshot::Snapshot;
 
 use crate::errors::{EngineError, OpenError};
 use crate::ffi;
