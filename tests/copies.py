@@ -132,6 +132,11 @@ def listed_names():
     for name in wrong_bodies.ALL_WRONG:
         if name.split("/")[1] not in text_of("docs/TESTED.md") + text_of("tests/results.txt"):
             yield f"tests/results.txt does not name the wrong body {name}"
+    for wrong in wrong_definitions.WRONG_DEFINITIONS:
+        try:
+            wrong_definitions.turned(wrong, text_of(f"crates/{wrong.file}"))
+        except (wrong_definitions.Stale, OSError) as fault:
+            yield f"tests/wrong_definitions.py: {fault}"
     if text_of("docs/inside/RESULTS.md") != results.page():
         yield "docs/inside/RESULTS.md isn't what tests/results.txt says: run tests/results.py"
     refused = [name for name, _ in table_rows("docs/inside/REFUSED.md")[1:]]

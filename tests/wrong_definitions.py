@@ -430,7 +430,7 @@ WRONG_DEFINITIONS = (
     ),
     Wrong(
         "work may come of nothing", "simplex_engine/specs/Provenance.antt",
-        (("[] causes asked m left end = AreAmong left causes ×", "[] matters asked m left end = AreAmong left left ×"),), ENGINE,
+        (("[] causes asked m left end = AreAmong left causes ×", "[] causes asked m left end = AreAmong left left ×"),), ENGINE,
     ),
     Wrong(
         "views that are kept may be forgotten", "simplex_engine/specs/Provenance.antt",
@@ -557,15 +557,26 @@ def refused(root, crate, used, kept, built):
     return list(dict.fromkeys(examples or laws)), unread
 
 
+class Stale(Exception):
+    """A wrong definition whose text is not in its file exactly once."""
+
+
+def turned(wrong, text):
+    """The text of its file with the wrong definition in it."""
+    for old, new in wrong.turns:
+        # (a line may have been broken since, at any space)
+        place = r"\s+".join(map(re.escape, old.split(" "))) if old.strip() == old else re.escape(old)
+        text, count = re.subn(place, lambda _, new=new: new, text)
+        if count != 1:
+            raise Stale(f"{wrong.name}: {wrong.file} has {old!r} {count} times")
+    return text
+
+
 def put(root, wrong):
     """Puts a wrong definition in place; returns the text that stood there."""
     path = root / wrong.file
-    before = text = path.read_text()
-    for old, new in wrong.turns:
-        if text.count(old) != 1:
-            raise SystemExit(f"{wrong.name}: {wrong.file} has {old!r} {text.count(old)} times")
-        text = text.replace(old, new)
-    path.write_text(text)
+    before = path.read_text()
+    path.write_text(turned(wrong, before))
     return before
 
 

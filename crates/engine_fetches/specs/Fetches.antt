@@ -43,7 +43,8 @@ fresh kind view first now = record { kind = kind; view = view; first = first; co
 
 -- a fetch is opened, if it is not open
 abbrev pub opened : FetchKind → ℕ → ℕ → ℕ → List Fetch → List Fetch
-opened kind view first moment fetches = if is_fetch_open kind view fetches then fetches else fetches ++ fresh kind view first moment ∷ []
+opened kind view first moment fetches =
+    if is_fetch_open kind view fetches then fetches else fetches ++ fresh kind view first moment ∷ []
 
 -- it is closed
 abbrev pub closed : FetchKind → ℕ → List Fetch → List Fetch
@@ -59,7 +60,8 @@ settled kind first last fetches = filter (λ fetch. not (is_within kind first la
 
 -- a fetch that was asked for once more, and is due again after the retry interval; both numbers stop at 2^64 - 1
 abbrev pub asked_again : ℕ → ℕ → Fetch → Fetch
-asked_again now retry fetch = record fetch { count = min (fetch.count + 1) (2 ^ 64 - 1); moment = min (now + retry) (2 ^ 64 - 1) }
+asked_again now retry fetch =
+    record fetch { count = min (fetch.count + 1) (2 ^ 64 - 1); moment = min (now + retry) (2 ^ 64 - 1) }
 
 -- the place of the first one whose moment has come
 abbrev pub due_at : ℕ → List Fetch → Option ℕ
@@ -68,7 +70,8 @@ due_at now fetches = position (λ fetch. nat_le fetch.moment now) fetches
 -- all of this number of members but this one
 abbrev pub peers_of : ℕ → Option ℕ → Peers
 peers_of members None = record { others = members; me = members }
-peers_of members (Some me) = if nat_lt me members then record { others = members - 1; me = me } else record { others = members; me = members }
+peers_of members (Some me) =
+    if nat_lt me members then record { others = members - 1; me = me } else record { others = members; me = members }
 
 -- the place of a member among the others; the first place, if none is named
 abbrev pub place_of : Peers → Option ℕ → ℕ
@@ -81,7 +84,8 @@ member_at peers place = if nat_lt place peers.me then place else place + 1
 
 -- the peer to ask after this number of askings, if the first went to this place
 abbrev pub whose_turn : Peers → ℕ → ℕ → Option ℕ
-whose_turn peers first count = if peers.others == 0 then None else Some (member_at peers ((first + count % peers.others) % peers.others))
+whose_turn peers first count =
+    if peers.others == 0 then None else Some (member_at peers ((first + count % peers.others) % peers.others))
 
 -- the earlier of two moments
 abbrev pub first_of : Option ℕ → ℕ → ℕ
@@ -91,4 +95,5 @@ first_of (Some before) moment = min before moment
 -- the moment of one of them, and of none before; none if there is none
 abbrev pub IsEarliest : List Fetch → Option ℕ → Type 0
 IsEarliest fetches earliest =
-    MatchOption earliest (fetches ≡ []) (λ moment. Any (λ fetch. fetch.moment ≡ moment) fetches × All (λ fetch. moment ≤ fetch.moment) fetches)
+    MatchOption earliest (fetches ≡ [])
+    (λ moment. Any (λ fetch. fetch.moment ≡ moment) fetches × All (λ fetch. moment ≤ fetch.moment) fetches)

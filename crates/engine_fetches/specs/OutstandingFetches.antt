@@ -39,12 +39,14 @@ wants wanted kind view = same_kind kind Nullification && has wanted view
 
 -- each open fetch that the resolver does not want was open and not wanted before
 abbrev pub OpensNoOther : List ℕ → List Fetch → List ℕ → List Fetch → Type 0
-OpensNoOther wanted_before before wanted now = (kind : FetchKind) (view : ℕ) → is_fetch_open kind view now ≡ true → wants wanted kind view ≡ false
+OpensNoOther wanted_before before wanted now =
+    (kind : FetchKind) (view : ℕ) → is_fetch_open kind view now ≡ true → wants wanted kind view ≡ false
     → (is_fetch_open kind view before ≡ true) × (wants wanted_before kind view ≡ false)
 
 -- a nullification is asked for of each view above the last finalized one that the resolver has open
 abbrev pub FetchesTheOutstanding : ℕ → List ℕ → List Fetch → Type 0
-FetchesTheOutstanding finalized wanted fetches = (v : ℕ) → has wanted v ≡ true → finalized < v → is_fetch_open Nullification v fetches ≡ true
+FetchesTheOutstanding finalized wanted fetches =
+    (v : ℕ) → has wanted v ≡ true → finalized < v → is_fetch_open Nullification v fetches ≡ true
 
 module _ {K L D : Type 0} where
   -- the state has the certificate; a nullification of a view that the resolver has open is missing all the same

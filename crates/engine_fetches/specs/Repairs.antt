@@ -24,7 +24,8 @@ HasFetches fetches old new = HasPassed old.passed fetches old new
 -- the call is made of the resolver, its effects open and close fetches, and everything else is the same
 pub record IsRepaired (moment : ℕ) (call : Call) (old new : Repair) : Type 0 where
   pub made : IsMade call old.resolver (effects old.resolver.state call) new.resolver
-  pub fetches_now : new.fetches.wanted.items ≡ after_effects moment (effects old.resolver.state call) old.fetches.wanted.items
+  pub fetches_now : new.fetches.wanted.items ≡ after_effects moment (effects old.resolver.state call)
+      old.fetches.wanted.items
   pub peers : new.fetches.peers ≡ old.fetches.peers
   pub retry : new.fetches.retry ≡ old.fetches.retry
   pub passed : new.passed ≡ old.passed
@@ -34,4 +35,5 @@ pub record IsRepaired (moment : ℕ) (call : Call) (old new : Repair) : Type 0 w
 -- are unchanged
 abbrev pub IsUnrepaired : ℕ → Fault → Repair → Repair → Type 0
 IsUnrepaired v OutOfMemory old new = Unit {0}
-IsUnrepaired v fault old new = Refused old.resolver.state v fault new.resolver.state × (new.resolver ≡ old.resolver) × (new.fetches ≡ old.fetches)
+IsUnrepaired v fault old new =
+    Refused old.resolver.state v fault new.resolver.state × (new.resolver ≡ old.resolver) × (new.fetches ≡ old.fetches)

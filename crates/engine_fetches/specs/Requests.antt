@@ -15,4 +15,5 @@ IsAsking now old ask new =
     MatchOption (due_at now old.wanted.items)
     ((ask ≡ None) × (new ≡ old))
     (λ place. (fetch : Fetch) × (slice_get old.wanted.items place ≡ Some fetch) × (ask ≡ Some (ask_of old fetch))
-    × (new.wanted.items ≡ slice_set old.wanted.items place (asked_again now old.retry fetch)) × (new.peers ≡ old.peers) × (new.retry ≡ old.retry))
+    × (new.wanted.items ≡ slice_set old.wanted.items place (asked_again now old.retry fetch)) × (new.peers ≡ old.peers)
+    × (new.retry ≡ old.retry))

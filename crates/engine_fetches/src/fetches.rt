@@ -195,7 +195,8 @@ impl Fetches {
 
     /// Closes the fetches of this kind of the views from one to another: nothing is left to ask for there.
     pub fn settle(&mut self, kind: FetchKind, first: View, last: View)
-        ensures settled { self.new.wanted.items ≡ filter (λ f. not (is_within kind first last f)) self.old.wanted.items }
+        ensures settled { self.new.wanted.items ≡ filter (λ f. not (is_within kind first last f))
+            self.old.wanted.items }
         ensures same { (self.new.peers ≡ self.old.peers) × (self.new.retry ≡ self.old.retry) }
     {
         self.wanted
@@ -206,7 +207,8 @@ impl Fetches {
     /// interval. An engine calls this until there is none.
     pub fn ask(&mut self, now: u64) -> Option<Ask>
         ensures asked_again { IsAsking now self.old result self.new }
-        ensures still { (kind : _) (view : ℕ) → is_fetch_open kind view self.new.wanted.items ≡ is_fetch_open kind view self.old.wanted.items }
+        ensures still { (kind : _) (view : ℕ)
+            → is_fetch_open kind view self.new.wanted.items ≡ is_fetch_open kind view self.old.wanted.items }
     {
         let place = due_at(&self.wanted, now)?;
         let fetch = self.wanted[place];

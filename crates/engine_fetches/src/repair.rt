@@ -41,8 +41,10 @@ impl Repair {
     /// Out of memory.
     pub fn new(resolver: LawfulResolver, mut fetches: Fetches) -> Result<Repair, AllocError>
         ensures resolver { IfOk result (λ repair. repair.resolver ≡ resolver) }
-        ensures fetches { IfOk result (λ repair. repair.fetches.wanted.items ≡ wanting resolver.open_fetches fetches.wanted.items) }
-        ensures same { IfOk result (λ repair. (repair.fetches.peers ≡ fetches.peers) × (repair.fetches.retry ≡ fetches.retry)) }
+        ensures fetches { IfOk result
+            (λ repair. repair.fetches.wanted.items ≡ wanting resolver.open_fetches fetches.wanted.items) }
+        ensures same { IfOk result
+            (λ repair. (repair.fetches.peers ≡ fetches.peers) × (repair.fetches.retry ≡ fetches.retry)) }
         ensures begun { IfOk result (λ repair. (repair.passed ≡ 0) × (repair.is_behind ≡ false)) }
     {
         fetches.open_all(resolver.fetches())?;
@@ -83,7 +85,9 @@ impl Repair {
         moment: u64,
     ) -> Result<(), Fault>
         requires { 1 ≤ certificate_view certificate.now }
-        ensures repaired { OnOk result (IsRepaired moment (update D.bytes (certificate_facts S.certificate_bytes certificate.now)) self.old self.new) }
+        ensures repaired { OnOk result
+            (IsRepaired moment (update D.bytes (certificate_facts S.certificate_bytes certificate.now))
+            self.old self.new) }
         ensures no_other { OnOk result (OpensNoOther self.old.resolver.open_fetches self.old.fetches.wanted.items
             self.new.resolver.open_fetches self.new.fetches.wanted.items) }
         ensures refused { IfErr result (λ fault. IsUnrepaired (highest_view certificate.now) fault self.old self.new) }
@@ -112,7 +116,8 @@ impl Repair {
             (verdict D.bytes (notarization_facts S.certificate_bytes notarization) is_success) self.old self.new) }
         ensures no_other { OnOk result (OpensNoOther self.old.resolver.open_fetches self.old.fetches.wanted.items
             self.new.resolver.open_fetches self.new.fetches.wanted.items) }
-        ensures refused { IfErr result (λ fault. IsUnrepaired (highest_named notarization.proposal) fault self.old self.new) }
+        ensures refused { IfErr result
+            (λ fault. IsUnrepaired (highest_named notarization.proposal) fault self.old self.new) }
     {
         let is_behind = self.is_behind;
         self.is_behind = true;
@@ -135,7 +140,8 @@ impl Repair {
         moment: u64,
     ) -> Result<(), AllocError>
         ensures opened { let fetches = self.old.fetches in
-            OnOk result (HasFetches (opened kind view (place_of fetches.peers of) moment fetches.wanted.items) self.old self.new) }
+            OnOk result (HasFetches (opened kind view (place_of fetches.peers of) moment fetches.wanted.items)
+            self.old self.new) }
         ensures refused { OnErr result (HasFetches self.old.fetches.wanted.items self.old self.new) }
     {
         self.fetches.open(kind, view, of, moment)?;
@@ -165,7 +171,8 @@ impl Repair {
 
     /// Takes note that the view is final: nothing is asked for of the views up to it.
     pub fn pass(&mut self, finalized: View)
-        ensures { HasPassed (max self.old.passed finalized) (passed finalized self.old.fetches.wanted.items) self.old self.new }
+        ensures { HasPassed (max self.old.passed finalized) (passed finalized self.old.fetches.wanted.items)
+            self.old self.new }
     {
         self.fetches.pass(finalized);
         self.passed = later_of(self.passed, finalized);
@@ -198,11 +205,14 @@ impl Repair {
         state: &State<S, L, D>,
     ) -> Result<(), Fault>
         ensures kept { OnOk result (HasPassed state.now.finalized
-            (filter (is_missing self.old.resolver.open_fetches state.now) self.old.fetches.wanted.items) self.old self.new) }
+            (filter (is_missing self.old.resolver.open_fetches state.now) self.old.fetches.wanted.items)
+            self.old self.new) }
         ensures answers { IsOk result ↔ ((self.old.is_behind ≡ false) × (self.old.passed ≤ state.now.finalized)) }
         ensures refused { IfErr result (λ fault. (fault ≡ Failed) × (self.new ≡ self.old)) }
-        ensures lacking { OnOk result (FetchesTheMissing self.new.resolver.open_fetches state.now self.new.fetches.wanted.items) }
-        ensures due { (now : ℕ) → due_at now self.old.fetches.wanted.items ≡ None → due_at now self.new.fetches.wanted.items ≡ None }
+        ensures lacking { OnOk result
+            (FetchesTheMissing self.new.resolver.open_fetches state.now self.new.fetches.wanted.items) }
+        ensures due { (now : ℕ) → due_at now self.old.fetches.wanted.items ≡ None
+            → due_at now self.new.fetches.wanted.items ≡ None }
     {
         let finalized = state.last_finalized();
         if self.may_leave_out(finalized) {

@@ -38,7 +38,8 @@ module _ {D : Type 0} where
   -- those that are of a view above this one and above all before
   abbrev pub rising_above : ℕ → List (Proposal D) → List (Proposal D)
   rising_above view [] = []
-  rising_above view (p ∷ rest) = if nat_lt view p.round.view then p ∷ rising_above p.round.view rest else rising_above view rest
+  rising_above view (p ∷ rest) =
+      if nat_lt view p.round.view then p ∷ rising_above p.round.view rest else rising_above view rest
 
   -- the highest of this view and theirs
   abbrev pub raised_to : ℕ → List (Proposal D) → ℕ

@@ -51,7 +51,8 @@ module _ {S L D K G C : Type 0} (bytes_of : C → List ℕ) where
     pub votes : votes_of copies.items ≡ member.votes
 
   -- a journal holds this number of first entries of a member's record
-  pub record IsBeginningOf (member : SignedMember K L D G) (count : ℕ) (journal : Journal S D Stored K G C) : Type 0 where
+  pub record IsBeginningOf (member : SignedMember K L D G) (count : ℕ)
+      (journal : Journal S D Stored K G C) : Type 0 where
     pub rest : List (ArtifactFacts D)
     pub votes_left : List (SignedVote D G)
     pub entries : member.facts.entries ≡ entries_of bytes_of journal.entries ++ rest

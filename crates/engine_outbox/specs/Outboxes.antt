@@ -23,7 +23,8 @@ module _ {S D J K G C : Type 0} where
     pub told : EndsAt box.told (finals_in (given ++ box.queue.items))
 
   -- these are appended to what was queued, and this vote may be repeated
-  pub record HasBecome (more : List (Output S D J K G C)) (repeat : Option (Vote D G)) (old new : Outbox S D J K G C) : Type 0 where
+  pub record HasBecome (more : List (Output S D J K G C)) (repeat : Option (Vote D G))
+      (old new : Outbox S D J K G C) : Type 0 where
     pub queue : new.queue.items ≡ old.queue.items ++ more
     pub repeat_is : new.repeat ≡ repeat
     pub told_is : new.told ≡ old.told
@@ -48,14 +49,16 @@ module _ {S D J K G C : Type 0} where
       × HasBecome (storing copies) (newest_from old.repeat copies.items) old new
 
   -- copies of the entries are to be stored in place of all
-  abbrev pub IsReplaced : (C → List ℕ) → List (Artifact S D K G C) → J → Outbox S D J K G C → Outbox S D J K G C → Type 0
+  abbrev pub IsReplaced : (C → List ℕ) → List (Artifact S D K G C) → J → Outbox S D J K G C
+      → Outbox S D J K G C → Type 0
   IsReplaced bytes_of all beside old new =
       (copies : Vec (Artifact S D K G C) Global) × AreCopies bytes_of all copies.items
       × HasBecome (output.Replace copies beside ∷ []) (newest_from old.repeat copies.items) old new
 
   -- the vote that may be repeated leaves once more, if it is one of the view; or else nothing does
   abbrev pub IsRepeated : ℕ → Option (Vote D G) → Bool → Outbox S D J K G C → Outbox S D J K G C → Type 0
-  IsRepeated view (Some vote) true old new = (subject_view vote.subject ≡ view) × HasBecome (output.Vote vote ∷ []) old.repeat old new
+  IsRepeated view (Some vote) true old new =
+      (subject_view vote.subject ≡ view) × HasBecome (output.Vote vote ∷ []) old.repeat old new
   IsRepeated view (Some vote) false old new = (subject_view vote.subject ≢ view) × HasStayed old new
   IsRepeated view None sent old new = (sent ≡ false) × HasStayed old new
 
@@ -66,7 +69,8 @@ module _ {S D J K G C : Type 0} where
   -- a proposal is reported as final, or nothing is
   abbrev pub IsPassedIf : (is_above : Bool) → Proposal D → Outbox S D J K G C → Outbox S D J K G C → Type 0
   IsPassedIf true proposal old new =
-      (new.queue.items ≡ old.queue.items ++ output.Finalized proposal ∷ []) × (new.repeat ≡ old.repeat) × (new.told ≡ proposal.round.view)
+      (new.queue.items ≡ old.queue.items ++ output.Finalized proposal ∷ []) × (new.repeat ≡ old.repeat)
+      × (new.told ≡ proposal.round.view)
   IsPassedIf false proposal old new = HasStayed old new
 
   -- it is if there is one, of a view above all that were reported

@@ -9,5 +9,6 @@ module _ {S L D K G C : Type 0} where
   abbrev pub is_record_too_long : ℕ → Journaled S L D K G C → Bool
   is_record_too_long long member =
       option_map_or
-      (λ x. nat_lt long (length member.member.facts.entries) && is_far_below member.reach (lowest_retained_after member.member.facts x) x.current)
+      (λ x. nat_lt long (length member.member.facts.entries)
+      && is_far_below member.reach (lowest_retained_after member.member.facts x) x.current)
       member.member.facts.life false

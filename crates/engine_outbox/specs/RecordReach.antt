@@ -33,4 +33,5 @@ module _ {K L D : Type 0} where
 
   -- while the member has not failed, its record has at most this number of entries, or a pruning would drop no more views than it retains
   abbrev pub IsShort : ℕ → MemberFacts K L D → Type 0
-  IsShort long m = IfSome m.life (λ x. (length m.entries ≤ long) ⊎ AreNear (lowest_retained_after m x) x.current m.entries)
+  IsShort long m = IfSome m.life
+      (λ x. (length m.entries ≤ long) ⊎ AreNear (lowest_retained_after m x) x.current m.entries)

@@ -12,23 +12,27 @@ use Rattle.engine_outbox.specs.HostStops.{votes_recorded}
 
 -- if the member signs, it signs as this one and under this key
 abbrev pub SignsBy : {K L D : Type 0} → ℕ → K → MemberFacts K L D → Type 0
-SignsBy i key m = IfSome m.life (λ x. (signer : ℕ) → x.me ≡ Some signer → (signer ≡ i) × (slice_get x.members signer ≡ Some key))
+SignsBy i key m = IfSome m.life
+    (λ x. (signer : ℕ) → x.me ≡ Some signer → (signer ≡ i) × (slice_get x.members signer ≡ Some key))
 
 module _ {K D G : Type 0} (is_signature : K → Subject D → G → Type 0) (i : ℕ) (key : K) where
   -- each of these votes is this member's, with a signature on exactly its subject, under the key
   abbrev pub AreSigned : List (Vote D G) → Type 0
-  AreSigned votes = (vote : Vote D G) → Contains votes vote → (vote.signer ≡ i) × is_signature key vote.subject vote.signature
+  AreSigned votes = (vote : Vote D G) → Contains votes vote → (vote.signer ≡ i)
+      × is_signature key vote.subject vote.signature
 
 module _ {S L D K G C : Type 0} (is_signature : K → Subject D → G → Type 0) where
   -- the member signs under the key, and the votes of its record are signed under it, and those that the returned or queued outputs store
-  pub record IsSignedBy (i : ℕ) (key : K) (given : List (Output S D Stored K G C)) (member : Journaled S L D K G C) : Type 0 where
+  pub record IsSignedBy (i : ℕ) (key : K) (given : List (Output S D Stored K G C))
+      (member : Journaled S L D K G C) : Type 0 where
     pub signs : SignsBy i key member.member.facts
     pub recorded : AreSigned is_signature i key (votes_recorded member.member.votes)
     pub stored : AreSigned is_signature i key (votes_of_entries (stored_in (given ++ member.outbox.queue.items)))
 
   -- votes that were signed so still are
   abbrev pub StaysSigned : Journaled S L D K G C → Journaled S L D K G C → Type 0
-  StaysSigned old new = (i : ℕ) (key : K) (given : List (Output S D Stored K G C)) → IsSignedBy i key given old → IsSignedBy i key given new
+  StaysSigned old new = (i : ℕ) (key : K) (given : List (Output S D Stored K G C)) → IsSignedBy i key given old
+      → IsSignedBy i key given new
 
   -- they are at the beginning of a lifetime, if those of the record are
   abbrev pub BeginsSigned : SignedMember K L D G → Journaled S L D K G C → Type 0
@@ -38,4 +42,5 @@ module _ {S L D K G C : Type 0} (is_signature : K → Subject D → G → Type 0
 
   -- they still are once these were returned
   abbrev pub EmitsSigned : List (Output S D Stored K G C) → Journaled S L D K G C → Journaled S L D K G C → Type 0
-  EmitsSigned out old new = (i : ℕ) (key : K) (given : List (Output S D Stored K G C)) → IsSignedBy i key given old → IsSignedBy i key (given ++ out) new
+  EmitsSigned out old new = (i : ℕ) (key : K) (given : List (Output S D Stored K G C)) → IsSignedBy i key given old
+      → IsSignedBy i key (given ++ out) new

@@ -115,13 +115,16 @@ impl<S: Scheme<D>, L: Elector<S>, D: Digest> Journaled<S, L, D> {
     /// - `dropped`: what an ignored call changes.
     /// - `signed`: the stored votes stay signed under the member's key.
     pub fn call(&mut self, call: Call<S, D>) -> Reply<S, D>
-        ensures continues { (taken : _) → All (IsActionOn taken) (certificates_in call) → finals_by (certificates_in call) ≡ []
+        ensures continues { (taken : _) → All (IsActionOn taken) (certificates_in call)
+            → finals_by (certificates_in call) ≡ []
             → Continues D.eq L.elect S.certificate_bytes S.IsSignature taken self.old self.new }
         ensures signed { StaysSigned S.IsSignature self.old self.new }
-        ensures quiet { certificates_in call ≡ [] → Continues D.eq L.elect S.certificate_bytes S.IsSignature None self.old self.new }
+        ensures quiet { certificates_in call ≡ []
+            → Continues D.eq L.elect S.certificate_bytes S.IsSignature None self.old self.new }
         ensures answered { IsCall D.eq L.elect self.old.member.facts (asked S.certificate_bytes call)
             (told S.certificate_bytes result) self.new.member.facts }
-        ensures refused { IsTrue (is_refused (told S.certificate_bytes result)) → self.new.member.facts ≡ self.old.member.facts }
+        ensures refused { IsTrue (is_refused (told S.certificate_bytes result))
+            → self.new.member.facts ≡ self.old.member.facts }
         ensures dropped { IsTrue (says_nothing (told S.certificate_bytes result))
             → IsLeftByCall (asked S.certificate_bytes call) self.old.member.facts self.new.member.facts }
         ensures outbox { self.new.outbox ≡ self.old.outbox }
@@ -147,7 +150,8 @@ impl<S: Scheme<D>, L: Elector<S>, D: Digest> Journaled<S, L, D> {
             (Some (certificate_subject (certificate_facts S.certificate_bytes certificate))) self.old self.new }
         ensures signed { StaysSigned S.IsSignature self.old self.new }
         ensures answered { IfOk result (λ reply. IsCall D.eq L.elect self.old.member.facts
-            (certificate_call (certificate_facts S.certificate_bytes certificate) now) (told S.certificate_bytes reply) self.new.member.facts) }
+            (certificate_call (certificate_facts S.certificate_bytes certificate) now) (told S.certificate_bytes reply)
+            self.new.member.facts) }
         ensures refused { IfOk result (λ reply. IsTrue (is_refused (told S.certificate_bytes reply))
             → self.new.member.facts ≡ self.old.member.facts) }
         ensures unchanged { OnErr result (IsUnchanged self.old self.new) }
@@ -166,8 +170,10 @@ impl<S: Scheme<D>, L: Elector<S>, D: Digest> Journaled<S, L, D> {
             (Some (certificate_subject (certificate_facts S.certificate_bytes certificate))) self.old self.new }
         ensures signed { StaysSigned S.IsSignature self.old self.new }
         ensures answered { IsCall D.eq L.elect self.old.member.facts
-            (certificate_call (certificate_facts S.certificate_bytes certificate) now) (told S.certificate_bytes result) self.new.member.facts }
-        ensures refused { IsTrue (is_refused (told S.certificate_bytes result)) → self.new.member.facts ≡ self.old.member.facts }
+            (certificate_call (certificate_facts S.certificate_bytes certificate) now) (told S.certificate_bytes result)
+            self.new.member.facts }
+        ensures refused { IsTrue (is_refused (told S.certificate_bytes result))
+            → self.new.member.facts ≡ self.old.member.facts }
         ensures no_work { QueuesNoWork self.old.outbox self.new.outbox }
     {
         // proof only: the contract of `record` says that the member's votes are those of its entries
@@ -257,7 +263,8 @@ impl<S: Scheme<D>, L: Elector<S>, D: Digest> Journaled<S, L, D> {
         ensures continues { Continues D.eq L.elect S.certificate_bytes S.IsSignature None self.old self.new }
         ensures signed { StaysSigned S.IsSignature self.old self.new }
         ensures member { self.new.member ≡ self.old.member }
-        ensures queued { OnOk result (self.new.outbox.queue.items ≡ self.old.outbox.queue.items ++ output.Work work ∷ []) }
+        ensures queued { OnOk result
+            (self.new.outbox.queue.items ≡ self.old.outbox.queue.items ++ output.Work work ∷ []) }
         ensures unchanged { OnErr result (IsUnchanged self.old self.new) }
     {
         self.outbox.push(work)
@@ -270,7 +277,8 @@ impl<S: Scheme<D>, L: Elector<S>, D: Digest> Journaled<S, L, D> {
         ensures continues { Continues D.eq L.elect S.certificate_bytes S.IsSignature None self.old self.new }
         ensures signed { StaysSigned S.IsSignature self.old self.new }
         ensures member { self.new.member ≡ self.old.member }
-        ensures repeated { IfOk result (λ sent. IsRepeated view self.old.outbox.repeat sent self.old.outbox self.new.outbox) }
+        ensures repeated { IfOk result
+            (λ sent. IsRepeated view self.old.outbox.repeat sent self.old.outbox self.new.outbox) }
         ensures unchanged { OnErr result (IsUnchanged self.old self.new) }
     {
         self.outbox.repeat(view)
@@ -290,7 +298,8 @@ impl<S: Scheme<D>, L: Elector<S>, D: Digest> Journaled<S, L, D> {
         ensures told { ReportsNoMore (option_to_list result) self.old.outbox self.new.outbox }
         ensures front { self.old.outbox.queue.items ≡ option_to_list result ++ self.new.outbox.queue.items }
         ensures none { IsNone result → self.new.outbox.queue.items ≡ [] }
-        ensures same { (self.new.member ≡ self.old.member) × (self.new.stored ≡ self.old.stored) × (self.new.reach ≡ self.old.reach)
+        ensures same { (self.new.member ≡ self.old.member) × (self.new.stored ≡ self.old.stored)
+            × (self.new.reach ≡ self.old.reach)
             × (self.new.failed ≡ self.old.failed) }
     {
         self.outbox.next()
@@ -371,23 +380,31 @@ impl<S: Scheme<D>, L: Elector<S>, D: Digest> Journaled<S, L, D> {
     /// - `once`: its record holds each entry once, and of each view at most seven.
     pub fn keeps_the_laws(&self)
         ensures behind { (given : _) → IsJournaled S.certificate_bytes given self.now → AreBehind [] given }
-        ensures stored { (given : _) → IsJournaled S.certificate_bytes given self.now → self.now.failed ≡ false → IsWhole S.certificate_bytes self.now
+        ensures stored { (given : _) → IsJournaled S.certificate_bytes given self.now → self.now.failed ≡ false
+            → IsWhole S.certificate_bytes self.now
             → IsRecordOf S.certificate_bytes self.now.member (journal_of (given ++ self.now.outbox.queue.items)) }
         ensures emitted { (given : _) → IsJournaled S.certificate_bytes given self.now → self.now.failed ≡ false
             → AllAreReturned (given ++ self.now.outbox.queue.items) }
-        ensures stops { (term_length i : _) (earlier given all : _) → IsTraced D.eq L.elect S.certificate_bytes term_length i earlier given all self.now
+        ensures stops { (term_length i : _) (earlier given all : _)
+            → IsTraced D.eq L.elect S.certificate_bytes term_length i earlier given all self.now
             → self.now.failed ≡ false
-            → EachStopIsLawful D.eq L.elect S.certificate_bytes term_length i earlier all (given ++ self.now.outbox.queue.items) }
-        ensures finals { (term_length i : _) (earlier given all : _) → IsTraced D.eq L.elect S.certificate_bytes term_length i earlier given all self.now
+            → EachStopIsLawful D.eq L.elect S.certificate_bytes term_length i earlier all
+            (given ++ self.now.outbox.queue.items) }
+        ensures finals { (term_length i : _) (earlier given all : _)
+            → IsTraced D.eq L.elect S.certificate_bytes term_length i earlier given all self.now
             → WereAccepted all (finals_in given) }
-        ensures signed { (i key given vote : _) → IsSignedBy S.IsSignature i key given self.now → AreBehind [] given → Contains given (output.Vote vote)
+        ensures signed { (i key given vote : _) → IsSignedBy S.IsSignature i key given self.now → AreBehind [] given
+            → Contains given (output.Vote vote)
             → (vote.signer ≡ i) × S.IsSignature key vote.subject vote.signature }
         ensures rising { (given : _) → IsJournaled S.certificate_bytes given self.now → RiseByView (finals_in given) }
-        ensures last { (given : _) → IsJournaled S.certificate_bytes given self.now → IfSome self.now.member.facts.life (λ x.
+        ensures last { (given : _) → IsJournaled S.certificate_bytes given self.now
+            → IfSome self.now.member.facts.life (λ x.
             EndsAt x.finalized (finals_in (given ++ self.now.outbox.queue.items))) }
-        ensures lawful { OfEachHistory D.eq L.elect self.now.member.facts (λ term_length i all. IsLawful term_length all) }
+        ensures lawful { OfEachHistory D.eq L.elect self.now.member.facts
+            (λ term_length i all. IsLawful term_length all) }
         ensures ran { OfEachHistory D.eq L.elect self.now.member.facts (MayBeHistoryOf S.PublicKey D.eq L.elect) }
-        ensures once { OfEachHistory D.eq L.elect self.now.member.facts (λ term_length i all. HoldsEachEntryOnce self.now.member.facts) }
+        ensures once { OfEachHistory D.eq L.elect self.now.member.facts
+            (λ term_length i all. HoldsEachEntryOnce self.now.member.facts) }
     {
         self.outbox.keeps_the_law();
         self.member.keeps_the_laws();
@@ -422,7 +439,8 @@ fn last_finalized<S: Scheme<D>, L: Elector<S>, D: Digest>(member: &LawfulMember<
 fn finalized_by<S: CertificateScheme, D: Digest>(
     certificate: &Certificate<S, D>,
 ) -> Option<Proposal<D>>
-    ensures { finals_by (Accepts (certificate_subject (certificate_facts S.certificate_bytes certificate.now)) ∷ []) ≡ option_to_list result }
+    ensures { finals_by (Accepts (certificate_subject (certificate_facts S.certificate_bytes certificate.now)) ∷ []) ≡
+        option_to_list result }
 {
     match certificate {
         Certificate::Finalization(finalization) => Some(finalization.proposal),
@@ -448,8 +466,10 @@ fn call_with_certificate<S: CertificateScheme, D: Digest>(
     certificate: Certificate<S, D>,
     now: u64,
 ) -> Call<S, D>
-    ensures asked { asked S.certificate_bytes result ≡ certificate_call (certificate_facts S.certificate_bytes certificate) now }
-    ensures hands { certificates_in result ≡ Accepts (certificate_subject (certificate_facts S.certificate_bytes certificate)) ∷ [] }
+    ensures asked { asked S.certificate_bytes result ≡ certificate_call
+        (certificate_facts S.certificate_bytes certificate) now }
+    ensures hands { certificates_in result ≡ Accepts
+        (certificate_subject (certificate_facts S.certificate_bytes certificate)) ∷ [] }
 {
     match certificate {
         Certificate::Notarization(notarization) => Call::AddNotarization(notarization),

@@ -121,7 +121,8 @@ impl<S: CertificateScheme, D: Digest, J: Drop> Outbox<S, D, J> {
         ensures none { IsNone result → self.new.queue.items ≡ [] }
         ensures repeat { self.new.repeat ≡ self.old.repeat }
         ensures told { self.new.told ≡ self.old.told }
-        ensures continues { (given : _) → IsLawfulOutbox given self.old → IsLawfulOutbox (given ++ option_to_list result) self.new }
+        ensures continues { (given : _) → IsLawfulOutbox given self.old
+            → IsLawfulOutbox (given ++ option_to_list result) self.new }
     {
         self.queue.pop_front()
     }
@@ -220,7 +221,8 @@ impl<S: CertificateScheme, D: Digest, J: Drop> Outbox<S, D, J> {
         mut batch: VecDeque<Output<S, D, J>>,
         newest: Option<Vote<D, S::Signature>>,
     ) -> Result<(), AllocError>
-        ensures queued { OnOk result (HasBecome batch.items (option_map_or Some newest self.old.repeat) self.old self.new) }
+        ensures queued { OnOk result
+            (HasBecome batch.items (option_map_or Some newest self.old.repeat) self.old self.new) }
         ensures kept { OnErr result (HasStayed self.old self.new) }
     {
         match self.queue.append(&mut batch) {

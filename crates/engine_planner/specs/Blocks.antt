@@ -13,7 +13,8 @@ module _ {K D : Type 0} where
   -- the application was asked for the block, in this round and on this parent
   abbrev pub is_asked_in : (D → D → Bool) → Context D K → Building D K → Bool
   is_asked_in same context building =
-      building.is_reported && same_round building.context.round context.round && same_parent same building.context.parent context.parent
+      building.is_reported && same_round building.context.round context.round
+      && same_parent same building.context.parent context.parent
 
   -- the application was asked for the block, in this view
   abbrev pub is_asked_at : ℕ → Building D K → Bool
@@ -38,7 +39,8 @@ module _ {K D : Type 0} where
   -- no two are of one view
   abbrev pub one_a_view : List (Building D K) → Bool
   one_a_view [] = true
-  one_a_view (building ∷ rest) = not (list_any (λ view. view == building.context.round.view) (views_built rest)) && one_a_view rest
+  one_a_view (building ∷ rest) =
+      not (list_any (λ view. view == building.context.round.view) (views_built rest)) && one_a_view rest
 
   -- the blocks of other views
   abbrev pub all_but_at : ℕ → List (Building D K) → List (Building D K)
@@ -58,4 +60,5 @@ module _ {K D : Type 0} where
 
   -- it is marked as asked for by now
   abbrev pub told_by : ℕ → Building D K → Building D K
-  told_by view building = record building { is_reported = building.is_reported || nat_le building.context.round.view view }
+  told_by view building = record
+      building { is_reported = building.is_reported || nat_le building.context.round.view view }

@@ -19,7 +19,8 @@ module _ {S D K G C : Type 0} where
   asking_for context is_reported = if is_reported then Push (Build context) ∷ [] else []
 
   -- these steps are appended to those that were queued, these blocks are to be built, and nothing else has changed
-  pub record HasBuilds (more : List (Step S D K G C)) (builds : List (Building D K)) (old new : Plan S D K G C) : Type 0 where
+  pub record HasBuilds (more : List (Step S D K G C)) (builds : List (Building D K))
+      (old new : Plan S D K G C) : Type 0 where
     pub steps : new.steps.items ≡ old.steps.items ++ more
     pub blocks : new.builds.buildings.items ≡ builds
     pub same : new ≡ record old { steps = new.steps; builds = new.builds }

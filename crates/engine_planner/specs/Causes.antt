@@ -84,7 +84,8 @@ module _ {S D K G C : Type 0} where
 
   -- a fetch is caused by what the resolver has open, or by a missing certificate
   abbrev pub of_fetch : List ℕ → Fetch → List (Cause S D K G C)
-  of_fetch wanted fetch = if wants wanted fetch.kind fetch.view then [] else MissingCertificate fetch.kind fetch.view ∷ []
+  of_fetch wanted fetch = if wants wanted fetch.kind fetch.view then []
+      else MissingCertificate fetch.kind fetch.view ∷ []
 
   abbrev pub of_fetches : List ℕ → List Fetch → List (Cause S D K G C)
   of_fetches wanted [] = []
@@ -100,7 +101,8 @@ module _ {S D K G C : Type 0} where
   -- what a plan has at hand
   abbrev pub planned_causes : Plan S D K G C → List (Cause S D K G C)
   planned_causes plan =
-      of_steps plan.steps.items ++ (of_blocks plan.builds.buildings.items ++ (of_early plan.early.proposals.items ++ of_repair plan.repair))
+      of_steps plan.steps.items
+      ++ (of_blocks plan.builds.buildings.items ++ (of_early plan.early.proposals.items ++ of_repair plan.repair))
 
   -- a leader signed two proposals of the view of the passed certificate
   abbrev pub shown_by : CallFacts D → K → List (Cause S D K G C)
@@ -115,7 +117,8 @@ module _ {S D K G C : Type 0} where
   reply_causes now (reply.Work (verify.Resolve _ view kind _)) asked = MissingCertificate (fetch_kind kind) view ∷ []
   reply_causes now (reply.Request (Some request)) asked = of_block (request_context request)
   reply_causes now (reply.Candidates proposals wanted) asked =
-      map (λ proposal. WorkItem (Certify proposal)) proposals.items ++ map (λ (it : CertificateFetch). MissingCertificate Notarization it.view) wanted.items
+      map (λ proposal. WorkItem (Certify proposal)) proposals.items
+      ++ map (λ (it : CertificateFetch). MissingCertificate Notarization it.view) wanted.items
   reply_causes now (reply.Certificate (Some certificate)) asked = WorkItem (Broadcast certificate) ∷ []
   reply_causes now (reply.Added _ (Some leader)) asked = shown_by asked leader
   reply_causes now (reply.Timeout moment reason) asked = if nat_le moment now then Expiry ∷ [] else []

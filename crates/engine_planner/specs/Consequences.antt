@@ -84,7 +84,8 @@ module _ {S D K G C : Type 0} where
   abbrev pub IsConsequence : Consequence D → Plan S D K G C → Plan S D K G C → Type 0
   IsConsequence Nothing old new = new ≡ old
   IsConsequence (Touched view) old new = HasPlanned (touching view) (watching old) new
-  IsConsequence (Built view) old new = HasBuilds (touching view) (all_but_at view old.builds.buildings.items) (watching old) new
+  IsConsequence (Built view) old new =
+      HasBuilds (touching view) (all_but_at view old.builds.buildings.items) (watching old) new
   IsConsequence (Stopped view) old new = IsStopped view old new
   IsConsequence (Ended view) old new = IsEnded view old new
   IsConsequence (Asked call) old new = HasPlanned (Ask call ∷ []) old new
@@ -95,17 +96,21 @@ module _ {S D K G C : Type 0} where
 
   -- a proposal is to be verified, or a certificate is missing for one
   abbrev pub IsVerifyFollowed : Verify D K → Plan S D K G C → Plan S D K G C → Type 0
-  IsVerifyFollowed (verify.Ready context proposal) old new = HasPlanned (Push (work.Verify context proposal) ∷ []) old new
-  IsVerifyFollowed (verify.Resolve proposal view kind _) old new = HasPlanned (lacking (fetch_kind kind) view proposal old.repair.fetches.wanted.items) old new
+  IsVerifyFollowed (verify.Ready context proposal) old new =
+      HasPlanned (Push (work.Verify context proposal) ∷ []) old new
+  IsVerifyFollowed (verify.Resolve proposal view kind _) old new =
+      HasPlanned (lacking (fetch_kind kind) view proposal old.repair.fetches.wanted.items) old new
   IsVerifyFollowed verify.Wait old new = new ≡ old
 
   -- a block is to be built, in place of one of its view: now, or once its view is entered
   abbrev pub IsBuilt : Bool → Context D K → Plan S D K G C → Plan S D K G C → Type 0
   IsBuilt is_reported context old new =
-      HasBuilds (asking_for context is_reported) (in_place (record { context = context; is_reported = is_reported }) old.builds.buildings.items) old new
+      HasBuilds (asking_for context is_reported)
+      (in_place (record { context = context; is_reported = is_reported }) old.builds.buildings.items) old new
 
   abbrev pub IsRequestFollowed : Option (ProposalRequest D K) → Plan S D K G C → Plan S D K G C → Type 0
-  IsRequestFollowed (Some (Prepare context)) old new = IsBuilt (not (waits old.is_alone old.views.current context)) context old new
+  IsRequestFollowed (Some (Prepare context)) old new =
+      IsBuilt (not (waits old.is_alone old.views.current context)) context old new
   IsRequestFollowed (Some (Propose context)) old new = IsBuilt true context old new
   IsRequestFollowed None old new = new ≡ old
 
@@ -128,7 +133,8 @@ module _ {S D K G C : Type 0} where
   -- the current view times out, if its moment has come
   abbrev pub IsTimeoutFollowed : ℕ → ℕ → TimeoutReason → Plan S D K G C → Plan S D K G C → Type 0
   IsTimeoutFollowed now moment reason old new =
-      HasPlanned (if nat_le moment now then Ask (task.Nullify old.views.current reason) ∷ [] else []) (record old { timeout = moment }) new
+      HasPlanned (if nat_le moment now then Ask (task.Nullify old.views.current reason) ∷ [] else [])
+      (record old { timeout = moment }) new
 
   -- a leader is reported to have signed two proposals of the view, if one did
   abbrev pub showing : ℕ → Option K → List (Step S D K G C)
@@ -138,10 +144,12 @@ module _ {S D K G C : Type 0} where
   -- proposals are passed on for certification, one after the other
   abbrev pub certifying : List (Proposal D) → List (Step S D K G C)
   certifying [] = []
-  certifying (proposal ∷ rest) = Push (work.Certify proposal) ∷ Ask (task.SetHandle proposal.round.view) ∷ certifying rest
+  certifying (proposal ∷ rest) =
+      Push (work.Certify proposal) ∷ Ask (task.SetHandle proposal.round.view) ∷ certifying rest
 
   -- the same, and the notarizations that others wait for are asked for
-  pub record AreCertified (now : ℕ) (proposals : List (Proposal D)) (wanted : List CertificateFetch) (old new : Plan S D K G C) : Type 0 where
+  pub record AreCertified (now : ℕ) (proposals : List (Proposal D)) (wanted : List CertificateFetch)
+      (old new : Plan S D K G C) : Type 0 where
     pub steps : new.steps.items ≡ old.steps.items ++ certifying proposals
     pub fetched : HasFetches (fetching now wanted old.repair.fetches.wanted.items) old.repair new.repair
     pub same : new ≡ record old { steps = new.steps; repair = new.repair }
@@ -157,9 +165,12 @@ module _ {S D K G C : Type 0} (bytes : D → List ℕ) (bytes_of : C → List �
   later plan = min (now + plan.options.on_its_way) (2 ^ 64 - 1)
 
   -- the resolver receives a verdict, and something of the view has changed
-  pub record IsVerdictReported (is_success : Bool) (notarization : Notarization S D K G C) (old new : Plan S D K G C) : Type 0 where
-    pub repaired : IsRepaired (later old) (verdict bytes (notarization_facts bytes_of notarization) is_success) old.repair new.repair
-    pub planned : HasPlanned (touching notarization.proposal.round.view) (watching (record old { repair = new.repair })) new
+  pub record IsVerdictReported (is_success : Bool) (notarization : Notarization S D K G C)
+      (old new : Plan S D K G C) : Type 0 where
+    pub repaired : IsRepaired (later old) (verdict bytes (notarization_facts bytes_of notarization) is_success)
+        old.repair new.repair
+    pub planned : HasPlanned (touching notarization.proposal.round.view)
+        (watching (record old { repair = new.repair })) new
 
   -- the same if it is not on genesis
   abbrev pub IsVerdictReportedAbove : Bool → Bool → Notarization S D K G C → Plan S D K G C → Plan S D K G C → Type 0
@@ -169,7 +180,8 @@ module _ {S D K G C : Type 0} (bytes : D → List ℕ) (bytes_of : C → List �
   -- a verdict was passed, if the view is notarized
   abbrev pub IsVerdictFollowed : Bool → Option (Notarization S D K G C) → Plan S D K G C → Plan S D K G C → Type 0
   IsVerdictFollowed is_success None old new = new ≡ old
-  IsVerdictFollowed is_success (Some notarization) old new = IsVerdictReportedAbove (notarization.proposal.round.view == 0) is_success notarization old new
+  IsVerdictFollowed is_success (Some notarization) old new =
+      IsVerdictReportedAbove (notarization.proposal.round.view == 0) is_success notarization old new
 
   -- the resolver's effects for a certificate
   abbrev pub effects_due : Certificate S D K G C → Plan S D K G C → List Effect
@@ -177,8 +189,10 @@ module _ {S D K G C : Type 0} (bytes : D → List ℕ) (bytes_of : C → List �
 
   -- it receives one
   pub record IsResolverNotified (told : Certificate S D K G C) (old : Plan S D K G C) (repair : Repair) : Type 0 where
-    pub made : IsMade (update bytes (certificate_facts bytes_of told)) old.repair.resolver (effects_due told old) repair.resolver
-    pub fetched : repair.fetches.wanted.items ≡ without told (after_effects (later old) (effects_due told old) old.repair.fetches.wanted.items)
+    pub made : IsMade (update bytes (certificate_facts bytes_of told)) old.repair.resolver
+        (effects_due told old) repair.resolver
+    pub fetched : repair.fetches.wanted.items ≡ without told
+        (after_effects (later old) (effects_due told old) old.repair.fetches.wanted.items)
     pub peers : repair.fetches.peers ≡ old.repair.fetches.peers
     pub retry : repair.fetches.retry ≡ old.repair.fetches.retry
 
@@ -198,14 +212,16 @@ module _ {S D K G C : Type 0} (bytes : D → List ℕ) (bytes_of : C → List �
   IsNewFollowed false taken old new = new ≡ old
 
   -- a notarization or a finalization was passed in: first it is reported that a leader signed two proposals, if one did
-  pub record IsAddedFollowed (added : Certificate S D K G C) (is_new : Bool) (equivocator : Option K) (old new : Plan S D K G C) : Type 0 where
+  pub record IsAddedFollowed (added : Certificate S D K G C) (is_new : Bool) (equivocator : Option K)
+      (old new : Plan S D K G C) : Type 0 where
     pub shown : Plan S D K G C
     pub is_shown : HasPlanned (showing (certificate_view added) equivocator) old shown
     pub followed : IsNewFollowed is_new added shown new
 
   -- what is planned for the reply to a certificate
   abbrev pub IsCertificateFollowed : Certificate S D K G C → Reply S D K G C → Plan S D K G C → Plan S D K G C → Type 0
-  IsCertificateFollowed handed (reply.Added is_new equivocator) old new = IsAddedFollowed handed is_new equivocator old new
+  IsCertificateFollowed handed (reply.Added is_new equivocator) old new =
+      IsAddedFollowed handed is_new equivocator old new
   IsCertificateFollowed handed (reply.AddedNullification is_new) old new = IsNewFollowed is_new handed old new
   IsCertificateFollowed handed _ old new = new ≡ old
 

@@ -22,7 +22,8 @@ use Rattle.engine_planner.specs.Causes.{Cause, MissingCertificate}
 -- an effect of a resolver ends the fetch of this kind and view
 abbrev pub ends_fetch : FetchKind → ℕ → Effect → Bool
 ends_fetch kind view (effect.Fetch _ _ _) = false
-ends_fetch kind view (effect.Settled of start end) = same_kind (fetch_kind of) kind && nat_le start view && nat_le view end
+ends_fetch kind view (effect.Settled of start end) =
+    same_kind (fetch_kind of) kind && nat_le start view && nat_le view end
 ends_fetch kind view (effect.Finalized u) = nat_le view u
 ends_fetch kind view (effect.Raised u) = same_kind Nullification kind && nat_le view u
 
@@ -34,12 +35,14 @@ is_notarized kind view _ = false
 -- one of these calls of a resolver ends it
 abbrev pub ended_by : ResolverFacts → List Call → FetchKind → ℕ → Bool
 ended_by x [] kind view = false
-ended_by x (it ∷ rest) kind view = is_notarized kind view it || list_any (ends_fetch kind view) (effects x it) || ended_by (after x it) rest kind view
+ended_by x (it ∷ rest) kind view =
+    is_notarized kind view it || list_any (ends_fetch kind view) (effects x it) || ended_by (after x it) rest kind view
 
 -- a resolver receives these calls, one after the other
 abbrev pub AreMade : LawfulResolverFacts → List Call → LawfulResolverFacts → Type 0
 AreMade r [] left = left ≡ r
-AreMade r (it ∷ rest) left = (next : LawfulResolverFacts) × IsMade it r (effects r.state it) next × AreMade next rest left
+AreMade r (it ∷ rest) left =
+    (next : LawfulResolverFacts) × IsMade it r (effects r.state it) next × AreMade next rest left
 
 module _ {S D K G C : Type 0} where
   -- a step is to ask for the certificate, unless it arrives soon
@@ -49,7 +52,8 @@ module _ {S D K G C : Type 0} where
 
   -- it is asked for, or is to be
   abbrev pub asks : Plan S D K G C → FetchKind → ℕ → Bool
-  asks plan kind view = is_fetch_open kind view plan.repair.fetches.wanted.items || list_any (is_resolve kind view) plan.steps.items
+  asks plan kind view = is_fetch_open kind view plan.repair.fetches.wanted.items
+      || list_any (is_resolve kind view) plan.steps.items
 
   -- it is named as missing
   abbrev pub is_missing_certificate : FetchKind → ℕ → Cause S D K G C → Bool
@@ -76,7 +80,8 @@ never kind view = false
 
 -- what is asked for is so still, unless it is over
 abbrev pub IsStill : (FetchKind → ℕ → Bool) → (FetchKind → ℕ → Bool) → (FetchKind → ℕ → Bool) → Type 0
-IsStill asked over now = (kind : FetchKind) (view : ℕ) → asked kind view ≡ true → over kind view ≡ false → now kind view ≡ true
+IsStill asked over now =
+    (kind : FetchKind) (view : ℕ) → asked kind view ≡ true → over kind view ≡ false → now kind view ≡ true
 
 -- a resolver receives this, unless the view is genesis
 abbrev pub above_genesis : ℕ → Call → List Call
@@ -99,7 +104,9 @@ received_by bytes bytes_of _ asked = []
 
 -- a plan still asks for what it asked for, and asks for what was named as missing, unless that is over; and its resolver, which received
 -- exactly these calls, received none that ends it
-pub record KeepsFetching {S D K G C : Type 0} (given : List (Cause S D K G C)) (over : FetchKind → ℕ → Bool) (calls : List Call) (old new : Plan S D K G C)
+pub record KeepsFetching {S D K G C : Type 0} (given : List (Cause S D K G C)) (over : FetchKind → ℕ → Bool)
+    (calls : List Call) (old new : Plan S D K G C)
     : Type 0 where
   pub told : AreMade old.repair.resolver calls new.repair.resolver
-  pub still : IsStill (with_missing_certificate (asks old) given) (λ kind view. over kind view || ended_by old.repair.resolver.state calls kind view) (asks new)
+  pub still : IsStill (with_missing_certificate (asks old) given)
+      (λ kind view. over kind view || ended_by old.repair.resolver.state calls kind view) (asks new)

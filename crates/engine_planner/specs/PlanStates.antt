@@ -33,7 +33,8 @@ module _ {S D K G C : Type 0} where
 
   -- to ask for the certificates of the view that were not returned yet
   abbrev pub asking_for_certificates : ℕ → List (Step S D K G C)
-  asking_for_certificates view = Ask (BroadcastNotarization view) ∷ Ask (BroadcastNullification view) ∷ Ask (BroadcastFinalization view) ∷ []
+  asking_for_certificates view =
+      Ask (BroadcastNotarization view) ∷ Ask (BroadcastNullification view) ∷ Ask (BroadcastFinalization view) ∷ []
 
   -- for both
   abbrev pub touching : ℕ → List (Step S D K G C)
@@ -46,4 +47,5 @@ may_keep current view kept = nat_lt current view && nat_le view (current + 8) &&
 
 -- the moment of the next asking for a fetch or of the timeout, whichever is earlier
 abbrev pub IsWake : List Fetch → ℕ → ℕ → Type 0
-IsWake wanted timeout moment = (asking : Option ℕ) × IsEarliest wanted asking × (moment ≡ option_map_or (λ at. min at timeout) asking timeout)
+IsWake wanted timeout moment =
+    (asking : Option ℕ) × IsEarliest wanted asking × (moment ≡ option_map_or (λ at. min at timeout) asking timeout)

@@ -75,7 +75,12 @@ module _ {S D K G C : Type 0} where
 
   -- the constants of a plan for a lifetime
   abbrev pub constants_of : Plan S D K G C → Constants
-  constants_of plan = record { is_alone = plan.is_alone; options = plan.options; peers = plan.repair.fetches.peers; retry = plan.repair.fetches.retry }
+  constants_of plan = record {
+    is_alone = plan.is_alone;
+    options = plan.options;
+    peers = plan.repair.fetches.peers;
+    retry = plan.repair.fetches.retry;
+  }
 
 -- what a plan stores beside its steps: its views, the blocks to build, the early proposals, the constants of a lifetime, and how many
 -- inputs were ignored
@@ -112,7 +117,8 @@ module _ {S D K G C : Type 0} where
   -- this work is planned; of each view that was requested, or whose block waited, a block is planned or still waits, unless it is ended; no
   -- other block is to be built; each proposal that was early, and still is, stays stored; the views and the constants are the same, and no
   -- input was counted as ignored
-  pub record IsPlanned (requested : List ℕ) (ended : ℕ → Bool) (work : List (Work S D K G C)) (was : Beside K D) (planned : List (Work S D K G C))
+  pub record IsPlanned (requested : List ℕ) (ended : ℕ → Bool) (work : List (Work S D K G C)) (was : Beside K D)
+      (planned : List (Work S D K G C))
       (is : Beside K D) : Type 0 where
     pub found : AreAmong work planned
     pub building : (view : ℕ) → (list_any (λ v. v == view) requested || awaits was view) ≡ true → ended view ≡ false
@@ -126,7 +132,8 @@ module _ {S D K G C : Type 0} where
   -- planned work stays planned, and waiting blocks continue to wait, if none is ended
   abbrev pub KeepsPlanned : Plan S D K G C → Plan S D K G C → Type 0
   KeepsPlanned old new =
-      IsPlanned [] (λ view. false) (work_planned old.steps.items) (beside_of old) (work_planned new.steps.items) (beside_of new)
+      IsPlanned [] (λ view. false) (work_planned old.steps.items) (beside_of old)
+      (work_planned new.steps.items) (beside_of new)
 
   -- the same after the views changed
   abbrev pub KeepsPlannedThen : Plan S D K G C → Plan S D K G C → Type 0
@@ -135,7 +142,8 @@ module _ {S D K G C : Type 0} where
   -- what the reply to a task asks for is planned too
   abbrev pub PlansAnswer : Task D → ReplyFacts K D → Plan S D K G C → Plan S D K G C → Type 0
   PlansAnswer asked told old new =
-      IsPlanned (views_requested told) (ends asked told) (work_planned old.steps.items ++ work_of told) (beside_of old) (work_planned new.steps.items)
+      IsPlanned (views_requested told) (ends asked told) (work_planned old.steps.items ++ work_of told) (beside_of old)
+      (work_planned new.steps.items)
       (beside_of new)
 
   -- the same after the views changed

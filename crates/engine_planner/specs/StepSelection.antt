@@ -13,7 +13,8 @@ use Rattle.engine_planner.specs.PlanStates.{HasPlanned}
 
 -- a block of a view below the current one is abandoned; for another the member is asked whether it must be
 abbrev pub watching_one : {K D : Type 0} → ℕ → Building D K → Task D
-watching_one current building = let view = building.context.round.view in if nat_lt view current then Release view else Abandon view
+watching_one current building =
+    let view = building.context.round.view in if nat_lt view current then Release view else Abandon view
 
 module _ {S D K G C : Type 0} where
   -- the same for each block to build
@@ -53,7 +54,8 @@ module _ {S D K G C : Type 0} where
 
   -- what is due is planned
   abbrev pub IsFilled : ℕ → Plan S D K G C → Plan S D K G C → Type 0
-  IsFilled now old new = AreWatched (watching_where old.is_watch_due old.views.current old.builds.buildings.items) now (record old { is_watch_due = false }) new
+  IsFilled now old new = AreWatched (watching_where old.is_watch_due old.views.current old.builds.buildings.items) now
+      (record old { is_watch_due = false }) new
 
   -- the same if no step is queued
   abbrev pub IsReady : List (Step S D K G C) → ℕ → Plan S D K G C → Plan S D K G C → Type 0

@@ -30,9 +30,11 @@ module _ {S D K G C : Type 0} where
 
   -- the view is entered: it is touched, and after that comes what waited for it
   pub record HasEntered (view : ℕ) (old new : Plan S D K G C) : Type 0 where
-    pub steps : new.steps.items ≡ old.steps.items ++ touching view ++ asking_by view old.builds.buildings.items ++ offering view old.early.proposals.items
+    pub steps : new.steps.items ≡ old.steps.items ++ touching view ++ asking_by view old.builds.buildings.items
+        ++ offering view old.early.proposals.items
     pub blocks : new.builds.buildings.items ≡ map (told_by view) old.builds.buildings.items
-    pub early : new.early.proposals.items ≡ filter (λ (early : Early D). nat_lt view early.view) old.early.proposals.items
+    pub early : new.early.proposals.items ≡ filter (λ (early : Early D). nat_lt view early.view)
+        old.early.proposals.items
     pub same : new ≡ record (watching old) { steps = new.steps; builds = new.builds; early = new.early }
 
   -- the same if it is another one than before
@@ -42,11 +44,14 @@ module _ {S D K G C : Type 0} where
 
 -- fetches of the views up to the last finalized one are closed, if it is a later one than before
 abbrev pub IsPassedWhere : Bool → ℕ → Repair → Repair → Type 0
-IsPassedWhere true finalized old new = HasPassed (max old.passed finalized) (passed finalized old.fetches.wanted.items) old new
+IsPassedWhere true finalized old new =
+    HasPassed (max old.passed finalized) (passed finalized old.fetches.wanted.items) old new
 IsPassedWhere false finalized old new = new ≡ old
 
 module _ {S D K G C : Type 0} where
   -- the plan has taken note of these views
   pub record HasSeen (views : Views) (old new : Plan S D K G C) : Type 0 where
-    pub passed : IsPassedWhere (nat_lt old.views.last_finalized views.last_finalized) views.last_finalized old.repair new.repair
-    pub entered : HasEnteredWhere (not (old.views.current == views.current)) views.current (record old { views = views; repair = new.repair }) new
+    pub passed : IsPassedWhere (nat_lt old.views.last_finalized views.last_finalized) views.last_finalized
+        old.repair new.repair
+    pub entered : HasEnteredWhere (not (old.views.current == views.current)) views.current
+        (record old { views = views; repair = new.repair }) new

@@ -113,8 +113,10 @@ impl<S: CertificateScheme, D: Digest> Plan<S, D> {
         ensures options { (result.options ≡ options) × (result.is_alone ≡ is_alone) }
         ensures views { result.views ≡ views }
         ensures repair { result.repair ≡ repair }
-        ensures nothing { (result.steps.items ≡ []) × (result.builds.buildings.items ≡ []) × (result.early.proposals.items ≡ []) × (result.ignored ≡ 0) }
-        ensures due { (result.is_watch_due ≡ true) × (result.is_timeout_due ≡ true) × (result.is_prune_due ≡ true) × (result.timeout ≡ 0) }
+        ensures nothing { (result.steps.items ≡ []) × (result.builds.buildings.items ≡ [])
+            × (result.early.proposals.items ≡ []) × (result.ignored ≡ 0) }
+        ensures due { (result.is_watch_due ≡ true) × (result.is_timeout_due ≡ true) × (result.is_prune_due ≡ true)
+            × (result.timeout ≡ 0) }
     {
         Plan {
             alloc,
@@ -199,10 +201,13 @@ impl<S: CertificateScheme, D: Digest> Plan<S, D> {
         ensures same { self.new ≡ record self.old { repair = self.new.repair } }
         ensures kept { let repair = self.old.repair in
             OnOk result (HasPassed state.now.finalized
-            (filter (is_missing repair.resolver.open_fetches state.now) repair.fetches.wanted.items) repair self.new.repair) }
-        ensures answers { IsOk result ↔ ((self.old.repair.is_behind ≡ false) × (self.old.repair.passed ≤ state.now.finalized)) }
+            (filter (is_missing repair.resolver.open_fetches state.now) repair.fetches.wanted.items) repair
+            self.new.repair) }
+        ensures answers { IsOk result
+            ↔ ((self.old.repair.is_behind ≡ false) × (self.old.repair.passed ≤ state.now.finalized)) }
         ensures refused { IfErr result (λ fault. (fault ≡ Failed) × (self.new ≡ self.old)) }
-        ensures lacking { OnOk result (FetchesTheMissing self.new.repair.resolver.open_fetches state.now self.new.repair.fetches.wanted.items) }
+        ensures lacking { OnOk result
+            (FetchesTheMissing self.new.repair.resolver.open_fetches state.now self.new.repair.fetches.wanted.items) }
         ensures idle { (now : ℕ) → IsIdle now self.old → IsIdle now self.new }
     {
         self.repair.drop_served(state)

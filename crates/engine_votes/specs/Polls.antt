@@ -35,7 +35,8 @@ module _ {D G : Type 0} (same : D → D → Bool) (subject : Subject D) where
   -- the member's signature, if its vote is on the subject
   abbrev pub signature_on : ℕ → Option (Ballot D G) → List (ℕ × G)
   signature_on member None = []
-  signature_on member (Some ballot) = if same_subject same ballot.subject subject then (member, ballot.signature) ∷ [] else []
+  signature_on member (Some ballot) =
+      if same_subject same ballot.subject subject then (member, ballot.signature) ∷ [] else []
 
   -- the stored signatures on the subject of this number of first members, by rising member
   abbrev pub signatures_on : ℕ → List (Option (Ballot D G)) → List (ℕ × G)

@@ -58,7 +58,8 @@ module _ {S D K G C : Type 0} where
   -- each stored vote is of a view and of a member of which this is true
   abbrev pub EachVote : (ℕ → ℕ → Type 0) → Batcher S D K G C → Type 0
   EachVote Holds batcher =
-      (kind : Kind) (view member : ℕ) (ballot : Ballot D G) → ballot_of (held batcher kind view) member ≡ Some ballot → Holds view member
+      (kind : Kind) (view member : ℕ) (ballot : Ballot D G) → ballot_of (held batcher kind view) member ≡ Some ballot
+      → Holds view member
 
   -- each is of one of this number of members, and of a view from the first one to this one
   abbrev pub HoldsUpTo : ℕ → ℕ → Batcher S D K G C → Type 0
@@ -67,16 +68,19 @@ module _ {S D K G C : Type 0} where
   -- no stored vote is of a view below
   abbrev pub HoldsFrom : ℕ → Batcher S D K G C → Type 0
   HoldsFrom lowest batcher =
-      (kind : Kind) (view member : ℕ) (ballot : Ballot D G) → ballot_of (held batcher kind view) member ≡ Some ballot → lowest ≤ view
+      (kind : Kind) (view member : ℕ) (ballot : Ballot D G)
+      → ballot_of (held batcher kind view) member ≡ Some ballot → lowest ≤ view
 
   -- the stored votes of other kinds or views than this one's are the same
   abbrev pub KeepsOthers : Subject D → Batcher S D K G C → Batcher S D K G C → Type 0
-  KeepsOthers subject old new = (kind : Kind) (view : ℕ) → (kind ≡ kind_of subject → view ≢ subject_view subject) → held new kind view ≡ held old kind view
+  KeepsOthers subject old new = (kind : Kind) (view : ℕ) → (kind ≡ kind_of subject → view ≢ subject_view subject)
+      → held new kind view ≡ held old kind view
 
   -- the votes of the views below are forgotten, and no others
   abbrev pub IsForgotten : ℕ → Batcher S D K G C → Batcher S D K G C → Type 0
   IsForgotten lowest old new =
-      (new.notarize ≡ at_or_above old.notarize lowest) × (new.nullify ≡ at_or_above old.nullify lowest) × (new.finalize ≡ at_or_above old.finalize lowest)
+      (new.notarize ≡ at_or_above old.notarize lowest) × (new.nullify ≡ at_or_above old.nullify lowest)
+      × (new.finalize ≡ at_or_above old.finalize lowest)
 
 -- each vote is signed on its subject under its signer's key
 abbrev pub AreGood : {K D G : Type 0} → (K → Subject D → G → Type 0) → List K → List (Vote D G) → Type 0
@@ -100,9 +104,11 @@ pub record MayCount (members : ℕ) (is_admitted : Bool) (signer : ℕ) : Type 0
   pub of_a_member : signer < members
   pub few : members < 2 ^ 32
 
-module _ {S D K G C : Type 0} (same : D → D → Bool) (IsMadeOf : Subject D → List (ℕ × G) → C → Type 0) (members : ℕ) (is_admitted : Bool) where
+module _ {S D K G C : Type 0} (same : D → D → Bool) (IsMadeOf : Subject D → List (ℕ × G) → C → Type 0) (members : ℕ)
+    (is_admitted : Bool) where
   -- a vote that may count is counted among those of its kind and view, and no others change
-  pub record IsCountedAmong (old : Batcher S D K G C) (vote : Vote D G) (new : Batcher S D K G C) (answer : Counted S D K G C) : Type 0 where
+  pub record IsCountedAmong (old : Batcher S D K G C) (vote : Vote D G) (new : Batcher S D K G C)
+      (answer : Counted S D K G C) : Type 0 where
     pub may : MayCount members is_admitted vote.signer
     pub counted : IsCountedIn same IsMadeOf members (held old (kind_of vote.subject) (subject_view vote.subject)) vote
         (held new (kind_of vote.subject) (subject_view vote.subject)) answer

@@ -28,12 +28,15 @@ module _ {D G : Type 0} where
   -- the member's vote is contradicted, if one is stored; nothing else has changed
   abbrev pub IsMarked : List (Option (Ballot D G)) → ℕ → List (Option (Ballot D G)) → Type 0
   IsMarked old member new =
-      (other : ℕ) → ballot_of new other ≡ (if other == member then option_map contradicted (ballot_of old other) else ballot_of old other)
+      (other : ℕ) → ballot_of new other ≡
+      (if other == member then option_map contradicted (ballot_of old other) else ballot_of old other)
 
   -- none of its signer was stored, and now it is; nothing else has changed
-  pub record IsAdded (old : List (Option (Ballot D G))) (vote : Vote D G) (new : List (Option (Ballot D G))) : Type 0 where
+  pub record IsAdded (old : List (Option (Ballot D G))) (vote : Vote D G)
+      (new : List (Option (Ballot D G))) : Type 0 where
     pub first : ballot_of old vote.signer ≡ None
-    pub held : (member : ℕ) → ballot_of new member ≡ (if member == vote.signer then Some (cast_by vote) else ballot_of old member)
+    pub held : (member : ℕ) → ballot_of new member ≡
+        (if member == vote.signer then Some (cast_by vote) else ballot_of old member)
 
 module _ {S D K G C : Type 0} where
   -- the certificate of the subject's kind, on the subject
@@ -51,23 +54,30 @@ module _ {S D K G C : Type 0} where
   -- a further vote of a member whose first one is this ballot: for the same, or after a pair that was returned; or for something else
   abbrev pub ShowsBoth : Ballot D G → Vote D G → Counted S D K G C → Type 0
   ShowsBoth ballot vote Known = (ballot.is_contradicted ≡ true) ⊎ (ballot.subject ≡ vote.subject)
-  ShowsBoth ballot vote (Equivocated first second) = (cast_by first ≡ ballot) × (first.signer ≡ vote.signer) × (ballot.subject ≢ vote.subject) × (second ≡ vote)
+  ShowsBoth ballot vote (Equivocated first second) =
+      (cast_by first ≡ ballot) × (first.signer ≡ vote.signer) × (ballot.subject ≢ vote.subject) × (second ≡ vote)
   ShowsBoth ballot vote _ = ⊥
 
-module _ {S D K G C : Type 0} (same : D → D → Bool) (IsMadeOf : Subject D → List (ℕ × G) → C → Type 0) (members : ℕ) where
+module _ {S D K G C : Type 0} (same : D → D → Bool) (IsMadeOf : Subject D → List (ℕ × G) → C → Type 0)
+    (members : ℕ) where
   -- the result of a member's vote in an admitted view, by the stored votes of its kind and view, and what is stored then:
   -- - its signer voted for the same before, or a pair of its votes was returned, and nothing changes;
   -- - or it voted for something else, and no pair was returned: that vote, and this one, and the pair is noted;
   -- - or it is added. If the votes for the same are then exactly a quorum, the certificate is made of them.
-  abbrev pub IsCountedIn : List (Option (Ballot D G)) → Vote D G → List (Option (Ballot D G)) → Counted S D K G C → Type 0
+  abbrev pub IsCountedIn : List (Option (Ballot D G)) → Vote D G → List (Option (Ballot D G))
+      → Counted S D K G C → Type 0
   IsCountedIn old vote new Refused = ⊥
   IsCountedIn old vote new Known =
-      ((ballot : Ballot D G) × (ballot_of old vote.signer ≡ Some ballot) × ((ballot.is_contradicted ≡ true) ⊎ (ballot.subject ≡ vote.subject)))
+      ((ballot : Ballot D G) × (ballot_of old vote.signer ≡ Some ballot)
+      × ((ballot.is_contradicted ≡ true) ⊎ (ballot.subject ≡ vote.subject)))
       × HoldsTheSame old new
   IsCountedIn old vote new (Equivocated first second) =
-      (IsHeld old first × (first.signer ≡ vote.signer) × (first.subject ≢ vote.subject) × (second ≡ vote)) × IsMarked old vote.signer new
-  IsCountedIn old vote new Taken = IsAdded old vote new × (length (signatures_on same vote.subject members new) ≢ quorum_of members)
+      (IsHeld old first × (first.signer ≡ vote.signer) × (first.subject ≢ vote.subject) × (second ≡ vote))
+      × IsMarked old vote.signer new
+  IsCountedIn old vote new Taken =
+      IsAdded old vote new × (length (signatures_on same vote.subject members new) ≢ quorum_of members)
   IsCountedIn old vote new (Certified made) =
       IsAdded old vote new
       × (length (signatures_on same vote.subject members new) ≡ quorum_of members)
-      × ((c : C) × (made ≡ certificate_of vote.subject c) × IsMadeOf vote.subject (signatures_on same vote.subject members new) c)
+      × ((c : C) × (made ≡ certificate_of vote.subject c)
+      × IsMadeOf vote.subject (signatures_on same vote.subject members new) c)

@@ -87,7 +87,8 @@ impl<S: Assembly<D>, D: Digest> Batcher<S, D> {
         vote: Vote<D, S::Signature>,
         is_admitted: bool,
     ) -> Result<Counted<S, D>, AllocError>
-        ensures counted { IfOk result (IsCounted D.eq (S.IsMadeOf self.old.scheme) (length (S.participants self.old.scheme))
+        ensures counted { IfOk result
+            (IsCounted D.eq (S.IsMadeOf self.old.scheme) (length (S.participants self.old.scheme))
             is_admitted self.old vote self.new) }
         ensures kept { OnErr result (HoldsAllTheSame self.old self.new) }
         ensures given { (given : _) → AreGiven given self.old → AreGiven (given ++ vote ∷ []) self.new }
@@ -108,7 +109,8 @@ impl<S: Assembly<D>, D: Digest> Batcher<S, D> {
         vote: Vote<D, S::Signature>,
         is_admitted: bool,
     ) -> Result<Counted<S, D>, AllocError>
-        ensures counted { IfOk result (IsCounted D.eq (S.IsMadeOf self.old.scheme) (length (S.participants self.old.scheme))
+        ensures counted { IfOk result
+            (IsCounted D.eq (S.IsMadeOf self.old.scheme) (length (S.participants self.old.scheme))
             is_admitted self.old vote self.new) }
         ensures kept { OnErr result (HoldsAllTheSame self.old self.new) }
         ensures scheme { self.new.scheme ≡ self.old.scheme }
@@ -186,7 +188,9 @@ fn count_at<S: Assembly<D>, D: Digest>(
     requires { length (S.participants scheme.now) ≡ members }
     ensures counted { IfOk result (IsCountedIn D.eq (S.IsMadeOf scheme.now) members
         (slots_at polls.old (subject_view vote.subject)) vote (slots_at polls.new (subject_view vote.subject))) }
-    ensures kept { OnErr result (HoldsTheSame (slots_at polls.old (subject_view vote.subject)) (slots_at polls.new (subject_view vote.subject))) }
+    ensures kept { OnErr result
+        (HoldsTheSame (slots_at polls.old (subject_view vote.subject))
+        (slots_at polls.new (subject_view vote.subject))) }
     ensures others { (view : ℕ) → view ≢ subject_view vote.subject → slots_at polls.new view ≡ slots_at polls.old view }
 {
     let view = vote.subject.view();

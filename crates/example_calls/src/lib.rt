@@ -56,7 +56,8 @@ pub fn finalize<S: Scheme<D>, L: Elector<S>, D: Digest>(
     member: &mut Member<S, L, D>,
     view: View,
 ) -> Result<Option<Finalize<S, D>>, Refusal>
-    ensures recorded { IfOk result (λ vote. member.new.facts.entries ≡ member.old.facts.entries ++ vote_entry (reply_finalize vote)) }
+    ensures recorded { IfOk result
+        (λ vote. member.new.facts.entries ≡ member.old.facts.entries ++ vote_entry (reply_finalize vote)) }
     ensures signed { IfOk result (λ vote. member.new.votes ≡ member.old.votes ++ signed_finalize vote) }
 {
     member.construct_finalize(view)

@@ -27,7 +27,8 @@ rising_members : (members lowest : ℕ) (signatures : List (ℕ × Signature)) �
     → are_members members lowest (signers_of signatures) ≡ true
 rising_members members lowest [] rising = refl
 rising_members members lowest (signed ∷ rest) rising =
-    both_true (both_true (le-leb lowest signed.0 rising.0) (lt-ltb signed.0 members rising.1)) (rising_members members (signed.0 + 1) rest rising.2)
+    both_true (both_true (le-leb lowest signed.0 rising.0) (lt-ltb signed.0 members rising.1))
+    (rising_members members (signed.0 + 1) rest rising.2)
 
 -- the signers of a quorum make a valid certificate
 pub made_is_good : (s : SealScheme) (subject : Subject BlockDigest) (signatures : List (ℕ × Signature)) (seal : Seal)
@@ -35,7 +36,9 @@ pub made_is_good : (s : SealScheme) (subject : Subject BlockDigest) (signatures 
 made_is_good s subject signatures seal signed made =
     let members = length (seal_keys s) in
     let some = lt-ltb 0 members s.has_members in
-    let counted : length (signers_of signatures) ≡ quorum_of members = length-map signatures (λ one. one.0) ∙ signed.quorum in
+    let counted : length (signers_of signatures) ≡ quorum_of members =
+    length-map signatures (λ one. one.0) ∙ signed.quorum in
     let enough = le-leb (quorum_of members) (length (signers_of signatures)) (le_of_eq (sym counted)) in
-    ap (λ signers. nat_lt 0 members && nat_le (quorum_of members) (length signers) && are_members members 0 signers) made
+    ap (λ signers. nat_lt 0 members && nat_le (quorum_of members) (length signers) && are_members members 0 signers)
+    made
     ∙ both_true (both_true some enough) (rising_members members 0 signatures signed.rising)

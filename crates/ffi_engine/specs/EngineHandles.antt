@@ -73,29 +73,36 @@ pub record IsTaken (now : ℕ) (input : HostInput) (old : HeldEngine) (r : FlatT
   pub refused : has_failed old.engine.core ≡ true → (answer ≡ Err Failed) × (new.engine ≡ old.engine)
   -- an ignored input is dropped: the member has done nothing, and no vote is taken; an input that is not admitted is ignored
   pub dropped : IfOk answer (λ is_of_use. IsFalse is_of_use → IsDropped now input old.engine new.engine)
-  pub unadmitted : IsFalse (is_input_admitted certificate_bytes old.engine.core.member.facts input) → IfOk answer (λ is_of_use. IsFalse is_of_use
+  pub unadmitted : IsFalse (is_input_admitted certificate_bytes old.engine.core.member.facts input)
+      → IfOk answer (λ is_of_use. IsFalse is_of_use
       × IsTurnedAway input (ignoring old.engine) new.engine)
   -- an admitted input is acted on
   pub acted : IsTrue (is_input_admitted certificate_bytes old.engine.core.member.facts input) → IfOk answer
       (IsActedOn same_host_payload host_leader certificate_bytes AreTheSignatures host_keys now input old.engine
       new.engine.core.member.facts new.engine.batcher new.engine.plan.steps.items)
-  pub continues : Continues same_host_payload host_leader certificate_bytes (IsOrder bytes_in_digest) (subject_in certificate_bytes input)
+  pub continues : Continues same_host_payload host_leader certificate_bytes (IsOrder bytes_in_digest)
+      (subject_in certificate_bytes input)
       old.engine.core new.engine.core
   pub votes : TakesVotes (votes_of_input input) old.engine.batcher new.engine.batcher
   -- except for a vote, the same votes are stored
   pub held : KeepsVotes input old.engine.batcher new.engine.batcher
-  pub backed : IsBackedInput same_host_payload host_leader certificate_bytes (IsOrder bytes_in_digest) (length (host_keys old.engine.batcher.scheme))
+  pub backed : IsBackedInput same_host_payload host_leader certificate_bytes (IsOrder bytes_in_digest)
+      (length (host_keys old.engine.batcher.scheme))
       input old.engine.batcher old.engine.core new.engine.core
   pub bounded : StaysBounded host_keys old.engine.core old.engine.batcher new.engine.core new.engine.batcher
   -- no proposal and no block that the application must receive is lost
   pub due_work : OnOk answer (KeepsReports old.engine new.engine)
   -- the input and what was at hand cause each call of the member, and what is at hand then; what was asked of peers still is
-  pub provenance : OnOk answer (IsCausedWith same_host_payload host_leader bytes_in_digest certificate_bytes now (input_causes certificate_bytes old.engine.batcher input)
+  pub provenance : OnOk answer
+      (IsCausedWith same_host_payload host_leader bytes_in_digest certificate_bytes now
+      (input_causes certificate_bytes old.engine.batcher input)
       old.engine new.engine)
   -- no certificate of a view above those that the member has heard of becomes asked for
   pub fetch_heights : OnOk answer (FetchesNoHigher same_host_payload host_leader old.engine new.engine)
   -- ignored inputs are counted, and nothing else
-  pub ignored : IfOk answer (λ is_of_use. new.engine.plan.ignored ≡ (if is_of_use then old.engine.plan.ignored else one_more old.engine.plan.ignored))
+  pub ignored : IfOk answer
+      (λ is_of_use. new.engine.plan.ignored ≡
+      (if is_of_use then old.engine.plan.ignored else one_more old.engine.plan.ignored))
   pub rest : new ≡ record old { engine = new.engine }
 
 -- or an output was lost before, and it takes nothing
@@ -109,10 +116,12 @@ Takes now input old r new = HasLost old r.status new ⊎ IsTaken now input old r
 -- which leaders are drawn, or there was no memory for its bytes
 abbrev pub IsInputNotPassed : HeldEngine → FlatInput → FlatTaken → HeldEngine → Type 0
 IsInputNotPassed old f r new =
-    (new ≡ old) × (((r.status ≡ 6) × (IsNoInput f ⊎ ((old.draws ≡ 1) × (f.kind ≡ 2)))) ⊎ ((r.status ≡ 7) × PassesBytes f))
+    (new ≡ old) × (((r.status ≡ 6) × (IsNoInput f ⊎ ((old.draws ≡ 1) × (f.kind ≡ 2))))
+    ⊎ ((r.status ≡ 7) × PassesBytes f))
 
 -- the input that the flat one represents was passed to the engine, at a moment
-pub record IsInputPassed (now : ℕ) (old : HeldEngine) (f : FlatInput) (bytes : List ℕ) (r : FlatTaken) (new : HeldEngine) : Type 0 where
+pub record IsInputPassed (now : ℕ) (old : HeldEngine) (f : FlatInput) (bytes : List ℕ) (r : FlatTaken)
+    (new : HeldEngine) : Type 0 where
   pub input : HostInput
   pub numbers : HasInputNumbers f
   pub is_reported : IsToldAs f bytes input
@@ -144,7 +153,8 @@ second_bytes held = second_bytes_in held.last
 -- entries to store are written as frames, and what is stored beside them counts them
 abbrev pub AreFramed : HostOutput → FlatStored → List ℕ → FlatStored → Type 0
 AreFramed (output.Store entries) before frames after =
-    (frames ≡ framed entries.items) × (after ≡ record before { entries = min (before.entries + length entries.items) (2 ^ 64 - 1) })
+    (frames ≡ framed entries.items)
+    × (after ≡ record before { entries = min (before.entries + length entries.items) (2 ^ 64 - 1) })
 AreFramed (output.Replace entries beside) before frames after =
     (frames ≡ framed entries.items) × (after.entries ≡ length entries.items) × IsFlatStored after beside
 AreFramed _ before frames after = after ≡ before
@@ -177,7 +187,8 @@ IsAllReturned given held = held.is_lost ≡ false → IsJournaled certificate_by
 -- if nothing is queued and all of the record was returned, a journal that carries out all returned outputs holds the record
 abbrev pub HoldsRecord : List HostOutput → HeldEngine → Type 0
 HoldsRecord given held =
-    held.engine.core.failed ≡ false → held.engine.core.outbox.queue.items ≡ [] → IsWhole certificate_bytes held.engine.core
+    held.engine.core.failed ≡ false → held.engine.core.outbox.queue.items ≡ []
+    → IsWhole certificate_bytes held.engine.core
     → IsRecordOf certificate_bytes held.engine.core.member (journal_of given)
 
 -- an engine has nothing more to do at a moment, builds no block and stores no vote of past views, has a short record, and asks for exactly
@@ -190,7 +201,8 @@ pub record IsAtRest (now : ℕ) (old new : HostEngine) : Type 0 where
   pub ahead : BuildsAhead new.core new.plan
   pub lowest : HoldsFromKept new.core new.batcher
   pub lacking : FetchesItsMissing new.core new.plan.repair
-  pub short : (given : List HostOutput) → IsJournaled certificate_bytes given old.core → IsShort new.plan.options.long_record new.core.member.facts
+  pub short : (given : List HostOutput) → IsJournaled certificate_bytes given old.core
+      → IsShort new.plan.options.long_record new.core.member.facts
   pub waiting : (given : List HostOutput) → HasReportedAll given old → AllIsReturned given new
   pub admitted : HoldsNoneAhead host_keys old.core old.batcher → HoldsAdmitted host_keys new.core new.batcher
 
@@ -199,7 +211,8 @@ abbrev pub IsOutcome : ℕ → HeldEngine → FlatOutput → HeldEngine → Type
 IsOutcome now old r new =
     ((out : HostOutput) × IsReturned out old.stored r new)
     ⊎ (IsNothing 0 r new × IsAtRest now old.engine new.engine)
-    ⊎ ((fault : Fault) × IsFailure (has_failed old.engine.core) fault × IsNothing (fault_status fault) r new × (has_failed new.engine.core ≡ true))
+    ⊎ ((fault : Fault) × IsFailure (has_failed old.engine.core) fault × IsNothing (fault_status fault) r new
+    × (has_failed new.engine.core ≡ true))
 
 -- an engine that has lost nothing is polled at a moment
 pub record IsAsked (now : ℕ) (old : HeldEngine) (r : FlatOutput) (new : HeldEngine) : Type 0 where
@@ -209,15 +222,18 @@ pub record IsAsked (now : ℕ) (old : HeldEngine) (r : FlatOutput) (new : HeldEn
   pub told : new.is_lost ≡ false → ReportsNoMore (option_to_list new.last) old.engine.core.outbox new.engine.core.outbox
   -- what the member has done traces the output
   pub traced : new.is_lost ≡ false
-      → EmitsOn same_host_payload host_leader certificate_bytes (IsOrder bytes_in_digest) None (option_to_list new.last) old.engine.core new.engine.core
+      → EmitsOn same_host_payload host_leader certificate_bytes (IsOrder bytes_in_digest) None (option_to_list new.last)
+      old.engine.core new.engine.core
   -- no certificate is accepted, and no vote is taken
-  pub does : ExtendsHistoryOn same_host_payload host_leader None old.engine.core.member.facts new.engine.core.member.facts
+  pub does : ExtendsHistoryOn same_host_payload host_leader None old.engine.core.member.facts
+      new.engine.core.member.facts
   pub votes : TakesNone old.engine.batcher new.engine.batcher
   -- exactly those of views below the lowest retained one are forgotten, or none is
   pub held : ForgetsNoOther new.engine.core old.engine.batcher new.engine.batcher
   pub bounded : StaysBounded host_keys old.engine.core old.engine.batcher new.engine.core new.engine.batcher
   -- no proposal and no block that the application must receive is lost
-  pub due_work : has_failed new.engine.core ≡ false → new.is_lost ≡ false → (given : List HostOutput) → HasReportedAll given old.engine
+  pub due_work : has_failed new.engine.core ≡ false → new.is_lost ≡ false → (given : List HostOutput)
+      → HasReportedAll given old.engine
       → HasReportedAll (given ++ option_to_list new.last) new.engine
   -- no work is lost: what was queued or planned is returned, or still is queued or planned
   pub works : has_failed new.engine.core ≡ false → new.is_lost ≡ false
@@ -225,12 +241,15 @@ pub record IsAsked (now : ℕ) (old : HeldEngine) (r : FlatOutput) (new : HeldEn
   -- what was at hand causes each call of the member, each output and what is at hand then, except that views may be forgotten below the
   -- lowest one that it retains; and what was asked of peers still is
   pub provenance : has_failed new.engine.core ≡ false → new.is_lost ≡ false
-      → IsCaused same_host_payload host_leader bytes_in_digest certificate_bytes now (forgettable new.engine.core.member.facts)
+      → IsCaused same_host_payload host_leader bytes_in_digest certificate_bytes now
+      (forgettable new.engine.core.member.facts)
       (work_in (option_to_list new.last)) (held_by new.engine) old.engine new.engine
   -- no certificate of a view above those that the member has heard of becomes asked for
-  pub fetch_heights : has_failed new.engine.core ≡ false → FetchesNoHigher same_host_payload host_leader old.engine new.engine
+  pub fetch_heights : has_failed new.engine.core ≡ false
+      → FetchesNoHigher same_host_payload host_leader old.engine new.engine
   -- no block above the first view of the next term is added
-  pub near : has_failed new.engine.core ≡ false → BuildsNear old.engine.core old.engine.plan → BuildsNear new.engine.core new.engine.plan
+  pub near : has_failed new.engine.core ≡ false → BuildsNear old.engine.core old.engine.plan
+      → BuildsNear new.engine.core new.engine.plan
   -- the plan's views stay the member's
   pub seen : has_failed new.engine.core ≡ false → TracksViews old.engine.core.member.facts old.engine.plan
       → TracksViews new.engine.core.member.facts new.engine.plan
@@ -248,5 +267,6 @@ pub record IsAsked (now : ℕ) (old : HeldEngine) (r : FlatOutput) (new : HeldEn
 -- an engine is polled at a moment; one that has lost something has failed
 abbrev pub IsPolled : ℕ → HeldEngine → FlatOutput → HeldEngine → Type 0
 IsPolled now old r new =
-    (((old.is_lost ≡ true) × IsNothing 2 r new × (new.engine ≡ old.engine)) ⊎ ((old.is_lost ≡ false) × IsAsked now old r new))
+    (((old.is_lost ≡ true) × IsNothing 2 r new × (new.engine ≡ old.engine))
+    ⊎ ((old.is_lost ≡ false) × IsAsked now old r new))
     × (new.draws ≡ old.draws) × (new.shown ≡ old.shown)

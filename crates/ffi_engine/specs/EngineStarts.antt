@@ -69,7 +69,8 @@ HasStartedBy start options held =
 
 -- an engine begins with these settings, this table, floor and moment: its member is the one that they begin, and a fetch is asked again
 -- after a millisecond at least
-pub record IsEngineStarted (f : FlatSettings) (leaders bytes : List ℕ) (options : FlatOptions) (now : ℕ) (held : HeldEngine) : Type 0 where
+pub record IsEngineStarted (f : FlatSettings) (leaders bytes : List ℕ) (options : FlatOptions) (now : ℕ)
+    (held : HeldEngine) : Type 0 where
   pub retry : options.retry ≢ 0
   pub start : HostStart
   pub by : IsStart f leaders bytes now start
@@ -81,7 +82,9 @@ pub record IsEngineStarted (f : FlatSettings) (leaders bytes : List ℕ) (option
 
 -- the error of an engine, from the member's and the resolver's
 abbrev pub engine_not_started_of : StartError → EngineNotStarted
-engine_not_started_of start_error.RetryZero = engine_not_started.Member (not_resumed.Settings (settings_error.Refused (record_error.Config config_error.RetryZero)))
+engine_not_started_of start_error.RetryZero =
+    engine_not_started.Member
+    (not_resumed.Settings (settings_error.Refused (record_error.Config config_error.RetryZero)))
 engine_not_started_of (start_error.Resume resume.EntriesLost) = engine_not_started.Member not_resumed.EntriesLost
 engine_not_started_of (start_error.Resume (resume.Recover e)) = engine_not_started.Member (not_resumed.Recover e)
 engine_not_started_of (start_error.Replay e) = engine_not_started.Resolver e
@@ -92,17 +95,20 @@ pub record IsStartRefused (f : FlatSettings) (leaders bytes : List ℕ) (now : �
   pub by : IsStart f leaders bytes now start
   pub error : StartError
   pub is_of : e ≡ engine_not_started_of error
-  pub refused : IsStartRefusal start.settings.timeout_retry (IsMemberError (begin_error start)) (λ m. m ≡ begun start) error
+  pub refused : IsStartRefusal start.settings.timeout_retry (IsMemberError (begin_error start))
+      (λ m. m ≡ begun start) error
 
 -- why none begins: for its options or settings; or for what they begin, or out of memory
 abbrev pub IsEngineNotStarted : FlatSettings → List ℕ → List ℕ → FlatOptions → ℕ → EngineNotStarted → Type 0
 IsEngineNotStarted f leaders bytes options now engine_not_started.FetchRetryZero = options.retry ≡ 0
-IsEngineNotStarted f leaders bytes options now (engine_not_started.Member (not_resumed.Settings e)) = IsNoStart f leaders bytes e
+IsEngineNotStarted f leaders bytes options now (engine_not_started.Member (not_resumed.Settings e)) =
+    IsNoStart f leaders bytes e
 IsEngineNotStarted f leaders bytes options now e = IsStartRefused f leaders bytes now e
 
 -- an engine resumes from the bytes of a journal, which has all entries that were counted, and a fetch is asked again after a millisecond at
 -- least
-pub record IsEngineResumed (f : FlatSettings) (leaders bytes : List ℕ) (options : FlatOptions) (now : ℕ) (beside : FlatStored) (journal : List ℕ)
+pub record IsEngineResumed (f : FlatSettings) (leaders bytes : List ℕ) (options : FlatOptions) (now : ℕ)
+    (beside : FlatStored) (journal : List ℕ)
     (held : HeldEngine) : Type 0 where
   pub retry : options.retry ≢ 0
   pub start : HostStart
@@ -110,29 +116,36 @@ pub record IsEngineResumed (f : FlatSettings) (leaders bytes : List ℕ) (option
   pub entries : List HostArtifact
   pub from : IsResumption f leaders bytes now beside journal start stored entries
   pub whole : beside.entries ≤ length entries
-  pub resumed : IsResumed same_host_payload host_leader stored (entries_of certificate_bytes entries) (host_start start) held.engine.core.member.facts
-  pub continues : HasContinued same_host_payload host_leader host_signer host_terms stored (entries_of certificate_bytes entries) start
+  pub resumed : IsResumed same_host_payload host_leader stored (entries_of certificate_bytes entries) (host_start start)
+      held.engine.core.member.facts
+  pub continues : HasContinued same_host_payload host_leader host_signer host_terms stored
+      (entries_of certificate_bytes entries) start
       held.engine.core.member.facts
   pub votes : held.engine.core.member.votes ≡ votes_of entries
   pub begun_by : HasStartedBy start options held
   pub nothing : HasReturnedNothing f held
 
 -- no engine resumes from what is read of them, for what refuses its member or its resolver, or because memory ran out
-pub record IsResumeRefused (f : FlatSettings) (leaders bytes : List ℕ) (now : ℕ) (beside : FlatStored) (journal : List ℕ) (e : EngineNotStarted) : Type 0 where
+pub record IsResumeRefused (f : FlatSettings) (leaders bytes : List ℕ) (now : ℕ) (beside : FlatStored)
+    (journal : List ℕ) (e : EngineNotStarted) : Type 0 where
   pub start : HostStart
   pub stored : Stored
   pub entries : List HostArtifact
   pub from : IsResumption f leaders bytes now beside journal start stored entries
   pub error : StartError
   pub is_of : e ≡ engine_not_started_of error
-  pub refused : IsStartRefusal start.settings.timeout_retry (IsNotResumed same_host_payload host_leader stored (entries_of certificate_bytes entries) (host_start start))
+  pub refused : IsStartRefusal start.settings.timeout_retry
+      (IsNotResumed same_host_payload host_leader stored (entries_of certificate_bytes entries) (host_start start))
       (IsResumed same_host_payload host_leader stored (entries_of certificate_bytes entries) (host_start start)) error
 
 -- why none resumes: for its options, settings or journal; or for what these are, or out of memory
-abbrev pub IsEngineNotResumed : FlatSettings → List ℕ → List ℕ → FlatOptions → ℕ → FlatStored → List ℕ → EngineNotStarted → Type 0
+abbrev pub IsEngineNotResumed : FlatSettings → List ℕ → List ℕ → FlatOptions → ℕ → FlatStored → List ℕ
+    → EngineNotStarted → Type 0
 IsEngineNotResumed f leaders bytes options now beside journal engine_not_started.FetchRetryZero = options.retry ≡ 0
-IsEngineNotResumed f leaders bytes options now beside journal (engine_not_started.Member (not_resumed.Settings e)) = IsNoStart f leaders bytes e
-IsEngineNotResumed f leaders bytes options now beside journal (engine_not_started.Member not_resumed.NoFlag) = 2 ≤ beside.is_pruned
+IsEngineNotResumed f leaders bytes options now beside journal (engine_not_started.Member (not_resumed.Settings e)) =
+    IsNoStart f leaders bytes e
+IsEngineNotResumed f leaders bytes options now beside journal (engine_not_started.Member not_resumed.NoFlag) =
+    2 ≤ beside.is_pruned
 IsEngineNotResumed f leaders bytes options now beside journal (engine_not_started.Member (not_resumed.Journal e)) =
     IsNotResumedBy f leaders bytes now beside journal (not_resumed.Journal e)
 IsEngineNotResumed f leaders bytes options now beside journal (engine_not_started.Member not_resumed.EntriesLost) =

@@ -44,7 +44,8 @@ pub record IsOpenAs (f : Fetch) (r : FlatOpen) : Type 0 where
 -- there is no such open fetch, or this one
 abbrev pub ShowsOpenFetch : HeldEngine → ℕ → FlatOpen → Type 0
 ShowsOpenFetch held index r =
-    (r.status ≡ 0) × MatchOption (slice_get held.engine.plan.repair.fetches.wanted.items index) (r.fetch ≡ 0) (λ f. IsOpenAs f r)
+    (r.status ≡ 0) × MatchOption (slice_get held.engine.plan.repair.fetches.wanted.items index) (r.fetch ≡ 0)
+    (λ f. IsOpenAs f r)
 
 -- what the member knows of a view
 abbrev pub ShowsView : HeldEngine → ℕ → FlatView → Type 0

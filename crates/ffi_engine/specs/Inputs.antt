@@ -55,20 +55,25 @@ pub record IsVote (f : FlatSubject) (bytes : List ℕ) (v : HostVote) : Type 0 w
 -- a certificate on this subject, of these bytes
 abbrev pub IsCertificate : FlatSubject → List ℕ → HostCertified → Type 0
 IsCertificate f bytes (certificate.Notarization it) =
-    (f.kind ≡ certificate_number kind.Notarization) × IsFlatProposal f.proposal it.proposal × (certificate_bytes it.certificate ≡ bytes)
+    (f.kind ≡ certificate_number kind.Notarization) × IsFlatProposal f.proposal it.proposal
+    × (certificate_bytes it.certificate ≡ bytes)
 IsCertificate f bytes (certificate.Nullification it) =
-    (f.kind ≡ certificate_number kind.Nullification) × (it.round ≡ flat_round f.proposal.round) × (certificate_bytes it.certificate ≡ bytes)
+    (f.kind ≡ certificate_number kind.Nullification) × (it.round ≡ flat_round f.proposal.round)
+    × (certificate_bytes it.certificate ≡ bytes)
 IsCertificate f bytes (certificate.Finalization it) =
-    (f.kind ≡ certificate_number kind.Finalization) × IsFlatProposal f.proposal it.proposal × (certificate_bytes it.certificate ≡ bytes)
+    (f.kind ≡ certificate_number kind.Finalization) × IsFlatProposal f.proposal it.proposal
+    × (certificate_bytes it.certificate ≡ bytes)
 
 -- the input that a flat one represents, with these bytes
 abbrev pub IsToldAs : FlatInput → List ℕ → HostInput → Type 0
-IsToldAs f bytes (input.Proposal from q) = (f.kind ≡ 1) × (from ≡ f.subject.member) × IsFlatProposal f.subject.proposal q
+IsToldAs f bytes (input.Proposal from q) =
+    (f.kind ≡ 1) × (from ≡ f.subject.member) × IsFlatProposal f.subject.proposal q
 IsToldAs f bytes (input.Vote v) = (f.kind ≡ 2) × IsVote f.subject bytes v
 IsToldAs f bytes (input.Certificate c) = (f.kind ≡ 3) × IsCertificate f.subject bytes c
 IsToldAs f bytes (input.Verified v success) = (f.kind ≡ 4) × (v ≡ f.view) × (flag_number success ≡ f.success)
 IsToldAs f bytes (input.Built c payload) =
-    (f.kind ≡ 5) × IsContext f.context c × (c.leader.0 ≡ f.subject.member) × (bytes_in_digest payload ≡ f.subject.proposal.payload)
+    (f.kind ≡ 5) × IsContext f.context c × (c.leader.0 ≡ f.subject.member)
+    × (bytes_in_digest payload ≡ f.subject.proposal.payload)
 IsToldAs f bytes (input.Certified v success) = (f.kind ≡ 6) × (v ≡ f.view) × (flag_number success ≡ f.success)
 IsToldAs f bytes (input.GivenUp v reason) = (f.kind ≡ 7) × (v ≡ f.view) × (reason_number reason ≡ f.reason)
 
@@ -78,7 +83,8 @@ PassesBytes f = ((f.kind ≡ 2) ⊎ (f.kind ≡ 3)) × HasKind f.subject
 
 -- one of its numbers is not valid for an input
 abbrev pub IsNoInput : FlatInput → Type 0
-IsNoInput f = (f.kind ≡ 0) ⊎ (8 ≤ f.kind) ⊎ (10 ≤ f.reason) ⊎ (2 ≤ f.success) ⊎ (((f.kind ≡ 2) ⊎ (f.kind ≡ 3)) × IsNoKind f.subject)
+IsNoInput f = (f.kind ≡ 0) ⊎ (8 ≤ f.kind) ⊎ (10 ≤ f.reason) ⊎ (2 ≤ f.success)
+    ⊎ (((f.kind ≡ 2) ⊎ (f.kind ≡ 3)) × IsNoKind f.subject)
 
 -- each of them is valid, also if the kind does not read it
 abbrev pub HasInputNumbers : FlatInput → Type 0

@@ -42,9 +42,12 @@ IsVoteOf f v = IsOn f v.subject × (f.member ≡ v.signer)
 
 -- a certificate is on this subject
 abbrev pub IsOf : FlatSubject → HostCertified → Type 0
-IsOf f (certificate.Notarization it) = (f.kind ≡ certificate_number kind.Notarization) × IsFlatProposal f.proposal it.proposal
-IsOf f (certificate.Nullification it) = (f.kind ≡ certificate_number kind.Nullification) × (it.round ≡ flat_round f.proposal.round)
-IsOf f (certificate.Finalization it) = (f.kind ≡ certificate_number kind.Finalization) × IsFlatProposal f.proposal it.proposal
+IsOf f (certificate.Notarization it) =
+    (f.kind ≡ certificate_number kind.Notarization) × IsFlatProposal f.proposal it.proposal
+IsOf f (certificate.Nullification it) =
+    (f.kind ≡ certificate_number kind.Nullification) × (it.round ≡ flat_round f.proposal.round)
+IsOf f (certificate.Finalization it) =
+    (f.kind ≡ certificate_number kind.Finalization) × IsFlatProposal f.proposal it.proposal
 
 -- the number of a fetch: that of the certificate, or a number of its own
 abbrev pub fetch_number : FetchKind → ℕ
@@ -62,7 +65,8 @@ pub record IsFetch (ask : Ask) (f : FlatOutput) : Type 0 where
 -- the flat form of work
 abbrev pub IsWork : HostWork → FlatOutput → Type 0
 IsWork (work.Broadcast c) f = (f.kind ≡ 4) × IsOf f.subject c
-IsWork (work.Verify c q) f = (f.kind ≡ 5) × IsContext f.context c × (f.subject.member ≡ c.leader.0) × IsFlatProposal f.subject.proposal q
+IsWork (work.Verify c q) f =
+    (f.kind ≡ 5) × IsContext f.context c × (f.subject.member ≡ c.leader.0) × IsFlatProposal f.subject.proposal q
 IsWork (work.Build c) f = (f.kind ≡ 6) × IsContext f.context c × (f.subject.member ≡ c.leader.0)
 IsWork (work.StopBuilding v) f = (f.kind ≡ 7) × (f.view ≡ v)
 IsWork (work.Certify q) f = (f.kind ≡ 8) × IsFlatProposal f.subject.proposal q

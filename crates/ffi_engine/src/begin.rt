@@ -79,9 +79,11 @@ impl HeldEngine {
         stored: &FlatStored,
         journal: &[u8],
     ) -> Result<HeldEngine, EngineNotStarted>
-        ensures resumed { IfOk result (IsEngineResumed flat.now leaders.now certificate.now options.now now stored.now journal.now) }
+        ensures resumed { IfOk result
+            (IsEngineResumed flat.now leaders.now certificate.now options.now now stored.now journal.now) }
         ensures no_retry { options.now.retry ≡ 0 → result ≡ Err FetchRetryZero }
-        ensures refused { IfErr result (IsEngineNotResumed flat.now leaders.now certificate.now options.now now stored.now journal.now) }
+        ensures refused { IfErr result
+            (IsEngineNotResumed flat.now leaders.now certificate.now options.now now stored.now journal.now) }
     {
         if options.retry == 0 {
             return Err(EngineNotStarted::FetchRetryZero);

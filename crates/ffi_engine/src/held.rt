@@ -141,7 +141,8 @@ impl HeldEngine {
         requires last { self.old.last ≡ None }
         requires going { self.old.is_lost ≡ false }
         ensures given { IsReturned output self.old.stored result self.new }
-        ensures rest { (self.new.engine ≡ self.old.engine) × (self.new.draws ≡ self.old.draws) × (self.new.shown ≡ self.old.shown) }
+        ensures rest { (self.new.engine ≡ self.old.engine) × (self.new.draws ≡ self.old.draws)
+            × (self.new.shown ≡ self.old.shown) }
     {
         match self.write(&output) {
             Ok(()) => self.keep(output),
@@ -153,7 +154,8 @@ impl HeldEngine {
         requires { self.old.last ≡ None }
         ensures nothing { IsNothing (not_written_number error) result self.new }
         ensures lost { self.new.is_lost ≡ true }
-        ensures rest { (self.new.engine ≡ self.old.engine) × (self.new.draws ≡ self.old.draws) × (self.new.shown ≡ self.old.shown) }
+        ensures rest { (self.new.engine ≡ self.old.engine) × (self.new.draws ≡ self.old.draws)
+            × (self.new.shown ≡ self.old.shown) }
     {
         self.is_lost = true;
         self.frames.clear();
@@ -239,22 +241,33 @@ impl HeldEngine {
     /// - `once`: its record holds each entry once: of each view at most seven.
     pub fn keeps_the_laws(&self)
         ensures behind { (given : _) → IsAllReturned given self.now → self.now.is_lost ≡ false → AreBehind [] given }
-        ensures stored { (given : _) → IsAllReturned given self.now → self.now.is_lost ≡ false → HoldsRecord given self.now }
-        ensures emitted { (given : _) → IsAllReturned given self.now → self.now.is_lost ≡ false → self.now.engine.core.failed ≡ false
+        ensures stored { (given : _) → IsAllReturned given self.now → self.now.is_lost ≡ false
+            → HoldsRecord given self.now }
+        ensures emitted { (given : _) → IsAllReturned given self.now → self.now.is_lost ≡ false
+            → self.now.engine.core.failed ≡ false
             → AllAreReturned (given ++ self.now.engine.core.outbox.queue.items) }
         ensures stops { (term_length i : _) (earlier given all : _)
-            → IsTraced same_host_payload host_leader certificate_bytes term_length i earlier given all self.now.engine.core
-            → self.now.engine.core.failed ≡ false → EachStopIsLawful same_host_payload host_leader certificate_bytes term_length i earlier all
+            → IsTraced same_host_payload host_leader certificate_bytes term_length i earlier given all
+            self.now.engine.core
+            → self.now.engine.core.failed ≡ false
+            → EachStopIsLawful same_host_payload host_leader certificate_bytes term_length i earlier all
             (given ++ self.now.engine.core.outbox.queue.items) }
         ensures finals { (term_length i : _) (earlier given all : _)
-            → IsTraced same_host_payload host_leader certificate_bytes term_length i earlier given all self.now.engine.core
+            → IsTraced same_host_payload host_leader certificate_bytes term_length i earlier given all
+            self.now.engine.core
             → WereAccepted all (finals_in given) }
-        ensures signed { (i key given vote : _) → IsSignedBy (IsOrder bytes_in_digest) i key given self.now.engine.core → AreBehind [] given
-            → Contains given (output.Vote vote) → (vote.signer ≡ i) × IsOrder bytes_in_digest key vote.subject vote.signature }
-        ensures rising { (given : _) → IsAllReturned given self.now → self.now.is_lost ≡ false → RiseByView (finals_in given) }
-        ensures lawful { OfEachHistory same_host_payload host_leader self.now.engine.core.member.facts (λ term_length i all. IsLawful term_length all) }
-        ensures ran { OfEachHistory same_host_payload host_leader self.now.engine.core.member.facts (MayBeHistoryOf HostKey same_host_payload host_leader) }
-        ensures once { OfEachHistory same_host_payload host_leader self.now.engine.core.member.facts (λ term_length i all.
+        ensures signed { (i key given vote : _) → IsSignedBy (IsOrder bytes_in_digest) i key given self.now.engine.core
+            → AreBehind [] given
+            → Contains given (output.Vote vote) → (vote.signer ≡ i)
+            × IsOrder bytes_in_digest key vote.subject vote.signature }
+        ensures rising { (given : _) → IsAllReturned given self.now → self.now.is_lost ≡ false
+            → RiseByView (finals_in given) }
+        ensures lawful { OfEachHistory same_host_payload host_leader self.now.engine.core.member.facts
+            (λ term_length i all. IsLawful term_length all) }
+        ensures ran { OfEachHistory same_host_payload host_leader self.now.engine.core.member.facts
+            (MayBeHistoryOf HostKey same_host_payload host_leader) }
+        ensures once { OfEachHistory same_host_payload host_leader self.now.engine.core.member.facts
+            (λ term_length i all.
             HoldsEachEntryOnce self.now.engine.core.member.facts) }
     {
         self.engine.keeps_the_laws();

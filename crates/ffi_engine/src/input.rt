@@ -88,7 +88,8 @@ fn vote_of(
     bytes: &[u8],
 ) -> Result<Option<Vote<HostDigest, Order>>, AllocError>
     ensures wanting { OnErr result (HasKind flat.now) }
-    ensures made { IfOk result (λ made. MatchOption made (IsNoKind flat.now) (λ vote. HasKind flat.now × IsVote flat.now bytes.now vote)) }
+    ensures made { IfOk result
+        (λ made. MatchOption made (IsNoKind flat.now) (λ vote. HasKind flat.now × IsVote flat.now bytes.now vote)) }
 {
     let Some(subject) = subject_of(flat) else {
         return Ok(None);
@@ -110,7 +111,8 @@ fn certificate_of(
     bytes: &[u8],
 ) -> Result<Option<Certificate<HostScheme, HostDigest>>, AllocError>
     ensures wanting { OnErr result (HasKind flat.now) }
-    ensures made { IfOk result (λ made. MatchOption made (IsNoKind flat.now) (λ it. HasKind flat.now × IsCertificate flat.now bytes.now it)) }
+    ensures made { IfOk result
+        (λ made. MatchOption made (IsNoKind flat.now) (λ it. HasKind flat.now × IsCertificate flat.now bytes.now it)) }
 {
     let Some(kind) = certificate_kind_of(flat.kind) else {
         return Ok(None);

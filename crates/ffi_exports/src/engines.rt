@@ -54,7 +54,8 @@ pub extern "C" fn simplex_engine_resume(
     journal: &[u8],
     out: &mut EngineHandle,
 ) -> u32
-    ensures resumed { IsResumptionStatus settings.now leaders.now certificate.now options.now now stored.now journal.now result out.old out.new }
+    ensures resumed { IsResumptionStatus settings.now leaders.now certificate.now options.now now stored.now journal.now
+        result out.old out.new }
     ensures no_retry { options.now.retry ≡ 0 → result ≡ 33 }
 {
     match HeldEngine::resume(
@@ -82,7 +83,8 @@ pub unsafe extern "C" fn simplex_engine_handle(
 ) -> FlatTaken
     ghost held: { HeldEngine }
     requires* { sem 𝓛 (engine_at at held) }
-    ensures* { sem 𝓛 (engine_left_at at (result.status ≡ 15) (λ new. IsHandled now held input.now bytes.now result new)) }
+    ensures* { sem 𝓛 (engine_left_at at (result.status ≡ 15)
+        (λ new. IsHandled now held input.now bytes.now result new)) }
 {
     if at.is_null() {
         return absent_engine::taken();
@@ -120,7 +122,8 @@ fn give_out(held: &mut HeldEngine, now: u64) -> FlatOutput
 pub unsafe extern "C" fn simplex_engine_bytes(at: *mut u8, which: u32, from: u64) -> FlatChunk
     ghost held: { HeldEngine }
     requires* { sem 𝓛 (engine_at at held) }
-    ensures* { sem 𝓛 (engine_left_at at (result.status ≡ 15) (λ new. IsRead held new (ShowsChunk held which from result))) }
+    ensures* { sem 𝓛 (engine_left_at at (result.status ≡ 15)
+        (λ new. IsRead held new (ShowsChunk held which from result))) }
 {
     if at.is_null() {
         return null_handle::chunk();
@@ -158,7 +161,8 @@ fn pass_status(held: &mut HeldEngine) -> FlatStatus
 pub unsafe extern "C" fn simplex_engine_open(at: *mut u8, index: u64) -> FlatOpen
     ghost held: { HeldEngine }
     requires* { sem 𝓛 (engine_at at held) }
-    ensures* { sem 𝓛 (engine_left_at at (result.status ≡ 15) (λ new. IsRead held new (ShowsOpenFetch held index result))) }
+    ensures* { sem 𝓛 (engine_left_at at (result.status ≡ 15)
+        (λ new. IsRead held new (ShowsOpenFetch held index result))) }
 {
     if at.is_null() {
         return absent_engine::open();
@@ -196,7 +200,8 @@ fn pass_view(held: &mut HeldEngine, view: u64) -> FlatView
 pub unsafe extern "C" fn simplex_engine_withheld(at: *mut u8, kind: u32, view: u64) -> FlatWithheld
     ghost held: { HeldEngine }
     requires* { sem 𝓛 (engine_at at held) }
-    ensures* { sem 𝓛 (engine_left_at at (result.status ≡ 15) (λ new. IsRead held new (ShowsWithheld held kind view result))) }
+    ensures* { sem 𝓛 (engine_left_at at (result.status ≡ 15)
+        (λ new. IsRead held new (ShowsWithheld held kind view result))) }
 {
     if at.is_null() {
         return null_handle::withheld();

@@ -65,7 +65,8 @@ pub extern "C" fn simplex_member_resume(
     journal: &[u8],
     out: &mut MemberHandle,
 ) -> u32
-    ensures { IsResumeStatus settings.now leaders.now certificate.now now stored.now journal.now result out.old out.new }
+    ensures { IsResumeStatus settings.now leaders.now certificate.now now stored.now journal.now result
+        out.old out.new }
 {
     match Held::resume(alloc, settings, leaders, certificate, now, stored, journal) {
         Ok(held) => out.write(alloc, held),
@@ -82,7 +83,8 @@ pub unsafe extern "C" fn simplex_member_call(
 ) -> FlatReply
     ghost held: { Held }
     requires* { sem 𝓛 (held_at at held) }
-    ensures* { sem 𝓛 (member_left_at at (result.status ≡ 15) (λ now. IsCallServed held call.now certificate.now result now)) }
+    ensures* { sem 𝓛 (member_left_at at (result.status ≡ 15)
+        (λ now. IsCallServed held call.now certificate.now result now)) }
 {
     if at.is_null() {
         return null_handle::reply();
@@ -101,7 +103,8 @@ fn serve(held: &mut Held, call: &FlatCall, certificate: &[u8]) -> FlatReply
 pub unsafe extern "C" fn simplex_member_bytes(at: *mut u8, which: u32, from: u64) -> FlatChunk
     ghost held: { Held }
     requires* { sem 𝓛 (held_at at held) }
-    ensures* { sem 𝓛 (member_left_at at (result.status ≡ 15) (λ now. IsRead held now (IsChunkOf held which from result))) }
+    ensures* { sem 𝓛 (member_left_at at (result.status ≡ 15)
+        (λ now. IsRead held now (IsChunkOf held which from result))) }
 {
     if at.is_null() {
         return null_handle::chunk();
@@ -120,7 +123,8 @@ fn pass_chunk(held: &mut Held, which: u32, from: u64) -> FlatChunk
 pub unsafe extern "C" fn simplex_member_item(at: *mut u8, which: u32, index: u64) -> FlatItem
     ghost held: { Held }
     requires* { sem 𝓛 (held_at at held) }
-    ensures* { sem 𝓛 (member_left_at at (result.status ≡ 15) (λ now. IsRead held now (IsItem held.last which index result))) }
+    ensures* { sem 𝓛 (member_left_at at (result.status ≡ 15)
+        (λ now. IsRead held now (IsItem held.last which index result))) }
 {
     if at.is_null() {
         return null_handle::item();
@@ -196,7 +200,8 @@ fn pass_pruned(held: &mut Held) -> FlatEntries
 pub unsafe extern "C" fn simplex_member_view(at: *mut u8, view: u64) -> FlatView
     ghost held: { Held }
     requires* { sem 𝓛 (held_at at held) }
-    ensures* { sem 𝓛 (member_left_at at (result.status ≡ 15) (λ now. IsRead held now (IsView held.member.facts view result))) }
+    ensures* { sem 𝓛 (member_left_at at (result.status ≡ 15)
+        (λ now. IsRead held now (IsView held.member.facts view result))) }
 {
     if at.is_null() {
         return null_handle::view();
@@ -215,7 +220,8 @@ fn pass_view(held: &mut Held, view: u64) -> FlatView
 pub unsafe extern "C" fn simplex_member_withheld(at: *mut u8, kind: u32, view: u64) -> FlatWithheld
     ghost held: { Held }
     requires* { sem 𝓛 (held_at at held) }
-    ensures* { sem 𝓛 (member_left_at at (result.status ≡ 15) (λ now. IsRead held now (IsWithheld held.member.facts kind view result))) }
+    ensures* { sem 𝓛 (member_left_at at (result.status ≡ 15)
+        (λ now. IsRead held now (IsWithheld held.member.facts kind view result))) }
 {
     if at.is_null() {
         return null_handle::withheld();
@@ -239,7 +245,8 @@ pub unsafe extern "C" fn simplex_member_restart(
 ) -> u32
     ghost held: { Held }
     requires* { sem 𝓛 (held_at at held) }
-    ensures* { sem 𝓛 (member_left_at at (result ≡ 15) (λ now. IsRestartStatus held restart.now leaders.now certificate.now result now)) }
+    ensures* { sem 𝓛 (member_left_at at (result ≡ 15)
+        (λ now. IsRestartStatus held restart.now leaders.now certificate.now result now)) }
 {
     if at.is_null() {
         return null_handle::status();

@@ -44,7 +44,8 @@ pub unsafe extern "C" fn simplex_resolver_told(
 ) -> FlatEffects
     ghost held: { HeldResolver }
     requires* { sem 𝓛 (resolver_at at held) }
-    ensures* { sem 𝓛 (resolver_left_at at (result.status ≡ 15) (λ now. IsHeard held told.now certificate.now result now)) }
+    ensures* { sem 𝓛 (resolver_left_at at (result.status ≡ 15)
+        (λ now. IsHeard held told.now certificate.now result now)) }
 {
     if at.is_null() {
         return null_handle::effects();
@@ -67,7 +68,8 @@ fn tell(held: &mut HeldResolver, told: &FlatResolverReply, certificate: &[u8]) -
 pub unsafe extern "C" fn simplex_resolver_effect(at: *mut u8, index: u64) -> FlatEffect
     ghost held: { HeldResolver }
     requires* { sem 𝓛 (resolver_at at held) }
-    ensures* { sem 𝓛 (resolver_left_at at (result.status ≡ 15) (λ now. IsRead held now (IsEffectAt held.last.items index result))) }
+    ensures* { sem 𝓛 (resolver_left_at at (result.status ≡ 15)
+        (λ now. IsRead held now (IsEffectAt held.last.items index result))) }
 {
     if at.is_null() {
         return null_handle::effect();
@@ -86,7 +88,8 @@ fn pass_effect(held: &mut HeldResolver, index: u64) -> FlatEffect
 pub unsafe extern "C" fn simplex_resolver_settled(at: *mut u8, view: u64) -> FlatSettled
     ghost held: { HeldResolver }
     requires* { sem 𝓛 (resolver_at at held) }
-    ensures* { sem 𝓛 (resolver_left_at at (result.status ≡ 15) (λ now. IsRead held now (IsSettledAt held.resolver view result))) }
+    ensures* { sem 𝓛 (resolver_left_at at (result.status ≡ 15)
+        (λ now. IsRead held now (IsSettledAt held.resolver view result))) }
 {
     if at.is_null() {
         return null_handle::settled();
@@ -143,7 +146,8 @@ fn pass_served(held: &mut HeldResolver, view: u64) -> FlatServed
 pub unsafe extern "C" fn simplex_resolver_bytes(at: *mut u8, from: u64) -> FlatChunk
     ghost held: { HeldResolver }
     requires* { sem 𝓛 (resolver_at at held) }
-    ensures* { sem 𝓛 (resolver_left_at at (result.status ≡ 15) (λ now. IsRead held now (IsChunk held.served.items from result))) }
+    ensures* { sem 𝓛 (resolver_left_at at (result.status ≡ 15)
+        (λ now. IsRead held now (IsChunk held.served.items from result))) }
 {
     if at.is_null() {
         return null_handle::chunk();

@@ -63,7 +63,8 @@ pub record IsNoEntryAt (journal : List ℕ) (at : ℕ) (is_refusal : List ℕ �
 abbrev pub IsNotRead : List ℕ → NotRead → Type 0
 IsNotRead journal not_read.OutOfMemory = Unit {0}
 IsNotRead journal (not_read.Damaged at) = IsDamagedAt journal at
-IsNotRead journal (not_read.NoEntry at e) = IsNoEntryAt journal at (λ entry. IsArtifactRefusal (bytes_in_digest {n = 32}) 32 certificate_bytes order_of entry e)
+IsNotRead journal (not_read.NoEntry at e) =
+    IsNoEntryAt journal at (λ entry. IsArtifactRefusal (bytes_in_digest {n = 32}) 32 certificate_bytes order_of entry e)
 
 -- there are no bytes, or no frame is at their front
 abbrev pub StandsAlone : List ℕ → Type 0

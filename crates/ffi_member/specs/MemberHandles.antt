@@ -45,7 +45,8 @@ pub record IsCallMade (old : Held) (f : FlatCall) (bytes : List ℕ) (r : FlatRe
   pub numbers : HasNumbers f
   pub is_asked : IsAskedBy f bytes call
   -- the member replied to it, by its contract; its reply is stored
-  pub made : IsCall same_host_payload host_leader old.member.facts call (told certificate_bytes new.last) new.member.facts
+  pub made : IsCall same_host_payload host_leader old.member.facts call
+      (told certificate_bytes new.last) new.member.facts
   -- the flat reply represents that reply
   pub tells : RepresentsReply r (told certificate_bytes new.last)
   -- a vote in it is ordered, for exactly its own bytes
@@ -88,7 +89,8 @@ dropped_in _ = []
 
 -- the proposal at an index of a list
 abbrev pub IsProposalAt : List (Proposal (BytesDigest 32)) → ℕ → FlatProposal → Type 0
-IsProposalAt proposals index f = (q : Proposal (BytesDigest 32)) × (slice_get proposals index ≡ Some q) × IsFlatProposal f q
+IsProposalAt proposals index f =
+    (q : Proposal (BytesDigest 32)) × (slice_get proposals index ≡ Some q) × IsFlatProposal f q
 
 -- the fetch at an index of a list
 abbrev pub IsFetchAt : List CertificateFetch → ℕ → FlatFetch → Type 0

@@ -28,7 +28,8 @@ begun start =
 -- the error of a start that has no record
 abbrev pub begin_error : HostStart → Option RecoverError
 begin_error start =
-    recover_error same_host_payload (set_up host_signer host_keys host_terms is_early start.settings) (floor_facts certificate_bytes start.floor) start.now []
+    recover_error same_host_payload (set_up host_signer host_keys host_terms is_early start.settings)
+    (floor_facts certificate_bytes start.floor) start.now []
 
 -- no call was made yet, and nothing was loaded
 abbrev pub IsFresh : Held → Type 0
@@ -46,4 +47,5 @@ pub record IsStarted (f : FlatSettings) (leaders bytes : List ℕ) (now : ℕ) (
 -- why none begins: by its settings, or by what is due of the start that they make
 abbrev pub IsNotStarted : FlatSettings → List ℕ → List ℕ → ℕ → NotStarted → Type 0
 IsNotStarted f leaders bytes now (not_started.Settings e) = IsNoStart f leaders bytes e
-IsNotStarted f leaders bytes now (not_started.Recover e) = (start : HostStart) × IsStart f leaders bytes now start × IsErrorDue (begin_error start) e
+IsNotStarted f leaders bytes now (not_started.Recover e) =
+    (start : HostStart) × IsStart f leaders bytes now start × IsErrorDue (begin_error start) e

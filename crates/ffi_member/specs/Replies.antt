@@ -67,9 +67,12 @@ HasFinalize _ f = ⊥
 -- a certificate, by the number of its kind
 abbrev pub HasCertificate : Option (CertificateFacts (BytesDigest 32)) → FlatReply → Type 0
 HasCertificate None f = f.has ≡ 0
-HasCertificate (Some (Notarized c)) f = (f.has ≡ certificate_number kind.Notarization) × IsFlatProposal f.proposal c.proposal
-HasCertificate (Some (Nullified c)) f = (f.has ≡ certificate_number kind.Nullification) × (c.round ≡ flat_round f.proposal.round)
-HasCertificate (Some (Finalized c)) f = (f.has ≡ certificate_number kind.Finalization) × IsFlatProposal f.proposal c.proposal
+HasCertificate (Some (Notarized c)) f =
+    (f.has ≡ certificate_number kind.Notarization) × IsFlatProposal f.proposal c.proposal
+HasCertificate (Some (Nullified c)) f =
+    (f.has ≡ certificate_number kind.Nullification) × (c.round ≡ flat_round f.proposal.round)
+HasCertificate (Some (Finalized c)) f =
+    (f.has ≡ certificate_number kind.Finalization) × IsFlatProposal f.proposal c.proposal
 
 -- why a handoff must be abandoned, if it must
 abbrev pub HasReason : Option HandoffAbandonedReason → FlatReply → Type 0
@@ -80,17 +83,21 @@ HasReason (Some reason) f = (f.has ≡ 1) × (f.reason ≡ abandoned_number reas
 abbrev pub RepresentsReply : FlatReply → ReplyFacts HostKey (BytesDigest 32) → Type 0
 RepresentsReply f Done = HasAnswer 0 f
 RepresentsReply f (Answered taken) = HasAnswer 1 f × (f.flag ≡ flag_number taken)
-RepresentsReply f (Added newly leader) = HasAnswer 2 f × (f.flag ≡ flag_number newly) × (f.member ≡ member_number leader)
+RepresentsReply f (Added newly leader) =
+    HasAnswer 2 f × (f.flag ≡ flag_number newly) × (f.member ≡ member_number leader)
 RepresentsReply f (AddedNullification newly) = HasAnswer 3 f × (f.flag ≡ flag_number newly)
 RepresentsReply f (Requested request) = HasAnswer 4 f × HasRequest request f
 RepresentsReply f (Standing work) = HasAnswer 5 f × HasWork work f
-RepresentsReply f (Candidates proposals fetches) = HasAnswer 6 f × (f.count ≡ length proposals) × (f.fetches ≡ length fetches)
-RepresentsReply f (Judged success notarization) = HasAnswer 7 f × (f.flag ≡ flag_number success) × HasNotarization notarization f
+RepresentsReply f (Candidates proposals fetches) =
+    HasAnswer 6 f × (f.count ≡ length proposals) × (f.fetches ≡ length fetches)
+RepresentsReply f (Judged success notarization) =
+    HasAnswer 7 f × (f.flag ≡ flag_number success) × HasNotarization notarization f
 RepresentsReply f (Notarize vote) = HasAnswer 8 f × HasNotarize vote f
 RepresentsReply f (Nullify vote) = HasAnswer 9 f × HasNullify vote f
 RepresentsReply f (Finalize vote) = HasAnswer 10 f × HasFinalize vote f
 RepresentsReply f (Returned certificate) = HasAnswer 11 f × HasCertificate certificate f
-RepresentsReply f (TimesOut (Some (moment, reason))) = HasAnswer 12 f × (f.moment ≡ moment) × (f.reason ≡ reason_number reason)
+RepresentsReply f (TimesOut (Some (moment, reason))) =
+    HasAnswer 12 f × (f.moment ≡ moment) × (f.reason ≡ reason_number reason)
 RepresentsReply f (Dropped views) = HasAnswer 13 f × (f.count ≡ length views)
 RepresentsReply f (Released was_open) = HasAnswer 14 f × (f.flag ≡ flag_number was_open)
 RepresentsReply f (Triggered latched) = HasAnswer 15 f × (f.flag ≡ flag_number latched)

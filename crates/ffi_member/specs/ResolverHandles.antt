@@ -42,7 +42,8 @@ pub record IsReplayedFrom (term_length : ℕ) (journal : List ℕ) (held : HeldR
   pub entries : List HostArtifact
   pub read : journal ≡ framed entries
   pub accepted : record_error (newest_first certificate_bytes entries) ≡ None
-  pub told : HasReceivedCalls term_length (replay_calls (bytes_in_digest {n = 32}) certificate_bytes entries) held.resolver
+  pub told : HasReceivedCalls term_length
+      (replay_calls (bytes_in_digest {n = 32}) certificate_bytes entries) held.resolver
   pub last : held.last.items ≡ []
   pub served : held.served.items ≡ []
 
@@ -73,7 +74,8 @@ not_replayed_number (not_replayed.Replay replay.VerdictWithoutNotarization) = 46
 abbrev pub IsFlatCertificate : ℕ → FlatResolverReply → List ℕ → CertificateFacts (BytesDigest 32) → Type 0
 IsFlatCertificate (suc zero) f bytes (Notarized c) = IsFlatProposal f.proposal c.proposal × (c.bytes ≡ bytes)
 IsFlatCertificate (suc (suc zero)) f bytes (Nullified c) = (c.round ≡ flat_round f.proposal.round) × (c.bytes ≡ bytes)
-IsFlatCertificate (suc (suc (suc zero))) f bytes (Finalized c) = IsFlatProposal f.proposal c.proposal × (c.bytes ≡ bytes)
+IsFlatCertificate (suc (suc (suc zero))) f bytes (Finalized c) =
+    IsFlatProposal f.proposal c.proposal × (c.bytes ≡ bytes)
 IsFlatCertificate _ f bytes c = ⊥
 
 -- a verdict on a notarization with these numbers and bytes
@@ -88,7 +90,8 @@ pub record IsJudged (f : FlatResolverReply) (bytes : List ℕ) (call : Call) : T
 -- the input: a certificate, or a verdict
 abbrev pub IsResolverCall : FlatResolverReply → List ℕ → Call → Type 0
 IsResolverCall f bytes call =
-    ((c : CertificateFacts (BytesDigest 32)) × IsFlatCertificate f.kind f bytes c × (call ≡ update (bytes_in_digest {n = 32}) c))
+    ((c : CertificateFacts (BytesDigest 32)) × IsFlatCertificate f.kind f bytes c
+    × (call ≡ update (bytes_in_digest {n = 32}) c))
     ⊎ ((f.kind ≡ 4) × IsJudged f bytes call)
 
 -- the highest view that is named: of a nullification its own, else the greater of its own and its parent's
@@ -96,7 +99,8 @@ abbrev pub highest_passed : FlatResolverReply → ℕ
 highest_passed f = if f.kind == 2 then f.proposal.round.view else max f.proposal.round.view f.proposal.parent
 
 -- the resolver receives it, and these are its effects
-pub record HasEffects (old : HeldResolver) (highest : ℕ) (call : Call) (r : FlatEffects) (new : HeldResolver) : Type 0 where
+pub record HasEffects (old : HeldResolver) (highest : ℕ) (call : Call) (r : FlatEffects)
+    (new : HeldResolver) : Type 0 where
   pub status : r.status ≡ 0
   pub living : old.resolver.state.is_failed ≡ false
   pub views : highest < 2 ^ 63
@@ -112,7 +116,8 @@ HasNoEffects status r = (r.status ≡ status) × (r.count ≡ 0) × (r.fetches �
 -- a fault changes what its contract says, and leaves no effects to be read
 abbrev pub HasFault : HeldResolver → ℕ → Call → FlatEffects → HeldResolver → Type 0
 HasFault old highest call r new =
-    (fault : Fault) × HasNoEffects (fault_status fault) r × IsLeftBy old.resolver highest call fault new.resolver × (new.last.items ≡ [])
+    (fault : Fault) × HasNoEffects (fault_status fault) r × IsLeftBy old.resolver highest call fault new.resolver
+    × (new.last.items ≡ [])
 
 -- the resolver receives a call that names no view above the highest, or it ends in a fault; what was served last stays
 abbrev pub IsHeardAs : HeldResolver → ℕ → Call → FlatEffects → HeldResolver → Type 0
@@ -141,7 +146,8 @@ IsResolverNotNotified old f r new = (new ≡ old) × IsUntold f r
 -- what flat numbers pass to a resolver
 abbrev pub IsHeard : HeldResolver → FlatResolverReply → List ℕ → FlatEffects → HeldResolver → Type 0
 IsHeard old f bytes r new =
-    IsResolverNotNotified old f r new ⊎ (HasTold f × ((call : Call) × IsResolverCall f bytes call × IsHeardAs old (highest_passed f) call r new))
+    IsResolverNotNotified old f r new
+    ⊎ (HasTold f × ((call : Call) × IsResolverCall f bytes call × IsHeardAs old (highest_passed f) call r new))
 
 -- why a fetch is opened, and what is settled
 abbrev pub why_number : FetchReason → ℕ
@@ -150,15 +156,18 @@ why_number why.CertificationFailed = 1
 
 -- an effect has these numbers
 abbrev pub IsEffect : Effect → FlatEffect → Type 0
-IsEffect (effect.Fetch view cause reason) f = (f.kind ≡ 1) × (f.view ≡ view) × (f.cause ≡ cause) × (f.reason ≡ why_number reason)
-IsEffect (effect.Settled kind start end) f = (f.kind ≡ 2) × (f.view ≡ start) × (f.end ≡ end) × (f.reason ≡ missing_number kind)
+IsEffect (effect.Fetch view cause reason) f =
+    (f.kind ≡ 1) × (f.view ≡ view) × (f.cause ≡ cause) × (f.reason ≡ why_number reason)
+IsEffect (effect.Settled kind start end) f =
+    (f.kind ≡ 2) × (f.view ≡ start) × (f.end ≡ end) × (f.reason ≡ missing_number kind)
 IsEffect (effect.Finalized view) f = (f.kind ≡ 3) × (f.view ≡ view)
 IsEffect (effect.Raised view) f = (f.kind ≡ 4) × (f.view ≡ view)
 
 -- the effect at an index, or none
 abbrev pub IsEffectAt : List Effect → ℕ → FlatEffect → Type 0
 IsEffectAt es index f =
-    (f.status ≡ 0) × (((f.kind ≡ 0) × (length es ≤ index)) ⊎ ((e : Effect) × (slice_get es index ≡ Some e) × IsEffect e f))
+    (f.status ≡ 0) × (((f.kind ≡ 0) × (length es ≤ index))
+    ⊎ ((e : Effect) × (slice_get es index ≡ Some e) × IsEffect e f))
 
 -- what is known of a view
 pub record IsSettledAt (r : LawfulResolverFacts) (view : ℕ) (f : FlatSettled) : Type 0 where
@@ -177,7 +186,8 @@ view_bytes views = flat_map (λ v. to_be_bytes w64 v) views
 -- views are loaded; or there was no memory for them, and nothing is
 abbrev pub HasViews : List ℕ → FlatOutstanding → List ℕ → Type 0
 HasViews views r served =
-    ((r.status ≡ 0) × (r.count ≡ length views) × (served ≡ view_bytes views)) ⊎ ((r.status ≡ 1) × (r.count ≡ 0) × (served ≡ []))
+    ((r.status ≡ 0) × (r.count ≡ length views) × (served ≡ view_bytes views))
+    ⊎ ((r.status ≡ 1) × (r.count ≡ 0) × (served ≡ []))
 
 -- the views with an open fetch are loaded, rising
 pub record AreOutstanding (old : HeldResolver) (r : FlatOutstanding) (new : HeldResolver) : Type 0 where

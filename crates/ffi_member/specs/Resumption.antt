@@ -49,13 +49,15 @@ pub record IsResumption
 
 -- a member resumes from them; the journal has all entries that were counted
 pub record IsResumedBy
-    (f : FlatSettings) (leaders bytes : List ℕ) (now : ℕ) (beside : FlatStored) (journal : List ℕ) (held : Held) : Type 0 where
+    (f : FlatSettings) (leaders bytes : List ℕ) (now : ℕ) (beside : FlatStored) (journal : List ℕ)
+    (held : Held) : Type 0 where
   pub start : HostStart
   pub stored : Stored
   pub entries : List HostArtifact
   pub from : IsResumption f leaders bytes now beside journal start stored entries
   pub whole : beside.entries ≤ length entries
-  pub resumed : IsResumed same_host_payload host_leader stored (entries_of certificate_bytes entries) (host_start start) held.member.facts
+  pub resumed : IsResumed same_host_payload host_leader stored (entries_of certificate_bytes entries) (host_start start)
+      held.member.facts
   -- its votes are those of the journal, with their orders
   pub votes : held.member.votes ≡ votes_of entries
   pub fresh : IsFresh held
@@ -68,12 +70,14 @@ pub record IsLost (beside : FlatStored) (journal : List ℕ) : Type 0 where
 
 -- the record is refused, or memory ran out
 pub record IsNotRecovered
-    (f : FlatSettings) (leaders bytes : List ℕ) (now : ℕ) (beside : FlatStored) (journal : List ℕ) (error : RecoverError) : Type 0 where
+    (f : FlatSettings) (leaders bytes : List ℕ) (now : ℕ) (beside : FlatStored) (journal : List ℕ)
+    (error : RecoverError) : Type 0 where
   pub start : HostStart
   pub stored : Stored
   pub entries : List HostArtifact
   pub from : IsResumption f leaders bytes now beside journal start stored entries
-  pub refused : IsNotResumed same_host_payload host_leader stored (entries_of certificate_bytes entries) (host_start start) (resume.Recover error)
+  pub refused : IsNotResumed same_host_payload host_leader stored (entries_of certificate_bytes entries)
+      (host_start start) (resume.Recover error)
 
 -- why no member resumes from them
 abbrev pub IsNotResumedBy : FlatSettings → List ℕ → List ℕ → ℕ → FlatStored → List ℕ → NotResumed → Type 0
@@ -81,10 +85,12 @@ IsNotResumedBy f leaders bytes now beside journal (not_resumed.Settings e) = IsN
 IsNotResumedBy f leaders bytes now beside journal not_resumed.NoFlag = 2 ≤ beside.is_pruned
 IsNotResumedBy f leaders bytes now beside journal (not_resumed.Journal e) = IsNotRead journal e
 IsNotResumedBy f leaders bytes now beside journal not_resumed.EntriesLost = IsLost beside journal
-IsNotResumedBy f leaders bytes now beside journal (not_resumed.Recover e) = IsNotRecovered f leaders bytes now beside journal e
+IsNotResumedBy f leaders bytes now beside journal (not_resumed.Recover e) =
+    IsNotRecovered f leaders bytes now beside journal e
 
 -- the restart that these settings ask for
-pub record IsRestartOf (f : FlatRestart) (leaders bytes : List ℕ) (r : RestartFacts HostKey HostElector (BytesDigest 32)) : Type 0 where
+pub record IsRestartOf (f : FlatRestart) (leaders bytes : List ℕ)
+    (r : RestartFacts HostKey HostElector (BytesDigest 32)) : Type 0 where
   pub start : HostStart
   pub started : IsStart f.settings leaders bytes f.moment start
   pub start_is : r.start ≡ host_start start
@@ -93,7 +99,8 @@ pub record IsRestartOf (f : FlatRestart) (leaders bytes : List ℕ) (r : Restart
 
 -- the member is restarted with this result, which retains the orders of the votes that stay, and all that is read of the handle
 pub record IsRestartTo
-    (old : Held) (f : FlatRestart) (leaders bytes : List ℕ) (result : Result (Unit {0}) RecoverError) (new : Held) : Type 0 where
+    (old : Held) (f : FlatRestart) (leaders bytes : List ℕ) (result : Result (Unit {0}) RecoverError)
+    (new : Held) : Type 0 where
   pub asked : RestartFacts HostKey HostElector (BytesDigest 32)
   pub is_asked : IsRestartOf f leaders bytes asked
   pub restarted : IsRestart same_host_payload host_leader old.member.facts asked result new.member.facts

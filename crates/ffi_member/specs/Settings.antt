@@ -62,13 +62,15 @@ pub record IsElector (f : FlatSettings) (leaders : List ℕ) (e : HostElector) :
 -- genesis has the floor's payload; a finalization has the floor's proposal, and these bytes
 abbrev pub IsFloor : FlatSettings → List ℕ → Floor HostScheme (BytesDigest 32) HostKey Order HostCertificate → Type 0
 IsFloor f bytes (floor.Genesis payload) = (f.is_finalized ≡ 0) × (bytes_in_digest payload ≡ f.floor.payload)
-IsFloor f bytes (floor.Finalized it) = (f.is_finalized ≡ 1) × IsFlatProposal f.floor it.proposal × (certificate_bytes it.certificate ≡ bytes)
+IsFloor f bytes (floor.Finalized it) =
+    (f.is_finalized ≡ 1) × IsFlatProposal f.floor it.proposal × (certificate_bytes it.certificate ≡ bytes)
 
 -- whether views of inactive leaders are skipped; a budget of 0 is that of as many terms as there are members
 abbrev pub IsSkip : FlatSettings → SkipPolicy → Type 0
 IsSkip f skip.Disabled = f.skip_timeout ≡ 0
 IsSkip f (skip.Enabled timeout budget.Participants) = (0 < timeout) × (timeout ≡ f.skip_timeout) × (f.skip_budget ≡ 0)
-IsSkip f (skip.Enabled timeout (budget.Fixed terms)) = (0 < timeout) × (timeout ≡ f.skip_timeout) × (f.skip_budget ≡ terms.value)
+IsSkip f (skip.Enabled timeout (budget.Fixed terms)) =
+    (0 < timeout) × (timeout ≡ f.skip_timeout) × (f.skip_budget ≡ terms.value)
 
 -- the settings have these numbers and bytes
 pub record IsConfig (f : FlatSettings) (bytes : List ℕ) (c : HostConfig) : Type 0 where
@@ -106,7 +108,8 @@ length_error f leaders = if (f.draws == 0) && not (length leaders == f.members) 
 
 -- the first rule that a table of leaders breaks: each entry is a member's index, and there are as many as required
 abbrev pub table_error : FlatSettings → List ℕ → Option SettingsError
-table_error f leaders = if not (names_members f.members leaders) then Some error.NoSuchLeader else length_error f leaders
+table_error f leaders = if not (names_members f.members leaders) then Some error.NoSuchLeader
+    else length_error f leaders
 
 -- the first rule that the numbers of an elector break: there is a member, and an entry in the table of leaders
 abbrev pub elector_error : FlatSettings → List ℕ → Option SettingsError
@@ -132,7 +135,8 @@ IsSettingsErrorDue due found = MatchOption due (found ≡ error.OutOfMemory) (λ
 -- the first rule of a member that these settings and this elector break: the host's scheme accepts each certificate
 abbrev pub engine_error : HostConfig → HostElector → Option StartError
 engine_error c e =
-    start_error (first_broken_rule (length (host_keys c.scheme)) (λ _ _. true) c) (host_members e == length (host_keys c.scheme))
+    start_error (first_broken_rule (length (host_keys c.scheme)) (λ _ _. true) c)
+    (host_members e == length (host_keys c.scheme))
 
 -- the numbers break no rule, but their settings and elector break this rule of a member
 pub record IsStartRefused (f : FlatSettings) (leaders bytes : List ℕ) (broken : StartError) : Type 0 where

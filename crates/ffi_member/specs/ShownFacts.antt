@@ -120,13 +120,17 @@ certificate_of_kind _ x view = None
 -- a certificate's subject, with its bytes
 abbrev pub HasFound : Option (CertificateFacts (BytesDigest 32)) → FlatFound → List ℕ → Type 0
 HasFound None r shown = (r.has ≡ 0) × (shown ≡ [])
-HasFound (Some (Notarized c)) r shown = (r.has ≡ certificate_number certificate.Notarization) × IsFlatProposal r.proposal c.proposal × (shown ≡ c.bytes)
-HasFound (Some (Nullified c)) r shown = (r.has ≡ certificate_number certificate.Nullification) × (c.round ≡ flat_round r.proposal.round) × (shown ≡ c.bytes)
-HasFound (Some (Finalized c)) r shown = (r.has ≡ certificate_number certificate.Finalization) × IsFlatProposal r.proposal c.proposal × (shown ≡ c.bytes)
+HasFound (Some (Notarized c)) r shown =
+    (r.has ≡ certificate_number certificate.Notarization) × IsFlatProposal r.proposal c.proposal × (shown ≡ c.bytes)
+HasFound (Some (Nullified c)) r shown = (r.has ≡ certificate_number certificate.Nullification)
+    × (c.round ≡ flat_round r.proposal.round) × (shown ≡ c.bytes)
+HasFound (Some (Finalized c)) r shown =
+    (r.has ≡ certificate_number certificate.Finalization) × IsFlatProposal r.proposal c.proposal × (shown ≡ c.bytes)
 
 -- a certificate is found, and its bytes are appended to others
 abbrev pub ShowsCertificate : Option (CertificateFacts (BytesDigest 32)) → FlatFound → List ℕ → List ℕ → Type 0
-ShowsCertificate found r before after = (bytes : List ℕ) × HasFound found r bytes × (after ≡ before ++ bytes) × (r.bytes ≡ length bytes)
+ShowsCertificate found r before after =
+    (bytes : List ℕ) × HasFound found r bytes × (after ≡ before ++ bytes) × (r.bytes ≡ length bytes)
 
 -- none is loaded, for this status
 abbrev pub IsUnfound : ℕ → FlatFound → List ℕ → Type 0
@@ -143,7 +147,8 @@ IsFoundIn (Some x) kind view r shown = IsFoundOr (certificate_of_kind kind x vie
 
 -- how a view's certificate is asked for: no certificate has the kind, or it is looked for
 abbrev pub HasAnsweredIn : Option HostState → ℕ → ℕ → FlatFound → List ℕ → Type 0
-HasAnsweredIn state kind view r shown = (¬ (IsKind kind) × IsUnfound 6 r shown) ⊎ (IsKind kind × IsFoundIn state kind view r shown)
+HasAnsweredIn state kind view r shown =
+    (¬ (IsKind kind) × IsUnfound 6 r shown) ⊎ (IsKind kind × IsFoundIn state kind view r shown)
 
 -- how a view's certificate is loaded
 pub record IsFound (old : Held) (kind view : ℕ) (r : FlatFound) (new : Held) : Type 0 where
@@ -157,9 +162,12 @@ IsItemOr r none is = (r.status ≡ 0) × (((r.has ≡ 0) × none) ⊎ ((r.has �
 
 -- an item of a reply's lists
 abbrev pub IsItem : HostReply → ℕ → ℕ → FlatItem → Type 0
-IsItem reply (suc zero) index r = IsItemOr r (length (proposals_in reply) ≤ index) (IsProposalAt (proposals_in reply) index r.proposal)
-IsItem reply (suc (suc zero)) index r = IsItemOr r (length (fetches_in reply) ≤ index) (IsFetchAt (fetches_in reply) index r.fetch)
-IsItem reply (suc (suc (suc zero))) index r = IsItemOr r (length (dropped_in reply) ≤ index) (slice_get (dropped_in reply) index ≡ Some r.view)
+IsItem reply (suc zero) index r =
+    IsItemOr r (length (proposals_in reply) ≤ index) (IsProposalAt (proposals_in reply) index r.proposal)
+IsItem reply (suc (suc zero)) index r =
+    IsItemOr r (length (fetches_in reply) ≤ index) (IsFetchAt (fetches_in reply) index r.fetch)
+IsItem reply (suc (suc (suc zero))) index r =
+    IsItemOr r (length (dropped_in reply) ≤ index) (slice_get (dropped_in reply) index ≡ Some r.view)
 IsItem reply _ index r = (r.status ≡ 0) × (r.has ≡ 0)
 
 -- a part of bytes, from one on: as many as fit

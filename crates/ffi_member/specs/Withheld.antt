@@ -43,7 +43,8 @@ IsWithheldIn state number view r =
     ((r.status ≡ 6) × IsNoKind number)
     ⊎ ((kind : VoteKind)
     × (vote_number kind ≡ number)
-    × MatchOption state (r.status ≡ 2) (λ x. (r.status ≡ 0) × (r.reason ≡ withheld_number (withheld_of_vote kind x view))))
+    × MatchOption state (r.status ≡ 2)
+    (λ x. (r.status ≡ 0) × (r.reason ≡ withheld_number (withheld_of_vote kind x view))))
 
 -- why a member withholds a vote
 abbrev pub IsWithheld : HostFacts → ℕ → ℕ → FlatWithheld → Type 0

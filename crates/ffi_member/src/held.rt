@@ -129,7 +129,8 @@ impl Held {
 
     /// Returns a proposal that the last reply offers for certification.
     pub fn proposal_at(&self, index: usize) -> Option<FlatProposal>
-        ensures { MatchOption result (length (proposals_in self.now.last) ≤ index) (IsProposalAt (proposals_in self.now.last) index) }
+        ensures { MatchOption result (length (proposals_in self.now.last) ≤ index)
+            (IsProposalAt (proposals_in self.now.last) index) }
     {
         let proposal = self.offered(index)?;
         Some(flat_proposal(proposal))
@@ -147,7 +148,8 @@ impl Held {
 
     /// Returns a certificate that the last reply asks to be fetched.
     pub fn fetch_at(&self, index: usize) -> Option<FlatFetch>
-        ensures { MatchOption result (length (fetches_in self.now.last) ≤ index) (IsFetchAt (fetches_in self.now.last) index) }
+        ensures { MatchOption result (length (fetches_in self.now.last) ≤ index)
+            (IsFetchAt (fetches_in self.now.last) index) }
     {
         match &self.last {
             Reply::Candidates(_, fetches) => {
@@ -163,7 +165,8 @@ impl Held {
 
     /// Returns a view that the last reply dropped.
     pub fn dropped_at(&self, index: usize) -> Option<u64>
-        ensures { MatchOption result (length (dropped_in self.now.last) ≤ index) (λ view. slice_get (dropped_in self.now.last) index ≡ Some view) }
+        ensures { MatchOption result (length (dropped_in self.now.last) ≤ index)
+            (λ view. slice_get (dropped_in self.now.last) index ≡ Some view) }
     {
         match &self.last {
             Reply::Views(views) => {

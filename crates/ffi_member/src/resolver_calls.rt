@@ -148,7 +148,8 @@ impl HeldResolver {
 
     /// Stores the effects of an input.
     fn keep(&mut self, effects: Vec<Effect>) -> FlatEffects
-        ensures told { (result.status ≡ 0) × (result.count ≡ length effects.items) × (result.fetches ≡ length self.old.resolver.open_fetches) }
+        ensures told { (result.status ≡ 0) × (result.count ≡ length effects.items)
+            × (result.fetches ≡ length self.old.resolver.open_fetches) }
         ensures kept { self.new ≡ record self.old { last = effects } }
     {
         let count = effects.len() as u64;

@@ -45,7 +45,8 @@ impl Held {
         journal: &[u8],
     ) -> Result<Held, NotResumed>
         ensures resumed { IfOk result (IsResumedBy flat.now leaders.now certificate.now now stored.now journal.now) }
-        ensures refused { IfErr result (IsNotResumedBy flat.now leaders.now certificate.now now stored.now journal.now) }
+        ensures refused { IfErr result
+            (IsNotResumedBy flat.now leaders.now certificate.now now stored.now journal.now) }
     {
         let from = resumption(alloc, flat, leaders, certificate, now, stored, journal)?;
         match Member::resume(alloc, from.start, from.stored, from.entries) {
@@ -112,9 +113,12 @@ pub fn resumption(
     stored: &FlatStored,
     journal: &[u8],
 ) -> Result<Resumption, NotResumed>
-    ensures from { IfOk result (λ it. IsResumption flat.now leaders.now certificate.now now stored.now journal.now it.start it.stored it.entries.items) }
+    ensures from { IfOk result
+        (λ it. IsResumption flat.now leaders.now certificate.now now stored.now journal.now it.start it.stored
+        it.entries.items) }
     ensures whole { IfOk result (λ it. stored.now.entries ≤ length it.entries.items) }
-    ensures fits { IfOk result (λ it. host_members it.start.settings.elector ≡ length (host_keys it.start.settings.scheme)) }
+    ensures fits { IfOk result
+        (λ it. host_members it.start.settings.elector ≡ length (host_keys it.start.settings.scheme)) }
     ensures refused { IfErr result (IsNotResumedBy flat.now leaders.now certificate.now now stored.now journal.now) }
 {
     let start = match start_of(alloc, flat, leaders, certificate, now) {

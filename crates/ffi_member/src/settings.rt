@@ -66,7 +66,8 @@ pub fn start_of(
 ) -> Result<HostStart, SettingsError>
     ensures made { IfOk result (IsStart flat.now leaders.now certificate.now now) }
     ensures refused { IfErr result (IsNoStart flat.now leaders.now certificate.now) }
-    ensures fits { IfOk result (λ start. host_members start.settings.elector ≡ length (host_keys start.settings.scheme)) }
+    ensures fits { IfOk result
+        (λ start. host_members start.settings.elector ≡ length (host_keys start.settings.scheme)) }
 {
     let config = config_of(alloc, flat, certificate)?;
     let elector = elector_of(alloc, flat, leaders)?;
@@ -131,7 +132,8 @@ pub fn elector_of(
 fn draws_in(flat: &FlatSettings, leaders: &[u32]) -> Result<bool, SettingsError>
     ensures draws { IfOk result (λ draws. flat.now.draws ≡ flag_number draws) }
     ensures accepted { OnOk result (option_or (flag_error flat.now.draws) (table_error flat.now leaders.now) ≡ None) }
-    ensures refused { IfErr result (λ error. option_or (flag_error flat.now.draws) (table_error flat.now leaders.now) ≡ Some error) }
+    ensures refused { IfErr result
+        (λ error. option_or (flag_error flat.now.draws) (table_error flat.now leaders.now) ≡ Some error) }
 {
     let Some(draws) = flag_of(flat.draws) else {
         return Err(SettingsError::NoFlag);

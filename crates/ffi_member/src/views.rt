@@ -246,7 +246,8 @@ fn show_certificate(
     out: &mut BytesMut,
 ) -> Result<FlatFound, AllocError>
     ensures found { IfOk result (λ r. (r.status ≡ 0)
-        × ShowsCertificate (certificate_of_kind (certificate_number kind) state.now view) r out.old.items out.new.items) }
+        × ShowsCertificate (certificate_of_kind (certificate_number kind) state.now view) r
+        out.old.items out.new.items) }
     ensures wanting { OnErr result (IsSome (certificate_of_kind (certificate_number kind) state.now view)) }
 {
     match kind {
@@ -287,7 +288,9 @@ fn show(
     proposal: FlatProposal,
     bytes: &[u8],
 ) -> Result<FlatFound, AllocError>
-    ensures found { IfOk result (λ r. (r.status ≡ 0) × (r.has ≡ certificate_number kind) × (r.proposal ≡ proposal) × (r.bytes ≡ length bytes.now)) }
+    ensures found { IfOk result
+        (λ r. (r.status ≡ 0) × (r.has ≡ certificate_number kind) × (r.proposal ≡ proposal)
+        × (r.bytes ≡ length bytes.now)) }
     ensures written { OnOk result (out.new.items ≡ out.old.items ++ bytes.now) }
 {
     out.put_slice(bytes)?;

@@ -35,4 +35,5 @@ order_bytes s = to_be_bytes w32 s.key.0 ++ s.text
 
 -- an order read back: its key in four bytes, and what to sign
 abbrev pub order_of : List ℕ → Option Order
-order_of bytes = if nat_lt (length bytes) 4 then None else Some (record { key = record { 0 = from_be_bytes w32 (take 4 bytes) }; text = drop 4 bytes })
+order_of bytes = if nat_lt (length bytes) 4 then None
+    else Some (record { key = record { 0 = from_be_bytes w32 (take 4 bytes) }; text = drop 4 bytes })

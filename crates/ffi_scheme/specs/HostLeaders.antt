@@ -47,7 +47,8 @@ leader_after e view seed = or_entry (named_by e.early seed) (in_table e view) % 
 pub elected_below : (e : HostElector) (view : ℕ) (seed : Option (List ℕ)) → leader_after e view seed < host_members e
 elected_below e view seed = mod-lt (or_entry (named_by e.early seed) (in_table e view)) e.has_members
 
-pub early_alike : (e : HostElector) (view : ℕ) (seed : Option (List ℕ)) → is_early e ≡ true → leader_after e view seed ≡ leader_after e view None
+pub early_alike : (e : HostElector) (view : ℕ) (seed : Option (List ℕ)) → is_early e ≡ true
+    → leader_after e view seed ≡ leader_after e view None
 early_alike e view seed early =
     let with_seed = ap (λ b. or_entry (named_by b seed) (in_table e view) % e.count) early in
     let without = ap (λ b. or_entry (named_by b None) (in_table e view) % e.count) early in

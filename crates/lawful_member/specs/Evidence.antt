@@ -30,5 +30,6 @@ module _ {D : Type 0} where
   -- a member that signed both did not keep the voting rules, whatever else it did
   abbrev pub ShowsABrokenRule : Option (ℕ × Subject D) → Option (ℕ × Subject D) → Type 0
   ShowsABrokenRule (Some (i, a)) (Some (j, b)) =
-      (term_length : ℕ) (trace : List (TraceEvent D)) → HasSigned trace a → HasSigned trace b → IsLawful term_length trace → ⊥
+      (term_length : ℕ) (trace : List (TraceEvent D)) → HasSigned trace a → HasSigned trace b
+      → IsLawful term_length trace → ⊥
   ShowsABrokenRule _ _ = ⊥

@@ -17,12 +17,14 @@ IsStepOnOffer m _ = Unit {0}
 
 module _ {K L D : Type 0} (same : D → D → Bool) (elect : Elect L) where
   -- a member takes these steps, each with its reply, and each verdict is on an offer
-  abbrev pub IsRunOnOffers : MemberFacts K L D → List (StepFacts K L D) → List (ReplyFacts K D) → MemberFacts K L D → Type 0
+  abbrev pub IsRunOnOffers : MemberFacts K L D → List (StepFacts K L D) → List (ReplyFacts K D)
+      → MemberFacts K L D → Type 0
   IsRunOnOffers m [] [] end = m ≡ end
   IsRunOnOffers m [] (told ∷ rest) end = ⊥
   IsRunOnOffers m (step ∷ steps) [] end = ⊥
   IsRunOnOffers m (step ∷ steps) (told ∷ rest) end =
-      IsStepOnOffer m step × (next : MemberFacts K L D) × IsStep same elect m step told next × IsRunOnOffers next steps rest end
+      IsStepOnOffer m step × (next : MemberFacts K L D) × IsStep same elect m step told next
+      × IsRunOnOffers next steps rest end
 
   -- the same in all its lifetimes
   abbrev pub RunsOnOffers : Execution K L D → Type 0

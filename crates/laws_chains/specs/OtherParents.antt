@@ -63,7 +63,8 @@ verified_apart = Honest misled ∷ Honest (led 1) ∷ Honest (led 2) ∷ Faulty 
 
 -- the parent of view 2 has payload 12
 abbrev pub ParentIsTwelve : Type 0
-ParentIsTwelve = (q : Proposal ℕ) → q.round.view ≡ two.parent → Backed verified_apart (subject.Notarize q) → q.payload ≡ 12
+ParentIsTwelve = (q : Proposal ℕ) → q.round.view ≡ two.parent
+    → Backed verified_apart (subject.Notarize q) → q.payload ≡ 12
 
 -- a member that finalizes view 2 verified it on payload 11 alone
 abbrev pub VerifiedOnEleven : Type 0

@@ -39,16 +39,19 @@ given_by_all {L} now ((step, reply) ∷ rest) = step_causes {L = L} now step rep
 
 -- a law of each change of an engine that `provenance` allows, whatever came in, is returned, and need not be asked for
 abbrev pub OfEachWay : (S L D K G C : Type 0)
-    → (ℕ → List (Cause S D K G C) → List (Work S D K G C) → Engine S L D K G C → Engine S L D K G C → List (StepFacts K L D × Reply S D K G C) → Type 0)
+    → (ℕ → List (Cause S D K G C) → List (Work S D K G C) → Engine S L D K G C → Engine S L D K G C
+    → List (StepFacts K L D × Reply S D K G C) → Type 0)
     → Type 0
 OfEachWay S L D K G C law =
-    (same : D → D → Bool) (elect : Elect L) (bytes : D → List ℕ) (bytes_of : C → List ℕ) (now : ℕ) (came : List (Cause S D K G C))
+    (same : D → D → Bool) (elect : Elect L) (bytes : D → List ℕ) (bytes_of : C → List ℕ) (now : ℕ)
+    (came : List (Cause S D K G C))
     (out : List (Work S D K G C)) (held : FetchKind → ℕ → Bool) (old new : Engine S L D K G C)
     (it : IsCaused same elect bytes bytes_of now came out held old new) → law now came out old new it.steps
 
 -- each call was received before: it came in, or was at hand
 abbrev pub CallsWereReceivedBefore : (S L D K G C : Type 0) → Type 0
-CallsWereReceivedBefore S L D K G C = OfEachWay S L D K G C (λ now came out old new steps. (call : CallFacts D) (reply : Reply S D K G C)
+CallsWereReceivedBefore S L D K G C =
+    OfEachWay S L D K G C (λ now came out old new steps. (call : CallFacts D) (reply : Reply S D K G C)
     → Contains steps (Calls call, reply) → IsToldBy (came ++ pending_causes old) call)
 
 -- what is returned, queued and planned in the end, except what is asked of peers, came in, was at hand, or was brought by a reply
@@ -67,4 +70,5 @@ pub record SaysDue {S D K G C : Type 0} (now : ℕ) (reply : Reply S D K G C) : 
 abbrev pub NullifiesOnceDue : (S L D K G C : Type 0) → Type 0
 NullifiesOnceDue S L D K G C = OfEachWay S L D K G C (λ now came out old new steps. (view : ℕ) (reply : Reply S D K G C)
     → Contains steps (Calls (ConstructNullify view), reply)
-    → IsIn Expiry (came ++ pending_causes old) ⊎ ((call : CallFacts D) × (said : Reply S D K G C) × Contains steps (Calls call, said) × SaysDue now said))
+    → IsIn Expiry (came ++ pending_causes old)
+    ⊎ ((call : CallFacts D) × (said : Reply S D K G C) × Contains steps (Calls call, said) × SaysDue now said))

@@ -51,7 +51,8 @@ module _ {K L D : Type 0} where
   -- the history of a lifetime that begins with a floor and a record
   abbrev pub recovery : StartFacts K L D → List (ArtifactFacts D) → History K L D
   recovery start entries =
-      with_entries (record { fresh = new_state start.setup; events = SetFloor start.floor start.now ∷ [] }) start.now entries
+      with_entries (record { fresh = new_state start.setup; events = SetFloor start.floor start.now ∷ [] })
+      start.now entries
 
 module _ {K L D : Type 0} (same : D → D → Bool) (elect : Elect L) where
   -- while the member has not failed, its state knows what the history says
@@ -60,7 +61,8 @@ module _ {K L D : Type 0} (same : D → D → Bool) (elect : Elect L) where
 
   -- how a member's run leads from one history to another: each call by what the member has open then; a pruning of its record
   -- says nothing of its state; a restart that is not refused takes again, in some order by view, what the cuts leave of its record
-  abbrev pub LeadsTo : MemberFacts K L D → History K L D → List (StepFacts K L D) → List (ReplyFacts K D) → History K L D → MemberFacts K L D → Type 0
+  abbrev pub LeadsTo : MemberFacts K L D → History K L D → List (StepFacts K L D) → List (ReplyFacts K D)
+      → History K L D → MemberFacts K L D → Type 0
   LeadsTo m history [] [] last end = (last ≡ history) × (m ≡ end)
   LeadsTo m history [] (told ∷ rest) last end = ⊥
   LeadsTo m history (step ∷ steps) [] last end = ⊥
@@ -77,17 +79,20 @@ module _ {K L D : Type 0} (same : D → D → Bool) (elect : Elect L) where
   LeadsTo m history (Restarts r ∷ steps) (told ∷ rest) last end =
       (next : MemberFacts K L D)
       × IsStep same elect m (Restarts r) told next
-      × ((copy : List (ArtifactFacts D)) × IsByView (cut_member m r.drop r.prune).entries copy × LeadsTo next (recovery r.start copy) steps rest last end)
+      × ((copy : List (ArtifactFacts D)) × IsByView (cut_member m r.drop r.prune).entries copy
+      × LeadsTo next (recovery r.start copy) steps rest last end)
 
 module _ (K : Type 0) {L D : Type 0} (same : D → D → Bool) (elect : Elect L) where
   -- a new state has no event
   abbrev pub NothingSaid : Type 0
-  NothingSaid = (setup : Setup K L) → DeterminesState {D = D} same elect (record { fresh = new_state setup; events = [] }) (new_state setup)
+  NothingSaid = (setup : Setup K L)
+      → DeterminesState {D = D} same elect (record { fresh = new_state setup; events = [] }) (new_state setup)
 
   -- an event that the state allows is the last of the history then
   abbrev pub EventsDetermineStates : Type 0
   EventsDetermineStates =
-      (history : History K L D) (x : StateFacts K L D) (e : Event K D) → DeterminesState same elect history x → IsEvent x e
+      (history : History K L D) (x : StateFacts K L D) (e : Event K D)
+      → DeterminesState same elect history x → IsEvent x e
       → DeterminesState same elect (with_event history e) (after_event same elect x e)
 
   -- a call changes the history as it says
@@ -103,19 +108,22 @@ module _ (K : Type 0) {L D : Type 0} (same : D → D → Bool) (elect : Elect L)
   RecoveriesDetermineStates =
       (start : StartFacts K L D) (entries : List (ArtifactFacts D))
       → recover_error same (new_state start.setup) start.floor start.now entries ≡ None
-      → DeterminesState same elect (recovery start entries) (recovered_state same elect (new_state start.setup) start.floor start.now entries)
+      → DeterminesState same elect (recovery start entries)
+      (recovered_state same elect (new_state start.setup) start.floor start.now entries)
 
   -- the same for some order by view of what is left of the record
   abbrev pub RestartsDetermineStates : Type 0
   RestartsDetermineStates =
       (m left : MemberFacts K L D) (r : RestartFacts K L D)
       → IsRestart same elect m r (Ok tt) left
-      → (copy : List (ArtifactFacts D)) × IsByView (cut_member m r.drop r.prune).entries copy × DeterminesMember same elect (recovery r.start copy) left
+      → (copy : List (ArtifactFacts D)) × IsByView (cut_member m r.drop r.prune).entries copy
+      × DeterminesMember same elect (recovery r.start copy) left
 
   -- the same for the history that the run's steps lead to
   abbrev pub RunsDetermineStates : Type 0
   RunsDetermineStates =
-      (start : StartFacts K L D) (steps : List (StepFacts K L D)) (replies : List (ReplyFacts K D)) (end : MemberFacts K L D)
+      (start : StartFacts K L D) (steps : List (StepFacts K L D)) (replies : List (ReplyFacts K D))
+      (end : MemberFacts K L D)
       → recover_error same (new_state start.setup) start.floor start.now [] ≡ None
       → IsRun same elect (new_member same elect start) steps replies end
       → (last : History K L D)

@@ -129,9 +129,11 @@ module _ {K D : Type 0} where
   -- the highest view that was entered, in terms of this length
   abbrev pub current_in : ℕ → List (Event K D) → ℕ
   current_in term_length [] = 0
-  current_in term_length (e ∷ before) = max (current_in term_length before) (entered_by term_length (is_notarized_in before) e)
+  current_in term_length (e ∷ before) =
+      max (current_in term_length before) (entered_by term_length (is_notarized_in before) e)
 
   -- the lowest view that the prunes left, if this number of views below the last finalized one are retained
   abbrev pub kept_in : ℕ → List (Event K D) → ℕ
   kept_in retention [] = 0
-  kept_in retention (e ∷ before) = max (kept_in retention before) (if is_prune e then finalized_by_events before - retention else 0)
+  kept_in retention (e ∷ before) =
+      max (kept_in retention before) (if is_prune e then finalized_by_events before - retention else 0)

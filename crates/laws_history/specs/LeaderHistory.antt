@@ -67,16 +67,21 @@ module _ {K L D : Type 0} (elect : Elect L) where
   -- a proposal or an own vote of w has the next view tracked, if it gets a leader
   abbrev pub tracks_after : StateFacts K L D → Bool → ℕ → ℕ → Bool
   tracks_after x voted w v =
-      v == w + 1 && (if in_issuance_window x (w + 1) then is_some (round_of x w).leader else takes_view_over x voted (w + 1))
+      v == w + 1 && (if in_issuance_window x (w + 1) then is_some (round_of x w).leader
+      else takes_view_over x voted (w + 1))
 
 module _ {K L D : Type 0} (same : D → D → Bool) (elect : Elect L) where
   -- the leader that an event gives a view that has none
   abbrev pub leader_by_event : ℕ → StateFacts K L D → Event K D → Option (Leader K)
   leader_by_event v x (SetFloor (Genesis _) _) = elected_leader elect x v 1 None
-  leader_by_event v x (SetFloor (Finalized c) _) = leads_by elect x (is_none (round_of x c.proposal.round.view).finalization) v c
-  leader_by_event v x (AddNotarization c) = leads_by elect x (is_none (round_of x c.proposal.round.view).notarization) v c
-  leader_by_event v x (AddNullification c _) = elected_leader elect x v (next_term_start x.terms.term_length c.round.view) (Some c.bytes)
-  leader_by_event v x (AddFinalization c _) = leads_by elect x (is_none (round_of x c.proposal.round.view).finalization) v c
+  leader_by_event v x (SetFloor (Finalized c) _) =
+      leads_by elect x (is_none (round_of x c.proposal.round.view).finalization) v c
+  leader_by_event v x (AddNotarization c) =
+      leads_by elect x (is_none (round_of x c.proposal.round.view).notarization) v c
+  leader_by_event v x (AddNullification c _) =
+      elected_leader elect x v (next_term_start x.terms.term_length c.round.view) (Some c.bytes)
+  leader_by_event v x (AddFinalization c _) =
+      leads_by elect x (is_none (round_of x c.proposal.round.view).finalization) v c
   leader_by_event v x (ConstructNotarize w) = if may_notarize same elect x w then leads_after elect x true w v else None
   leader_by_event v x (SetProposal w _) = leads_after elect x (round_of x w).notarize_decided w v
   leader_by_event v x (Replay (NotarizeVote p _)) = leads_after elect x true p.round.view v
@@ -85,10 +90,13 @@ module _ {K L D : Type 0} (same : D → D → Bool) (elect : Elect L) where
   -- an event is about a view: a certificate, a proposal, a vote, or an entry of the record; or it readies or leads it
   abbrev pub comes_to_track : ℕ → StateFacts K L D → Event K D → Bool
   comes_to_track v x (SetFloor (Genesis _) _) = v == 1
-  comes_to_track v x (SetFloor (Finalized c) _) = tracks_by elect x (is_none (round_of x c.proposal.round.view).finalization) v c
-  comes_to_track v x (AddNotarization c) = tracks_by elect x (is_none (round_of x c.proposal.round.view).notarization) v c
+  comes_to_track v x (SetFloor (Finalized c) _) =
+      tracks_by elect x (is_none (round_of x c.proposal.round.view).finalization) v c
+  comes_to_track v x (AddNotarization c) =
+      tracks_by elect x (is_none (round_of x c.proposal.round.view).notarization) v c
   comes_to_track v x (AddNullification c _) = v == c.round.view || v == next_term_start x.terms.term_length c.round.view
-  comes_to_track v x (AddFinalization c _) = tracks_by elect x (is_none (round_of x c.proposal.round.view).finalization) v c
+  comes_to_track v x (AddFinalization c _) =
+      tracks_by elect x (is_none (round_of x c.proposal.round.view).finalization) v c
   comes_to_track v x (ConstructNotarize w) = may_notarize same elect x w && (v == w || tracks_after elect x true w v)
   comes_to_track v x (ConstructNullify w) = v == w && may_nullify x w
   comes_to_track v x (ConstructFinalize w) = v == w && may_finalize elect x w

@@ -44,7 +44,8 @@ module _ {K L D : Type 0} (same : D → D → Bool) (elect : Elect L) where
   abbrev pub latches : ℕ → StateFacts K L D → Event K D → Option (ℕ × TimeoutReason)
   latches v x (Certified w false now) =
       if is_at x v w && nat_le x.current w then Some (now, FailedCertification) else None
-  latches v x TryVerify = if is_invalid (standing_by_event same elect v x TryVerify) then Some (x.moment, InvalidProposal) else None
+  latches v x TryVerify = if is_invalid (standing_by_event same elect v x TryVerify)
+      then Some (x.moment, InvalidProposal) else None
   latches v x (VerificationFailed w reason now) =
       if v == w && verification_matches same elect x w && triggers x w reason then Some (now, reason) else None
   latches v x (TriggerTimeout w reason now) = if v == w && triggers x w reason then Some (now, reason) else None

@@ -55,11 +55,14 @@ module _ {K L D : Type 0} where
   -- the proposal of a certificate that is the first of its kind
   abbrev pub first_certificate_by : ℕ → StateFacts K L D → Event K D → Option (Proposal D)
   first_certificate_by v x (AddNotarization c) =
-      if v == c.proposal.round.view && is_none (round_of x c.proposal.round.view).notarization then Some c.proposal else None
+      if v == c.proposal.round.view && is_none (round_of x c.proposal.round.view).notarization
+      then Some c.proposal else None
   first_certificate_by v x (AddFinalization c _) =
-      if v == c.proposal.round.view && is_none (round_of x c.proposal.round.view).finalization then Some c.proposal else None
+      if v == c.proposal.round.view && is_none (round_of x c.proposal.round.view).finalization
+      then Some c.proposal else None
   first_certificate_by v x (SetFloor (FloorFinalized c) _) =
-      if v == c.proposal.round.view && is_none (round_of x c.proposal.round.view).finalization then Some c.proposal else None
+      if v == c.proposal.round.view && is_none (round_of x c.proposal.round.view).finalization
+      then Some c.proposal else None
   first_certificate_by v x _ = None
 
   -- a proposal that is received, unless the view is voted to nullify
@@ -83,7 +86,8 @@ module _ {K L D : Type 0} (same : D → D → Bool) (elect : Elect L) where
   -- the member's own proposal, or one that its replayed vote names
   abbrev pub owns : ℕ → StateFacts K L D → Event K D → Option (Proposal D)
   owns v x (Proposed context payload _) =
-      if v == context.round.view && proposed_answer same elect x context payload then Some (proposal_of context payload) else None
+      if v == context.round.view && proposed_answer same elect x context payload
+      then Some (proposal_of context payload) else None
   owns v x (Replay (NotarizeVote p _)) = at v p.round.view p
   owns v x _ = None
 
@@ -98,12 +102,14 @@ module _ {K L D : Type 0} (same : D → D → Bool) (elect : Elect L) where
   was_done does fresh (e ∷ before) = does (facts_after fresh before) e || was_done does fresh before
 
   -- the first that an event has said, by what was known before it
-  abbrev pub first_said : {A : Type 0} → (StateFacts K L D → Event K D → Option A) → StateFacts K L D → List (Event K D) → Option A
+  abbrev pub first_said : {A : Type 0} → (StateFacts K L D → Event K D → Option A) → StateFacts K L D
+      → List (Event K D) → Option A
   first_said says fresh [] = None
   first_said says fresh (e ∷ before) = or_new (first_said says fresh before) (says (facts_after fresh before) e)
 
   -- the last
-  abbrev pub last_said : {A : Type 0} → (StateFacts K L D → Event K D → Option A) → StateFacts K L D → List (Event K D) → Option A
+  abbrev pub last_said : {A : Type 0} → (StateFacts K L D → Event K D → Option A) → StateFacts K L D
+      → List (Event K D) → Option A
   last_said says fresh [] = None
   last_said says fresh (e ∷ before) = option_or (says (facts_after fresh before) e) (last_said says fresh before)
 
@@ -119,4 +125,5 @@ module _ {K L D : Type 0} (same : D → D → Bool) (elect : Elect L) where
   conflict_in v fresh [] = false
   conflict_in v fresh (e ∷ before) =
       let x = facts_after fresh before in
-      contradicts same (held_in v fresh before) (option_or (first_certificate_by v x e) (hears_of v x e)) || conflict_in v fresh before
+      contradicts same (held_in v fresh before) (option_or (first_certificate_by v x e) (hears_of v x e))
+      || conflict_in v fresh before

@@ -64,8 +64,10 @@ module _ {K L D : Type 0} where
   sets_certification v x (SetFloor (Finalized c) _) = ends_certification v x c.proposal.round.view
   sets_certification v x (AddFinalization c _) = ends_certification v x c.proposal.round.view
   sets_certification v x (Certified w success _) = if is_at x v w then Some (certification.Judged success) else None
-  sets_certification v x (SetCertifyHandle w token) = if is_at x v w then Some (certification.Outstanding token) else None
-  sets_certification v x (Replay (Verdict round success)) = if v == round.view then Some (certification.Judged success) else None
+  sets_certification v x (SetCertifyHandle w token) =
+      if is_at x v w then Some (certification.Outstanding token) else None
+  sets_certification v x (Replay (Verdict round success)) =
+      if v == round.view then Some (certification.Judged success) else None
   sets_certification v x _ = None
 
 -- the parent's payload that a proposal is returned with
@@ -82,7 +84,8 @@ module _ {K L D : Type 0} (same : D → D → Bool) (elect : Elect L) where
 
   -- this member's own proposal is taken: nothing else is stored
   abbrev pub takes_own : ℕ → StateFacts K L D → Event K D → Bool
-  takes_own v x e = option_map_or (holds_or_empty (same_proposal same) (round_of x v).slot) (owns same elect v x e) false
+  takes_own v x e = option_map_or (holds_or_empty (same_proposal same) (round_of x v).slot)
+      (owns same elect v x e) false
 
   -- a certificate settles the view against what is stored
   abbrev pub overrules : ℕ → StateFacts K L D → Event K D → Bool
@@ -106,7 +109,8 @@ module _ {K L D : Type 0} (same : D → D → Bool) (elect : Elect L) where
   -- whether a proposal is asked for
   abbrev pub asks_to_build : ℕ → StateFacts K L D → Event K D → Option Bool
   asks_to_build v x TryPropose =
-      option_map_or (λ request. if is_at x v (request_context request).round.view then Some true else None) (propose_answer same elect x) None
+      option_map_or (λ request. if is_at x v (request_context request).round.view then Some true else None)
+      (propose_answer same elect x) None
   asks_to_build v x (Supersede context) =
       if is_at x v context.round.view && supersede_answer same elect x context then Some false else None
   asks_to_build v x (Release w) = if is_at x v w then Some false else None
@@ -127,7 +131,8 @@ module _ {K L D : Type 0} (same : D → D → Bool) (elect : Elect L) where
       then Some (Some (proposal_of context payload, context.parent.1))
       else None
   binds v x (Verified w) = if is_at x v w && not (verification_matches same elect x w) then Some None else None
-  binds v x (VerificationFailed w _ _) = if is_at x v w && not (verification_matches same elect x w) then Some None else None
+  binds v x (VerificationFailed w _ _) =
+      if is_at x v w && not (verification_matches same elect x w) then Some None else None
   binds v x (Replay (NotarizeVote p _)) =
       if v == p.round.view then option_map (λ bound. Some bound) (restored_binding x p) else None
   binds v x e = bound_by (round_of x v).slot.held (standing_by_event v x e)

@@ -49,7 +49,8 @@ made_by (turn ∷ turns) = made_by turns ++ made_in turn.line turn.answer
 -- the bytes of each line have the words of its turn
 abbrev pub AreResolverLines : List (List ℕ) → List ResolverTurn → Type 0
 AreResolverLines [] [] = ⊤
-AreResolverLines (bytes ∷ lines) (turn ∷ turns) = (words_in (without_feed bytes) ≡ line_words turn.line) × AreResolverLines lines turns
+AreResolverLines (bytes ∷ lines) (turn ∷ turns) =
+    (words_in (without_feed bytes) ≡ line_words turn.line) × AreResolverLines lines turns
 AreResolverLines _ _ = ⊥
 
 -- the replies as they are written
@@ -65,7 +66,8 @@ pub record KeepsFetches (term_length : ℕ) (calls : List Call) (r : LawfulResol
   pub answers : AnswersTheReceived r term_length calls
 
 -- the lines, and the replies that a writer has besides, make these calls of a resolver, and leave it in this state
-pub record IsResolverTranscribed (term_length : ℕ) (lines : List (List ℕ)) (old new : Option (List ℕ)) (r : LawfulResolverFacts) : Type 0 where
+pub record IsResolverTranscribed (term_length : ℕ) (lines : List (List ℕ)) (old new : Option (List ℕ))
+    (r : LawfulResolverFacts) : Type 0 where
   pub turns : List ResolverTurn
   pub spelled : AreResolverLines lines turns
   pub written : Appends old new (resolver_replies turns)
@@ -73,7 +75,8 @@ pub record IsResolverTranscribed (term_length : ℕ) (lines : List (List ℕ)) (
   pub laws : KeepsFetches term_length (made_by turns) r
 
 -- a resolver replied to lines from its start on, and then serving ended; this is its state then
-pub record IsServedBy (term_length : ℕ) (held : Option (List ℕ)) (r : Result (Unit {0}) ServeError) (after : Option (List ℕ))
+pub record IsServedBy (term_length : ℕ) (held : Option (List ℕ)) (r : Result (Unit {0}) ServeError)
+    (after : Option (List ℕ))
     (left : LawfulResolverFacts) : Type 0 where
   pub lines : List (List ℕ)
   pub last : Point
@@ -87,4 +90,5 @@ ResolverTranscriptsKeepFetches =
     (term_length : ℕ) (left held : Option (List ℕ)) (r : Result (Unit {0}) ServeError) (after : Option (List ℕ))
     → IsServed (Resolver term_length)
     → Transcribes (Resolver term_length) left held r after
-    → ((r ≡ Err OutOfMemory) × Keeps held after) ⊎ ((resolver : LawfulResolverFacts) × IsServedBy term_length held r after resolver)
+    → ((r ≡ Err OutOfMemory) × Keeps held after)
+    ⊎ ((resolver : LawfulResolverFacts) × IsServedBy term_length held r after resolver)

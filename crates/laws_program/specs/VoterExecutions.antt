@@ -53,7 +53,8 @@ restart_in _ = None
 -- a restart of the network's member at genesis, as a line asks for it
 abbrev pub IsRestartAsked : Network → VoterLine → RestartFacts PlainKey PlainElector PlainDigest → Type 0
 IsRestartAsked n line r =
-    MatchOption (restart_in line) ⊥ (λ asked. IsGenesisStart n asked.1 r.start × (r.drop ≡ asked.0) × (r.prune ≡ asked.2))
+    MatchOption (restart_in line) ⊥
+    (λ asked. IsGenesisStart n asked.1 r.start × (r.drop ≡ asked.0) × (r.prune ≡ asked.2))
 
 -- the step of a line; no line prunes the record within a lifetime
 abbrev pub IsStepOf : Network → VoterLine → PlainStep → Type 0
@@ -85,7 +86,8 @@ AreSteps n (turn ∷ turns) steps replies =
 -- the bytes of each line have the words of its turn
 abbrev pub AreVoterLines : List (List ℕ) → List VoterTurn → Type 0
 AreVoterLines [] [] = ⊤
-AreVoterLines (bytes ∷ lines) (turn ∷ turns) = (words_in (without_feed bytes) ≡ voter_words turn.line) × AreVoterLines lines turns
+AreVoterLines (bytes ∷ lines) (turn ∷ turns) =
+    (words_in (without_feed bytes) ≡ voter_words turn.line) × AreVoterLines lines turns
 AreVoterLines _ _ = ⊥
 
 -- the replies as they are written
@@ -94,7 +96,8 @@ voter_replies [] = []
 voter_replies (turn ∷ turns) = reply_line (text_of (voter_reply_words turn.answer)) ++ voter_replies turns
 
 -- the lines, and the replies that a writer has besides, are this execution of the network's member
-pub record IsTranscribed (n : Network) (lines : List (List ℕ)) (old new : Option (List ℕ)) (s : PlainExecution) : Type 0 where
+pub record IsTranscribed (n : Network) (lines : List (List ℕ)) (old new : Option (List ℕ))
+    (s : PlainExecution) : Type 0 where
   pub start : IsGenesisStart n 0 s.start
   pub turns : List VoterTurn
   pub spelled : AreVoterLines lines turns
@@ -107,7 +110,8 @@ pub record IsLawfulOf (n : Network) (s : PlainExecution) : Type 0 where
   pub lawful : IsLawful n.term_length (trace_of s)
 
 -- a network's member replied to lines as this execution, from its start on, and then serving ended
-pub record IsServedAs (n : Network) (held : Option (List ℕ)) (r : Result (Unit {0}) ServeError) (after : Option (List ℕ)) (s : PlainExecution) : Type 0 where
+pub record IsServedAs (n : Network) (held : Option (List ℕ)) (r : Result (Unit {0}) ServeError)
+    (after : Option (List ℕ)) (s : PlainExecution) : Type 0 where
   pub lines : List (List ℕ)
   pub last : Point
   pub transcribed : IsTranscribed n lines held last.held s
@@ -116,8 +120,10 @@ pub record IsServedAs (n : Network) (held : Option (List ℕ)) (r : Result (Unit
 -- whatever a voter's lines are, and however serving ends: unless memory runs out at the start, there is a lawful execution
 abbrev pub VoterTranscriptsAreLawful : Type 0
 VoterTranscriptsAreLawful =
-    (members : ℕ) (me : Option ℕ) (term_length optimistic : ℕ) (left held : Option (List ℕ)) (r : Result (Unit {0}) ServeError) (after : Option (List ℕ))
+    (members : ℕ) (me : Option ℕ) (term_length optimistic : ℕ) (left held : Option (List ℕ))
+    (r : Result (Unit {0}) ServeError) (after : Option (List ℕ))
     → IsServed (Voter members me term_length optimistic)
     → Transcribes (Voter members me term_length optimistic) left held r after
     → ((r ≡ Err OutOfMemory) × Keeps held after)
-    ⊎ ((n : Network) × (s : PlainExecution) × IsNamed members me term_length optimistic n × IsServedAs n held r after s × IsLawfulOf n s)
+    ⊎ ((n : Network) × (s : PlainExecution) × IsNamed members me term_length optimistic n × IsServedAs n held r after s
+    × IsLawfulOf n s)

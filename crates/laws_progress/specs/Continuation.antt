@@ -21,19 +21,22 @@ module _ {K L D : Type 0} where
   IsReceivedByOne v p network = SomeHonest network (λ i s. Contains s.steps (Calls (SetProposal v p)))
 
   abbrev pub IsGiven : Proposal D → List (Replica K L D) → Type 0
-  IsGiven p network = SomeHonest network (λ i s. (now : ℕ) × Contains s.steps (Calls (Proposed p.round.view p.payload now)))
+  IsGiven p network = SomeHonest network
+      (λ i s. (now : ℕ) × Contains s.steps (Calls (Proposed p.round.view p.payload now)))
 
   abbrev pub IsVotedFor : Proposal D → List (Replica K L D) → Type 0
   IsVotedFor p network = SomeHonest network (λ i s. Contains (trace_of s) (Signs i (Notarize p)))
 
   -- no honest member accepted later what none had accepted before and the honest ones of this network don't make alone
   abbrev pub AcceptsNoForged : (before voting later : List (Replica K L D)) → Type 0
-  AcceptsNoForged before voting later = (c : Subject D) → (IsAccepted c before → ⊥) → (HonestlyBacked voting c → ⊥) → IsAccepted c later → ⊥
+  AcceptsNoForged before voting later =
+      (c : Subject D) → (IsAccepted c before → ⊥) → (HonestlyBacked voting c → ⊥) → IsAccepted c later → ⊥
 
   -- none received later what none had received before and none of this network voted for, or none passed as built
   abbrev pub ReceivesNoForged : (before building later : List (Replica K L D)) → Type 0
   ReceivesNoForged before building later =
-      (v : ℕ) (p : Proposal D) → (IsReceivedByOne v p before → ⊥) → (IsVotedFor p building → ⊥) ⊎ (IsGiven p building → ⊥) → IsReceivedByOne v p later → ⊥
+      (v : ℕ) (p : Proposal D) → (IsReceivedByOne v p before → ⊥) → (IsVotedFor p building → ⊥)
+      ⊎ (IsGiven p building → ⊥) → IsReceivedByOne v p later → ⊥
 
 module _ (K : Type 0) {L D : Type 0} (same : D → D → Bool) (elect : Elect L) where
   -- if a network can finalize, the later one keeps the premises of agreement, its members are the same ones, and the honest ones have done
@@ -55,7 +58,8 @@ module _ (K : Type 0) {L D : Type 0} (same : D → D → Bool) (elect : Elect L)
       → IsNetworkOf same elect term_length network
       → ContinuesToFinalize same elect term_length network later final
       → ((p : Proposal D) → final.round.view ≤ p.round.view → Backed network (Finalize p) → ⊥)
-      × EachHonest later (λ i t. Contains (trace_of t) (Signs i (Finalize final)) × Contains (trace_of t) (Accepts (Finalize final))
+      × EachHonest later (λ i t. Contains (trace_of t) (Signs i (Finalize final))
+      × Contains (trace_of t) (Accepts (Finalize final))
       × HonestlyBacked later (Finalize final))
 
   -- and nothing that faulty members made arrived
@@ -75,16 +79,19 @@ module _ (K : Type 0) {L D : Type 0} (same : D → D → Bool) (elect : Elect L)
 
   -- exchanges of messages continue a network
   abbrev pub ExchangesContinue : Type 0
-  ExchangesContinue = (count : ℕ) (network later : List (Replica K L D)) → Exchanges count network later → ReplicasContinue network later
+  ExchangesContinue = (count : ℕ) (network later : List (Replica K L D)) → Exchanges count network later
+      → ReplicasContinue network later
 
   -- one exchange brings what had been signed or built before it
   abbrev pub ExchangesBringWhatWas : Type 0
   ExchangesBringWhatWas =
-      (network later : List (Replica K L D)) → Exchanges 1 network later → AcceptsNoForged network network later × ReceivesNoForged network network later
+      (network later : List (Replica K L D)) → Exchanges 1 network later → AcceptsNoForged network network later
+      × ReceivesNoForged network network later
 
   -- so no view is finalized within one, if any member is honest
   abbrev pub OneExchangeIsTooFew : Type 0
   OneExchangeIsTooFew =
       (term_length : ℕ) (network later : List (Replica K L D)) (final : Proposal D)
       → IsNetworkOf same elect term_length network
-      → EachHonest later (λ i t. Exchanges 1 network later → ContinuesToFinalize same elect term_length network later final → ⊥)
+      → EachHonest later (λ i t.
+      Exchanges 1 network later → ContinuesToFinalize same elect term_length network later final → ⊥)

@@ -17,14 +17,16 @@ module _ {K L D : Type 0} where
   -- that honest ones had signed before
   pub record IsExchange (network later : List (Replica K L D)) : Type 0 where
     pub continues : ReplicasContinue network later
-    pub certificates : EachHonest later (λ i s. (c : Subject D) → HasAccepted c i s → SomeHonest network (HasAccepted c) ⊎ HonestlyBacked network c)
+    pub certificates : EachHonest later
+        (λ i s. (c : Subject D) → HasAccepted c i s → SomeHonest network (HasAccepted c) ⊎ HonestlyBacked network c)
     pub proposals : EachHonest later (λ i s. (v : ℕ) (p : Proposal D) → HasHeard v p s
         → SomeHonest network (λ j t. HasHeard v p t) ⊎ SomeHonest network (HasBuilt p))
 
   -- this number of exchanges, one after another
   abbrev pub Exchanges : ℕ → List (Replica K L D) → List (Replica K L D) → Type 0
   Exchanges zero network later = later ≡ network
-  Exchanges (suc count) network later = (between : List (Replica K L D)) × IsExchange network between × Exchanges count between later
+  Exchanges (suc count) network later =
+      (between : List (Replica K L D)) × IsExchange network between × Exchanges count between later
 
 module _ (K : Type 0) {L D : Type 0} (same : D → D → Bool) (elect : Elect L) where
   -- from a network with an honest member at most this number of terms before the start's, it takes one for each of these terms, and four
@@ -33,7 +35,8 @@ module _ (K : Type 0) {L D : Type 0} (same : D → D → Bool) (elect : Elect L)
       (term_length epoch leader start terms : ℕ) (elector : L) (network : List (Replica K L D)) (payload : D)
       → IsNetworkOf same elect term_length network
       → MayContinue same elect term_length network epoch elector leader start
-      → SomeHonest network (λ i s. (x : StateFacts K L D) → RunsWith same elect s x → term_index term_length start ≤ term_index term_length x.current + terms)
+      → SomeHonest network (λ i s. (x : StateFacts K L D) → RunsWith same elect s x
+      → term_index term_length start ≤ term_index term_length x.current + terms)
       → (later : List (Replica K L D)) × (parent : ℕ)
       × Exchanges (terms + 4) network later
       × ContinuesToFinalize same elect term_length network later (proposal_in epoch start parent payload)
@@ -48,9 +51,12 @@ module _ (K : Type 0) {L D : Type 0} (same : D → D → Bool) (elect : Elect L)
       → (faults network ≤ max_faults (length network))
       → SomeHonest network (λ i s. (x : StateFacts K L D) → RunsWith same elect s x → view ≤ x.current)
       → EachRuns same elect network (λ i x. IsSetUpAs epoch (length network) elector i x × (x.current ≤ view)
-      × ((count : ℕ) → count ≤ max_faults (length network) → is_tracked x (terms_on term_length (suc (skipped + count)) view) ≡ false))
+      × ((count : ℕ) → count ≤ max_faults (length network)
+      → is_tracked x (terms_on term_length (suc (skipped + count)) view) ≡ false))
       → AreConsistent same elect epoch network
-      → ((v : ℕ) (bytes : List ℕ) → elect elector (record { epoch = epoch; view = v }) (Some bytes) ≡ (term_index term_length v + turn) % length network)
+      → ((v : ℕ) (bytes : List ℕ)
+      → elect elector (record { epoch = epoch; view = v }) (Some bytes) ≡ (term_index term_length v + turn)
+      % length network)
       → is_too_large (terms_on term_length (suc (skipped + max_faults (length network))) view) ≡ false
       → (later : List (Replica K L D)) × (parent : ℕ) × (start : ℕ)
       × Exchanges (skipped + max_faults (length network) + 5) network later

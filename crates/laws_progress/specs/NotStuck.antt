@@ -21,10 +21,12 @@ module _ {K L D : Type 0} (same : D → D → Bool) (elect : Elect L) where
       → x.finalized < v → is_judged false (round_of x v).certification ≡ false))
 
   -- the premises on a network, and on a term start that is to be finalized
-  pub record MayContinue (term_length : ℕ) (network : List (Replica K L D)) (epoch : ℕ) (elector : L) (leader start : ℕ) : Type 0 where
+  pub record MayContinue (term_length : ℕ) (network : List (Replica K L D)) (epoch : ℕ) (elector : L)
+      (leader start : ℕ) : Type 0 where
     pub few_faulty : faults network ≤ max_faults (length network)
     -- each honest member has not failed, signs as itself, shares the epoch and the elector, is below the start, and knows nothing of it
-    pub alive : EachRuns same elect network (λ i x. IsSetUpAs epoch (length network) elector i x × (is_tracked x start ≡ false) × (x.current < start))
+    pub alive : EachRuns same elect network
+        (λ i x. IsSetUpAs epoch (length network) elector i x × (is_tracked x start ≡ false) × (x.current < start))
     pub consistent : AreConsistent epoch network
     -- the start begins a term, and lies below 2^63
     pub is_term_start : start ≡ term_start term_length start
@@ -40,7 +42,8 @@ module _ (K : Type 0) {L D : Type 0} (same : D → D → Bool) (elect : Elect L)
       (term_length epoch leader start : ℕ) (elector : L) (network : List (Replica K L D))
       → IsNetworkOf same elect term_length network
       → MayContinue same elect term_length network epoch elector leader start
-      → (later : List (Replica K L D)) × (parent : ℕ) × (view : ℕ) × (view < start) × Meets same elect term_length epoch elector network later parent view start
+      → (later : List (Replica K L D)) × (parent : ℕ) × (view : ℕ) × (view < start)
+      × Meets same elect term_length epoch elector network later parent view start
 
   -- the theorem: whatever the leader builds is finalized
   abbrev pub NoNetworkIsStuck : Type 0
@@ -48,4 +51,5 @@ module _ (K : Type 0) {L D : Type 0} (same : D → D → Bool) (elect : Elect L)
       (term_length epoch leader start : ℕ) (elector : L) (network : List (Replica K L D)) (payload : D)
       → IsNetworkOf same elect term_length network
       → MayContinue same elect term_length network epoch elector leader start
-      → (later : List (Replica K L D)) × (parent : ℕ) × ContinuesToFinalize same elect term_length network later (proposal_in epoch start parent payload)
+      → (later : List (Replica K L D)) × (parent : ℕ)
+      × ContinuesToFinalize same elect term_length network later (proposal_in epoch start parent payload)

@@ -18,7 +18,8 @@ module _ (K : Type 0) {L D : Type 0} (same : D → D → Bool) (elect : Elect L)
   -- they abandon each view up to the start of a correct leader's term, and finalize that
   abbrev pub MembersOfOneViewContinue : Type 0
   MembersOfOneViewContinue =
-      (term_length epoch leader parent view start terms : ℕ) (elector : L) (network : List (Replica K L D)) (payload : D)
+      (term_length epoch leader parent view start terms : ℕ) (elector : L)
+      (network : List (Replica K L D)) (payload : D)
       → IsNetworkOf same elect term_length network
       → faults network ≤ max_faults (length network)
       → start ≡ terms_on term_length (suc terms) view
@@ -26,5 +27,7 @@ module _ (K : Type 0) {L D : Type 0} (same : D → D → Bool) (elect : Elect L)
       → is_too_large start ≡ false
       → ((bytes : List ℕ) → elect elector (record { epoch = epoch; view = start }) (Some bytes) ≡ leader)
       → (s : Execution K L D) × (slice_get network leader ≡ Some (Honest s))
-      → EachRuns same elect network (λ i x. IsSetUpAs epoch (length network) elector i x × StandsBefore parent view start x)
-      → (later : List (Replica K L D)) × ContinuesToFinalize same elect term_length network later (proposal_in epoch start parent payload)
+      → EachRuns same elect network
+      (λ i x. IsSetUpAs epoch (length network) elector i x × StandsBefore parent view start x)
+      → (later : List (Replica K L D))
+      × ContinuesToFinalize same elect term_length network later (proposal_in epoch start parent payload)

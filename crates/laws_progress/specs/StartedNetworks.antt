@@ -30,4 +30,5 @@ StandsBeforeSecond i x = IsSetUpAs 1 4 1 i x × StandsBefore 0 1 2 x
 
 -- the network can finalize this view, on genesis
 abbrev pub Finalizes : List (Replica ℕ ℕ ℕ) → ℕ → Type 0
-Finalizes network view = (later : List (Replica ℕ ℕ ℕ)) × ContinuesToFinalize nat_eq in_turn 1 network later (proposal_in 1 view 0 7)
+Finalizes network view =
+    (later : List (Replica ℕ ℕ ℕ)) × ContinuesToFinalize nat_eq in_turn 1 network later (proposal_in 1 view 0 7)

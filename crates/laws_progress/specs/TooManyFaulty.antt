@@ -13,7 +13,8 @@ use Rattle.laws_progress.specs.NetworkStates.{IsSetUpAs, EachRuns}
 
 -- a member of five, in terms of one view, that did nothing yet
 abbrev pub idle_of_five : ℕ → Execution ℕ ℕ ℕ
-idle_of_five me = execution_from (record (begin_at 1 me) { setup = record (begin_at 1 me).setup { members = 0 ∷ 1 ∷ 2 ∷ 3 ∷ 4 ∷ [] } }) []
+idle_of_five me = execution_from
+    (record (begin_at 1 me) { setup = record (begin_at 1 me).setup { members = 0 ∷ 1 ∷ 2 ∷ 3 ∷ 4 ∷ [] } }) []
 
 -- two of the five are faulty: more than f = 1, but fewer than n - 2f = 3
 abbrev pub with_two_faulty : List (Replica ℕ ℕ ℕ)
@@ -22,7 +23,8 @@ with_two_faulty = Faulty ∷ Faulty ∷ Honest (idle_of_five 2) ∷ Honest (idle
 -- all premises on it, if view 4 is to be finalized, except that at most f are faulty
 abbrev pub MayContinueOtherwise : Type 0
 MayContinueOtherwise =
-    EachRuns nat_eq in_turn with_two_faulty (λ i x. IsSetUpAs 1 (length with_two_faulty) 1 i x × (is_tracked x 4 ≡ false) × (x.current < 4))
+    EachRuns nat_eq in_turn with_two_faulty
+    (λ i x. IsSetUpAs 1 (length with_two_faulty) 1 i x × (is_tracked x 4 ≡ false) × (x.current < 4))
     × AreConsistent nat_eq in_turn 1 with_two_faulty
     × (4 ≡ term_start 1 4)
     × (is_too_large 4 ≡ false)
@@ -31,4 +33,5 @@ MayContinueOtherwise =
 
 -- it can finalize nothing
 abbrev pub IsStuck : Type 0
-IsStuck = (later : List (Replica ℕ ℕ ℕ)) (final : Proposal ℕ) → ContinuesToFinalize nat_eq in_turn 1 with_two_faulty later final → ⊥
+IsStuck = (later : List (Replica ℕ ℕ ℕ)) (final : Proposal ℕ)
+    → ContinuesToFinalize nat_eq in_turn 1 with_two_faulty later final → ⊥

@@ -16,4 +16,5 @@ module _ (K : Type 0) {L D : Type 0} (same : D → D → Bool) (elect : Elect L)
   -- so the rule of votes to nullify is true of its current view
   abbrev pub CurrentViewsMayBeAbandoned : Type 0
   CurrentViewsMayBeAbandoned =
-      OfEachMember K same elect (λ term_length s. (x : StateFacts K L D) → RunsWith same elect s x → may_nullify x x.current ≡ true)
+      OfEachMember K same elect
+      (λ term_length s. (x : StateFacts K L D) → RunsWith same elect s x → may_nullify x x.current ≡ true)

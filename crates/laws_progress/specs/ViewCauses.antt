@@ -35,11 +35,13 @@ IsInEpoch epoch view round = (round.view ≡ view) × (round.epoch ≡ epoch)
 module _ {D : Type 0} where
   -- a finalization of the view was accepted
   abbrev pub HasFinalized : ℕ → List (TraceEvent D) → ℕ → Type 0
-  HasFinalized epoch trace view = (p : Proposal D) × Contains trace (Accepts (subject.Finalize p)) × IsInEpoch epoch view p.round
+  HasFinalized epoch trace view =
+      (p : Proposal D) × Contains trace (Accepts (subject.Finalize p)) × IsInEpoch epoch view p.round
 
   -- this verdict was received on a proposal of the view
   abbrev pub HasJudged : Bool → ℕ → List (Bool × Proposal D) → ℕ → Type 0
-  HasJudged success epoch verdicts view = (p : Proposal D) × Contains verdicts (success, p) × IsInEpoch epoch view p.round
+  HasJudged success epoch verdicts view =
+      (p : Proposal D) × Contains verdicts (success, p) × IsInEpoch epoch view p.round
 
   -- a proposal of the view was certified
   abbrev pub HasCertified : ℕ → List (Bool × Proposal D) → ℕ → Type 0
@@ -47,14 +49,19 @@ module _ {D : Type 0} where
 
   -- a nullification of the view was accepted
   abbrev pub HasNullified : ℕ → List (TraceEvent D) → ℕ → Type 0
-  HasNullified epoch trace view = (round : Round) × Contains trace (Accepts (subject.Nullify round)) × IsInEpoch epoch view round
+  HasNullified epoch trace view =
+      (round : Round) × Contains trace (Accepts (subject.Nullify round)) × IsInEpoch epoch view round
 
 -- a view is the first one, or lies just above one that was finalized or certified, or begins the term after one that was nullified
-pub data IsLedTo {D : Type 0} (term_length epoch : ℕ) (trace : List (TraceEvent D)) (verdicts : List (Bool × Proposal D)) (view : ℕ) : Type 0 where
+pub data IsLedTo {D : Type 0} (term_length epoch : ℕ) (trace : List (TraceEvent D))
+    (verdicts : List (Bool × Proposal D)) (view : ℕ) : Type 0 where
   First : view ≡ 1 → IsLedTo term_length epoch trace verdicts view
-  PastFinalized : (below : ℕ) → HasFinalized epoch trace below → view ≡ below + 1 → IsLedTo term_length epoch trace verdicts view
-  PastCertified : (below : ℕ) → HasCertified epoch verdicts below → view ≡ below + 1 → IsLedTo term_length epoch trace verdicts view
-  PastNullified : (below : ℕ) → HasNullified epoch trace below → view ≡ next_term_start term_length below → IsLedTo term_length epoch trace verdicts view
+  PastFinalized : (below : ℕ) → HasFinalized epoch trace below → view ≡ below + 1
+      → IsLedTo term_length epoch trace verdicts view
+  PastCertified : (below : ℕ) → HasCertified epoch verdicts below → view ≡ below + 1
+      → IsLedTo term_length epoch trace verdicts view
+  PastNullified : (below : ℕ) → HasNullified epoch trace below → view ≡ next_term_start term_length below
+      → IsLedTo term_length epoch trace verdicts view
 
 module _ (K : Type 0) {L D : Type 0} (same : D → D → Bool) (elect : Elect L) where
   -- while a member has not failed, its current view was led to in its epoch
@@ -79,7 +86,9 @@ module _ (K : Type 0) {L D : Type 0} (same : D → D → Bool) (elect : Elect L)
   -- and before that vote: by what the member had done and received in the execution up to it
   abbrev pub NullifyVotesComeAfter : Type 0
   NullifyVotesComeAfter =
-      OfEachMember K same elect (λ term_length s. (before : List (TraceEvent D)) (round : Round) → SignsAfter (trace_of s) before (subject.Nullify round)
+      OfEachMember K same elect
+      (λ term_length s. (before : List (TraceEvent D)) (round : Round)
+      → SignsAfter (trace_of s) before (subject.Nullify round)
       → (earlier : Execution K L D) × ExecutionContinues earlier s × (trace_of earlier ≡ before)
       × IsLedTo term_length round.epoch before (judged_of earlier) round.view)
 
@@ -87,10 +96,12 @@ module _ (K : Type 0) {L D : Type 0} (same : D → D → Bool) (elect : Elect L)
   abbrev pub VerdictsAreReported : Type 0
   VerdictsAreReported =
       OfEachMember K same elect (λ term_length s. (x : StateFacts K L D) → RunsWith same elect s x
-      → (v : ℕ) (success : Bool) → is_judged success (round_of x v).certification ≡ true → HasJudged success x.settings.epoch (judged_of s) v)
+      → (v : ℕ) (success : Bool) → is_judged success (round_of x v).certification ≡ true
+      → HasJudged success x.settings.epoch (judged_of s) v)
 
   -- each proposal that was judged has a notarization that was accepted
   abbrev pub JudgedAreNotarized : Type 0
   JudgedAreNotarized =
-      OfEachMember K same elect (λ term_length s. (success : Bool) (p : Proposal D) → Contains (judged_of s) (success, p)
+      OfEachMember K same elect
+      (λ term_length s. (success : Bool) (p : Proposal D) → Contains (judged_of s) (success, p)
       → Contains (trace_of s) (Accepts (subject.Notarize p)))

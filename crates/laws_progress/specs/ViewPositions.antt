@@ -12,7 +12,8 @@ use Rattle.simplex_voter.specs.Payloads.{explicit_ancestry_payload}
 
 -- the proposal of a view in an epoch
 abbrev pub proposal_in : {D : Type 0} → ℕ → ℕ → ℕ → D → Proposal D
-proposal_in epoch view parent payload = record { round = record { epoch = epoch; view = view }; parent = parent; payload = payload }
+proposal_in epoch view parent payload =
+    record { round = record { epoch = epoch; view = view }; parent = parent; payload = payload }
 
 module _ {K L D : Type 0} where
   -- nothing was proposed, accepted or voted in the term start that the member is at, and it knows its leader

@@ -14,7 +14,8 @@ MayReach term_length network start = MayContinue nat_eq in_turn term_length netw
 -- and this start is finalized, on some parent
 abbrev pub Reaches : ℕ → List (Replica ℕ ℕ ℕ) → ℕ → Type 0
 Reaches term_length network start =
-    (later : List (Replica ℕ ℕ ℕ)) × (parent : ℕ) × ContinuesToFinalize nat_eq in_turn term_length network later (proposal_in 1 start parent 7)
+    (later : List (Replica ℕ ℕ ℕ)) × (parent : ℕ)
+    × ContinuesToFinalize nat_eq in_turn term_length network later (proposal_in 1 start parent 7)
 
 -- within this number of exchanges of messages a start is finalized, on some parent
 abbrev pub ReachesWithin : ℕ → ℕ → List (Replica ℕ ℕ ℕ) → Type 0

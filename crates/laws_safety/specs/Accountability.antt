@@ -21,12 +21,14 @@ module _ {D : Type 0} where
   -- that view; or a finalized view is covered by a nullification
   abbrev pub Contradicts : ℕ → Subject D → Subject D → Type 0
   Contradicts term_length (Notarize p) (Notarize q) = AreRivals p q
-  Contradicts term_length (Notarize p) (Finalize final) = AreRivals p final ⊎ ((p.parent < final.round.view) × (final.round.view < p.round.view))
+  Contradicts term_length (Notarize p) (Finalize final) =
+      AreRivals p final ⊎ ((p.parent < final.round.view) × (final.round.view < p.round.view))
   Contradicts term_length (Notarize p) (Nullify round) = ⊥
   Contradicts term_length (Nullify round) (Notarize p) = ⊥
   Contradicts term_length (Nullify round) (Nullify other) = ⊥
   Contradicts term_length (Nullify round) (Finalize final) = covers term_length round.view final.round.view ≡ true
-  Contradicts term_length (Finalize final) (Notarize p) = AreRivals p final ⊎ ((p.parent < final.round.view) × (final.round.view < p.round.view))
+  Contradicts term_length (Finalize final) (Notarize p) =
+      AreRivals p final ⊎ ((p.parent < final.round.view) × (final.round.view < p.round.view))
   Contradicts term_length (Finalize final) (Nullify round) = covers term_length round.view final.round.view ≡ true
   Contradicts term_length (Finalize p) (Finalize q) = AreRivals p q
 
@@ -54,7 +56,8 @@ module _ {D : Type 0} where
   -- it voted to finalize a proposal, and had accepted no notarization of it
   abbrev pub FinalizesUnnotarized : List (TraceEvent D) → Proposal D → Type 0
   FinalizesUnnotarized trace p =
-      (before : List (TraceEvent D)) × SignsAfter trace before (Finalize p) × (Contains before (Accepts (Notarize p)) → ⊥)
+      (before : List (TraceEvent D)) × SignsAfter trace before (Finalize p)
+      × (Contains before (Accepts (Notarize p)) → ⊥)
 
   -- it voted for a proposal that skips a view, and had accepted no nullification that covers it
   abbrev pub SkipsUncovered : ℕ → List (TraceEvent D) → Proposal D → ℕ → Type 0
@@ -87,7 +90,8 @@ module _ {D : Type 0} where
   -- the rule broken by a vote for a proposal and one to finalize another, and by a vote to nullify and one to finalize
 
   abbrev pub BreaksByFinal : ℕ → List (TraceEvent D) → Proposal D → Proposal D → Type 0
-  BreaksByFinal term_length trace p final = FinalizesUnnotarized trace final ⊎ SkipsUncovered term_length trace p final.round.view
+  BreaksByFinal term_length trace p final =
+      FinalizesUnnotarized trace final ⊎ SkipsUncovered term_length trace p final.round.view
 
   abbrev pub BreaksByNullify : ℕ → List (TraceEvent D) → Round → Proposal D → Type 0
   BreaksByNullify term_length trace round final =
@@ -106,7 +110,8 @@ module _ {D : Type 0} where
 
 -- before it signed one of the two votes it accepted a third certificate, which contradicts one of the two and is nearer to it than
 -- they are to each other
-pub record HasAcceptedNearer {D : Type 0} (term_length : ℕ) (a b : Subject D) (trace : List (TraceEvent D)) : Type 0 where
+pub record HasAcceptedNearer {D : Type 0} (term_length : ℕ) (a b : Subject D)
+    (trace : List (TraceEvent D)) : Type 0 where
   pub third : Subject D
   pub before : List (TraceEvent D)
   pub signs : SignsAfter trace before a ⊎ SignsAfter trace before b
@@ -160,15 +165,18 @@ module _ {D : Type 0} where
 
 -- two certificates that contradict, no farther apart than two others, at which n - 2f members are unknown or broke a rule: among
 -- those whose trace is known, n - 2f less the number of unknown ones
-pub record IsTraced {D : Type 0} (term_length : ℕ) (members : List (Option (List (TraceEvent D)))) (a b : Subject D) : Type 0 where
+pub record IsTraced {D : Type 0} (term_length : ℕ) (members : List (Option (List (TraceEvent D))))
+    (a b : Subject D) : Type 0 where
   pub first : Subject D
   pub second : Subject D
   pub contradict : Contradicts term_length first second
   pub near : distance first second ≤ distance a b
   pub first_certified : MayBeCertified members first
   pub second_certified : MayBeCertified members second
-  pub suspects : AtLeastFrom 0 (length members - 2 * max_faults (length members)) (IsSuspect term_length first second) members
-  pub guilty : AtLeastFrom 0 (length members - 2 * max_faults (length members) - unknowns members) (IsGuilty term_length first second) members
+  pub suspects : AtLeastFrom 0 (length members - 2 * max_faults (length members))
+      (IsSuspect term_length first second) members
+  pub guilty : AtLeastFrom 0 (length members - 2 * max_faults (length members) - unknowns members)
+      (IsGuilty term_length first second) members
 
 -- the third certificate is none of the two
 abbrev pub ThirdIsAnother : (D : Type 0) → Type 0
@@ -185,7 +193,8 @@ EvidenceHolds D =
 
 -- certificates that contradict at no distance are evidence
 abbrev pub NearestIsEvidence : (D : Type 0) → Type 0
-NearestIsEvidence D = (term_length : ℕ) (a b : Subject D) → Contradicts term_length a b → distance a b ≡ 0 → IsEvidence a b
+NearestIsEvidence D = (term_length : ℕ) (a b : Subject D) → Contradicts term_length a b
+    → distance a b ≡ 0 → IsEvidence a b
 
 -- each broken rule is indeed one of the voting rules
 abbrev pub BrokenRulesAreRules : (D : Type 0) → Type 0
@@ -216,7 +225,8 @@ module _ {K L D : Type 0} where
 module _ {K L D : Type 0} (same : D → D → Bool) (elect : Elect L) where
   -- for any number of faulty members: each other one runs as it says, and each certificate that one of these accepted is backed
   pub record IsBackedNetwork (term_length : ℕ) (network : List (Replica K L D)) : Type 0 where
-    pub honest : (i : ℕ) (s : Execution K L D) → slice_get network i ≡ Some (Honest s) → IsExecution same elect term_length i s
+    pub honest : (i : ℕ) (s : Execution K L D) → slice_get network i ≡ Some (Honest s)
+        → IsExecution same elect term_length i s
     pub backed : (i : ℕ) (s : Execution K L D) (certificate : Subject D) → slice_get network i ≡ Some (Honest s)
         → Contains (trace_of s) (Accepts certificate) → Backed network certificate
 
@@ -225,12 +235,14 @@ module _ (K : Type 0) {L D : Type 0} (same : D → D → Bool) (elect : Elect L)
   abbrev pub ContradictionsNeedFaults : Type 0
   ContradictionsNeedFaults =
       (term_length : ℕ) (network : List (Replica K L D)) (a b : Subject D)
-      → IsBackedNetwork same elect term_length network → Contradicts term_length a b → Backed network a → Backed network b
+      → IsBackedNetwork same elect term_length network → Contradicts term_length a b → Backed network a
+      → Backed network b
       → length network - 2 * max_faults (length network) ≤ faults network
 
   -- and two are found that contradict, no farther apart, with votes of n - 2f members that are faulty or broke a rule by these
   abbrev pub ContradictionsAreTracedInNetworks : Type 0
   ContradictionsAreTracedInNetworks =
       (term_length : ℕ) (network : List (Replica K L D)) (a b : Subject D)
-      → IsBackedNetwork same elect term_length network → Contradicts term_length a b → Backed network a → Backed network b
+      → IsBackedNetwork same elect term_length network → Contradicts term_length a b → Backed network a
+      → Backed network b
       → IsTraced term_length (map known_of network) a b

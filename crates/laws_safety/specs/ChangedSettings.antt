@@ -65,7 +65,14 @@ keyless_start = record (start_at 5 (Genesis 0) 1) { setup = record (set_up_as 5 
 abbrev pub other_start : StartFacts ℕ ℕ ℕ
 other_start = record {
   setup = record (set_up_as 5 1) {
-    settings = record { epoch = 1; view_retention = 3; leader_timeout = 300; certification_timeout = 700; timeout_retry = 50; skip_budget = 1 };
+    settings = record {
+      epoch = 1;
+      view_retention = 3;
+      leader_timeout = 300;
+      certification_timeout = 700;
+      timeout_retry = 50;
+      skip_budget = 1;
+    };
     terms = record { term_length = 5; optimistic_views = 2; stall_timeout = Some 900 };
   };
   floor = Finalized (certificate one);
@@ -107,7 +114,8 @@ with_refusing = Honest (patient 0) ∷ Honest refusing ∷ Honest (patient 2) �
 
 -- a member votes for views 1 and 2, and votes to nullify the second one
 abbrev pub abandoning : Execution ℕ ℕ ℕ
-abandoning = execution_from (start_at 5 (Genesis 0) 0) (votes_through 0 one ++ hears two true ∷ verifies 0 3 two ++ votes_against 0 2 ∷ [])
+abandoning = execution_from (start_at 5 (Genesis 0) 0)
+    (votes_through 0 one ++ hears two true ∷ verifies 0 3 two ++ votes_against 0 2 ∷ [])
 
 -- four members, of which the first leader is faulty; one votes to nullify view 2, and another one votes through both views
 abbrev pub with_changing : List (Replica ℕ ℕ ℕ)

@@ -48,7 +48,8 @@ module _ {K L D : Type 0} where
 
   -- it built this proposal, and signed its own vote for it
   abbrev pub HasBuilt : Proposal D → ℕ → Execution K L D → Type 0
-  HasBuilt p i s = ((now : ℕ) × Contains s.steps (Calls (Proposed p.round.view p.payload now))) × HasSignedAs (Notarize p) i s
+  HasBuilt p i s = ((now : ℕ) × Contains s.steps (Calls (Proposed p.round.view p.payload now)))
+      × HasSignedAs (Notarize p) i s
 
   -- an honest member signed this vote
   abbrev pub IsHonestlySigned : Subject D → ℕ → Replica K L D → Type 0
@@ -61,12 +62,14 @@ module _ {K L D : Type 0} where
 
 module _ {K L D : Type 0} (same : D → D → Bool) (elect : Elect L) where
   -- the network may continue as this later one, where this proposal is finalized, by actions of its honest members alone
-  pub record ContinuesToFinalize (term_length : ℕ) (network later : List (Replica K L D)) (final : Proposal D) : Type 0 where
+  pub record ContinuesToFinalize (term_length : ℕ) (network later : List (Replica K L D))
+      (final : Proposal D) : Type 0 where
     pub continues : ReplicasContinue network later
     -- each honest member runs, and each certificate that it accepts is backed
     pub runs : IsNetworkOf same elect term_length later
     -- a certificate that an honest member accepts was accepted by an honest one before, or honest ones alone make it
-    pub certificates : EachHonest later (λ i s. (c : Subject D) → HasAccepted c i s → SomeHonest network (HasAccepted c) ⊎ HonestlyBacked later c)
+    pub certificates : EachHonest later
+        (λ i s. (c : Subject D) → HasAccepted c i s → SomeHonest network (HasAccepted c) ⊎ HonestlyBacked later c)
     -- a proposal that it receives was received by an honest one before, or an honest one built it
     pub proposals : EachHonest later (λ i s. (v : ℕ) (p : Proposal D) → HasHeard v p s
         → SomeHonest network (λ j t. HasHeard v p t) ⊎ SomeHonest later (HasBuilt p))

@@ -45,7 +45,8 @@ after_conflict = proposal 2 0
 
 -- the leader of view 2 votes to nullify view 1, by its deadline and reason, and builds; it votes for view 2 to the end
 abbrev pub leads_past_conflict : ℕ → ℕ → TimeoutReason → List (StepFacts ℕ ℕ ℕ × ReplyFacts ℕ ℕ)
-leads_past_conflict me at why = abandons me 1 at why ++ skips 1 ∷ builds me after_conflict ++ certifies after_conflict ++ finalizes me after_conflict
+leads_past_conflict me at why = abandons me 1 at why ++ skips 1 ∷ builds me after_conflict ++ certifies after_conflict
+    ++ finalizes me after_conflict
 
 -- another member does the same, and verifies
 abbrev pub follows_past_conflict : ℕ → ℕ → TimeoutReason → List (StepFacts ℕ ℕ ℕ × ReplyFacts ℕ ℕ)

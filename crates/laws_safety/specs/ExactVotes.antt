@@ -37,9 +37,12 @@ module _ {K L D : Type 0} (same : D → D → Bool) (elect : Elect L) where
   -- vote
   abbrev pub ExactAt : Option (StateFacts K L D) → StepFacts K L D → ReplyFacts K D → Type 0
   ExactAt None step told = signed_in told ≡ []
-  ExactAt (Some x) (Calls (ConstructNullify v)) told = IsExact (NullifyRule x v) x.me (Some (subject.Nullify (round_number x v))) told
-  ExactAt (Some x) (Calls (ConstructFinalize v)) told = IsExact (FinalizeRule elect x v) x.me (option_map subject.Finalize (proposal_at x v)) told
-  ExactAt (Some x) (Calls (ConstructNotarize v)) told = IsExact (NotarizeRule same elect x v) x.me (option_map subject.Notarize (proposal_at x v)) told
+  ExactAt (Some x) (Calls (ConstructNullify v)) told =
+      IsExact (NullifyRule x v) x.me (Some (subject.Nullify (round_number x v))) told
+  ExactAt (Some x) (Calls (ConstructFinalize v)) told =
+      IsExact (FinalizeRule elect x v) x.me (option_map subject.Finalize (proposal_at x v)) told
+  ExactAt (Some x) (Calls (ConstructNotarize v)) told =
+      IsExact (NotarizeRule same elect x v) x.me (option_map subject.Notarize (proposal_at x v)) told
   ExactAt (Some x) _ told = signed_in told ≡ []
 
   -- this holds at each step of a run, for the very member that the steps before it left
@@ -48,7 +51,8 @@ module _ {K L D : Type 0} (same : D → D → Bool) (elect : Elect L) where
   RunsExactly m [] (told ∷ replies) = ⊥
   RunsExactly m (step ∷ steps) [] = ⊥
   RunsExactly m (step ∷ steps) (told ∷ replies) =
-      ExactAt m.life step told × ((next : MemberFacts K L D) × IsStep same elect m step told next × RunsExactly next steps replies)
+      ExactAt m.life step told
+      × ((next : MemberFacts K L D) × IsStep same elect m step told next × RunsExactly next steps replies)
 
   -- this holds from the start on
   abbrev pub SignsExactly : Execution K L D → Type 0

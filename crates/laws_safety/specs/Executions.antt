@@ -44,7 +44,8 @@ module _ {K L D : Type 0} (same : D → D → Bool) (elect : Elect L) where
 module _ (K : Type 0) {L D : Type 0} (same : D → D → Bool) (elect : Elect L) where
   -- for all that a member of a network may do, in terms of any length
   abbrev pub OfEachMember : (ℕ → Execution K L D → Type 0) → Type 0
-  OfEachMember Holds = (term_length i : ℕ) (s : Execution K L D) → IsExecution same elect term_length i s → Holds term_length s
+  OfEachMember Holds = (term_length i : ℕ) (s : Execution K L D) → IsExecution same elect term_length i s
+      → Holds term_length s
 
   -- the trace of a run keeps the voting rules, whatever key each of its lifetimes signs with
   abbrev pub RunsAreLawful : Type 0

@@ -54,11 +54,13 @@ leaves_term me = abandons me 3 2000 CertificationTimeout ++ skips 3 ∷ []
 
 -- the leader of view 5 builds, and votes for it to the end
 abbrev pub leads_past_handoff : ℕ → List (StepFacts ℕ ℕ ℕ × ReplyFacts ℕ ℕ)
-leads_past_handoff me = leaves_term me ++ builds me after_handoff ++ certifies after_handoff ++ finalizes me after_handoff
+leads_past_handoff me = leaves_term me ++ builds me after_handoff ++ certifies after_handoff
+    ++ finalizes me after_handoff
 
 -- another member verifies, and does the same
 abbrev pub follows_past_handoff : ℕ → List (StepFacts ℕ ℕ ℕ × ReplyFacts ℕ ℕ)
-follows_past_handoff me = leaves_term me ++ hears after_handoff true ∷ verifies me 1 after_handoff ++ certifies after_handoff ++ finalizes me after_handoff
+follows_past_handoff me = leaves_term me ++ hears after_handoff true ∷ verifies me 1 after_handoff
+    ++ certifies after_handoff ++ finalizes me after_handoff
 
 -- all three finalize view 5
 abbrev pub gone_on : List (Replica ℕ ℕ ℕ)

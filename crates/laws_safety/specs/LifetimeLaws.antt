@@ -27,13 +27,15 @@ module _ {K L D : Type 0} (same : D → D → Bool) (elect : Elect L) where
 
   -- a run from a start leads to a member, and these calls continue it within its lifetime
   pub record IsLifetimeOfRun (start : StartFacts K L D) (steps : List (StepFacts K L D)) (told : List (ReplyFacts K D))
-      (m : MemberFacts K L D) (calls : List (CallFacts D)) (replies : List (ReplyFacts K D)) (end : MemberFacts K L D) : Type 0 where
+      (m : MemberFacts K L D) (calls : List (CallFacts D)) (replies : List (ReplyFacts K D))
+      (end : MemberFacts K L D) : Type 0 where
     pub accepted : recover_error same (new_state start.setup) start.floor start.now [] ≡ None
     pub reached : IsRun same elect (new_member same elect start) steps told m
     pub life : IsLifetime m calls replies end
 
 -- this holds of the first state and the last one, unless the member has failed by then; no state comes after a failure
-abbrev pub WhileAlive : {K L D : Type 0} → (StateFacts K L D → StateFacts K L D → Type 0) → Option (StateFacts K L D) → Option (StateFacts K L D) → Type 0
+abbrev pub WhileAlive : {K L D : Type 0} → (StateFacts K L D → StateFacts K L D → Type 0) → Option (StateFacts K L D)
+    → Option (StateFacts K L D) → Type 0
 WhileAlive Holds first None = Unit {0}
 WhileAlive Holds None (Some last) = ⊥
 WhileAlive Holds (Some first) (Some last) = Holds first last
@@ -52,7 +54,8 @@ pub record CurrentTimesOut {K L D : Type 0} (x : StateFacts K L D) : Type 0 wher
 -- state knows at that moment cover each view between
 abbrev pub NotarizesGapless : {K L D : Type 0} → (D → D → Bool) → Elect L → StateFacts K L D → Type 0
 NotarizesGapless same elect x =
-    (v : ℕ) (p : Proposal _) → NotarizeRule same elect x v → proposal_at x v ≡ Some p → (p.parent < v) × IsGapless x p.parent v
+    (v : ℕ) (p : Proposal _) → NotarizeRule same elect x v → proposal_at x v ≡ Some p → (p.parent < v)
+    × IsGapless x p.parent v
 
 module _ {K L D : Type 0} where
   -- a poll returns a moment to wait for and its reason; or its member has failed, or its next retry passes the numbers of 64 bits
@@ -83,7 +86,8 @@ pub record WasPruned {K L D : Type 0} (replies : List (ReplyFacts K D)) (last : 
 
 -- a conflict of a view stays until the view is pruned
 abbrev pub ConflictsStay : {K L D : Type 0} → List (ReplyFacts K D) → StateFacts K L D → StateFacts K L D → Type 0
-ConflictsStay replies first last = (v : ℕ) → has_conflict first v ≡ true → (has_conflict last v ≡ true) ⊎ WasPruned replies last v
+ConflictsStay replies first last =
+    (v : ℕ) → has_conflict first v ≡ true → (has_conflict last v ≡ true) ⊎ WasPruned replies last v
 
 -- what was dropped isn't tracked again
 abbrev pub DroppedForGood : {K L D : Type 0} → List (ReplyFacts K D) → StateFacts K L D → StateFacts K L D → Type 0
@@ -129,7 +133,8 @@ module _ {K D : Type 0} where
   -- the certificate in a reply is of the kind and the view that its call asks for
   abbrev pub IsAsAsked : CallFacts D → ReplyFacts K D → Type 0
   IsAsAsked call told =
-      (kind : KindOfCertificate) (v : ℕ) (c : CertificateFacts D) → asked_by kind call ≡ v ∷ [] → told ≡ Returned (Some c)
+      (kind : KindOfCertificate) (v : ℕ) (c : CertificateFacts D) → asked_by kind call ≡ v ∷ []
+      → told ≡ Returned (Some c)
       → (kind_of_certificate c ≡ kind) × ((certificate_round c).view ≡ v)
 
   -- the same for each call
@@ -139,12 +144,15 @@ module _ {K D : Type 0} where
 
 module _ (K : Type 0) {L D : Type 0} (same : D → D → Bool) (elect : Elect L) where
   -- for each lifetime of any member
-  abbrev pub OfEachLifetime : (MemberFacts K L D → List (CallFacts D) → List (ReplyFacts K D) → MemberFacts K L D → Type 0) → Type 0
+  abbrev pub OfEachLifetime : (MemberFacts K L D → List (CallFacts D) → List (ReplyFacts K D) → MemberFacts K L D
+      → Type 0) → Type 0
   OfEachLifetime Holds =
-      (m end : MemberFacts K L D) (calls : List (CallFacts D)) (replies : List (ReplyFacts K D)) → IsLifetime same elect m calls replies end → Holds m calls replies end
+      (m end : MemberFacts K L D) (calls : List (CallFacts D)) (replies : List (ReplyFacts K D))
+      → IsLifetime same elect m calls replies end → Holds m calls replies end
 
   -- for each stretch of a lifetime that a run leads to, whose lifetimes share a length of terms
-  abbrev pub OfEachStretch : (MemberFacts K L D → List (CallFacts D) → List (ReplyFacts K D) → MemberFacts K L D → Type 0) → Type 0
+  abbrev pub OfEachStretch : (MemberFacts K L D → List (CallFacts D) → List (ReplyFacts K D) → MemberFacts K L D
+      → Type 0) → Type 0
   OfEachStretch Holds =
       (term_length : ℕ) (start : StartFacts K L D) (before : List (StepFacts K L D)) (told : List (ReplyFacts K D))
       (m end : MemberFacts K L D) (calls : List (CallFacts D)) (replies : List (ReplyFacts K D))
@@ -156,7 +164,8 @@ module _ (K : Type 0) {L D : Type 0} (same : D → D → Bool) (elect : Elect L)
   -- for the state that a run leads to, while the member has not failed, whose lifetimes share a length of terms
   abbrev pub OfEachState : (StateFacts K L D → Type 0) → Type 0
   OfEachState Holds =
-      (term_length : ℕ) (start : StartFacts K L D) (steps : List (StepFacts K L D)) (replies : List (ReplyFacts K D)) (end : MemberFacts K L D)
+      (term_length : ℕ) (start : StartFacts K L D) (steps : List (StepFacts K L D)) (replies : List (ReplyFacts K D))
+      (end : MemberFacts K L D)
       → HasTerms term_length start.setup
       → KeepTerms term_length steps
       → IsRun same elect (new_member same elect start) steps replies end
@@ -165,7 +174,8 @@ module _ (K : Type 0) {L D : Type 0} (same : D → D → Bool) (elect : Elect L)
   -- for the steps of each run and their replies, whose lifetimes share a length of terms
   abbrev pub OfEachRun : (List (StepFacts K L D) → List (ReplyFacts K D) → Type 0) → Type 0
   OfEachRun Holds =
-      (term_length : ℕ) (start : StartFacts K L D) (steps : List (StepFacts K L D)) (replies : List (ReplyFacts K D)) (end : MemberFacts K L D)
+      (term_length : ℕ) (start : StartFacts K L D) (steps : List (StepFacts K L D)) (replies : List (ReplyFacts K D))
+      (end : MemberFacts K L D)
       → HasTerms term_length start.setup
       → KeepTerms term_length steps
       → IsRun same elect (new_member same elect start) steps replies end
@@ -174,7 +184,8 @@ module _ (K : Type 0) {L D : Type 0} (same : D → D → Bool) (elect : Elect L)
   -- calls of a run with no restart among them are such a stretch
   abbrev pub StretchesAreLifetimes : Type 0
   StretchesAreLifetimes =
-      (start : StartFacts K L D) (before after : List (StepFacts K L D)) (calls : List (CallFacts D)) (told replies rest : List (ReplyFacts K D))
+      (start : StartFacts K L D) (before after : List (StepFacts K L D)) (calls : List (CallFacts D))
+      (told replies rest : List (ReplyFacts K D))
       → length before ≡ length told
       → length calls ≡ length replies
       → IsRunFrom same elect start (before ++ (map Calls calls ++ after)) (told ++ (replies ++ rest))

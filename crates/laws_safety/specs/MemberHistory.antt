@@ -19,7 +19,8 @@ use Rattle.laws_safety.specs.ObservedTraces.{floor_in, begun_by, StartsAs}
 use Rattle.laws_safety.specs.Executions.{new_member, Execution, trace_of, RunsAs, IsExecution}
 
 -- the inputs of a member of the code and its replies, as an execution
-abbrev pub execution_of : {S L D K G C : Type 0} → (S → Option ℕ) → (S → List K) → (L → Terms) → (L → Bool) → (C → List ℕ) → Start S L D K G C
+abbrev pub execution_of : {S L D K G C : Type 0} → (S → Option ℕ) → (S → List K) → (L → Terms) → (L → Bool)
+    → (C → List ℕ) → Start S L D K G C
     → List (Step S L D K G C) → List (Reply S D K G C) → Execution K L D
 execution_of me members terms elects_early bytes_of start steps replies = record {
   start = start_facts me members terms elects_early bytes_of start;
@@ -51,11 +52,13 @@ module _ {K L D : Type 0} (same : D → D → Bool) (elect : Elect L) where
 
   -- this trace is added
   abbrev pub ExtendsHistory : MemberFacts K L D → List (TraceEvent D) → MemberFacts K L D → Type 0
-  ExtendsHistory m more next = (term_length i : ℕ) (all : List (TraceEvent D)) → HasHistory term_length i all m → HasHistory term_length i (all ++ more) next
+  ExtendsHistory m more next = (term_length i : ℕ) (all : List (TraceEvent D)) → HasHistory term_length i all m
+      → HasHistory term_length i (all ++ more) next
 
   -- for whatever it has done so far, as any member
   abbrev pub OfEachHistory : MemberFacts K L D → (ℕ → ℕ → List (TraceEvent D) → Type 0) → Type 0
-  OfEachHistory m Holds = (term_length i : ℕ) (all : List (TraceEvent D)) → HasHistory term_length i all m → Holds term_length i all
+  OfEachHistory m Holds = (term_length i : ℕ) (all : List (TraceEvent D)) → HasHistory term_length i all m
+      → Holds term_length i all
 
 module _ (K : Type 0) {L D : Type 0} (same : D → D → Bool) (elect : Elect L) where
   -- a network may have a member `i` with this trace
@@ -65,10 +68,12 @@ module _ (K : Type 0) {L D : Type 0} (same : D → D → Bool) (elect : Elect L)
 module _ {S L D K G C : Type 0} (same : D → D → Bool) (elect : Elect L) (me : S → Option ℕ) (terms : L → Terms) where
   -- a member that begins with this start has accepted the floor's finalization
   abbrev pub HasStarted : Start S L D K G C → MemberFacts K L D → Type 0
-  HasStarted start m = (term_length i : ℕ) → StartsAs me terms term_length i start → HasHistory same elect term_length i (floor_in start.floor) m
+  HasStarted start m = (term_length i : ℕ) → StartsAs me terms term_length i start
+      → HasHistory same elect term_length i (floor_in start.floor) m
 
   -- one that begins again with this start has, if it succeeds, also accepted the floor's finalization
-  abbrev pub HasRestarted : {E : Type 0} → MemberFacts K L D → Start S L D K G C → Result (Unit {0}) E → MemberFacts K L D → Type 0
+  abbrev pub HasRestarted : {E : Type 0} → MemberFacts K L D → Start S L D K G C → Result (Unit {0}) E
+      → MemberFacts K L D → Type 0
   HasRestarted m start result next =
       (term_length i : ℕ) (all : List (TraceEvent D))
       → StartsAs me terms term_length i start

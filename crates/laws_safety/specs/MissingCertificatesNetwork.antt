@@ -34,7 +34,8 @@ lacks_nullification = begins_with 1 0 (
 
 -- member 1 leads view 3, has the nullification of view 2, and builds on view 1
 abbrev pub skips_two : Execution ℕ ℕ ℕ
-skips_two = begins_with 1 1 (first_view 1 ++ hears two true ∷ verifies 1 0 two ++ second_view 1 ++ skips 2 ∷ builds 1 over_two)
+skips_two = begins_with 1 1
+    (first_view 1 ++ hears two true ∷ verifies 1 0 two ++ second_view 1 ++ skips 2 ∷ builds 1 over_two)
 
 -- member 2 received no certificate except that nullification, and lacks the notarization of view 1
 abbrev pub member_without_notarization : Execution ℕ ℕ ℕ

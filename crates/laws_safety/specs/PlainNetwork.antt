@@ -54,7 +54,8 @@ plain_certificate payload = record { proposal = plain_first payload; bytes = 1 �
 
 -- it builds the proposal
 abbrev pub plain_builds : PlainDigest → List PlainTurn
-plain_builds payload = (Calls TryPropose, Requested (Some (Propose (plain_context payload)))) ∷ (Calls (Proposed 1 payload 0), Answered true) ∷ []
+plain_builds payload = (Calls TryPropose, Requested (Some (Propose (plain_context payload))))
+    ∷ (Calls (Proposed 1 payload 0), Answered true) ∷ []
 
 -- another one verifies it
 abbrev pub plain_verifies : PlainDigest → List PlainTurn
@@ -77,7 +78,11 @@ plain_votes payload me =
 -- a member's start, and its steps
 abbrev pub plain_execution : PlainElector → PlainDigest → ℕ → List PlainTurn → PlainExecution
 plain_execution elector payload me steps =
-    record { start = plain_genesis_start elector payload me; steps = map (λ e. e.0) steps; replies = map (λ e. e.1) steps }
+    record {
+      start = plain_genesis_start elector payload me;
+      steps = map (λ e. e.0) steps;
+      replies = map (λ e. e.1) steps;
+    }
 
 -- the leader
 abbrev pub plain_proposer : PlainElector → PlainDigest → PlainExecution
@@ -85,7 +90,8 @@ plain_proposer elector payload = plain_execution elector payload 0 (plain_builds
 
 -- another member
 abbrev pub plain_follower : PlainElector → PlainDigest → ℕ → PlainExecution
-plain_follower elector payload me = plain_execution elector payload me (plain_verifies payload ++ plain_votes payload me)
+plain_follower elector payload me =
+    plain_execution elector payload me (plain_verifies payload ++ plain_votes payload me)
 
 -- four members, of which the last one is faulty
 abbrev pub plain_four : PlainElector → PlainDigest → List (Replica PlainKey PlainElector PlainDigest)

@@ -18,13 +18,17 @@ module _ {K L D : Type 0} (same : D → D → Bool) (elect : Elect L) where
 
   -- each certificate that ends the current view does so, at this moment
   pub record CallsGoPast (x : StateFacts K L D) (o : OutstandingWork K D) (now : ℕ) : Type 0 where
-    pub nullification : (c : NullificationFacts) → c.round ≡ round_number x x.current → GoesPast x o (AddNullification c now)
-    pub finalization : (c : ProposalFacts D) → c.proposal.round ≡ round_number x x.current → names_too_large c.proposal ≡ false
+    pub nullification : (c : NullificationFacts) → c.round ≡ round_number x x.current
+        → GoesPast x o (AddNullification c now)
+    pub finalization : (c : ProposalFacts D) → c.proposal.round ≡ round_number x x.current
+        → names_too_large c.proposal ≡ false
         → GoesPast x o (AddFinalization c now)
     -- a notarization does so with a true verdict, unless a false one was given
-    pub verdict : is_some (round_of x x.current).notarization ≡ true → is_judged false (round_of x x.current).certification ≡ false
+    pub verdict : is_some (round_of x x.current).notarization ≡ true
+        → is_judged false (round_of x x.current).certification ≡ false
         → GoesPast x o (Certified x.current true now)
 
   -- while the view is below 2^63, and the deadlines of the view to be entered fit in 64 bits
   abbrev pub CanBeLeft : StateFacts K L D → Type 0
-  CanBeLeft x = (o : OutstandingWork K D) (now : ℕ) → is_too_large x.current ≡ false → has_late_deadline x now ≡ false → CallsGoPast x o now
+  CanBeLeft x = (o : OutstandingWork K D) (now : ℕ) → is_too_large x.current ≡ false → has_late_deadline x now ≡ false
+      → CallsGoPast x o now

@@ -44,7 +44,8 @@ VerdictsFollowNotarizations {K} {L} {D} m =
 
 -- a notarization was accepted whose proposal names no earlier view as its parent
 abbrev pub AcceptedParentAbove : {D : Type 0} → List (TraceEvent D) → Type 0
-AcceptedParentAbove {D} trace = (p : Proposal D) × Contains trace (Accepts (subject.Notarize p)) × (p.round.view ≤ p.parent)
+AcceptedParentAbove {D} trace =
+    (p : Proposal D) × Contains trace (Accepts (subject.Notarize p)) × (p.round.view ≤ p.parent)
 
 -- the proposal's payload was passed in as what this member built in its view
 abbrev pub HasBuiltIn : {K L D : Type 0} → List (StepFacts K L D) → Proposal D → Type 0
@@ -65,7 +66,8 @@ module _ (K : Type 0) {L D : Type 0} (same : D → D → Bool) (elect : Elect L)
   -- for each member that a run leads to, whose lifetimes share a length of terms
   abbrev pub OfEachEnd : (MemberFacts K L D → Type 0) → Type 0
   OfEachEnd Holds =
-      (term_length : ℕ) (start : StartFacts K L D) (steps : List (StepFacts K L D)) (replies : List (ReplyFacts K D)) (end : MemberFacts K L D)
+      (term_length : ℕ) (start : StartFacts K L D) (steps : List (StepFacts K L D)) (replies : List (ReplyFacts K D))
+      (end : MemberFacts K L D)
       → HasTerms term_length start.setup
       → KeepTerms term_length steps
       → IsRun same elect (new_member same elect start) steps replies end
@@ -82,12 +84,14 @@ module _ (K : Type 0) {L D : Type 0} (same : D → D → Bool) (elect : Elect L)
   -- and the restart itself only for such a reason
   abbrev pub RestartIsExcused : MemberFacts K L D → Type 0
   RestartIsExcused end =
-      (left : MemberFacts K L D) (next : RestartFacts K L D) (found : RecoverError) → IsRestart same elect end next (Err found) left → IsExcused found
+      (left : MemberFacts K L D) (next : RestartFacts K L D) (found : RecoverError)
+      → IsRestart same elect end next (Err found) left → IsExcused found
 
   -- it is refused for a parent only if a notarization with such a parent was accepted
   abbrev pub ParentsAreAccepted : Type 0
   ParentsAreAccepted =
-      (term_length : ℕ) (start : StartFacts K L D) (steps : List (StepFacts K L D)) (replies : List (ReplyFacts K D)) (end : MemberFacts K L D)
+      (term_length : ℕ) (start : StartFacts K L D) (steps : List (StepFacts K L D)) (replies : List (ReplyFacts K D))
+      (end : MemberFacts K L D)
       → HasTerms term_length start.setup
       → KeepTerms term_length steps
       → IsRun same elect (new_member same elect start) steps replies end
@@ -100,7 +104,8 @@ module _ (K : Type 0) {L D : Type 0} (same : D → D → Bool) (elect : Elect L)
   -- voted in one
   abbrev pub HighViewsAreVotedFor : Type 0
   HighViewsAreVotedFor =
-      (term_length : ℕ) (start : StartFacts K L D) (steps : List (StepFacts K L D)) (replies : List (ReplyFacts K D)) (end : MemberFacts K L D)
+      (term_length : ℕ) (start : StartFacts K L D) (steps : List (StepFacts K L D)) (replies : List (ReplyFacts K D))
+      (end : MemberFacts K L D)
       → HasTerms term_length start.setup
       → KeepTerms term_length steps
       → recover_error same (new_state start.setup) start.floor start.now [] ≡ None
@@ -108,7 +113,8 @@ module _ (K : Type 0) {L D : Type 0} (same : D → D → Bool) (elect : Elect L)
       → (next : RestartFacts K L D) (copy : List (ArtifactFacts D))
       → IsByView (cut_member end next.drop next.prune).entries copy
       → recover_error same (new_state next.start.setup) next.start.floor next.start.now copy ≡ Some error.ViewTooLarge
-      → (is_floor_too_large next.start.floor ≡ true) ⊎ VotedTooHigh steps (of_floor start.floor ++ trace_of_steps steps replies)
+      → (is_floor_too_large next.start.floor ≡ true)
+      ⊎ VotedTooHigh steps (of_floor start.floor ++ trace_of_steps steps replies)
 
   -- the same for a run, at its start or at one of its restarts
   abbrev pub RunsAreExcused : Type 0

@@ -55,7 +55,8 @@ module _ {K L D : Type 0} (same : D → D → Bool) (elect : Elect L) where
   -- few are faulty, each other one runs as it says, and each certificate that one of these accepted is backed
   pub record IsNetworkOf (term_length : ℕ) (network : List (Replica K L D)) : Type 0 where
     pub few_faulty : FewFaulty network
-    pub honest : (i : ℕ) (s : Execution K L D) → slice_get network i ≡ Some (Honest s) → IsExecution same elect term_length i s
+    pub honest : (i : ℕ) (s : Execution K L D) → slice_get network i ≡ Some (Honest s)
+        → IsExecution same elect term_length i s
     pub backed : (i : ℕ) (s : Execution K L D) (certificate : Subject D) → slice_get network i ≡ Some (Honest s)
         → Contains (trace_of s) (Accepts certificate) → Backed network certificate
 
@@ -63,4 +64,5 @@ module _ (K : Type 0) {L D : Type 0} (same : D → D → Bool) (elect : Elect L)
   -- for each such network, in terms of any length
   abbrev pub OfEachNetwork : (ℕ → List (Replica K L D) → Type 0) → Type 0
   OfEachNetwork Holds =
-      (term_length : ℕ) (network : List (Replica K L D)) → IsNetworkOf same elect term_length network → Holds term_length network
+      (term_length : ℕ) (network : List (Replica K L D)) → IsNetworkOf same elect term_length network
+      → Holds term_length network

@@ -31,7 +31,8 @@ module _ (K : Type 0) {L D : Type 0} (same : D → D → Bool) (elect : Elect L)
   -- for each member that any run leads to
   abbrev pub OfEachLeft : (MemberFacts K L D → Type 0) → Type 0
   OfEachLeft Holds =
-      (start : StartFacts K L D) (steps : List (StepFacts K L D)) (replies : List (ReplyFacts K D)) (m : MemberFacts K L D)
+      (start : StartFacts K L D) (steps : List (StepFacts K L D)) (replies : List (ReplyFacts K D))
+      (m : MemberFacts K L D)
       → IsRun same elect (new_member same elect start) steps replies m
       → Holds m
 

@@ -25,7 +25,8 @@ double me = Signs me (subject.Notarize one) ∷ Signs me (subject.Notarize rival
 
 -- what is known of these four: nothing of the last one
 abbrev pub known_of_two_proposals : List (Option (List (TraceEvent ℕ)))
-known_of_two_proposals = Some (trace_of (voting_for one 0)) ∷ Some (trace_of (voting_for rival 1)) ∷ Some (double 2) ∷ None ∷ []
+known_of_two_proposals =
+    Some (trace_of (voting_for one 0)) ∷ Some (trace_of (voting_for rival 1)) ∷ Some (double 2) ∷ None ∷ []
 
 -- view 3 is built on view 1
 abbrev pub past_two : Proposal ℕ

@@ -17,7 +17,14 @@ use Rattle.laws_safety.specs.Executions.{Execution}
 
 -- settings that they all have
 abbrev pub settings : Settings
-settings = record { epoch = 1; view_retention = 1; leader_timeout = 1000; certification_timeout = 2000; timeout_retry = 500; skip_budget = 4 }
+settings = record {
+  epoch = 1;
+  view_retention = 1;
+  leader_timeout = 1000;
+  certification_timeout = 2000;
+  timeout_retry = 500;
+  skip_budget = 4;
+}
 
 -- terms of this many views, in which none is voted for ahead
 abbrev pub set_up_as : ℕ → ℕ → Setup ℕ ℕ
@@ -72,7 +79,8 @@ in_turn length round seed = (term_index length round.view + 3) % 4
 
 -- a start at genesis
 abbrev pub begin_at : ℕ → ℕ → StartFacts ℕ ℕ ℕ
-begin_at term_length me = record { setup = record (set_up_as term_length me) { elector = term_length }; floor = Genesis 0; now = 0 }
+begin_at term_length me =
+    record { setup = record (set_up_as term_length me) { elector = term_length }; floor = Genesis 0; now = 0 }
 
 -- a member's start, and its steps after it
 abbrev pub execution_from : StartFacts ℕ ℕ ℕ → List (StepFacts ℕ ℕ ℕ × ReplyFacts ℕ ℕ) → Execution ℕ ℕ ℕ

@@ -45,7 +45,8 @@ module _ (K : Type 0) {L D : Type 0} (same : D → D → Bool) (elect : Elect L)
   abbrev pub UsedStatesTimeOut : Type 0
   UsedStatesTimeOut =
       (setup : Setup K L) (floor : FloorFacts D) (now : ℕ) (events : List (Event K D))
-      → TimesOutUnlessSettled events (after_events same elect (after_set_floor same elect (new_state setup) floor now) events)
+      → TimesOutUnlessSettled events
+      (after_events same elect (after_set_floor same elect (new_state setup) floor now) events)
 
   -- the current view has a timeout in each state that is recovered from a record that breaks no rule
   abbrev pub RecoveredStatesTimeOut : Type 0
@@ -61,7 +62,8 @@ module _ (K : Type 0) {L D : Type 0} (same : D → D → Bool) (elect : Elect L)
       (setup : Setup K L) (floor : FloorFacts D) (now : ℕ) (events : List (Event K D)) (v : ℕ)
       → AllowsEach same elect (new_state setup) (SetFloor floor now ∷ events)
       → voted_nullify (after_events same elect (new_state setup) (SetFloor floor now ∷ events)) v
-      ≡ (is_some setup.me && is_nullify (round_of (after_events same elect (new_state setup) (SetFloor floor now ∷ events)) v).decision)
+      ≡ (is_some setup.me && is_nullify
+      (round_of (after_events same elect (new_state setup) (SetFloor floor now ∷ events)) v).decision)
 
   -- each view that such a state has a nullification of, or a vote to nullify, lies above genesis
   abbrev pub NullifiesAboveGenesis : Type 0

@@ -21,12 +21,14 @@ use Rattle.simplex_voter.specs.Acceptance.{nullified_also}
 
 -- a covered view stays covered by more nullifications
 abbrev pub CoveringStays : (K L D : Type 0) → Type 0
-CoveringStays K L D = (x : StateFacts K L D) (u w : ℕ) → is_covered x w ≡ true → is_covered (nullified_also x u) w ≡ true
+CoveringStays K L D = (x : StateFacts K L D) (u w : ℕ) → is_covered x w ≡ true
+    → is_covered (nullified_also x u) w ≡ true
 
 -- the first gap is the lowest uncovered view between, and if there is none each view between is covered
 abbrev pub FindsFirstGap : (K L D : Type 0) → Type 0
 FindsFirstGap K L D =
-    (x : StateFacts K L D) (p v : ℕ) → 0 < x.terms.term_length → MatchOption (first_unnullified_view x p v) (IsGapless x p v) (IsFirstGap x p v)
+    (x : StateFacts K L D) (p v : ℕ) → 0 < x.terms.term_length
+    → MatchOption (first_unnullified_view x p v) (IsGapless x p v) (IsFirstGap x p v)
 
 -- two stretches without a gap join over a covered view
 abbrev pub GaplessJoins : (K L D : Type 0) → Type 0
@@ -57,7 +59,8 @@ AllowedParentIs K L D =
     → IsAllowedParent same elect x v p d ↔ (StandsBelow x v p × (ancestry_payload_for_child same elect x v p ≡ Some d))
 
 -- the view before is offered to this member for a handoff
-pub record IsHandedOff {K L D : Type 0} (same : D → D → Bool) (elect : Elect L) (x : StateFacts K L D) (v p : ℕ) (d : D) : Type 0 where
+pub record IsHandedOff {K L D : Type 0} (same : D → D → Bool) (elect : Elect L) (x : StateFacts K L D) (v p : ℕ)
+    (d : D) : Type 0 where
   pub just_below : p + 1 ≡ v
   pub handoff : is_handoff_parent elect x p ≡ true
   pub offered : optimistic_ancestry_payload same elect x p ≡ Some d
@@ -91,18 +94,21 @@ MayNullifyIs K L D = (x : StateFacts K L D) (v : ℕ) → (may_nullify x v ≡ t
 
 -- the test of votes to finalize is their rule
 abbrev pub MayFinalizeIs : (K L D : Type 0) → Type 0
-MayFinalizeIs K L D = (elect : Elect L) (x : StateFacts K L D) (v : ℕ) → (may_finalize elect x v ≡ true) ↔ FinalizeRule elect x v
+MayFinalizeIs K L D = (elect : Elect L) (x : StateFacts K L D) (v : ℕ) → (may_finalize elect x v ≡ true)
+    ↔ FinalizeRule elect x v
 
 -- the view that must be certified first is the view before
 abbrev pub RequiredParentIsBefore : (K L D : Type 0) → Type 0
 RequiredParentIsBefore K L D =
-    (elect : Elect L) (x : StateFacts K L D) (v q : ℕ) (p : Proposal D) → 0 < v → required_certification_parent elect x v p ≡ Some q → q + 1 ≡ v
+    (elect : Elect L) (x : StateFacts K L D) (v q : ℕ) (p : Proposal D) → 0 < v
+    → required_certification_parent elect x v p ≡ Some q → q + 1 ≡ v
 
 -- windows
 
 -- the tests of the windows are those of the views
 pub record WindowsAgree (K L D : Type 0) : Type 0 where
-  pub outbound : (length optimistic current view : ℕ) → (admits_outbound length optimistic current view ≡ true) ↔ AdmitsOutbound length optimistic current view
+  pub outbound : (length optimistic current view : ℕ) → (admits_outbound length optimistic current view ≡ true)
+      ↔ AdmitsOutbound length optimistic current view
   pub certificate : (x : StateFacts K L D) (v : ℕ) → (admits_certificate x v ≡ true) ↔ AdmitsCertificate (viewport x) v
   pub vote : (x : StateFacts K L D) (v : ℕ) → (admits_vote x v ≡ true) ↔ AdmitsVote (viewport x) v
 
@@ -117,13 +123,17 @@ OpenedViewsAre K L D =
     (x : StateFacts K L D) (v w : ℕ)
     → 0 < v
     → 0 < x.terms.term_length
-    → (list_any (λ u. u == w) (opened_views x v) ≡ true) ↔ ((v < w) × ((u : ℕ) → v < u → u ≤ w → (low : ℕ) × IsOpenedBy x v u low))
+    → (list_any (λ u. u == w) (opened_views x v) ≡ true)
+    ↔ ((v < w) × ((u : ℕ) → v < u → u ≤ w → (low : ℕ) × IsOpenedBy x v u low))
 
 -- the facts' lists match the sorted containers
 
 -- what definitions do with lists is what the containers' maps do
 pub record ListsAreContainers (R : Type 0) : Type 0 where
   pub looked_up : (m : fin.FinMap nat_cmp R) (v : ℕ) → fin.get m v ≡ find nat_cmp v (fin.entries m)
-  pub put_in : (m : fin.FinMap nat_cmp R) (v : ℕ) (r : R) → fin.entries (fin.insert m v r) ≡ put nat_cmp v r (fin.entries m)
-  pub kept : (m : fin.FinMap nat_cmp R) (v : ℕ) → fin.entries (at_or_above m v) ≡ filter (λ e. nat_le v e.0) (fin.entries m)
-  pub noted : (m : fin.FinMap nat_cmp R) (v : ℕ) (r : R) → fin.keys (fin.insert m v r) ≡ insert_key nat_cmp (fin.keys m) v
+  pub put_in : (m : fin.FinMap nat_cmp R) (v : ℕ) (r : R)
+      → fin.entries (fin.insert m v r) ≡ put nat_cmp v r (fin.entries m)
+  pub kept : (m : fin.FinMap nat_cmp R) (v : ℕ)
+      → fin.entries (at_or_above m v) ≡ filter (λ e. nat_le v e.0) (fin.entries m)
+  pub noted : (m : fin.FinMap nat_cmp R) (v : ℕ) (r : R)
+      → fin.keys (fin.insert m v r) ≡ insert_key nat_cmp (fin.keys m) v

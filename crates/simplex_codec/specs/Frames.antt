@@ -48,15 +48,18 @@ IsOffHeader bytes Damaged = (n : ℕ) → n < 2 ^ 32 → PartsFrom bytes (header
 -- bytes that begin with a frame begin with exactly one
 abbrev pub FramesTellApart : Type 0
 FramesTellApart =
-    (entry other rest left : List ℕ) → length entry < 2 ^ 32 → length other < 2 ^ 32 → frame entry ++ rest ≡ frame other ++ left
+    (entry other rest left : List ℕ) → length entry < 2 ^ 32 → length other < 2 ^ 32 → frame entry
+    ++ rest ≡ frame other ++ left
     → (entry ≡ other) × (rest ≡ left)
 
 -- which bytes are cut, after any change of a frame
 pub record CutsTellApart : Type 0 where
   -- a frame that lost its end, with `left` bytes left of it
-  pub cut : (entry : List ℕ) (left : ℕ) → length entry < 2 ^ 32 → left < length (frame entry) → IsCut (take left (frame entry))
+  pub cut : (entry : List ℕ) (left : ℕ) → length entry < 2 ^ 32 → left < length (frame entry)
+      → IsCut (take left (frame entry))
   -- and none that has all its bytes, whatever is in place of the entry and its digest, with anything after it
-  pub body : (n : ℕ) (body behind : List ℕ) → n < 2 ^ 32 → length body ≡ n + 32 → ¬ (IsCut (header n ++ (body ++ behind)))
+  pub body : (n : ℕ) (body behind : List ℕ) → n < 2 ^ 32 → length body ≡ n + 32
+      → ¬ (IsCut (header n ++ (body ++ behind)))
   -- nor one with any inverted bits in its length, in either half of its header or differently in both
   pub header : (n check : ℕ) (behind : List ℕ) → n < 2 ^ 32 → check < 2 ^ 32 → n + check ≢ 2 ^ 32 - 1
       → ¬ (IsCut (to_be_bytes w32 n ++ (to_be_bytes w32 check ++ behind)))

@@ -53,4 +53,5 @@ plain_subject_of _ = None
 abbrev pub plain_signature_of : List ℕ → Option PlainSignature
 plain_signature_of bytes = if nat_lt (length bytes) 4
     then None
-    else option_map (λ s. record { key = record { 0 = from_be_bytes w32 (take 4 bytes) }; subject = s }) (plain_subject_of (drop 4 bytes))
+    else option_map (λ s. record { key = record { 0 = from_be_bytes w32 (take 4 bytes) }; subject = s })
+    (plain_subject_of (drop 4 bytes))

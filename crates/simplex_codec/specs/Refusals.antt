@@ -22,7 +22,8 @@ IsEncodableSubject (subject.Nullify r) = IsEncodableRound r
 IsEncodableSubject (subject.Finalize p) = IsEncodableProposal p
 
 -- a proposal, followed by bytes that are not readable
-pub record IsUnreadableBehindProposal {D : Type 0} (payload_bytes : D → List ℕ) (is_unreadable : List ℕ → Type 0) (bytes : List ℕ) : Type 0 where
+pub record IsUnreadableBehindProposal {D : Type 0} (payload_bytes : D → List ℕ) (is_unreadable : List ℕ → Type 0)
+    (bytes : List ℕ) : Type 0 where
   pub proposal : Proposal D
   pub own : List ℕ
   pub fits : IsEncodableProposal proposal
@@ -40,13 +41,15 @@ pub record IsUnreadableBehindRound (is_unreadable : List ℕ → Type 0) (bytes 
 -- why bytes are not `before` bytes and then a payload of this size
 abbrev pub IsPayloadRefusal : {D : Type 0} → (D → List ℕ) → ℕ → ℕ → List ℕ → DecodeError → Type 0
 IsPayloadRefusal payload_bytes before size bytes TooShort = length bytes < before + size
-IsPayloadRefusal payload_bytes before size bytes UnreadablePayload = (before + size ≤ length bytes) × NoneHas payload_bytes (take size (drop before bytes))
+IsPayloadRefusal payload_bytes before size bytes UnreadablePayload =
+    (before + size ≤ length bytes) × NoneHas payload_bytes (take size (drop before bytes))
 IsPayloadRefusal payload_bytes before size bytes _ = ⊥
 
 -- why bytes are not a proposal, three numbers and a payload, and a certificate after it
 abbrev pub IsProposalRefusal : {D C : Type 0} → (D → List ℕ) → ℕ → (C → List ℕ) → List ℕ → DecodeError → Type 0
 IsProposalRefusal payload_bytes size bytes_of bytes OutOfMemory = Unit {0}
-IsProposalRefusal payload_bytes size bytes_of bytes UnreadableCertificate = IsUnreadableBehindProposal payload_bytes (NoneHas bytes_of) bytes
+IsProposalRefusal payload_bytes size bytes_of bytes UnreadableCertificate =
+    IsUnreadableBehindProposal payload_bytes (NoneHas bytes_of) bytes
 IsProposalRefusal payload_bytes size bytes_of bytes error = IsPayloadRefusal payload_bytes 24 size bytes error
 
 -- why bytes are not a round and a certificate after it
@@ -60,14 +63,18 @@ IsRoundRefusal bytes_of bytes _ = ⊥
 -- finalization, it is what is wrong after it
 abbrev pub IsCertificateRefusal : {D C : Type 0} → (D → List ℕ) → ℕ → (C → List ℕ) → List ℕ → DecodeError → Type 0
 IsCertificateRefusal payload_bytes size bytes_of [] error = error ≡ TooShort
-IsCertificateRefusal payload_bytes size bytes_of (zero ∷ rest) error = IsProposalRefusal payload_bytes size bytes_of rest error
+IsCertificateRefusal payload_bytes size bytes_of (zero ∷ rest) error =
+    IsProposalRefusal payload_bytes size bytes_of rest error
 IsCertificateRefusal payload_bytes size bytes_of (suc zero ∷ rest) error = IsRoundRefusal bytes_of rest error
-IsCertificateRefusal payload_bytes size bytes_of (suc (suc zero) ∷ rest) error = IsProposalRefusal payload_bytes size bytes_of rest error
-IsCertificateRefusal payload_bytes size bytes_of (suc (suc (suc more)) ∷ rest) error = error ≡ UnknownKind (suc (suc (suc more)))
+IsCertificateRefusal payload_bytes size bytes_of (suc (suc zero) ∷ rest) error =
+    IsProposalRefusal payload_bytes size bytes_of rest error
+IsCertificateRefusal payload_bytes size bytes_of (suc (suc (suc more)) ∷ rest) error =
+    error ≡ UnknownKind (suc (suc (suc more)))
 
 -- an encoding of any certificate is read back, with the same facts, unless memory runs out
 abbrev pub ReadsCertificates : {S D K G C : Type 0} → (D → List ℕ) → (C → List ℕ) → List ℕ
     → Result (Certificate S D K G C) DecodeError → Type 0
 ReadsCertificates {S} {D} {K} {G} {C} payload_bytes bytes_of bytes result =
-    (c : Certificate S D K G C) → IsEncodable (certificate_facts bytes_of c) → encoding payload_bytes (certificate_facts bytes_of c) ≡ bytes
+    (c : Certificate S D K G C) → IsEncodable (certificate_facts bytes_of c)
+    → encoding payload_bytes (certificate_facts bytes_of c) ≡ bytes
     → IfOk result (λ d. certificate_facts bytes_of d ≡ certificate_facts bytes_of c) × IsOkUnless result OutOfMemory

@@ -32,7 +32,8 @@ pub fn encode_artifact<S: SchemeCodec, D: Digest>(
     alloc: Global,
     artifact: &Artifact<S, D>,
 ) -> Result<Bytes, AllocError>
-    ensures encoded { IfOk result (λ bytes. bytes ≡ artifact_bytes D.bytes S.certificate_bytes S.signature_bytes artifact.now) }
+    ensures encoded { IfOk result
+        (λ bytes. bytes ≡ artifact_bytes D.bytes S.certificate_bytes S.signature_bytes artifact.now) }
     ensures readable { OnOk result (HasReadableSignature S.signature_bytes S.signature_of artifact.now) }
 {
     let mut out = BytesMut::new(alloc);
@@ -44,7 +45,8 @@ fn put_artifact<S: SchemeCodec, D: Digest>(
     out: &mut BytesMut,
     artifact: &Artifact<S, D>,
 ) -> Result<(), AllocError>
-    ensures written { OnOk result (out.new.items ≡ out.old.items ++ artifact_bytes D.bytes S.certificate_bytes S.signature_bytes artifact.now) }
+    ensures written { OnOk result
+        (out.new.items ≡ out.old.items ++ artifact_bytes D.bytes S.certificate_bytes S.signature_bytes artifact.now) }
     ensures readable { OnOk result (HasReadableSignature S.signature_bytes S.signature_of artifact.now) }
 {
     match artifact {
@@ -136,7 +138,8 @@ fn decode_kind<S: SchemeCodec, D: DigestCodec>(
 
 /// The artifact of an accepted certificate.
 fn accepted<S: SchemeCodec, D: Digest>(entry: Certificate<S, D>) -> Artifact<S, D>
-    ensures same { artifact_bytes D.bytes S.certificate_bytes S.signature_bytes result ≡ encoding D.bytes (certificate_facts S.certificate_bytes entry) }
+    ensures same { artifact_bytes D.bytes S.certificate_bytes S.signature_bytes result ≡ encoding D.bytes
+        (certificate_facts S.certificate_bytes entry) }
     ensures fits { IsEncodable (certificate_facts S.certificate_bytes entry) → IsEncodableArtifact result }
     ensures readable { HasReadableSignature S.signature_bytes S.signature_of result }
 {

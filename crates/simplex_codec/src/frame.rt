@@ -60,7 +60,8 @@ fn put_header(out: &mut BytesMut, len: u32) -> Result<(), AllocError>
 /// It is refused exactly if there are bytes and no frame is at their front: as `Cut` exactly if they end within a
 /// frame. Nothing is copied.
 pub fn read_frame(bytes: &[u8]) -> Result<Option<(&[u8], &[u8])>, NoFrame>
-    ensures read { IfOk result (λ next. MatchOption next (length bytes.now ≡ 0) (λ x. bytes.now ≡ frame x.0.now ++ x.1.now)) }
+    ensures read { IfOk result
+        (λ next. MatchOption next (length bytes.now ≡ 0) (λ x. bytes.now ≡ frame x.0.now ++ x.1.now)) }
     ensures fits { IfOk result (λ next. IfSome next (λ x. length x.0.now < 2 ^ 32)) }
     ensures some { OnErr result (0 < length bytes.now) }
     ensures none { OnErr result (HasNoFrame bytes.now) }

@@ -62,7 +62,8 @@ pub(crate) fn put_proposal_certificate<S: SchemeCodec, D: Digest>(
     proposal: &Proposal<D>,
     certificate: &S::Certificate,
 ) -> Result<(), AllocError>
-    ensures { OnOk result (out.new.items ≡ out.old.items ++ (kind ∷ (proposal_bytes D.bytes proposal.now ++ S.certificate_bytes certificate.now))) }
+    ensures { OnOk result (out.new.items ≡ out.old.items
+        ++ (kind ∷ (proposal_bytes D.bytes proposal.now ++ S.certificate_bytes certificate.now))) }
 {
     out.put_u8(kind)?;
     put_proposal(out, proposal)?;
@@ -77,7 +78,8 @@ pub(crate) fn put_round_certificate<S: SchemeCodec>(
     round: Round,
     certificate: &S::Certificate,
 ) -> Result<(), AllocError>
-    ensures { OnOk result (out.new.items ≡ out.old.items ++ (kind ∷ (round_bytes round ++ S.certificate_bytes certificate.now))) }
+    ensures { OnOk result (out.new.items ≡ out.old.items
+        ++ (kind ∷ (round_bytes round ++ S.certificate_bytes certificate.now))) }
 {
     out.put_u8(kind)?;
     put_round(out, round)?;
@@ -94,7 +96,8 @@ pub(crate) fn put_proposal_vote<S: SchemeCodec, D: Digest>(
     signature: &S::Signature,
 ) -> Result<(), AllocError>
     ensures bytes { OnOk result (out.new.items
-        ≡ out.old.items ++ (kind ∷ signed_proposal_bytes D.bytes signer proposal.now (S.signature_bytes signature.now))) }
+        ≡ out.old.items ++ (kind
+        ∷ signed_proposal_bytes D.bytes signer proposal.now (S.signature_bytes signature.now))) }
     ensures readable { OnOk result (S.signature_of (S.signature_bytes signature.now) ≡ Some signature.now) }
 {
     out.put_u8(kind)?;
@@ -112,7 +115,8 @@ pub(crate) fn put_round_vote<S: SchemeCodec>(
     round: Round,
     signature: &S::Signature,
 ) -> Result<(), AllocError>
-    ensures bytes { OnOk result (out.new.items ≡ out.old.items ++ (kind ∷ signed_round signer round (S.signature_bytes signature.now))) }
+    ensures bytes { OnOk result
+        (out.new.items ≡ out.old.items ++ (kind ∷ signed_round signer round (S.signature_bytes signature.now))) }
     ensures readable { OnOk result (S.signature_of (S.signature_bytes signature.now) ≡ Some signature.now) }
 {
     out.put_u8(kind)?;

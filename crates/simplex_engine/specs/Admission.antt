@@ -33,7 +33,8 @@ module _ {K L D : Type 0} where
   -- own
   abbrev pub admits_proposal : StateFacts K L D → ℕ → Round → Bool
   admits_proposal x from round =
-      admits_votes x round && option_map_or (λ leader. leader == from) (leader_of x round.view) false && not (is_me x from)
+      admits_votes x round && option_map_or (λ leader. leader == from) (leader_of x round.view) false
+      && not (is_me x from)
 
   -- the state admits a certificate: of this epoch and of a retained view, which has none of its kind yet
   abbrev pub admits : StateFacts K L D → CertificateFacts D → Bool
@@ -51,7 +52,8 @@ module _ {S L D K G C : Type 0} where
   abbrev pub is_input_admitted : (C → List ℕ) → MemberFacts K L D → Input S D K G C → Bool
   is_input_admitted bytes_of m (input.Proposal from proposal) = is_so (λ x. admits_proposal x from proposal.round) m
   is_input_admitted bytes_of m (input.Vote vote) = is_so (λ x. admits_votes x (subject_round vote.subject)) m
-  is_input_admitted bytes_of m (input.Certificate certificate) = is_so (λ x. admits x (certificate_facts bytes_of certificate)) m
+  is_input_admitted bytes_of m (input.Certificate certificate) =
+      is_so (λ x. admits x (certificate_facts bytes_of certificate)) m
   is_input_admitted bytes_of m (input.Certified view success) = is_offered m.outstanding_work view
   is_input_admitted bytes_of m _ = true
 
@@ -69,7 +71,8 @@ module _ {S L D K G C : Type 0} where
   -- it is then appended, or no proposal is; and nothing else changes
   pub record IsStoredEarly (from : ℕ) (proposal : Proposal D) (old new : Engine S L D K G C) : Type 0 where
     pub kept : let early = old.plan.early.proposals.items in new.plan.early.proposals.items
-        ≡ (if stores_early old proposal then early ++ record { from = from; view = proposal.round.view; proposal = proposal } ∷ [] else early)
+        ≡ (if stores_early old proposal then early
+        ++ record { from = from; view = proposal.round.view; proposal = proposal } ∷ [] else early)
     pub same : new ≡ record old { plan = record (old.plan) { early = new.plan.early } }
 
   -- an input that is not admitted changes nothing, except that an early proposal is stored

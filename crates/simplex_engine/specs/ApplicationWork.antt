@@ -27,7 +27,8 @@ module _ {S D K G C : Type 0} where
 
   -- among this work is each proposal that is being verified; each that was offered for certification and has no verdict; and the block of
   -- each view whose request to build is open, except where a lone member waits until it enters the view
-  pub record IsReportedIn (work : List (Work S D K G C)) (beside : Beside K D) (waiting : OutstandingWork K D) : Type 0 where
+  pub record IsReportedIn (work : List (Work S D K G C)) (beside : Beside K D)
+      (waiting : OutstandingWork K D) : Type 0 where
     pub verified : (view : ℕ) → is_verifying waiting view ≡ true → list_any (is_verify_of view) work ≡ true
     pub certified : (view : ℕ) → is_offered waiting view ≡ true → list_any (is_certify_of view) work ≡ true
     pub built : (view : ℕ) → is_some (context_at waiting view) ≡ true → has_block work beside view ≡ true
@@ -39,7 +40,8 @@ module _ {S L D K G C : Type 0} where
 
   -- if this work was returned, each proposal and block that the application must receive was returned, is queued, or is planned
   abbrev pub ReportsAfter : List (Work S D K G C) → Engine S L D K G C → Type 0
-  ReportsAfter work engine = IsReportedIn (work ++ work_ahead engine) (beside_of engine.plan) engine.core.member.facts.outstanding_work
+  ReportsAfter work engine =
+      IsReportedIn (work ++ work_ahead engine) (beside_of engine.plan) engine.core.member.facts.outstanding_work
 
   -- this is preserved after any work; no queued or planned work is lost; no block is added above the first view of the next term; the
   -- plan's views stay the member's, and no proposal is lost that is early by them; and the options stay, and whether there are other
@@ -73,4 +75,5 @@ module _ {S L D K G C : Type 0} where
 
   -- each of them is among these outputs
   abbrev pub AllIsReturned : List (Output S D Stored K G C) → Engine S L D K G C → Type 0
-  AllIsReturned given engine = IsReportedIn (work_in given) (beside_of engine.plan) engine.core.member.facts.outstanding_work
+  AllIsReturned given engine =
+      IsReportedIn (work_in given) (beside_of engine.plan) engine.core.member.facts.outstanding_work

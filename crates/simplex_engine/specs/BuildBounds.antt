@@ -13,4 +13,5 @@ module _ {S L D K G C : Type 0} where
   -- none is of a view above the first one of the next term
   abbrev pub BuildsNear : Journaled S L D K G C → Plan S D K G C → Type 0
   BuildsNear core plan =
-      IfSome core.member.facts.life (λ x. builds_above (next_term_start x.terms.term_length x.current) plan.builds.buildings.items ≡ false)
+      IfSome core.member.facts.life
+      (λ x. builds_above (next_term_start x.terms.term_length x.current) plan.builds.buildings.items ≡ false)

@@ -40,14 +40,17 @@ pub record HasQuorum {D G : Type 0} (members : ℕ) (given : List (Vote D G)) (s
   pub rising : AreRising members 0 signed
   pub are_given : All (λ s. Contains given (record { subject = subject; signer = s.0; signature = s.1 })) signed
 
-module _ {S L D K G C : Type 0} (same : D → D → Bool) (elect : Elect L) (bytes_of : C → List ℕ) (is_signature : K → Subject D → G → Type 0)
+module _ {S L D K G C : Type 0} (same : D → D → Bool) (elect : Elect L) (bytes_of : C → List ℕ)
+    (is_signature : K → Subject D → G → Type 0)
     (members : ℕ) where
   -- no certificate is accepted, or it is backed: votes of a quorum on this subject were passed in, these among them
-  pub record IsBacked (more : List (Vote D G)) (subject : Subject D) (batcher : Batcher S D K G C) (old new : Journaled S L D K G C) : Type 0 where
+  pub record IsBacked (more : List (Vote D G)) (subject : Subject D) (batcher : Batcher S D K G C)
+      (old new : Journaled S L D K G C) : Type 0 where
     pub backed : (given : List (Vote D G)) → AreGiven given batcher
         → Continues same elect bytes_of is_signature None old new ⊎ HasQuorum members (given ++ more) subject
 
   -- the same for an input that is a vote
-  abbrev pub IsBackedInput : Input S D K G C → Batcher S D K G C → Journaled S L D K G C → Journaled S L D K G C → Type 0
+  abbrev pub IsBackedInput : Input S D K G C → Batcher S D K G C → Journaled S L D K G C
+      → Journaled S L D K G C → Type 0
   IsBackedInput (input.Vote vote) batcher old new = IsBacked (vote ∷ []) vote.subject batcher old new
   IsBackedInput _ batcher old new = Unit {0}

@@ -36,7 +36,8 @@ abbrev pub others_of : {K : Type 0} → List K → Option ℕ → Peers
 others_of keys me = peers_of (min (length keys) (2 ^ 32 - 1)) me
 
 -- the resolver received the entries of a record, oldest first, and the fetches that it has open are due at once, of these peers
-pub record IsRepairOf {D : Type 0} (bytes : D → List ℕ) (term_length : ℕ) (entries : List (ArtifactFacts D)) (peers : Peers) (retry : ℕ) (repair : Repair)
+pub record IsRepairOf {D : Type 0} (bytes : D → List ℕ) (term_length : ℕ) (entries : List (ArtifactFacts D))
+    (peers : Peers) (retry : ℕ) (repair : Repair)
     : Type 0 where
   pub told : HasReceivedCalls term_length (Replayed ∷ calls_of bytes (reverse entries)) repair.resolver
   pub fetched : repair.fetches.wanted.items ≡ wanting repair.resolver.open_fetches []
@@ -46,17 +47,20 @@ pub record IsRepairOf {D : Type 0} (bytes : D → List ℕ) (term_length : ℕ) 
 
 -- the plan of a member that has begun: its resolver received the record; no step is planned, no block is to be built, no proposal is
 -- stored, no input was ignored, and everything is due
-pub record IsPlanOf {S L D K G C : Type 0} (bytes : D → List ℕ) (term_length : ℕ) (peers : Peers) (is_alone : Bool) (options : Options)
+pub record IsPlanOf {S L D K G C : Type 0} (bytes : D → List ℕ) (term_length : ℕ) (peers : Peers) (is_alone : Bool)
+    (options : Options)
     (member : MemberFacts K L D) (plan : Plan S D K G C) : Type 0 where
   pub options_now : plan.options ≡ options
   pub alone : plan.is_alone ≡ is_alone
   pub views : TracksViews member plan
   pub repair : IsRepairOf bytes term_length member.entries peers options.retry plan.repair
-  pub nothing : (plan.steps.items ≡ []) × (plan.builds.buildings.items ≡ []) × (plan.early.proposals.items ≡ []) × (plan.ignored ≡ 0)
+  pub nothing : (plan.steps.items ≡ []) × (plan.builds.buildings.items ≡ []) × (plan.early.proposals.items ≡ [])
+      × (plan.ignored ≡ 0)
   pub due : (plan.is_watch_due ≡ true) × (plan.is_timeout_due ≡ true) × (plan.is_prune_due ≡ true) × (plan.timeout ≡ 0)
 
 -- the parts of an engine beside its member, by the members' keys
-pub record IsCompanyOf {S D K G C : Type 0} (keys_of : S → List K) (keys : List K) (me : Option ℕ) (term_length : ℕ) (company : Company S D K G C)
+pub record IsCompanyOf {S D K G C : Type 0} (keys_of : S → List K) (keys : List K) (me : Option ℕ) (term_length : ℕ)
+    (company : Company S D K G C)
     : Type 0 where
   pub votes : AreGiven [] company.batcher
   pub keys_now : keys_of company.batcher.scheme ≡ keys
@@ -66,11 +70,13 @@ pub record IsCompanyOf {S D K G C : Type 0} (keys_of : S → List K) (keys : Lis
 
 -- an engine begins with these options, of a member among others with these keys: its batcher makes certificates by their number, and no
 -- view was forgotten in this lifetime
-pub record HasStartedWith {S L D K G C : Type 0} (bytes : D → List ℕ) (keys_of : S → List K) (keys : List K) (me : Option ℕ) (term_length : ℕ)
+pub record HasStartedWith {S L D K G C : Type 0} (bytes : D → List ℕ) (keys_of : S → List K) (keys : List K)
+    (me : Option ℕ) (term_length : ℕ)
     (options : Options) (engine : Engine S L D K G C) : Type 0 where
   pub votes : AreGiven [] engine.batcher
   pub keys_now : keys_of engine.batcher.scheme ≡ keys
-  pub plan : IsPlanOf bytes term_length (others_of keys me) (length keys == 1) options engine.core.member.facts engine.plan
+  pub plan : IsPlanOf bytes term_length (others_of keys me) (length keys == 1) options
+      engine.core.member.facts engine.plan
   pub forgotten : engine.forgotten ≡ 0
 
 -- ---- why none begins
@@ -91,4 +97,5 @@ module _ {K L D : Type 0} where
   abbrev pub IsStartRefusal : ℕ → (ResumeError → Type 0) → (MemberFacts K L D → Type 0) → StartError → Type 0
   IsStartRefusal timeout_retry IsRefused Begins RetryZero = timeout_retry ≡ 0
   IsStartRefusal timeout_retry IsRefused Begins (Resume e) = (e ≡ Recover OutOfMemory) ⊎ IsRefused e
-  IsStartRefusal timeout_retry IsRefused Begins (Replay e) = (m : MemberFacts K L D) × Begins m × IsNotReplayed m.entries (Replay e)
+  IsStartRefusal timeout_retry IsRefused Begins (Replay e) =
+      (m : MemberFacts K L D) × Begins m × IsNotReplayed m.entries (Replay e)

@@ -31,8 +31,12 @@ module _ {S D K G C : Type 0} where
 
 -- an engine asks for certificates of no view above those that its member has heard of
 abbrev pub FetchesTheReported : {S L D K G C : Type 0} → Engine S L D K G C → Type 0
-FetchesTheReported engine = IfSome engine.core.member.facts.life (λ x. FetchesUpTo (highest_received engine.core.member.facts x) engine.plan)
+FetchesTheReported engine =
+    IfSome engine.core.member.facts.life (λ x. FetchesUpTo (highest_received engine.core.member.facts x) engine.plan)
 
 -- this stays so, whatever its member has done so far
-abbrev pub FetchesNoHigher : {S L D K G C : Type 0} → (D → D → Bool) → Elect L → Engine S L D K G C → Engine S L D K G C → Type 0
-FetchesNoHigher same elect old new = OfEachHistory same elect old.core.member.facts (λ term_length i all. FetchesTheReported old → FetchesTheReported new)
+abbrev pub FetchesNoHigher : {S L D K G C : Type 0} → (D → D → Bool) → Elect L → Engine S L D K G C
+    → Engine S L D K G C → Type 0
+FetchesNoHigher same elect old new =
+    OfEachHistory same elect old.core.member.facts
+    (λ term_length i all. FetchesTheReported old → FetchesTheReported new)

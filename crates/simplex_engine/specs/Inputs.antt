@@ -11,7 +11,8 @@ use Rattle.simplex_engine.specs.declared.input.Input.TheVariants as input
 -- the subject of a certificate that is accepted for this input: of the passed certificate, or of the passed vote
 abbrev pub subject_in : {S D K G C : Type 0} → (C → List ℕ) → Input S D K G C → Option (Subject D)
 subject_in bytes_of (input.Vote vote) = Some vote.subject
-subject_in bytes_of (input.Certificate certificate) = Some (certificate_subject (certificate_facts bytes_of certificate))
+subject_in bytes_of (input.Certificate certificate) =
+    Some (certificate_subject (certificate_facts bytes_of certificate))
 subject_in bytes_of _ = None
 
 -- the subject of the certificate that a vote completes, if it completes one

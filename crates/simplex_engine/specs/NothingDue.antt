@@ -28,7 +28,8 @@ module _ {K L D : Type 0} (same : D → D → Bool) (elect : Elect L) where
   -- each of these calls has, one after the other
   abbrev pub ReturnNothing : MemberFacts K L D → List (CallFacts D) → MemberFacts K L D → Type 0
   ReturnNothing before [] after = after ≡ before
-  ReturnNothing before (call ∷ rest) after = (between : MemberFacts K L D) × ReturnsNothing before call between × ReturnNothing between rest after
+  ReturnNothing before (call ∷ rest) after =
+      (between : MemberFacts K L D) × ReturnsNothing before call between × ReturnNothing between rest after
 
   -- a living member has cast each vote that its rule allows in a view from the last finalized one on, and has returned each certificate of
   -- these views

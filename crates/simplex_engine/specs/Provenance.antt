@@ -51,16 +51,20 @@ module _ {S D K G C : Type 0} where
 
   -- none is a missing certificate
   abbrev pub HasNoMissingCertificate : List (Cause S D K G C) → Type 0
-  HasNoMissingCertificate causes = (kind : FetchKind) (view : ℕ) → list_any (is_missing_certificate kind view) causes ≡ false
+  HasNoMissingCertificate causes =
+      (kind : FetchKind) (view : ℕ) → list_any (is_missing_certificate kind view) causes ≡ false
 
   -- a member contradicts itself, if this ballot of it is stored, of the same kind and view as this vote
   abbrev pub evidence_against : Vote D G → Ballot D G → Cause S D K G C
-  evidence_against vote ballot = WorkItem (Equivocated (record { subject = ballot.subject; signer = vote.signer; signature = ballot.signature }) vote)
+  evidence_against vote ballot =
+      WorkItem (Equivocated (record { subject = ballot.subject; signer = vote.signer; signature = ballot.signature })
+      vote)
 
   -- the evidence in a vote
   abbrev pub evidence : Batcher S D K G C → Vote D G → List (Cause S D K G C)
   evidence batcher vote =
-      option_to_list (option_map (evidence_against vote) (ballot_of (held batcher (kind_of vote.subject) (subject_view vote.subject)) vote.signer))
+      option_to_list (option_map (evidence_against vote)
+      (ballot_of (held batcher (kind_of vote.subject) (subject_view vote.subject)) vote.signer))
 
   -- the result of counting a vote
   abbrev pub of_counted : (C → List ℕ) → Counted S D K G C → List (Cause S D K G C)
@@ -72,7 +76,8 @@ module _ {S D K G C : Type 0} where
   abbrev pub input_causes : (C → List ℕ) → Batcher S D K G C → Input S D K G C → List (Cause S D K G C)
   input_causes bytes_of batcher (input.Proposal from proposal) = Arrival from proposal ∷ []
   input_causes bytes_of batcher (input.Vote vote) = Quorum vote.subject ∷ evidence batcher vote
-  input_causes bytes_of batcher (input.Certificate certificate) = Quorum (certificate_subject (certificate_facts bytes_of certificate)) ∷ []
+  input_causes bytes_of batcher (input.Certificate certificate) =
+      Quorum (certificate_subject (certificate_facts bytes_of certificate)) ∷ []
   input_causes bytes_of batcher (input.Verified view is_valid) = Message (verification_of is_valid view) ∷ []
   input_causes bytes_of batcher (input.Built context payload) = Message (task.Proposed context.round.view payload) ∷ []
   input_causes bytes_of batcher (input.Certified view is_success) = Message (task.Certified view is_success) ∷ []
@@ -99,9 +104,11 @@ module _ {S L D K G C : Type 0} (now : ℕ) where
   abbrev pub IsCallCaused : List (Cause S D K G C) → MemberFacts K L D → CallFacts D → Type 0
   IsCallCaused causes m call =
       ((asked : Task D) × (call ≡ call_of asked now) × AreAmong (of_task asked) causes × IsOnOffer m call)
-      ⊎ ((from : ℕ) × (proposal : Proposal D) × (call ≡ SetProposal proposal.round.view proposal) × IsIn (Arrival from proposal) causes
+      ⊎ ((from : ℕ) × (proposal : Proposal D) × (call ≡ SetProposal proposal.round.view proposal)
+      × IsIn (Arrival from proposal) causes
       × (is_so (λ x. admits_proposal x from proposal.round) m ≡ true))
-      ⊎ ((certificate : CertificateFacts D) × (call ≡ certificate_call certificate now) × IsIn (Quorum (certificate_subject certificate)) causes)
+      ⊎ ((certificate : CertificateFacts D) × (call ≡ certificate_call certificate now)
+      × IsIn (Quorum (certificate_subject certificate)) causes)
 
   -- the same for a step of the member; its record may be pruned
   abbrev pub IsStepCaused : List (Cause S D K G C) → MemberFacts K L D → StepFacts K L D → Type 0
@@ -119,18 +126,22 @@ abbrev pub is_final : {K L D : Type 0} → MemberFacts K L D → ℕ → Bool
 is_final m view = option_map_or (λ x. nat_le view x.finalized) m.life true
 
 -- what a resolver receives by steps, one after the other
-abbrev pub received_in : {S L D K G C : Type 0} → (D → List ℕ) → (C → List ℕ) → List (StepFacts K L D × Reply S D K G C) → List Call
+abbrev pub received_in : {S L D K G C : Type 0} → (D → List ℕ) → (C → List ℕ)
+    → List (StepFacts K L D × Reply S D K G C) → List Call
 received_in bytes bytes_of [] = []
-received_in bytes bytes_of ((Calls call, reply) ∷ rest) = received_by bytes bytes_of reply call ++ received_in bytes bytes_of rest
+received_in bytes bytes_of ((Calls call, reply) ∷ rest) =
+    received_by bytes bytes_of reply call ++ received_in bytes bytes_of rest
 received_in bytes bytes_of (_ ∷ rest) = received_in bytes bytes_of rest
 
 module _ {S L D K G C : Type 0} (same : D → D → Bool) (elect : Elect L) (bytes_of : C → List ℕ) (now : ℕ) where
   -- from a member with this at hand to another with that, by these steps and their replies, in order. What is at hand, with what the
   -- replies before it bring, causes each step, and also what is pending at the end. Each certificate that was asked for, or that a reply
   -- names as missing, is asked for in the end, unless that is over
-  abbrev pub IsCausedBy : (asks_now is_over : FetchKind → ℕ → Bool) → List (StepFacts K L D × Reply S D K G C) → List (Cause S D K G C)
+  abbrev pub IsCausedBy : (asks_now is_over : FetchKind → ℕ → Bool) → List (StepFacts K L D × Reply S D K G C)
+      → List (Cause S D K G C)
       → (FetchKind → ℕ → Bool) → MemberFacts K L D → List (Cause S D K G C) → MemberFacts K L D → Type 0
-  IsCausedBy asks_now is_over [] causes asked m left end = AreAmong left causes × (end ≡ m) × IsStill asked is_over asks_now
+  IsCausedBy asks_now is_over [] causes asked m left end =
+      AreAmong left causes × (end ≡ m) × IsStill asked is_over asks_now
   IsCausedBy asks_now is_over ((step, reply) ∷ rest) causes asked m left end =
       let given = step_causes {L = L} now step reply in
       IsStepCaused now causes m step
@@ -138,17 +149,21 @@ module _ {S L D K G C : Type 0} (same : D → D → Bool) (elect : Elect L) (byt
       × IsStep same elect m step (told bytes_of reply) next
       × IsCausedBy asks_now is_over rest (causes ++ given) (with_missing_certificate asked given) next left end
 
-module _ {S L D K G C : Type 0} (same : D → D → Bool) (elect : Elect L) (bytes : D → List ℕ) (bytes_of : C → List ℕ) (now : ℕ) where
+module _ {S L D K G C : Type 0} (same : D → D → Bool) (elect : Elect L) (bytes : D → List ℕ)
+    (bytes_of : C → List ℕ) (now : ℕ) where
   -- the same for an engine, where this came in besides, this work was returned, and these certificates need not be asked for: those of
   -- views up to the last finalized one, and those that the resolver ends by what it receives, which is what the replies say
-  pub record IsCaused (came : List (Cause S D K G C)) (out : List (Work S D K G C)) (held : FetchKind → ℕ → Bool) (old new : Engine S L D K G C)
+  pub record IsCaused (came : List (Cause S D K G C)) (out : List (Work S D K G C)) (held : FetchKind → ℕ → Bool)
+      (old new : Engine S L D K G C)
       : Type 0 where
     pub steps : List (StepFacts K L D × Reply S D K G C)
     pub heard : AreMade old.plan.repair.resolver (received_in bytes bytes_of steps) new.plan.repair.resolver
     pub by_steps : IsCausedBy same elect bytes_of now (asks new.plan)
         (λ kind view. held kind view
-        || (is_final new.core.member.facts view || ended_by old.plan.repair.resolver.state (received_in bytes bytes_of steps) kind view))
-        steps (came ++ pending_causes old) (with_missing_certificate (asks old.plan) came) old.core.member.facts (of_works out ++ pending_causes new) new.core.member.facts
+        || (is_final new.core.member.facts view
+        || ended_by old.plan.repair.resolver.state (received_in bytes bytes_of steps) kind view))
+        steps (came ++ pending_causes old) (with_missing_certificate (asks old.plan) came) old.core.member.facts
+        (of_works out ++ pending_causes new) new.core.member.facts
 
   -- the same where nothing is returned, and each certificate is to be asked for
   abbrev pub IsCausedWith : List (Cause S D K G C) → Engine S L D K G C → Engine S L D K G C → Type 0
@@ -160,9 +175,11 @@ module _ {S L D K G C : Type 0} (same : D → D → Bool) (elect : Elect L) (byt
 
 -- the certificates that the member's state has, except nullifications that the resolver has open
 abbrev pub held_by : {S L D K G C : Type 0} → Engine S L D K G C → FetchKind → ℕ → Bool
-held_by engine kind view = option_map_or (λ x. holds engine.plan.repair.resolver.open_fetches x kind view) engine.core.member.facts.life true
+held_by engine kind view =
+    option_map_or (λ x. holds engine.plan.repair.resolver.open_fetches x kind view) engine.core.member.facts.life true
 
 -- an engine that drops what is not retained: views may be forgotten besides, and what the state has need not be asked for
 abbrev pub IsCausedWithPruning : {S L D K G C : Type 0} → (D → D → Bool) → Elect L → (D → List ℕ) → (C → List ℕ) → ℕ
     → Engine S L D K G C → Engine S L D K G C → Type 0
-IsCausedWithPruning same elect bytes bytes_of now old new = IsCaused same elect bytes bytes_of now (forgettable new.core.member.facts) [] (held_by new) old new
+IsCausedWithPruning same elect bytes bytes_of now old new =
+    IsCaused same elect bytes bytes_of now (forgettable new.core.member.facts) [] (held_by new) old new

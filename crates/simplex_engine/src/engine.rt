@@ -117,17 +117,21 @@ impl<S: Assembly<D>, L: Elector<S>, D: Digest> Engine<S, L, D> {
     ///   the member accepted.
     /// - `Failed`: the engine had failed before.
     pub fn handle(&mut self, input: Input<S, D>, now: u64) -> Result<bool, Fault>
-        ensures continues { Continues D.eq L.elect S.certificate_bytes S.IsSignature (subject_in S.certificate_bytes input) self.old.core self.new.core }
+        ensures continues { Continues D.eq L.elect S.certificate_bytes S.IsSignature
+            (subject_in S.certificate_bytes input) self.old.core self.new.core }
         ensures votes { TakesVotes (votes_of_input input) self.old.batcher self.new.batcher }
         ensures held { KeepsVotes input self.old.batcher self.new.batcher }
-        ensures backed { IsBackedInput D.eq L.elect S.certificate_bytes S.IsSignature (length (S.participants self.old.batcher.scheme))
+        ensures backed { IsBackedInput D.eq L.elect S.certificate_bytes S.IsSignature
+            (length (S.participants self.old.batcher.scheme))
             input self.old.batcher self.old.core self.new.core }
         ensures dropped { IfOk result (λ is_of_use. IsFalse is_of_use → IsDropped now input self.old self.new) }
-        ensures unadmitted { IsFalse (is_input_admitted S.certificate_bytes self.old.core.member.facts input) → IfOk result (λ is_of_use.
+        ensures unadmitted { IsFalse (is_input_admitted S.certificate_bytes self.old.core.member.facts input)
+            → IfOk result (λ is_of_use.
             IsFalse is_of_use × IsTurnedAway input (ignoring self.old) self.new) }
         ensures bounded { StaysBounded S.participants self.old.core self.old.batcher self.new.core self.new.batcher }
         ensures acted { IsTrue (is_input_admitted S.certificate_bytes self.old.core.member.facts input)
-            → IfOk result (IsActedOn D.eq L.elect S.certificate_bytes S.IsMadeOf S.participants now input self.old self.new.core.member.facts
+            → IfOk result (IsActedOn D.eq L.elect S.certificate_bytes S.IsMadeOf S.participants now input self.old
+            self.new.core.member.facts
             self.new.batcher self.new.plan.steps.items) }
         ensures due_work { OnOk result (KeepsReports self.old self.new) }
         ensures ignored { IfOk result (λ is_of_use. self.new.plan.ignored
@@ -135,7 +139,9 @@ impl<S: Assembly<D>, L: Elector<S>, D: Digest> Engine<S, L, D> {
         ensures failed { OnErr result (has_failed self.new.core ≡ true) }
         ensures error { IfErr result (IsFailure (has_failed self.old.core)) }
         ensures refused { has_failed self.old.core ≡ true → (result ≡ Err Failed) × (self.new ≡ self.old) }
-        ensures provenance { OnOk result (IsCausedWith D.eq L.elect D.bytes S.certificate_bytes now (input_causes S.certificate_bytes self.old.batcher input)
+        ensures provenance { OnOk result
+            (IsCausedWith D.eq L.elect D.bytes S.certificate_bytes now
+            (input_causes S.certificate_bytes self.old.batcher input)
             self.old self.new) }
         ensures fetch_heights { OnOk result (FetchesNoHigher D.eq L.elect self.old self.new) }
     {
@@ -188,7 +194,8 @@ impl<S: Assembly<D>, L: Elector<S>, D: Digest> Engine<S, L, D> {
             → ReturnsFirst self.old.core.outbox.queue.items result self.old self.new }
         ensures given { HasReturned S.certificate_bytes (returned_outputs result) self.old.core self.new.core }
         ensures does { ExtendsHistoryOn D.eq L.elect None self.old.core.member.facts self.new.core.member.facts }
-        ensures traced { EmitsOn D.eq L.elect S.certificate_bytes S.IsSignature None (returned_outputs result) self.old.core self.new.core }
+        ensures traced { EmitsOn D.eq L.elect S.certificate_bytes S.IsSignature None (returned_outputs result)
+            self.old.core self.new.core }
         ensures told { ReportsNoMore (returned_outputs result) self.old.core.outbox self.new.core.outbox }
         ensures none { IfOk result (λ out. IsNone out → IsEngineAtRest D.eq L.elect S.certificate_bytes self.new.core) }
         ensures idle { IfOk result (λ out. IsNone out → IsIdle now self.new.plan) }
@@ -202,11 +209,16 @@ impl<S: Assembly<D>, L: Elector<S>, D: Digest> Engine<S, L, D> {
         ensures votes { TakesNone self.old.batcher self.new.batcher }
         ensures held { ForgetsNoOther self.new.core self.old.batcher self.new.batcher }
         ensures bounded { StaysBounded S.participants self.old.core self.old.batcher self.new.core self.new.batcher }
-        ensures due_work { OnOk result ((given : _) → HasReportedAll given self.old → HasReportedAll (given ++ returned_outputs result) self.new) }
-        ensures waiting { IfOk result (λ out. IsNone out → (given : _) → HasReportedAll given self.old → AllIsReturned given self.new) }
-        ensures works { OnOk result (AreAmong (work_ahead self.old) (work_in (returned_outputs result) ++ work_ahead self.new)) }
+        ensures due_work { OnOk result
+            ((given : _) → HasReportedAll given self.old → HasReportedAll (given ++ returned_outputs result) self.new) }
+        ensures waiting { IfOk result
+            (λ out. IsNone out → (given : _) → HasReportedAll given self.old → AllIsReturned given self.new) }
+        ensures works { OnOk result
+            (AreAmong (work_ahead self.old) (work_in (returned_outputs result) ++ work_ahead self.new)) }
         ensures near { OnOk result (BuildsNear self.old.core self.old.plan → BuildsNear self.new.core self.new.plan) }
-        ensures seen { OnOk result (TracksViews self.old.core.member.facts self.old.plan → TracksViews self.new.core.member.facts self.new.plan) }
+        ensures seen { OnOk result
+            (TracksViews self.old.core.member.facts self.old.plan
+            → TracksViews self.new.core.member.facts self.new.plan) }
         ensures early { OnOk result (TracksViews self.old.core.member.facts self.old.plan
             → StaysStoredEarly self.old.plan self.new.core.member.facts self.new.plan) }
         ensures ignored { OnOk result (self.new.plan.ignored ≡ self.old.plan.ignored) }
@@ -214,7 +226,8 @@ impl<S: Assembly<D>, L: Elector<S>, D: Digest> Engine<S, L, D> {
         ensures failed { OnErr result (has_failed self.new.core ≡ true) }
         ensures error { IfErr result (IsFailure (has_failed self.old.core)) }
         ensures refused { has_failed self.old.core ≡ true → (result ≡ Err Failed) × (self.new ≡ self.old) }
-        ensures provenance { OnOk result (IsCaused D.eq L.elect D.bytes S.certificate_bytes now (forgettable self.new.core.member.facts)
+        ensures provenance { OnOk result
+            (IsCaused D.eq L.elect D.bytes S.certificate_bytes now (forgettable self.new.core.member.facts)
             (work_in (returned_outputs result)) (held_by self.new) self.old self.new) }
         ensures fetch_heights { OnOk result (FetchesNoHigher D.eq L.elect self.old self.new) }
     {
@@ -231,7 +244,8 @@ impl<S: Assembly<D>, L: Elector<S>, D: Digest> Engine<S, L, D> {
     fn poll_after_work(&mut self, now: u64) -> Result<Option<Output<S, D, Stored>>, Fault>
         ensures given { HasReturned S.certificate_bytes (returned_outputs result) self.old.core self.new.core }
         ensures does { ExtendsHistoryOn D.eq L.elect None self.old.core.member.facts self.new.core.member.facts }
-        ensures traced { EmitsOn D.eq L.elect S.certificate_bytes S.IsSignature None (returned_outputs result) self.old.core self.new.core }
+        ensures traced { EmitsOn D.eq L.elect S.certificate_bytes S.IsSignature None (returned_outputs result)
+            self.old.core self.new.core }
         ensures told { ReportsNoMore (returned_outputs result) self.old.core.outbox self.new.core.outbox }
         ensures none { IfOk result (λ out. IsNone out → IsEngineAtRest D.eq L.elect S.certificate_bytes self.new.core) }
         ensures idle { IfOk result (λ out. IsNone out → IsIdle now self.new.plan) }
@@ -243,18 +257,24 @@ impl<S: Assembly<D>, L: Elector<S>, D: Digest> Engine<S, L, D> {
         ensures votes { TakesNone self.old.batcher self.new.batcher }
         ensures held { ForgetsNoOther self.new.core self.old.batcher self.new.batcher }
         ensures bounded { StaysBounded S.participants self.old.core self.old.batcher self.new.core self.new.batcher }
-        ensures due_work { OnOk result ((given : _) → HasReportedAll given self.old → HasReportedAll (given ++ returned_outputs result) self.new) }
-        ensures waiting { IfOk result (λ out. IsNone out → (given : _) → HasReportedAll given self.old → AllIsReturned given self.new) }
-        ensures works { OnOk result (AreAmong (work_ahead self.old) (work_in (returned_outputs result) ++ work_ahead self.new)) }
+        ensures due_work { OnOk result
+            ((given : _) → HasReportedAll given self.old → HasReportedAll (given ++ returned_outputs result) self.new) }
+        ensures waiting { IfOk result
+            (λ out. IsNone out → (given : _) → HasReportedAll given self.old → AllIsReturned given self.new) }
+        ensures works { OnOk result
+            (AreAmong (work_ahead self.old) (work_in (returned_outputs result) ++ work_ahead self.new)) }
         ensures near { OnOk result (BuildsNear self.old.core self.old.plan → BuildsNear self.new.core self.new.plan) }
-        ensures seen { OnOk result (TracksViews self.old.core.member.facts self.old.plan → TracksViews self.new.core.member.facts self.new.plan) }
+        ensures seen { OnOk result
+            (TracksViews self.old.core.member.facts self.old.plan
+            → TracksViews self.new.core.member.facts self.new.plan) }
         ensures early { OnOk result (TracksViews self.old.core.member.facts self.old.plan
             → StaysStoredEarly self.old.plan self.new.core.member.facts self.new.plan) }
         ensures ignored { OnOk result (self.new.plan.ignored ≡ self.old.plan.ignored) }
         ensures constants { OnOk result (constants_of self.new.plan ≡ constants_of self.old.plan) }
         ensures failed { OnErr result (has_failed self.new.core ≡ true) }
         ensures error { IfErr result (λ fault. fault ≡ OutOfMemory) }
-        ensures provenance { OnOk result (IsCaused D.eq L.elect D.bytes S.certificate_bytes now (forgettable self.new.core.member.facts)
+        ensures provenance { OnOk result
+            (IsCaused D.eq L.elect D.bytes S.certificate_bytes now (forgettable self.new.core.member.facts)
             (work_in (returned_outputs result)) (held_by self.new) self.old self.new) }
     {
         match self.work(now) {
@@ -335,25 +355,35 @@ impl<S: Assembly<D>, L: Elector<S>, D: Digest> Engine<S, L, D> {
     /// - `once`: the record holds each entry once: at most seven of a view.
     pub fn keeps_the_laws(&self)
         ensures behind { (given : _) → IsJournaled S.certificate_bytes given self.now.core → AreBehind [] given }
-        ensures stored { (given : _) → IsJournaled S.certificate_bytes given self.now.core → self.now.core.failed ≡ false
+        ensures stored { (given : _) → IsJournaled S.certificate_bytes given self.now.core
+            → self.now.core.failed ≡ false
             → IsWhole S.certificate_bytes self.now.core
-            → IsRecordOf S.certificate_bytes self.now.core.member (journal_of (given ++ self.now.core.outbox.queue.items)) }
-        ensures emitted { (given : _) → IsJournaled S.certificate_bytes given self.now.core → self.now.core.failed ≡ false
+            → IsRecordOf S.certificate_bytes self.now.core.member
+            (journal_of (given ++ self.now.core.outbox.queue.items)) }
+        ensures emitted { (given : _) → IsJournaled S.certificate_bytes given self.now.core
+            → self.now.core.failed ≡ false
             → AllAreReturned (given ++ self.now.core.outbox.queue.items) }
         ensures stops { (term_length i : _) (earlier given all : _)
             → IsTraced D.eq L.elect S.certificate_bytes term_length i earlier given all self.now.core
             → self.now.core.failed ≡ false
-            → EachStopIsLawful D.eq L.elect S.certificate_bytes term_length i earlier all (given ++ self.now.core.outbox.queue.items) }
+            → EachStopIsLawful D.eq L.elect S.certificate_bytes term_length i earlier all
+            (given ++ self.now.core.outbox.queue.items) }
         ensures finals { (term_length i : _) (earlier given all : _)
-            → IsTraced D.eq L.elect S.certificate_bytes term_length i earlier given all self.now.core → WereAccepted all (finals_in given) }
-        ensures signed { (i key given vote : _) → IsSignedBy S.IsSignature i key given self.now.core → AreBehind [] given
+            → IsTraced D.eq L.elect S.certificate_bytes term_length i earlier given all self.now.core
+            → WereAccepted all (finals_in given) }
+        ensures signed { (i key given vote : _) → IsSignedBy S.IsSignature i key given self.now.core
+            → AreBehind [] given
             → Contains given (output.Vote vote) → (vote.signer ≡ i) × S.IsSignature key vote.subject vote.signature }
-        ensures rising { (given : _) → IsJournaled S.certificate_bytes given self.now.core → RiseByView (finals_in given) }
-        ensures last { (given : _) → IsJournaled S.certificate_bytes given self.now.core → IfSome self.now.core.member.facts.life (λ x.
+        ensures rising { (given : _) → IsJournaled S.certificate_bytes given self.now.core
+            → RiseByView (finals_in given) }
+        ensures last { (given : _) → IsJournaled S.certificate_bytes given self.now.core
+            → IfSome self.now.core.member.facts.life (λ x.
             EndsAt x.finalized (finals_in (given ++ self.now.core.outbox.queue.items))) }
-        ensures lawful { OfEachHistory D.eq L.elect self.now.core.member.facts (λ term_length i all. IsLawful term_length all) }
+        ensures lawful { OfEachHistory D.eq L.elect self.now.core.member.facts
+            (λ term_length i all. IsLawful term_length all) }
         ensures ran { OfEachHistory D.eq L.elect self.now.core.member.facts (MayBeHistoryOf S.PublicKey D.eq L.elect) }
-        ensures once { OfEachHistory D.eq L.elect self.now.core.member.facts (λ term_length i all. HoldsEachEntryOnce self.now.core.member.facts) }
+        ensures once { OfEachHistory D.eq L.elect self.now.core.member.facts
+            (λ term_length i all. HoldsEachEntryOnce self.now.core.member.facts) }
     {
         self.core.keeps_the_laws();
     }

@@ -61,9 +61,12 @@ module _ {K L D : Type 0} (same : D → D → Bool) (elect : Elect L) where
   answer x o (AddFinalization c _) = Added (finalization_added same elect x c).0 (finalization_added same elect x c).1
   answer x o (SetProposal v p) = Answered (set_proposal_answer x v)
   answer x o TryPropose = Requested (propose_answer same elect x)
-  answer x o (Proposed v payload _) = Answered (option_map_or (λ context. proposed_answer same elect x context payload) (context_at o v) false)
-  answer x o (SupersedeProposalRequest v) = Answered (option_map_or (λ context. supersede_answer same elect x context) (context_at o v) false)
-  answer x o (PendingHandoffAbandonment v) = Abandoned (option_map_or (λ context. abandonment_answer same elect x context) (context_at o v) None)
+  answer x o (Proposed v payload _) =
+      Answered (option_map_or (λ context. proposed_answer same elect x context payload) (context_at o v) false)
+  answer x o (SupersedeProposalRequest v) =
+      Answered (option_map_or (λ context. supersede_answer same elect x context) (context_at o v) false)
+  answer x o (PendingHandoffAbandonment v) =
+      Abandoned (option_map_or (λ context. abandonment_answer same elect x context) (context_at o v) None)
   answer x o (ReleaseProposalRequest v) = Released (is_some (context_at o v))
   answer x o TryVerify = Standing (verify_answer same elect x)
   answer x o (Verified v) = Answered (verified_answer same elect x v)
@@ -90,8 +93,10 @@ module _ {K L D : Type 0} (same : D → D → Bool) (elect : Elect L) where
   after_call x o (AddFinalization c now) = after_add_finalization same elect x c now
   after_call x o (SetProposal v p) = after_set_proposal same elect x v p
   after_call x o TryPropose = after_try_propose same elect x
-  after_call x o (Proposed v payload now) = option_map_or (λ context. after_proposed same elect x context payload now) (context_at o v) x
-  after_call x o (SupersedeProposalRequest v) = option_map_or (λ context. after_supersede same elect x context) (context_at o v) x
+  after_call x o (Proposed v payload now) =
+      option_map_or (λ context. after_proposed same elect x context payload now) (context_at o v) x
+  after_call x o (SupersedeProposalRequest v) =
+      option_map_or (λ context. after_supersede same elect x context) (context_at o v) x
   after_call x o (PendingHandoffAbandonment _) = x
   after_call x o (ReleaseProposalRequest v) = after_release x v
   after_call x o TryVerify = after_try_verify same elect x
@@ -117,7 +122,8 @@ module _ {K L D : Type 0} (same : D → D → Bool) (elect : Elect L) where
   outstanding_work_after x o TryPropose = with_open_request o (propose_answer same elect x)
   outstanding_work_after x o (Proposed v _ _) = without_context o v
   outstanding_work_after x o (SupersedeProposalRequest v) =
-      if option_map_or (λ context. supersede_answer same elect x context) (context_at o v) false then without_context o v else o
+      if option_map_or (λ context. supersede_answer same elect x context) (context_at o v) false
+      then without_context o v else o
   outstanding_work_after x o (ReleaseProposalRequest v) = without_context o v
   outstanding_work_after x o TryVerify = with_verification o (verify_answer same elect x)
   outstanding_work_after x o (Verified v) = without_verification o v

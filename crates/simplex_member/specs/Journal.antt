@@ -15,7 +15,12 @@ use Rattle.simplex_record.specs.Votes.{SignedVote}
 module _ {K L D : Type 0} where
   -- what is stored beside the entries
   abbrev pub stored_of : MemberFacts K L D → Stored
-  stored_of m = record { closed = m.closed; is_pruned = m.is_pruned; retention = m.retention; least_retention = m.least_retention }
+  stored_of m = record {
+    closed = m.closed;
+    is_pruned = m.is_pruned;
+    retention = m.retention;
+    least_retention = m.least_retention;
+  }
 
   -- a member that has ended, of which only a journal remains
   abbrev pub stored_facts : Stored → List (ArtifactFacts D) → MemberFacts K L D
@@ -43,7 +48,8 @@ has_lost stored entries = nat_lt (length entries) stored.closed
 
 module _ {K L D : Type 0} (same : D → D → Bool) (elect : Elect L) where
   -- none is lost, and a restart of the member that has ended makes this one
-  pub record IsResumed (stored : Stored) (entries : List (ArtifactFacts D)) (start : StartFacts K L D) (m : MemberFacts K L D) : Type 0 where
+  pub record IsResumed (stored : Stored) (entries : List (ArtifactFacts D)) (start : StartFacts K L D)
+      (m : MemberFacts K L D) : Type 0 where
     pub whole : has_lost stored entries ≡ false
     pub restarted : IsRestart same elect (stored_facts stored entries) (whole_restart start) (Ok tt) m
 

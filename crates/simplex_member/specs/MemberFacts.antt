@@ -63,7 +63,8 @@ module _ {K L D : Type 0} where
 module _ {K L D : Type 0} (same : D → D → Bool) (elect : Elect L) where
   -- the reply of a member that has not failed
   abbrev pub reply_of : StateFacts K L D → OutstandingWork K D → CallFacts D → ReplyFacts K D
-  reply_of x o call = if is_allowed x o call then unless_refused (fault_of x call) (answer same elect x o call) else NotAllowed
+  reply_of x o call = if is_allowed x o call
+      then unless_refused (fault_of x call) (answer same elect x o call) else NotAllowed
 
   -- with the state and the open requests after a call, and with its new entries of the record
   abbrev pub with_call : StateFacts K L D → MemberFacts K L D → CallFacts D → MemberFacts K L D
@@ -75,7 +76,8 @@ module _ {K L D : Type 0} (same : D → D → Bool) (elect : Elect L) where
 
   -- a member that has not failed, after a call
   abbrev pub left_of : StateFacts K L D → MemberFacts K L D → CallFacts D → MemberFacts K L D
-  left_of x m call = if is_allowed x m.outstanding_work call then unless_retained (fault_of x call) m (with_call x m call) else m
+  left_of x m call = if is_allowed x m.outstanding_work call
+      then unless_retained (fault_of x call) m (with_call x m call) else m
 
   -- after running out of memory: there was no room before the state was called, and nothing has changed; or there was no fault, and
   -- the member has failed
@@ -88,10 +90,12 @@ module _ {K L D : Type 0} (same : D → D → Bool) (elect : Elect L) where
   abbrev pub Answers : StateFacts K L D → MemberFacts K L D → CallFacts D → ReplyFacts K D → MemberFacts K L D → Type 0
   Answers x m call told left =
       ((told ≡ reply_of x m.outstanding_work call) × (left ≡ left_of x m call))
-      ⊎ ((is_allowed x m.outstanding_work call ≡ true) × (told ≡ Refused fault.OutOfMemory) × IsLeftOutOfMemory x m call left)
+      ⊎ ((is_allowed x m.outstanding_work call ≡ true) × (told ≡ Refused fault.OutOfMemory)
+      × IsLeftOutOfMemory x m call left)
 
   -- a member that has failed refuses each call, and stays unchanged
-  abbrev pub AnswersAlive : Option (StateFacts K L D) → MemberFacts K L D → CallFacts D → ReplyFacts K D → MemberFacts K L D → Type 0
+  abbrev pub AnswersAlive : Option (StateFacts K L D) → MemberFacts K L D → CallFacts D → ReplyFacts K D
+      → MemberFacts K L D → Type 0
   AnswersAlive None m call told left = (told ≡ Refused fault.Failed) × (left ≡ m)
   AnswersAlive (Some x) m call told left = Answers x m call told left
 

@@ -90,4 +90,5 @@ module _ {K D : Type 0} where
 
   -- offers are opened
   abbrev pub with_offers : OutstandingWork K D → List (Proposal D) → OutstandingWork K D
-  with_offers o proposals = record o { offered = fold (λ views (p : Proposal D). insert_key nat_cmp views p.round.view) o.offered proposals }
+  with_offers o proposals =
+      record o { offered = fold (λ views (p : Proposal D). insert_key nat_cmp views p.round.view) o.offered proposals }

@@ -15,9 +15,12 @@ use Rattle.simplex_member.specs.declared.member.calls.Reply.TheVariants as reply
 module _ {S L D K G C : Type 0} (is_signature : K → Subject D → G → Type 0) where
   -- a returned vote is signed on exactly its subject, under the key of the state's member
   abbrev pub IsSignedReply : Reply S D K G C → StateFacts K L D → Type 0
-  IsSignedReply (reply.Notarize (Some vote)) x = IsSignedAs is_signature x.me x.members (subject.Notarize vote.proposal) vote.signature
-  IsSignedReply (reply.Nullify (Some (_, vote))) x = IsSignedAs is_signature x.me x.members (subject.Nullify vote.round) vote.signature
-  IsSignedReply (reply.Finalize (Some vote)) x = IsSignedAs is_signature x.me x.members (subject.Finalize vote.proposal) vote.signature
+  IsSignedReply (reply.Notarize (Some vote)) x =
+      IsSignedAs is_signature x.me x.members (subject.Notarize vote.proposal) vote.signature
+  IsSignedReply (reply.Nullify (Some (_, vote))) x =
+      IsSignedAs is_signature x.me x.members (subject.Nullify vote.round) vote.signature
+  IsSignedReply (reply.Finalize (Some vote)) x =
+      IsSignedAs is_signature x.me x.members (subject.Finalize vote.proposal) vote.signature
   IsSignedReply _ x = Unit {0}
 
 -- whether a reply is to a request for a vote

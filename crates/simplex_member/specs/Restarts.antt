@@ -23,7 +23,8 @@ pub record RestartFacts (K L D : Type 0) : Type 0 where
   pub start : StartFacts K L D
 
 -- a restart, as plain data
-abbrev pub restart_facts : {S L D K G C : Type 0} → (S → Option ℕ) → (S → List K) → (L → Terms) → (L → Bool) → (C → List ℕ) → Restart S L D K G C
+abbrev pub restart_facts : {S L D K G C : Type 0} → (S → Option ℕ) → (S → List K) → (L → Terms) → (L → Bool)
+    → (C → List ℕ) → Restart S L D K G C
     → RestartFacts K L D
 restart_facts me members terms elects_early bytes_of restart = record {
   drop = restart.drop;
@@ -53,12 +54,15 @@ module _ {K L D : Type 0} where
 
   -- the votes in it: a drop takes none of them
   abbrev pub cut_votes : {G : Type 0} → MemberFacts K L D → ℕ → Bool → List (SignedVote D G) → List (SignedVote D G)
-  cut_votes m drop prune votes = if prune then pruned_votes m.retention (without_last m.closed drop m.entries) votes else votes
+  cut_votes m drop prune votes =
+      if prune then pruned_votes m.retention (without_last m.closed drop m.entries) votes else votes
 
   -- the votes after a restart: all, if it is refused for more views to be retained
-  abbrev pub votes_left : {G : Type 0} → MemberFacts K L D → RestartFacts K L D → List (SignedVote D G) → List (SignedVote D G)
+  abbrev pub votes_left : {G : Type 0} → MemberFacts K L D → RestartFacts K L D → List (SignedVote D G)
+      → List (SignedVote D G)
   votes_left m r votes =
-      if retention_grows m r.prune r.start.setup.settings.view_retention then votes else cut_votes m r.drop r.prune votes
+      if retention_grows m r.prune r.start.setup.settings.view_retention then votes
+      else cut_votes m r.drop r.prune votes
 
 module _ {K L D : Type 0} (same : D → D → Bool) (elect : Elect L) where
   -- a new lifetime from a copy of the record, with the floor's finalization in the record
@@ -72,7 +76,8 @@ module _ {K L D : Type 0} (same : D → D → Bool) (elect : Elect L) where
   }
 
   -- how a member continues from a copy of its record: refused by the error that applies, or else in a new lifetime
-  abbrev pub RecoversFrom : MemberFacts K L D → StartFacts K L D → List (ArtifactFacts D) → Result (Unit {0}) RecoverError → MemberFacts K L D → Type 0
+  abbrev pub RecoversFrom : MemberFacts K L D → StartFacts K L D → List (ArtifactFacts D)
+      → Result (Unit {0}) RecoverError → MemberFacts K L D → Type 0
   RecoversFrom m start copy result left =
       MatchOption
       (recover_error same (new_state start.setup) start.floor start.now copy)
@@ -80,17 +85,21 @@ module _ {K L D : Type 0} (same : D → D → Bool) (elect : Elect L) where
       (λ e. (result ≡ Err e) × (left ≡ without_lifetime m))
 
   -- how it continues from its record by view; or it runs out of memory
-  abbrev pub RecoversByView : MemberFacts K L D → StartFacts K L D → Result (Unit {0}) RecoverError → MemberFacts K L D → Type 0
+  abbrev pub RecoversByView : MemberFacts K L D → StartFacts K L D → Result (Unit {0}) RecoverError
+      → MemberFacts K L D → Type 0
   RecoversByView m start result left =
       ((result ≡ Err error.OutOfMemory) × (left ≡ without_lifetime m))
       ⊎ ((copy : List (ArtifactFacts D)) × IsByView m.entries copy × RecoversFrom m start copy result left)
 
   -- refused at once, with nothing changed, if more views are to be retained of a pruned record; else it continues from what is left
   -- of its record
-  abbrev pub IsRestartWhere : Bool → MemberFacts K L D → RestartFacts K L D → Result (Unit {0}) RecoverError → MemberFacts K L D → Type 0
+  abbrev pub IsRestartWhere : Bool → MemberFacts K L D → RestartFacts K L D → Result (Unit {0}) RecoverError
+      → MemberFacts K L D → Type 0
   IsRestartWhere true m r result left = (result ≡ Err error.RetentionGrown) × (left ≡ m)
   IsRestartWhere false m r result left = RecoversByView (cut_member m r.drop r.prune) r.start result left
 
   -- a restart of a member, its result and the member after it
-  unfoldable pub IsRestart : MemberFacts K L D → RestartFacts K L D → Result (Unit {0}) RecoverError → MemberFacts K L D → Type 0
-  IsRestart m r result left = IsRestartWhere (retention_grows m r.prune r.start.setup.settings.view_retention) m r result left
+  unfoldable pub IsRestart : MemberFacts K L D → RestartFacts K L D → Result (Unit {0}) RecoverError
+      → MemberFacts K L D → Type 0
+  IsRestart m r result left =
+      IsRestartWhere (retention_grows m r.prune r.start.setup.settings.view_retention) m r result left

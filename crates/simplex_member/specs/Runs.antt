@@ -21,13 +21,16 @@ pub data StepFacts (K L D : Type 0) : Type 0 where
   Restarts : RestartFacts K L D → StepFacts K L D
 
 -- a step, as plain data
-abbrev pub step_facts : {S L D K G C : Type 0} → (S → Option ℕ) → (S → List K) → (L → Terms) → (L → Bool) → (C → List ℕ) → Step S L D K G C → StepFacts K L D
+abbrev pub step_facts : {S L D K G C : Type 0} → (S → Option ℕ) → (S → List K) → (L → Terms) → (L → Bool) → (C → List ℕ)
+    → Step S L D K G C → StepFacts K L D
 step_facts me members terms elects_early bytes_of (step.Call call) = Calls (asked bytes_of call)
 step_facts me members terms elects_early bytes_of step.PruneRecord = Prunes
-step_facts me members terms elects_early bytes_of (step.Restart restart) = Restarts (restart_facts me members terms elects_early bytes_of restart)
+step_facts me members terms elects_early bytes_of (step.Restart restart) =
+    Restarts (restart_facts me members terms elects_early bytes_of restart)
 
 -- each of these
-abbrev pub steps_of : {S L D K G C : Type 0} → (S → Option ℕ) → (S → List K) → (L → Terms) → (L → Bool) → (C → List ℕ) → List (Step S L D K G C)
+abbrev pub steps_of : {S L D K G C : Type 0} → (S → Option ℕ) → (S → List K) → (L → Terms) → (L → Bool) → (C → List ℕ)
+    → List (Step S L D K G C)
     → List (StepFacts K L D)
 steps_of me members terms elects_early bytes_of steps = map (step_facts me members terms elects_early bytes_of) steps
 
@@ -35,7 +38,8 @@ steps_of me members terms elects_early bytes_of steps = map (step_facts me membe
 abbrev pub IsSetUp : {S L D K G C : Type 0} → (S → List K) → (L → ℕ) → Step S L D K G C → Type 0
 IsSetUp participants members (step.Call _) = Unit {0}
 IsSetUp participants members step.PruneRecord = Unit {0}
-IsSetUp participants members (step.Restart restart) = members restart.start.settings.elector ≡ length (participants restart.start.settings.scheme)
+IsSetUp participants members (step.Restart restart) =
+    members restart.start.settings.elector ≡ length (participants restart.start.settings.scheme)
 
 -- the same for each of these
 abbrev pub AreSetUp : {S L D K G C : Type 0} → (S → List K) → (L → ℕ) → List (Step S L D K G C) → Type 0

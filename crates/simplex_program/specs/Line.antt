@@ -42,11 +42,13 @@ HasNoFeed bytes = position_or_len (λ b. b == 10) bytes ≡ length bytes
 
 -- the place of the first line feed, and none if there is none
 abbrev pub FindsFeed : List ℕ → Option ℕ → Type 0
-FindsFeed bytes r = MatchOption r (HasNoFeed bytes) (λ place. (place < length bytes) × (place ≡ position_or_len (λ b. b == 10) bytes))
+FindsFeed bytes r = MatchOption r (HasNoFeed bytes)
+    (λ place. (place < length bytes) × (place ≡ position_or_len (λ b. b == 10) bytes))
 
 -- bytes that continue a line of some bytes: it ends with its feed, or when it is known to be too long; or it continues
 abbrev pub EndsLine : Bool → ℕ → List ℕ → Type 0
-EndsLine true before more = ((front : List ℕ) × (more ≡ front ++ 10 ∷ []) × HasNoFeed front × (before + length front < 201))
+EndsLine true before more =
+    ((front : List ℕ) × (more ≡ front ++ 10 ∷ []) × HasNoFeed front × (before + length front < 201))
     ⊎ (HasNoFeed more × (before + length more ≡ 201))
 EndsLine false before more = HasNoFeed more × (before + length more < 201)
 

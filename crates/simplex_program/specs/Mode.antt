@@ -17,7 +17,8 @@ mode_words (Resolver term_length) = codes "resolver" ∷ decimal term_length ∷
 -- a network has from 1 to 1000 members, and the one that signs is among them; a term has from 1 to 2^32 - 1 views
 abbrev pub IsNetwork : ℕ → Option ℕ → ℕ → Type 0
 IsNetwork members me term_length =
-    (1 ≤ members) × (members ≤ 1000) × IfSome me (λ index. index < members) × ((1 ≤ term_length) × (term_length < 2 ^ 32))
+    (1 ≤ members) × (members ≤ 1000) × IfSome me (λ index. index < members)
+    × ((1 ≤ term_length) × (term_length < 2 ^ 32))
 
 -- a mode that the arguments can name: its numbers are in range
 abbrev pub IsServed : Mode → Type 0

@@ -84,10 +84,13 @@ ResolverAnswers x fetching (Nullification v) a y left = Reports x fetching v (nu
 ResolverAnswers x fetching (Finalization v) a y left = Reports x fetching v (finalization_call v) a y left
 ResolverAnswers x fetching (Certified v success) a y left = Reports x fetching v (verdict_call v success) a y left
 ResolverAnswers x fetching Replayed a y left = Calls x fetching 0 EndOfReplay a y left
-ResolverAnswers x fetching (Settled v kind) a y left = (a ≡ answer.Flag (is_settled x v kind)) × IsUnchanged x fetching y left
+ResolverAnswers x fetching (Settled v kind) a y left =
+    (a ≡ answer.Flag (is_settled x v kind)) × IsUnchanged x fetching y left
 ResolverAnswers x fetching (KeySettled v) a y left =
     (a ≡ answer.Flag (is_settled x v OfNullification && is_settled x v OfNotarization)) × IsUnchanged x fetching y left
-ResolverAnswers x fetching (Uncertifiable v) a y left = (a ≡ answer.Flag (map.contains_key x.uncertifiable v)) × IsUnchanged x fetching y left
+ResolverAnswers x fetching (Uncertifiable v) a y left =
+    (a ≡ answer.Flag (map.contains_key x.uncertifiable v)) × IsUnchanged x fetching y left
 ResolverAnswers x fetching (Produce v) a y left =
-    (a ≡ (if x.is_failed then answer.Fault Failed else answer.Encoding (served_encoding x v))) × IsUnchanged x fetching y left
+    (a ≡ (if x.is_failed then answer.Fault Failed else answer.Encoding (served_encoding x v)))
+    × IsUnchanged x fetching y left
 ResolverAnswers x fetching Outstanding a y left = Lists fetching a × IsUnchanged x fetching y left

@@ -62,7 +62,8 @@ IsOfNoLine (Resolver _ _) text = (line : ResolverLine) → HasSmallView line →
 
 -- a line is no call: it is longer than 200 bytes, not UTF-8, or no line of the program
 abbrev pub IsNoCall : Asked → List ℕ → Type 0
-IsNoCall asked line = (200 < length (without_feed line)) ⊎ (¬ (IsUtf8 (without_feed line)) ⊎ IsOfNoLine asked (without_feed line))
+IsNoCall asked line = (200 < length (without_feed line))
+    ⊎ (¬ (IsUtf8 (without_feed line)) ⊎ IsOfNoLine asked (without_feed line))
 
 -- the state of serving: what the next line calls, the bytes that the reader has left and those that the writer has, if they are known
 pub record Point : Type 0 where
@@ -92,11 +93,13 @@ AppendsFront old new bytes = (front : List ℕ) × (others : List ℕ) × (bytes
 abbrev pub EndsServing : Point → ℕ → Result (Unit {0}) ServeError → Option (List ℕ) → Type 0
 EndsServing p k (Ok _) held = (IsAtEnd p.left ⊎ (k ≡ 2 ^ 64 - 1)) × Keeps p.held held
 EndsServing p k (Err (NotACall n)) held =
-    (n ≡ k) × Keeps p.held held × ((line : List ℕ) × (rest : Option (List ℕ)) × IsNextLine p.left line rest × IsNoCall p.asked line)
+    (n ≡ k) × Keeps p.held held
+    × ((line : List ℕ) × (rest : Option (List ℕ)) × IsNextLine p.left line rest × IsNoCall p.asked line)
 EndsServing p k (Err OutOfMemory) held = Keeps p.held held
 EndsServing p k (Err Read) held = Keeps p.held held
 EndsServing p k (Err Write) held =
-    (line : List ℕ) × (reply : List ℕ) × (asked : Asked) × (left : Option (List ℕ)) × IsCalled p line reply asked left × AppendsFront p.held held reply
+    (line : List ℕ) × (reply : List ℕ) × (asked : Asked) × (left : Option (List ℕ)) × IsCalled p line reply asked left
+    × AppendsFront p.held held reply
 
 -- one turn of serving, before line k: a line is replied to; or no byte is left; or serving ends
 abbrev pub Advances : Point → ℕ → Result Bool ServeError → Point → Type 0
@@ -106,10 +109,12 @@ Advances p k (Err e) q = EndsServing p k (Err e) q.held
 
 -- from some point on: lines are replied to, and then serving ends
 abbrev pub Continues : Point → Result (Unit {0}) ServeError → Option (List ℕ) → Type 0
-Continues p r held = (lines : List (List ℕ)) × (q : Point) × AreAnswered p lines q × EndsServing q (length lines + 1) r held
+Continues p r held = (lines : List (List ℕ)) × (q : Point) × AreAnswered p lines q
+    × EndsServing q (length lines + 1) r held
 
 -- serving in a mode: what the reader has left and what the writer has before, how it ends, and what the writer has then
-abbrev pub Transcribes : Mode → Option (List ℕ) → Option (List ℕ) → Result (Unit {0}) ServeError → Option (List ℕ) → Type 0
+abbrev pub Transcribes : Mode → Option (List ℕ) → Option (List ℕ) → Result (Unit {0}) ServeError
+    → Option (List ℕ) → Type 0
 Transcribes mode left held r after =
     ((r ≡ Err OutOfMemory) × Keeps held after)
     ⊎ ((asked : Asked) × Begins mode asked × Continues (record { asked = asked; left = left; held = held }) r after)

@@ -38,8 +38,10 @@ pub record IsProposal (v p d : ℕ) (q : Proposal PlainDigest) : Type 0 where
 -- invalid
 abbrev pub DenotesCall : VoterLine → PlainCall → Type 0
 DenotesCall (Notarization v p d) (AddNotarization c) = IsProposal v p d c.proposal × (c.bytes ≡ 1 ∷ [])
-DenotesCall (Nullification v now) (AddNullification c moment) = (c.round ≡ round_in_epoch v) × (c.bytes ≡ 1 ∷ []) × (moment ≡ now)
-DenotesCall (Finalization v p d now) (AddFinalization c moment) = IsProposal v p d c.proposal × (c.bytes ≡ 1 ∷ []) × (moment ≡ now)
+DenotesCall (Nullification v now) (AddNullification c moment) =
+    (c.round ≡ round_in_epoch v) × (c.bytes ≡ 1 ∷ []) × (moment ≡ now)
+DenotesCall (Finalization v p d now) (AddFinalization c moment) =
+    IsProposal v p d c.proposal × (c.bytes ≡ 1 ∷ []) × (moment ≡ now)
 DenotesCall (Verdict v success now) call = call ≡ Certified v success now
 DenotesCall (ProposalOf v p d) (SetProposal w q) = (w ≡ v) × IsProposal v p d q
 DenotesCall Propose call = call ≡ TryPropose

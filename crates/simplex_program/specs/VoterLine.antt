@@ -51,7 +51,8 @@ voter_words Views = codes "view" ∷ []
 abbrev pub HasSmallNumbers : VoterLine → Type 0
 HasSmallNumbers (Notarization view parent payload) = (view < 2 ^ 64) × (parent < 2 ^ 64) × (payload < 2 ^ 64)
 HasSmallNumbers (Nullification view now) = (view < 2 ^ 64) × (now < 2 ^ 64)
-HasSmallNumbers (Finalization view parent payload now) = (view < 2 ^ 64) × (parent < 2 ^ 64) × (payload < 2 ^ 64) × (now < 2 ^ 64)
+HasSmallNumbers (Finalization view parent payload now) =
+    (view < 2 ^ 64) × (parent < 2 ^ 64) × (payload < 2 ^ 64) × (now < 2 ^ 64)
 HasSmallNumbers (Verdict view success now) = (view < 2 ^ 64) × (now < 2 ^ 64)
 HasSmallNumbers (Notarize view) = view < 2 ^ 64
 HasSmallNumbers (Nullify view) = view < 2 ^ 64

@@ -53,7 +53,8 @@ proposal_words first p = first ∷ decimal p.round.view ∷ decimal p.parent ∷
 
 -- a view, its leader, and the view and the payload of the parent to build on; then other words
 abbrev pub context_words : List ℕ → Context PlainDigest PlainKey → List (List ℕ) → List (List ℕ)
-context_words first x others = first ∷ decimal x.round.view ∷ key_word x.leader ∷ decimal x.parent.0 ∷ payload_word x.parent.1 ∷ others
+context_words first x others =
+    first ∷ decimal x.round.view ∷ key_word x.leader ∷ decimal x.parent.0 ∷ payload_word x.parent.1 ∷ others
 
 -- a request to build, in words
 abbrev pub request_words : ProposalRequest PlainDigest PlainKey → List (List ℕ)

@@ -41,7 +41,8 @@ pub(crate) fn read_line<R: Read + Drop>(
 /// Moves the line's bytes in the buffer to a line. Returns whether the line ends there: with its line feed, or because its bytes show that
 /// it is too long.
 fn take_buffered<R: Read + Drop>(reader: &mut BufReader<R>, line: &mut Vec<u8>) -> io::Result<bool>
-    ensures { IfOk result (λ ended. MovesPart ended line.old.items line.new.items (reader_remaining R.remaining reader.old)
+    ensures { IfOk result (λ ended.
+        MovesPart ended line.old.items line.new.items (reader_remaining R.remaining reader.old)
         (reader_remaining R.remaining reader.new)) }
 {
     let room = (LONGEST_LINE + 1).saturating_sub(line.len());
@@ -73,7 +74,8 @@ fn move_buffered<R: Read + Drop>(
 ) -> io::Result<()>
     requires { count ≤ length (reader_buffer reader.old) }
     ensures line { OnOk result (line.new.items ≡ line.old.items ++ take count (reader_buffer reader.old)) }
-    ensures reader { OnOk result (Consumes (reader_remaining R.remaining reader.old) (reader_remaining R.remaining reader.new)
+    ensures reader { OnOk result
+        (Consumes (reader_remaining R.remaining reader.old) (reader_remaining R.remaining reader.new)
         (take count (reader_buffer reader.old))) }
 {
     line.extend_from_slice(&reader.buffer()[..count])?;

@@ -69,8 +69,16 @@ fn answer_line<R: Read + Drop, W: Write + Drop>(
     room: &mut Room,
     writer: &mut W,
 ) -> Result<bool, ServeError>
-    ensures { Advances (record { asked = asked_of session.old; left = reader_remaining R.remaining reader.old; held = W.contents writer.old })
-        number result (record { asked = asked_of session.new; left = reader_remaining R.remaining reader.new; held = W.contents writer.new }) }
+    ensures { Advances (record {
+      asked = asked_of session.old;
+      left = reader_remaining R.remaining reader.old;
+      held = W.contents writer.old;
+    })
+        number result (record {
+          asked = asked_of session.new;
+          left = reader_remaining R.remaining reader.new;
+          held = W.contents writer.new;
+        }) }
 {
     let Ok(found) = read_line(reader, &mut room.line) else {
         return Err(ServeError::Read);

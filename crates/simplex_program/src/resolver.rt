@@ -54,7 +54,9 @@ impl Resolver {
 
     /// Does what the line asks. The only error is out of memory.
     pub(crate) fn answer(&mut self, alloc: Global, line: ResolverLine) -> Result<Answer, AllocError>
-        ensures { IfOk result (λ answer. ResolverAnswers self.old.state self.old.outstanding.keys line answer self.new.state self.new.outstanding.keys) }
+        ensures { IfOk result (λ answer.
+            ResolverAnswers self.old.state self.old.outstanding.keys line answer self.new.state
+            self.new.outstanding.keys) }
     {
         match line {
             ResolverLine::Notarization(view) => self.notarize(view),
@@ -81,7 +83,8 @@ impl Resolver {
     #[tactic(auto, using(crate::proofs::Reported::named_at))]
     fn notarize(&mut self, view: View) -> Result<Answer, AllocError>
         ensures { IfOk result (λ answer.
-            Reports self.old.state self.old.outstanding.keys view (notarization_call view) answer self.new.state self.new.outstanding.keys) }
+            Reports self.old.state self.old.outstanding.keys view (notarization_call view) answer self.new.state
+            self.new.outstanding.keys) }
     {
         let Some(notarization) = notarization_of(view) else {
             return Ok(Answer::NotAllowed);
@@ -94,7 +97,8 @@ impl Resolver {
 
     fn nullify(&mut self, view: View) -> Result<Answer, AllocError>
         ensures { IfOk result (λ answer.
-            Reports self.old.state self.old.outstanding.keys view (nullification_call view) answer self.new.state self.new.outstanding.keys) }
+            Reports self.old.state self.old.outstanding.keys view (nullification_call view) answer self.new.state
+            self.new.outstanding.keys) }
     {
         if view.is_zero() {
             return Ok(Answer::NotAllowed);
@@ -111,7 +115,8 @@ impl Resolver {
     #[tactic(auto, using(crate::proofs::Reported::named_at))]
     fn finalize(&mut self, view: View) -> Result<Answer, AllocError>
         ensures { IfOk result (λ answer.
-            Reports self.old.state self.old.outstanding.keys view (finalization_call view) answer self.new.state self.new.outstanding.keys) }
+            Reports self.old.state self.old.outstanding.keys view (finalization_call view) answer self.new.state
+            self.new.outstanding.keys) }
     {
         let Some(finalization) = finalization_of(view) else {
             return Ok(Answer::NotAllowed);
@@ -125,7 +130,8 @@ impl Resolver {
     #[tactic(auto, using(crate::proofs::Reported::named_at))]
     fn certify(&mut self, view: View, success: bool) -> Result<Answer, AllocError>
         ensures { IfOk result (λ answer.
-            Reports self.old.state self.old.outstanding.keys view (verdict_call view success) answer self.new.state self.new.outstanding.keys) }
+            Reports self.old.state self.old.outstanding.keys view (verdict_call view success) answer self.new.state
+            self.new.outstanding.keys) }
     {
         let Some(notarization) = notarization_of(view) else {
             return Ok(Answer::NotAllowed);
@@ -137,7 +143,8 @@ impl Resolver {
     }
 
     fn end_replay(&mut self) -> Result<Answer, AllocError>
-        ensures { IfOk result (λ answer. Calls self.old.state self.old.outstanding.keys 0 Replayed answer self.new.state self.new.outstanding.keys) }
+        ensures { IfOk result (λ answer.
+            Calls self.old.state self.old.outstanding.keys 0 Replayed answer self.new.state self.new.outstanding.keys) }
     {
         match self.state.replayed() {
             Ok(effects) => self.apply(effects),

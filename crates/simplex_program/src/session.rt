@@ -56,7 +56,8 @@ impl Session {
         text: &str,
         reply: &mut String,
     ) -> Result<(), ServeError>
-        ensures replied { OnOk result (Replies (asked_of self.old) text.now (string_bytes reply.new) (asked_of self.new)) }
+        ensures replied { OnOk result
+            (Replies (asked_of self.old) text.now (string_bytes reply.new) (asked_of self.new)) }
         ensures refused { IfErr result (IsNotReplied number (asked_of self.old) text.now) }
     {
         match self {

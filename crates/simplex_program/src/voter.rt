@@ -77,7 +77,8 @@ impl Voter {
         line: VoterLine,
     ) -> Result<VoterAnswer, AllocError>
         ensures network { self.new.network ≡ self.old.network }
-        ensures answer { IfOk result (λ answer. VoterAnswers self.old.network self.old.member.facts line answer self.new.member.facts) }
+        ensures answer { IfOk result
+            (λ answer. VoterAnswers self.old.network self.old.member.facts line answer self.new.member.facts) }
     {
         let Some(call) = call_of(&line) else {
             return self.other(alloc, line);
@@ -93,7 +94,8 @@ impl Voter {
     fn other(&mut self, alloc: Global, line: VoterLine) -> Result<VoterAnswer, AllocError>
         requires { is_no_call line ≡ true }
         ensures network { self.new.network ≡ self.old.network }
-        ensures done { IfOk result (λ answer. IsDone self.old.network self.old.member.facts line answer self.new.member.facts) }
+        ensures done { IfOk result
+            (λ answer. IsDone self.old.network self.old.member.facts line answer self.new.member.facts) }
     {
         match line {
             VoterLine::Restart { drop, now } => self.restart(alloc, drop, false, now),
@@ -112,7 +114,8 @@ impl Voter {
         now: u64,
     ) -> Result<VoterAnswer, AllocError>
         ensures network { self.new.network ≡ self.old.network }
-        ensures restarted { IfOk result (λ answer. IsRestarted self.old.network self.old.member.facts drop prune now answer self.new.member.facts) }
+        ensures restarted { IfOk result
+            (λ answer. IsRestarted self.old.network self.old.member.facts drop prune now answer self.new.member.facts) }
     {
         let start = start_at(alloc, &self.network, now)?;
         let result = self.member.restart(Restart { drop, prune, start });
@@ -143,7 +146,8 @@ fn start_at(
     now: u64,
 ) -> Result<Start<PlainScheme, PlainElector, PlainDigest>, AllocError>
     ensures facts { IfOk result (λ start. IsGenesisStart network.now now (plain_start start)) }
-    ensures members { IfOk result (λ start. members_of start.settings.elector ≡ length (keys_of start.settings.scheme)) }
+    ensures members { IfOk result
+        (λ start. members_of start.settings.elector ≡ length (keys_of start.settings.scheme)) }
 {
     let settings = settings(alloc, network)?;
     Ok(Start {

@@ -59,7 +59,8 @@ fn certificate_call(line: &VoterLine) -> Option<Call<PlainScheme, PlainDigest>>
 
 /// Returns the call of a line about building a proposal.
 fn building_call(line: &VoterLine) -> Option<Call<PlainScheme, PlainDigest>>
-    ensures { MatchOption result (builds_proposals line.now ≡ false) (λ call. DenotesCall line.now (asked plain_bytes call)) }
+    ensures { MatchOption result (builds_proposals line.now ≡ false)
+        (λ call. DenotesCall line.now (asked plain_bytes call)) }
 {
     match *line {
         VoterLine::Propose => Some(Call::TryPropose),
@@ -75,7 +76,8 @@ fn building_call(line: &VoterLine) -> Option<Call<PlainScheme, PlainDigest>>
 
 /// Returns the call of a line about the proposals of leaders, and about their verification and certification.
 fn judging_call(line: &VoterLine) -> Option<Call<PlainScheme, PlainDigest>>
-    ensures { MatchOption result (is_about_proposals line.now ≡ false) (λ call. DenotesCall line.now (asked plain_bytes call)) }
+    ensures { MatchOption result (is_about_proposals line.now ≡ false)
+        (λ call. DenotesCall line.now (asked plain_bytes call)) }
 {
     match *line {
         VoterLine::Proposal {

@@ -122,7 +122,8 @@ vote_rules epoch me signer p =
 abbrev pub own_rules : {D : Type 0} → ℕ → Option ℕ → ArtifactFacts D → List (Bool × RecoverError)
 own_rules epoch me (NotarizeVote p signer) = vote_rules epoch me signer p
 own_rules epoch me (FinalizeVote p signer) = vote_rules epoch me signer p
-own_rules epoch me (NullifyVote round signer) = round_rules epoch round None ++ (not (signs_as me signer), error.ForeignSigner) ∷ []
+own_rules epoch me (NullifyVote round signer) =
+    round_rules epoch round None ++ (not (signs_as me signer), error.ForeignSigner) ∷ []
 own_rules epoch me (Verdict round _) = round_rules epoch round None
 own_rules epoch me (Accepted c) = round_rules epoch (certificate_round c) (certificate_parent c)
 
@@ -140,8 +141,10 @@ module _ {D : Type 0} (same : D → D → Bool) (epoch : ℕ) (me : Option ℕ) 
   -- the first rule that the entries break one after another, following those before them
   abbrev pub first_broken_after : List (ArtifactFacts D) → List (ArtifactFacts D) → Option RecoverError
   first_broken_after before [] = None
-  first_broken_after before (e ∷ rest) = option_or (first_error (entry_rules before e)) (first_broken_after (e ∷ before) rest)
+  first_broken_after before (e ∷ rest) =
+      option_or (first_error (entry_rules before e)) (first_broken_after (e ∷ before) rest)
 
   -- the first rule that the floor breaks, or else the record, oldest entry first
   unfoldable pub first_recover_error : FloorFacts D → List (ArtifactFacts D) → Option RecoverError
-  first_recover_error floor record_entries = option_or (first_error (recovery_floor_rules epoch floor)) (first_broken_after [] record_entries)
+  first_recover_error floor record_entries =
+      option_or (first_error (recovery_floor_rules epoch floor)) (first_broken_after [] record_entries)

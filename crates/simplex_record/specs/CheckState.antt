@@ -20,7 +20,14 @@ is_other same seen p = option_map_or (λ q. not (same_proposal same q p)) seen f
 
 -- nothing was seen of the view
 abbrev pub nothing_seen : {D : Type 0} → ℕ → Seen D
-nothing_seen v = record { view = v; notarized = false; verdict = None; nullified = false; notarize = None; finalize = None }
+nothing_seen v = record {
+  view = v;
+  notarized = false;
+  verdict = None;
+  nullified = false;
+  notarize = None;
+  finalize = None;
+}
 
 -- of a view above the last one nothing was seen
 abbrev pub turned_to : {D : Type 0} → Seen D → ℕ → Seen D
@@ -66,4 +73,5 @@ module _ {D : Type 0} (same : D → D → Bool) (epoch : ℕ) (me : Option ℕ) 
   -- all rules that the next entry breaks
   abbrev pub next_rules : Seen D → ArtifactFacts D → List (Bool × RecoverError)
   next_rules s e =
-      (nat_lt (entry_view e) s.view, error.OutOfOrder) ∷ own_rules epoch me e ++ seen_rules same (turned_to s (entry_view e)) e
+      (nat_lt (entry_view e) s.view, error.OutOfOrder) ∷ own_rules epoch me e
+      ++ seen_rules same (turned_to s (entry_view e)) e

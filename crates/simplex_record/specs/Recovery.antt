@@ -82,7 +82,8 @@ module _ {D : Type 0} where
   abbrev pub with_finalization_entry : List (ArtifactFacts D) → Option (ProposalFacts D) → List (ArtifactFacts D)
   with_finalization_entry entries None = entries
   with_finalization_entry entries (Some c) =
-      if stands c.proposal.round.view is_finalization_entry entries then entries else entries ++ Accepted (Finalized c) ∷ []
+      if stands c.proposal.round.view is_finalization_entry entries then entries else entries
+      ++ Accepted (Finalized c) ∷ []
 
   -- the floor's finalization is recorded
   abbrev pub with_floor : List (ArtifactFacts D) → FloorFacts D → List (ArtifactFacts D)
@@ -100,7 +101,8 @@ module _ {S K L D G C : Type 0} (bytes_of : C → List ℕ) (same : D → D → 
     pub kept : takes_round x (artifact_round a) ≡ true
     pub replays : TakesReplay (after_adding same elect x now (artifact_facts bytes_of a)) a
     pub gives : GivesVerdict
-        (after_replaying same elect (after_adding same elect x now (artifact_facts bytes_of a)) (artifact_facts bytes_of a))
+        (after_replaying same elect (after_adding same elect x now (artifact_facts bytes_of a))
+        (artifact_facts bytes_of a))
         (artifact_facts bytes_of a)
 
   -- its views are small, and a state that retains its view allows it
@@ -111,4 +113,5 @@ module _ {S K L D G C : Type 0} (bytes_of : C → List ℕ) (same : D → D → 
   -- the same for each entry when it is reached
   abbrev pub TakesEntries : StateFacts K L D → ℕ → List (Artifact S D K G C) → Type 0
   TakesEntries x now [] = Unit {0}
-  TakesEntries x now (a ∷ rest) = TakesNext x now a × TakesEntries (after_kept_entry same elect x now (artifact_facts bytes_of a)) now rest
+  TakesEntries x now (a ∷ rest) =
+      TakesNext x now a × TakesEntries (after_kept_entry same elect x now (artifact_facts bytes_of a)) now rest

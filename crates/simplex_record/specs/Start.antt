@@ -21,7 +21,8 @@ pub record Setup (K L : Type 0) : Type 0 where
   pub elects_early : Bool
 
 -- the setup of these settings, as plain data
-abbrev pub setup_of : {S L K G C : Type 0} → (S → Option ℕ) → (S → List K) → (L → Terms) → (L → Bool) → Config S L K G C → Setup K L
+abbrev pub setup_of : {S L K G C : Type 0} → (S → Option ℕ) → (S → List K) → (L → Terms) → (L → Bool)
+    → Config S L K G C → Setup K L
 setup_of me members terms elects_early c = record {
   settings = settings_of c;
   me = me c.scheme;
@@ -36,7 +37,8 @@ abbrev pub new_state : {K L D : Type 0} → Setup K L → StateFacts K L D
 new_state s = new_facts s.settings s.me s.members s.elector s.terms s.elects_early
 
 -- what a new state of these settings knows
-abbrev pub set_up : {S L D K G C : Type 0} → (S → Option ℕ) → (S → List K) → (L → Terms) → (L → Bool) → Config S L K G C → StateFacts K L D
+abbrev pub set_up : {S L D K G C : Type 0} → (S → Option ℕ) → (S → List K) → (L → Terms) → (L → Bool) → Config S L K G C
+    → StateFacts K L D
 set_up me members terms elects_early c = new_state (setup_of me members terms elects_early c)
 
 -- the start of a member: the setup of its state, the floor, and the moment in milliseconds
@@ -46,7 +48,8 @@ pub record StartFacts (K L D : Type 0) : Type 0 where
   pub now : ℕ
 
 -- a start, as plain data
-abbrev pub start_facts : {S L D K G C : Type 0} → (S → Option ℕ) → (S → List K) → (L → Terms) → (L → Bool) → (C → List ℕ) → Start S L D K G C → StartFacts K L D
+abbrev pub start_facts : {S L D K G C : Type 0} → (S → Option ℕ) → (S → List K) → (L → Terms) → (L → Bool)
+    → (C → List ℕ) → Start S L D K G C → StartFacts K L D
 start_facts me members terms elects_early bytes_of start = record {
   setup = setup_of me members terms elects_early start.settings;
   floor = floor_facts bytes_of start.floor;

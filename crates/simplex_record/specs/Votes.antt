@@ -15,9 +15,12 @@ pub record SignedVote (D G : Type 0) : Type 0 where
 module _ {S D K G C : Type 0} where
   -- the vote in an artifact, if it is one
   abbrev pub signed_vote : Artifact S D K G C → List (SignedVote D G)
-  signed_vote (artifact.Notarize vote) = record { vote = NotarizeVote vote.proposal vote.signer; signature = vote.signature } ∷ []
-  signed_vote (artifact.Nullify vote) = record { vote = NullifyVote vote.round vote.signer; signature = vote.signature } ∷ []
-  signed_vote (artifact.Finalize vote) = record { vote = FinalizeVote vote.proposal vote.signer; signature = vote.signature } ∷ []
+  signed_vote (artifact.Notarize vote) =
+      record { vote = NotarizeVote vote.proposal vote.signer; signature = vote.signature } ∷ []
+  signed_vote (artifact.Nullify vote) =
+      record { vote = NullifyVote vote.round vote.signer; signature = vote.signature } ∷ []
+  signed_vote (artifact.Finalize vote) =
+      record { vote = FinalizeVote vote.proposal vote.signer; signature = vote.signature } ∷ []
   signed_vote _ = []
 
   -- those of a record, oldest first

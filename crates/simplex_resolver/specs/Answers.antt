@@ -43,7 +43,8 @@ source t calls v =
     if nat_lt 0 (finalized_of calls) && nat_le v (finalized_of calls) then Some (OfFinalization (finalized_of calls))
     else (if list_any (is_true_verdict v) calls then Some (OfCertified v)
     else (if list_any (is_covering t v) calls then Some (OfNullified (greatest (map (covering_view t v) calls)))
-    else (if nat_lt 0 (floor_of calls) && nat_le v (floor_of calls) then Some (OfCertified (floor_of calls)) else None)))
+    else (if nat_lt 0 (floor_of calls) && nat_le v (floor_of calls)
+    then Some (OfCertified (floor_of calls)) else None)))
 
 -- the call that passes in a certificate of this kind and view with an encoding
 abbrev pub bringing : Source → List ℕ → Call
@@ -61,7 +62,8 @@ ServesReceived calls (Some from) (Some encoding) = WasMade (bringing from encodi
 
 -- no view has verdicts of both kinds
 abbrev pub NoContradiction : List Call → Type 0
-NoContradiction calls = (v : ℕ) → list_any (is_true_verdict v) calls ≡ true → list_any (is_false_verdict v) calls ≡ false
+NoContradiction calls = (v : ℕ) → list_any (is_true_verdict v) calls ≡ true
+    → list_any (is_false_verdict v) calls ≡ false
 
 -- ---- the law
 

@@ -33,7 +33,8 @@ pub record HasReceivedCalls (term_length : ℕ) (calls : List Call) (r : LawfulR
 -- ---- a call
 
 -- the call is made: these are its effects, and they are applied to the open fetches
-pub record IsMade (call : Call) (old : LawfulResolverFacts) (es : List Effect) (new : LawfulResolverFacts) : Type 0 where
+pub record IsMade (call : Call) (old : LawfulResolverFacts) (es : List Effect)
+    (new : LawfulResolverFacts) : Type 0 where
   pub state : new.state ≡ after old.state call
   pub answered : es ≡ effects old.state call
   pub applied : IsApplied old.open_fetches es new.open_fetches
@@ -41,7 +42,8 @@ pub record IsMade (call : Call) (old : LawfulResolverFacts) (es : List Effect) (
 -- whatever it received before, it also received this call
 abbrev pub ReceivesMore : LawfulResolverFacts → Call → LawfulResolverFacts → Type 0
 ReceivesMore old call new =
-    (term_length : ℕ) (calls : List Call) → HasReceivedCalls term_length calls old → HasReceivedCalls term_length (call ∷ calls) new
+    (term_length : ℕ) (calls : List Call) → HasReceivedCalls term_length calls old
+    → HasReceivedCalls term_length (call ∷ calls) new
 
 -- a prefix of the effects is applied
 abbrev pub IsBegun : List ℕ → List Effect → List ℕ → Type 0
@@ -58,7 +60,8 @@ IsLeftBy old v call fault new = Refused old.state v fault new.state × (new ≡ 
 
 -- whatever it received so far
 abbrev pub OfEachCallHistory : LawfulResolverFacts → (ℕ → List Call → Type 0) → Type 0
-OfEachCallHistory r Holds = (term_length : ℕ) (calls : List Call) → HasReceivedCalls term_length calls r → Holds term_length calls
+OfEachCallHistory r Holds =
+    (term_length : ℕ) (calls : List Call) → HasReceivedCalls term_length calls r → Holds term_length calls
 
 -- once its replay has ended its open fetches are exactly the views that it needs
 abbrev pub OpensTheOutstanding : LawfulResolverFacts → ℕ → List Call → Type 0
@@ -72,7 +75,8 @@ OpensNone r term_length calls = list_any is_replayed calls ≡ false → r.open_
 -- a certificate opens no fetch if it received one of its kind and view before
 abbrev pub OpensNoneAgain : LawfulResolverFacts → ℕ → List Call → Type 0
 OpensNoneAgain r term_length calls =
-    (call : Call) → list_any (are_alike call) calls ≡ true → (v : ℕ) → list_any (fetches v) (effects r.state call) ≡ false
+    (call : Call) → list_any (are_alike call) calls ≡ true → (v : ℕ)
+    → list_any (fetches v) (effects r.state call) ≡ false
 
 -- its results follow from what it received
 abbrev pub AnswersTheReceived : LawfulResolverFacts → ℕ → List Call → Type 0

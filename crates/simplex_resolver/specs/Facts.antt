@@ -83,11 +83,15 @@ end_of_scan t first end = if nat_lt first end then next_term_start t (end - 1) e
 abbrev pub facts_code : Coded ResolverFacts
 facts_code =
     code_by
-    (((ℕ × ℕ) × (ℕ × Option (ℕ × List ℕ))) × ((ByTermFacts (List ℕ) × FinMap nat_cmp (Option (List ℕ))) × (FinMap nat_cmp (Unit {0}) × (Bool × Bool))))
+    (((ℕ × ℕ) × (ℕ × Option (ℕ × List ℕ)))
+    × ((ByTermFacts (List ℕ) × FinMap nat_cmp (Option (List ℕ))) × (FinMap nat_cmp (Unit {0}) × (Bool × Bool))))
     (coded× (coded× (coded× coded_ℕ coded_ℕ) (coded× coded_ℕ (coded_option (coded× coded_ℕ (coded_list coded_ℕ)))))
     (coded× (coded× (by_term_code (coded_list coded_ℕ)) (map.code coded_ℕ (coded_option (coded_list coded_ℕ))))
     (coded× (map.code coded_ℕ coded_unit) (coded× coded_bool coded_bool))))
-    (λ x. (((x.current, x.floor), (x.scanned, x.finalization)), ((x.nullifications, x.notarizations), (x.uncertifiable, (x.replaying, x.is_failed)))))
+    (λ x. (
+      ((x.current, x.floor), (x.scanned, x.finalization)),
+      ((x.nullifications, x.notarizations), (x.uncertifiable, (x.replaying, x.is_failed))),
+    ))
     (λ p. record {
       current = p.0.0.0;
       floor = p.0.0.1;

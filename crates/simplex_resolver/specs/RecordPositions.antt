@@ -20,5 +20,6 @@ module _ {S D K G C : Type 0} (bytes_of : C → List ℕ) where
     pub count : p.noted ≤ length entries
     pub within : (v i : ℕ) → map.get p.by_view v ≡ Some i → i < p.noted
     pub found : (v : ℕ)
-        → option_and_then (λ i. option_and_then (λ a. notarization_at v (artifact_facts bytes_of a)) (slice_get entries i)) (map.get p.by_view v)
+        → option_and_then (λ i. option_and_then (λ a. notarization_at v (artifact_facts bytes_of a))
+        (slice_get entries i)) (map.get p.by_view v)
         ≡ newest_notarization v (newest_first bytes_of (take p.noted entries))

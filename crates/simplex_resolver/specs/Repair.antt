@@ -41,7 +41,8 @@ IsOutstandingSet vs es = (v : ℕ) → has vs v ≡ is_outstanding es v
 
 -- the set of the outstanding views after some effects becomes that of these followed by the new ones
 abbrev pub KeepsOutstanding : List ℕ → List Effect → List ℕ → Type 0
-KeepsOutstanding old es new = (earlier : List Effect) → IsOutstandingSet old earlier → IsOutstandingSet new (earlier ++ es)
+KeepsOutstanding old es new =
+    (earlier : List Effect) → IsOutstandingSet old earlier → IsOutstandingSet new (earlier ++ es)
 
 -- ---- runs, the last call first
 

@@ -70,7 +70,11 @@ after_scan x = if x.replaying then x else record x { scanned = scan_end x }
 abbrev pub after_raise : ResolverFacts → ℕ → ResolverFacts
 after_raise x v =
     if nat_lt x.floor v
-    then record x { floor = v; scanned = if starts_term (term_length x) (v + 1) then x.scanned else min x.scanned (v + 1) }
+    then record x {
+      floor = v;
+      scanned = if starts_term (term_length x) (v + 1) then x.scanned
+          else min x.scanned (v + 1);
+    }
     else x
 
 -- the floor rises, if the view is above it
@@ -112,7 +116,8 @@ after_notarization x v =
 -- the effect of a notarization: it settles its view, unless that is finalized or has failed
 abbrev pub notarization_effects : ResolverFacts → ℕ → List Effect
 notarization_effects x v =
-    if nat_lt (last_finalized x) v && not (map.contains_key x.uncertifiable v) then Settled OfNotarization v v ∷ [] else []
+    if nat_lt (last_finalized x) v && not (map.contains_key x.uncertifiable v)
+    then Settled OfNotarization v v ∷ [] else []
 
 -- the highest finalization is stored
 abbrev pub with_stored_finalization : ResolverFacts → ℕ → List ℕ → ResolverFacts

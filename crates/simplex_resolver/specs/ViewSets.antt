@@ -20,14 +20,18 @@ pub record NotarizationsFacts : Type 0 where
 abbrev pub notarizations_code : Coded NotarizationsFacts
 notarizations_code =
     code_by (FinMap nat_cmp (Option (List ℕ)) × FinMap nat_cmp (Unit {0}))
-    (coded× (finmap.code coded_ℕ (coded_option (coded_list coded_ℕ))) (finmap.code coded_ℕ coded_unit)) (λ n. (n.by_view, n.failed))
+    (coded× (finmap.code coded_ℕ (coded_option (coded_list coded_ℕ))) (finmap.code coded_ℕ coded_unit))
+    (λ n. (n.by_view, n.failed))
     (λ p. record { by_view = p.0; failed = p.1 }) (λ _. refl)
 
 -- the views that have a value, each with it, and the views without one
-abbrev pub with_values : {V : Type 0} → FinMap nat_cmp V → FinMap nat_cmp (Unit {0}) → FinMap nat_cmp (Unit {0}) → FinMap nat_cmp (Option V)
+abbrev pub with_values : {V : Type 0} → FinMap nat_cmp V → FinMap nat_cmp (Unit {0}) → FinMap nat_cmp (Unit {0})
+    → FinMap nat_cmp (Option V)
 with_values values failed noted =
-    finmap.from_entries (map (λ e. (e.0, Some e.1)) (finmap.entries values) ++ map (λ v. (v, None)) (finmap.keys failed ++ finmap.keys noted))
+    finmap.from_entries (map (λ e. (e.0, Some e.1)) (finmap.entries values)
+    ++ map (λ v. (v, None)) (finmap.keys failed ++ finmap.keys noted))
 
 -- a noted view has no value, and has not failed
 abbrev pub AreApart : {V : Type 0} → FinMap nat_cmp V → FinMap nat_cmp (Unit {0}) → FinMap nat_cmp (Unit {0}) → Type 0
-AreApart values failed noted = (v : ℕ) → finmap.contains_key noted v ≡ true → (finmap.contains_key values v || finmap.contains_key failed v) ≡ false
+AreApart values failed noted = (v : ℕ) → finmap.contains_key noted v ≡ true
+    → (finmap.contains_key values v || finmap.contains_key failed v) ≡ false

@@ -58,11 +58,13 @@ floor_rules accepts epoch (floor.Finalized f) =
     ∷ []
 
 -- the first rule that a floor breaks
-abbrev pub first_broken_floor_rule : {S D K G C : Type 0} → (Subject D → C → Bool) → ℕ → Floor S D K G C → Option ConfigError
+abbrev pub first_broken_floor_rule : {S D K G C : Type 0} → (Subject D → C → Bool) → ℕ → Floor S D K G C
+    → Option ConfigError
 first_broken_floor_rule accepts epoch floor = first_broken (floor_rules accepts epoch floor)
 
 -- all rules in order, given the number of participants and what the scheme accepts
-abbrev pub config_rules : {S D K G C : Type 0} → ℕ → (Subject D → C → Bool) → Config S D K G C → List (Bool × ConfigError)
+abbrev pub config_rules : {S D K G C : Type 0} → ℕ → (Subject D → C → Bool) → Config S D K G C
+    → List (Bool × ConfigError)
 config_rules participants accepts c =
     (participants == 0, error.NoParticipants)
     ∷ (c.leader_timeout == 0, error.LeaderTimeoutZero)

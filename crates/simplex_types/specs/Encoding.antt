@@ -51,4 +51,5 @@ IsEncodable (Finalized c) = IsEncodableRound c.proposal.round × (c.proposal.par
 -- two certificates with one encoding are of one kind, round and proposal, and have the same scheme's bytes
 abbrev pub EncodingTellsApart : {D : Type 0} → (D → List ℕ) → Type 0
 EncodingTellsApart {D} payload_bytes =
-    (c d : CertificateFacts D) → IsEncodable c → IsEncodable d → encoding payload_bytes c ≡ encoding payload_bytes d → c ≡ d
+    (c d : CertificateFacts D) → IsEncodable c → IsEncodable d
+    → encoding payload_bytes c ≡ encoding payload_bytes d → c ≡ d

@@ -108,7 +108,8 @@ impl<S: CertificateScheme, D: Digest> Floor<S, D> {
     /// Returns a copy, with the same payload or proposal and the same certificate bytes. The only fault is `OutOfMemory`;
     /// copying genesis takes no memory.
     pub fn clone(&self, alloc: Global) -> Result<Self, Fault>
-        ensures same { IfOk result (λ floor. floor_facts S.certificate_bytes floor ≡ floor_facts S.certificate_bytes self.now) }
+        ensures same { IfOk result
+            (λ floor. floor_facts S.certificate_bytes floor ≡ floor_facts S.certificate_bytes self.now) }
         ensures refused { IsOkUnless result Fault.OutOfMemory }
         ensures refused_only_a_finalization { OnErr result (is_finalization self.now ≡ true) }
     {
@@ -147,7 +148,8 @@ impl<S: CertificateScheme, D: Digest> Config<S, D> {
     pub fn assert(&self) -> Result<(), ConfigError>
     where
         S: Scheme<D>,
-        ensures { MatchOption (first_broken_rule (length (S.participants self.now.scheme)) (S.accepts self.now.scheme) self.now)
+        ensures { MatchOption (first_broken_rule (length (S.participants self.now.scheme))
+            (S.accepts self.now.scheme) self.now)
             (result ≡ Ok tt) (λ broken. result ≡ Err broken) }
     {
         if self.scheme.participants().is_empty() {

@@ -26,7 +26,8 @@ module _ {X A : Type 0} where
   -- the same once the k-th row has one more entry, for which it has room
   abbrev pub HasRoomAt : ℕ → List (VecDeque X A) → Type 0
   HasRoomAt k [] = ⊥
-  HasRoomAt zero (row ∷ rows) = MayPrecede rows (suc (deque_len row)) × ((deque_len row < deque_capacity row) × AreFullButLast rows)
+  HasRoomAt zero (row ∷ rows) =
+      MayPrecede rows (suc (deque_len row)) × ((deque_len row < deque_capacity row) × AreFullButLast rows)
   HasRoomAt (suc k) (row ∷ rows) = MayPrecede rows (deque_len row) × HasRoomAt k rows
 
   -- each row is full

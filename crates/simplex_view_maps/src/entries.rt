@@ -43,7 +43,8 @@ impl<'a, V> Entries<'a, V> {
 
     /// Takes the remaining entry of the lowest view.
     pub fn pop_first(&mut self) -> Option<(View, &'a V)>
-        ensures { MatchOption result ((self.old ≡ []) × (self.new ≡ [])) (λ entry. self.old ≡ (entry.0, entry.1.now) ∷ self.new) }
+        ensures { MatchOption result ((self.old ≡ []) × (self.new ≡ []))
+            (λ entry. self.old ≡ (entry.0, entry.1.now) ∷ self.new) }
     {
         if self.start == self.end {
             return None;
@@ -55,7 +56,8 @@ impl<'a, V> Entries<'a, V> {
 
     /// Takes the remaining entry of the highest view.
     pub fn pop_last(&mut self) -> Option<(View, &'a V)>
-        ensures { MatchOption result ((self.old ≡ []) × (self.new ≡ [])) (λ entry. self.old ≡ self.new ++ (entry.0, entry.1.now) ∷ []) }
+        ensures { MatchOption result ((self.old ≡ []) × (self.new ≡ []))
+            (λ entry. self.old ≡ self.new ++ (entry.0, entry.1.now) ∷ []) }
     {
         if self.start == self.end {
             return None;

@@ -86,7 +86,8 @@ impl<T> Rows<T> {
 
     /// The entry at a place, for changes.
     pub(super) fn get_mut(&mut self, place: usize) -> Option<&mut T>
-        ensures* writes_back { sem 𝓛 (LendsIf (the_row T.row) T.row self.entry result (slice_set self.old place) self.old) }
+        ensures* writes_back { sem 𝓛
+            (LendsIf (the_row T.row) T.row self.entry result (slice_set self.old place) self.old) }
         ensures variant { IsSome result ↔ (place < length self.old) }
         ensures value { IfSome result (λ entry. entry.now ≡ slice_index_or self.old place entry.now) }
     {

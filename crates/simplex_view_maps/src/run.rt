@@ -43,7 +43,8 @@ impl Run {
     /// Returns the run over both, if they touch. Else the first one, unless it is empty or the other lies far above:
     /// views may come a little out of order, and the newest ones are searched.
     pub(super) fn joined(self, other: Run) -> Run
-        ensures { (set : ℕ → Bool) → AreIn set self.first self.end → AreIn set other.first other.end → AreIn set result.first result.end }
+        ensures { (set : ℕ → Bool) → AreIn set self.first self.end → AreIn set other.first other.end
+            → AreIn set result.first result.end }
     {
         if self.is_empty() || is_far_above(other.first, self.end) {
             return other;

@@ -141,7 +141,8 @@ impl<V: Drop> TermTable<V> {
     /// is no memory.
     pub(super) fn insert(&mut self, view: View, value: V) -> Result<Option<V>, AllocFailed<V>>
         requires { 1 ≤ view }
-        ensures standing { IfOk result (λ back. back ≡ (if map.contains_key self.old.by_view view then Some value else None)) }
+        ensures standing { IfOk result
+            (λ back. back ≡ (if map.contains_key self.old.by_view view then Some value else None)) }
         ensures refused { IfErr result (λ refused. refused.value ≡ value) }
         ensures refused_only_new { OnErr result (map.get self.old.by_view view ≡ None) }
         ensures after { self.new ≡ record self.old { by_view = after_insert self.old.by_view view value result } }

@@ -158,7 +158,8 @@ impl<V> Tracked<V> {
 
     /// The value at a view, for changes.
     pub fn get_mut(&mut self, view: View) -> Option<&mut V>
-        ensures* writes_back { sem 𝓛 (LendsIf (the_row V.row) V.row self.entry result (map.insert self.old view) self.old) }
+        ensures* writes_back { sem 𝓛
+            (LendsIf (the_row V.row) V.row self.entry result (map.insert self.old view) self.old) }
         ensures value { option_copied_mut result ≡ map.get self.old view }
     {
         let (place, _) = self.find(view);

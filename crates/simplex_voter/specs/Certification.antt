@@ -22,7 +22,8 @@ use Rattle.simplex_voter.specs.Timeouts.{with_timeout}
 
 -- a certification that is under way ends without a verdict
 abbrev pub without_token : {K D : Type 0} → RoundFacts K D → RoundFacts K D
-without_token r = if is_some (token_of r.certification) then record r { certification = after_abort r.certification } else r
+without_token r = if is_some (token_of r.certification)
+    then record r { certification = after_abort r.certification } else r
 
 module _ {K L D : Type 0} where
   -- the view waits for certification
@@ -45,23 +46,27 @@ module _ {K L D : Type 0} (elect : Elect L) where
   abbrev pub waits_for : StateFacts K L D → ℕ → RoundFacts K D → Bool
   waits_for x p r =
       is_some r.notarization
-      && option_map_or (λ h. option_map_or (λ q. q == p) (required_certification_parent elect x (p + 1) h) false) r.slot.held false
+      && option_map_or (λ h. option_map_or (λ q. q == p) (required_certification_parent elect x (p + 1) h) false)
+      r.slot.held false
 
   -- once p is certified or finalized, the view above it that waited for p is a candidate again
   abbrev pub with_waiting_candidate : StateFacts K L D → ℕ → StateFacts K L D
-  with_waiting_candidate x p = if option_map_or (waits_for x p) (round_at x (p + 1)) false then named_also x (p + 1) else x
+  with_waiting_candidate x p =
+      if option_map_or (waits_for x p) (round_at x (p + 1)) false then named_also x (p + 1) else x
 
   -- what the proposal requires is certified
   abbrev pub certification_parent_ready : StateFacts K L D → ℕ → Proposal D → Bool
   certification_parent_ready x v p =
-      option_map_or (λ q. has_valid_parent_span x v p.parent && is_some (explicit_ancestry_payload x q)) (required_certification_parent elect x v p) true
+      option_map_or (λ q. has_valid_parent_span x v p.parent && is_some (explicit_ancestry_payload x q))
+      (required_certification_parent elect x v p) true
 
   -- the notarization to fetch: what the proposal requires is neither certified nor notarized, and the proposal is not invalid for
   -- good
   abbrev pub certification_fetch : StateFacts K L D → ℕ → Proposal D → Option CertificateFetch
   certification_fetch x v p =
       option_and_then
-      (λ q. if has_valid_parent_span x v p.parent && is_none (explicit_ancestry_payload x q) && is_none (round_of x q).notarization
+      (λ q. if has_valid_parent_span x v p.parent && is_none (explicit_ancestry_payload x q)
+      && is_none (round_of x q).notarization
       then Some (record { proposal = p.round.view; view = q })
       else None)
       (required_certification_parent elect x v p)
@@ -94,7 +99,8 @@ module _ {K L D : Type 0} where
   -- the view has no verdict
   abbrev pub takes_certify_handle : StateFacts K L D → ℕ → Bool
   takes_certify_handle x v =
-      is_started x && not (is_judged true (round_of x v).certification) && not (is_judged false (round_of x v).certification)
+      is_started x && not (is_judged true (round_of x v).certification)
+      && not (is_judged false (round_of x v).certification)
 
   -- `certified`: the verdict of a view's certification; nothing where the view isn't tracked
   abbrev pub certified_answer : StateFacts K L D → ℕ → Option (ProposalFacts D)
@@ -104,16 +110,19 @@ module _ {K L D : Type 0} where
   abbrev pub takes_verdict : StateFacts K L D → ℕ → Bool → Bool
   takes_verdict x v success =
       is_started x
-      && option_map_or (λ r. is_some r.notarization && not (is_judged (not success) r.certification)) (round_at x v) true
+      && option_map_or (λ r. is_some r.notarization && not (is_judged (not success) r.certification))
+      (round_at x v) true
 
   -- the view is tracked, and has no verdict yet
   abbrev pub is_first_verdict : StateFacts K L D → ℕ → Bool
   is_first_verdict x v =
-      option_map_or (λ r. not (is_judged true r.certification) && not (is_judged false r.certification)) (round_at x v) false
+      option_map_or (λ r. not (is_judged true r.certification) && not (is_judged false r.certification))
+      (round_at x v) false
 
   -- why a verdict is refused: the state has failed, or a deadline of the view that it enters is too large
   abbrev pub certified_refusal : StateFacts K L D → ℕ → Bool → ℕ → Option Fault
-  certified_refusal x v success now = first_fault x.failed false (success && is_tracked x v && enters_late x (v + 1) now)
+  certified_refusal x v success now =
+      first_fault x.failed false (success && is_tracked x v && enters_late x (v + 1) now)
 
   -- the verdict is stored in the view's round
   abbrev pub with_verdict : StateFacts K L D → ℕ → Bool → StateFacts K L D

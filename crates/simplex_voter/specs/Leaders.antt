@@ -15,7 +15,8 @@ module _ {K L D : Type 0} where
 
   -- this member leads the view from now on, unless a leader is set
   abbrev pub with_leader_at : StateFacts K L D → ℕ → ℕ → StateFacts K L D
-  with_leader_at x v member = if has_leader x v then x else with_round x v (record (round_of x v) { leader = leader_at x.members member })
+  with_leader_at x v member =
+      if has_leader x v then x else with_round x v (record (round_of x v) { leader = leader_at x.members member })
 
   -- the leader of one view leads another too
   abbrev pub with_leader_of : StateFacts K L D → ℕ → ℕ → StateFacts K L D
@@ -43,4 +44,5 @@ module _ {K L D : Type 0} (elect : Elect L) where
   with_next_view_ready x v =
       if in_issuance_window x (v + 1)
       then with_leader_of x v (v + 1)
-      else (if (round_of x v).notarize_decided && is_elected_early elect x (v + 1) then with_elected_leader x (v + 1) None else x)
+      else (if (round_of x v).notarize_decided && is_elected_early elect x (v + 1)
+      then with_elected_leader x (v + 1) None else x)

@@ -46,11 +46,13 @@ is_parent same found p d = option_map_or (λ e. e.0 == p && same e.1 d) found fa
 module _ {K L D : Type 0} (same : D → D → Bool) (elect : Elect L) where
   -- the kind of payload that the view may build on
   unfoldable pub ancestry_payload_for_child : StateFacts K L D → ℕ → ℕ → Option D
-  ancestry_payload_for_child x v p = if in_issuance_window x v then optimistic_ancestry_payload same elect x p else explicit_ancestry_payload x p
+  ancestry_payload_for_child x v p =
+      if in_issuance_window x v then optimistic_ancestry_payload same elect x p else explicit_ancestry_payload x p
 
   -- the payload with which the parent is allowed
   unfoldable pub parent_payload_for : StateFacts K L D → ℕ → ℕ → Option D
-  parent_payload_for x v p = if has_valid_parent_span x v p && is_gapless x p v then ancestry_payload_for_child x v p else None
+  parent_payload_for x v p =
+      if has_valid_parent_span x v p && is_gapless x p v then ancestry_payload_for_child x v p else None
 
   -- the parent is allowed with this payload
   abbrev pub IsAllowedParent : StateFacts K L D → ℕ → ℕ → D → Type 0
@@ -67,7 +69,8 @@ module _ {K L D : Type 0} (same : D → D → Bool) (elect : Elect L) where
 
   -- the parent, with its payload, on which this member builds
   unfoldable pub find_parent : StateFacts K L D → ℕ → Option (ℕ × D)
-  find_parent x v = if is_term_start x v then preferred_at_start x v else at_view (v - 1) (ancestry_payload_for_child x v (v - 1))
+  find_parent x v = if is_term_start x v then preferred_at_start x v
+      else at_view (v - 1) (ancestry_payload_for_child x v (v - 1))
 
   -- the parent is allowed, or preferred, with this payload
   unfoldable pub captured_parent_valid : StateFacts K L D → ℕ → ℕ → D → Bool
@@ -78,7 +81,8 @@ module _ {K L D : Type 0} (same : D → D → Bool) (elect : Elect L) where
   holds_binding x v r bound =
       option_map_or
       (λ p. same_proposal same p bound.0
-      && (is_payload same (parent_payload_for x v p.parent) bound.1 || (leads x r && is_parent same (find_parent x v) p.parent bound.1)))
+      && (is_payload same (parent_payload_for x v p.parent) bound.1
+      || (leads x r && is_parent same (find_parent x v) p.parent bound.1)))
       r.slot.held
       false
 

@@ -22,7 +22,8 @@ module _ {K L D : Type 0} where
   abbrev pub has_failed_optimistic_ancestry : StateFacts K L D → ℕ → Bool
   has_failed_optimistic_ancestry x v =
       list_any
-      (λ e. nat_lt x.finalized e.0 && nat_le (term_start x.terms.term_length v) e.0 && nat_le e.0 v && is_judged false e.1.certification)
+      (λ e. nat_lt x.finalized e.0 && nat_le (term_start x.terms.term_length v) e.0 && nat_le e.0 v
+      && is_judged false e.1.certification)
       x.rounds
 
   -- this member is elected, before any certificate, for the term that the view starts
@@ -35,7 +36,8 @@ module _ {K L D : Type 0} where
 
   -- this member voted for the held proposal, and it may serve before any certificate
   unfoldable pub is_voted_ancestor : Elect L → StateFacts K L D → ℕ → RoundFacts K D → Bool
-  is_voted_ancestor elect x v r = (in_issuance_window x (v + 1) || is_handoff_parent elect x v) && is_verified_slot r.slot && r.notarize_decided
+  is_voted_ancestor elect x v r =
+      (in_issuance_window x (v + 1) || is_handoff_parent elect x v) && is_verified_slot r.slot && r.notarize_decided
 
   -- a view that was voted for may build on this parent
   unfoldable pub can_chain_on : StateFacts K L D → ℕ → ℕ → Bool

@@ -65,7 +65,8 @@ module _ {K L D : Type 0} where
 
   -- a block for the view was requested, or no longer
   abbrev pub with_build : StateFacts K L D → ℕ → Bool → StateFacts K L D
-  with_build x v requested = with_tracked x v (record (round_of x v) { slot = build_requested requested (round_of x v).slot })
+  with_build x v requested =
+      with_tracked x v (record (round_of x v) { slot = build_requested requested (round_of x v).slot })
 
   -- `release_proposal_request`
   abbrev pub after_release : StateFacts K L D → ℕ → StateFacts K L D
@@ -117,7 +118,8 @@ module _ {K L D : Type 0} (same : D → D → Bool) (elect : Elect L) where
   abbrev pub after_proposed : StateFacts K L D → Context D K → D → ℕ → StateFacts K L D
   after_proposed x context payload now =
       if proposed_answer x context payload
-      then with_round (at_moment x now) context.round.view (proposed_round same (round_of x context.round.view) context payload now)
+      then with_round (at_moment x now) context.round.view
+      (proposed_round same (round_of x context.round.view) context payload now)
       else at_moment x now
 
   -- `supersede_proposal_request`: another parent can be built on, and the captured one no longer

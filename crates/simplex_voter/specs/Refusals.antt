@@ -11,7 +11,8 @@ use Rattle.simplex_voter.specs.Windows.{admits_certificate}
 -- the first that applies of: the state has failed, a view is too large, a moment passes the numbers of 64 bits
 abbrev pub first_fault : (failed too_large late : Bool) → Option Fault
 first_fault failed too_large late =
-    if failed then Some Failed else (if too_large then Some ViewTooLarge else (if late then Some TimeOverflow else None))
+    if failed then Some Failed
+    else (if too_large then Some ViewTooLarge else (if late then Some TimeOverflow else None))
 
 -- no certificate, proposal or artifact may name such a view
 abbrev pub is_too_large : ℕ → Bool

@@ -68,7 +68,8 @@ module _ {K L D : Type 0} where
 
   -- the sets that the rules look up
   abbrev pub replayed_sets : {S G C : Type 0} → StateFacts K L D → Artifact S D K G C → StateFacts K L D
-  replayed_sets x (artifact.Nullify vote) = record x { nullify_votes = insert_key nat_cmp x.nullify_votes vote.round.view }
+  replayed_sets x (artifact.Nullify vote) =
+      record x { nullify_votes = insert_key nat_cmp x.nullify_votes vote.round.view }
   replayed_sets x (artifact.Nullification n) = nullified_also x n.round.view
   replayed_sets x _ = x
 

@@ -76,7 +76,8 @@ module _ {K D : Type 0} where
   -- the member leads the view, unless a leader is set
   abbrev pub rounds_with_leader : RoundsFacts K D → ℕ → ℕ → RoundsFacts K D
   rounds_with_leader x v member =
-      if is_some (round_in x v).leader then x else with_change x v (λ r. record r { leader = leader_at x.members member })
+      if is_some (round_in x v).leader then x
+      else with_change x v (λ r. record r { leader = leader_at x.members member })
 
   -- the leader of one view leads another too
   abbrev pub rounds_with_leader_of : RoundsFacts K D → ℕ → ℕ → RoundsFacts K D
@@ -111,7 +112,8 @@ module _ {K D : Type 0} where
 
   -- no certification is under way below a view
   abbrev pub IsQuietBelow : map.FinMap nat_cmp (RoundFacts K D) → ℕ → Type 0
-  IsQuietBelow m v = (q : ℕ) (r : RoundFacts K D) → map.get m q ≡ Some r → q < v → is_some (token_of r.certification) ≡ false
+  IsQuietBelow m v = (q : ℕ) (r : RoundFacts K D) → map.get m q ≡ Some r → q < v
+      → is_some (token_of r.certification) ≡ false
 
   -- the tracked views below v, with their rounds, except some above genesis that are not explicit
   pub record AreDownFrom (x : RoundsFacts K D) (v : ℕ) (es : List (ℕ × RoundFacts K D)) : Type 0 where
@@ -134,7 +136,8 @@ MayBeRecalled b v (artifact.Finalization _) = Unit {0}
 -- the first entry of a view is recorded, and its deadlines count
 abbrev pub with_entry : {K D : Type 0} → RoundFacts K D → ℕ → Deadlines → RoundFacts K D
 with_entry r now deadlines =
-    with_deadlines (record r { entered_at = Some (unwrap_or r.entered_at now) }) deadlines.leader deadlines.certification deadlines.stall
+    with_deadlines (record r { entered_at = Some (unwrap_or r.entered_at now) }) deadlines.leader
+    deadlines.certification deadlines.stall
 
 -- the view is above another, and tracked with a round that was certified false
 abbrev pub is_refused_above : {K D : Type 0} → map.FinMap nat_cmp (RoundFacts K D) → (above v : ℕ) → Bool

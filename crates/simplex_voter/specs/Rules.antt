@@ -20,7 +20,8 @@ module _ {K L D : Type 0} where
   -- this member voted to nullify a view below in the term, and no finalization lies at or above that. Why: else its two votes
   -- could help to finalize a view and to skip it. A finalization from the nullified view on shows that no quorum skipped it.
   unfoldable pub has_conflicting_nullify : StateFacts K L D → ℕ → Bool
-  has_conflicting_nullify x v = list_any (λ u. nat_lt u v && covers x.terms.term_length u v && nat_lt x.finalized u) x.nullify_votes
+  has_conflicting_nullify x v =
+      list_any (λ u. nat_lt u v && covers x.terms.term_length u v && nat_lt x.finalized u) x.nullify_votes
 
 module _ {K L D : Type 0} (elect : Elect L) where
   -- this member was elected early for the term that the view starts, and voted for a proposal there
@@ -38,7 +39,8 @@ module _ {K L D : Type 0} (elect : Elect L) where
 
   -- the view that must be certified before the proposal is certified
   abbrev pub explicit_parent_ready : StateFacts K L D → ℕ → Proposal D → Bool
-  explicit_parent_ready x v p = option_map_or (λ q. is_some (explicit_ancestry_payload x q)) (required_certification_parent x v p) true
+  explicit_parent_ready x v p =
+      option_map_or (λ q. is_some (explicit_ancestry_payload x q)) (required_certification_parent x v p) true
 
   -- the view's held proposal, if there is one, has the parent that it requires
   abbrev pub has_required_parent : StateFacts K L D → ℕ → Bool
@@ -48,7 +50,8 @@ module _ {K L D : Type 0} (elect : Elect L) where
   -- member can't tell which one others certify; and without the notarization another proposal may still win the view.
   unfoldable pub may_finalize : StateFacts K L D → ℕ → Bool
   may_finalize x v =
-      nat_lt x.finalized v && is_admitted x v && not (has_conflicting_nullify x v) && has_required_parent x v && can_finalize (round_of x v)
+      nat_lt x.finalized v && is_admitted x v && not (has_conflicting_nullify x v) && has_required_parent x v
+      && can_finalize (round_of x v)
 
 module _ {K L D : Type 0} (same : D → D → Bool) (elect : Elect L) where
   -- inside its window a view needs the view before to offer a payload. Why: a vote there depends on votes that depend on others; once
@@ -60,12 +63,14 @@ module _ {K L D : Type 0} (same : D → D → Bool) (elect : Elect L) where
   -- certificates for only one proposal; and the binding, since what was verified was the proposal on that payload of its parent: on
   -- another one, which an equivocating leader may bring about, it was never verified.
   unfoldable pub may_notarize : StateFacts K L D → ℕ → Bool
-  may_notarize x v = is_admitted x v && can_notarize (round_of x v) && has_ancestry x v && verification_matches same elect x v
+  may_notarize x v = is_admitted x v && can_notarize (round_of x v) && has_ancestry x v
+      && verification_matches same elect x v
 
 -- the rules' parts
 
 -- a notarize vote may be signed
-pub record NotarizeRule {K L D : Type 0} (same : D → D → Bool) (elect : Elect L) (x : StateFacts K L D) (v : ℕ) : Type 0 where
+pub record NotarizeRule {K L D : Type 0} (same : D → D → Bool) (elect : Elect L) (x : StateFacts K L D)
+    (v : ℕ) : Type 0 where
   pub admitted : is_admitted x v ≡ true
   pub first_vote : (round_of x v).notarize_decided ≡ false
   pub no_nullify : is_nullify (round_of x v).decision ≡ false

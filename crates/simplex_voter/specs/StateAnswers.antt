@@ -62,7 +62,8 @@ module _ {K L D : Type 0} where
 
   -- `broadcast_nullification`
   abbrev pub broadcast_nullification_answer : StateFacts K L D → ℕ → Option NullificationFacts
-  broadcast_nullification_answer x v = option_and_then (λ r. once r.nullification_broadcast r.nullification) (round_at x v)
+  broadcast_nullification_answer x v =
+      option_and_then (λ r. once r.nullification_broadcast r.nullification) (round_at x v)
 
   -- the nullification
   abbrev pub after_broadcast_nullification : StateFacts K L D → ℕ → StateFacts K L D
@@ -86,7 +87,9 @@ module _ {K L D : Type 0} where
 
   -- the nullification held there, if the current view starts a term
   abbrev pub entry_nullification : StateFacts K L D → ℕ → Option NullificationFacts
-  entry_nullification x v = if is_term_start x x.current then option_and_then (nullification_of x) (highest_nullification_in_term x v) else None
+  entry_nullification x v =
+      if is_term_start x x.current
+      then option_and_then (nullification_of x) (highest_nullification_in_term x v) else None
 
   -- of a view the finalization, else, if a term begins above it, that term's nullification, else the notarization
   abbrev pub entry_certificate : StateFacts K L D → ℕ → Option (CertificateFacts D)

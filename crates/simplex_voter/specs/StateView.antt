@@ -40,7 +40,8 @@ abbrev pub largest_current : ℕ
 largest_current = 2 ^ 63 + 2 ^ 32
 
 -- the invariant of each state: a bound of the current view, sets of views by its terms, and an elector of its members
-pub record IsStateKept {S L D K G C : Type 0} (terms : L → Terms) (count : L → ℕ) (s : Inside S L D K G C) : Type 0 where
+pub record IsStateKept {S L D K G C : Type 0} (terms : L → Terms) (count : L → ℕ)
+    (s : Inside S L D K G C) : Type 0 where
   pub in_range : s.current ≤ largest_current
   pub nullified : s.nullified.term_length ≡ (terms s.elector).term_length
   pub nullify_votes : s.nullify_votes.term_length ≡ (terms s.elector).term_length

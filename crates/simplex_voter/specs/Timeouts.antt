@@ -50,7 +50,8 @@ module _ {K L D : Type 0} where
 
   -- the view times out at its next poll, if it may
   abbrev pub with_timeout : StateFacts K L D → ℕ → TimeoutReason → ℕ → StateFacts K L D
-  with_timeout x v reason now = if can_trigger x v reason then with_round x v (with_latch (round_of x v) now reason) else x
+  with_timeout x v reason now =
+      if can_trigger x v reason then with_round x v (with_latch (round_of x v) now reason) else x
 
   -- `trigger_timeout`: whether this timeout was latched
   abbrev pub trigger_answer : StateFacts K L D → ℕ → TimeoutReason → Bool
@@ -63,12 +64,14 @@ module _ {K L D : Type 0} where
   -- few enough terms lie between the first one that isn't finalized and the current one
   abbrev pub has_skip_budget : StateFacts K L D → Bool
   has_skip_budget x =
-      nat_lt (term_index x.terms.term_length x.current - term_index x.terms.term_length (x.finalized + 1)) x.settings.skip_budget
+      nat_lt (term_index x.terms.term_length x.current - term_index x.terms.term_length (x.finalized + 1))
+      x.settings.skip_budget
 
   -- the entered views of the current term above the last finalized one
   abbrev pub is_stalling : StateFacts K L D → ℕ × RoundFacts K D → Bool
   is_stalling x e =
-      nat_lt x.finalized e.0 && nat_le (term_start x.terms.term_length x.current) e.0 && nat_le e.0 x.current && is_some e.1.entered_at
+      nat_lt x.finalized e.0 && nat_le (term_start x.terms.term_length x.current) e.0 && nat_le e.0 x.current
+      && is_some e.1.entered_at
 
   -- the stall deadline of the lowest of them
   abbrev pub stall_deadline : StateFacts K L D → Option ℕ
@@ -94,4 +97,5 @@ module _ {K L D : Type 0} where
 
   -- the current view has a timeout
   abbrev pub has_timeout : StateFacts K L D → Bool
-  has_timeout x = option_map_or (λ r. awaits_retry r || is_some (round_timeout r (has_skip_budget x))) (round_at x x.current) false
+  has_timeout x = option_map_or (λ r. awaits_retry r || is_some (round_timeout r (has_skip_budget x)))
+      (round_at x x.current) false

@@ -116,7 +116,8 @@ module _ {K L D : Type 0} (same : D → D → Bool) (elect : Elect L) where
   -- with no gap above it, the parent's payload is ready, or still forming inside the window, or its notarization is missing
   abbrev pub payload_standing : StateFacts K L D → ℕ → RoundFacts K D → ℕ → Standing D
   payload_standing x v r p =
-      option_map_or Ready (ancestry_payload_for_child same elect x v p) (if in_issuance_window x v then NothingToDo else fetch_once r p Notarization)
+      option_map_or Ready (ancestry_payload_for_child same elect x v p)
+      (if in_issuance_window x v then NothingToDo else fetch_once r p Notarization)
 
   -- the standing of a proposal by its parent: the first gap must be closed first
   abbrev pub parent_standing : StateFacts K L D → ℕ → RoundFacts K D → ℕ → Standing D
@@ -171,4 +172,5 @@ module _ {K L D : Type 0} (same : D → D → Bool) (elect : Elect L) where
   -- `verification_failed`
   abbrev pub after_verification_failed : StateFacts K L D → ℕ → TimeoutReason → ℕ → StateFacts K L D
   after_verification_failed x v reason now =
-      if verification_matches same elect x v then with_timeout (at_moment x now) v reason now else without_binding (at_moment x now) v
+      if verification_matches same elect x v then with_timeout (at_moment x now) v reason now
+      else without_binding (at_moment x now) v

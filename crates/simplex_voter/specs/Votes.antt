@@ -16,14 +16,16 @@ use Rattle.simplex_voter.specs.Leaders.{with_next_view_ready}
 use Rattle.simplex_voter.specs.Rules.{may_notarize, may_nullify, may_finalize}
 
 -- the vote is this member's, for this view of its epoch, with its signature on exactly that
-pub record IsSignedNullify {S L D K G C : Type 0} (is_signature : K → Subject D → G → Type 0) (x : StateFacts K L D) (v : ℕ)
+pub record IsSignedNullify {S L D K G C : Type 0} (is_signature : K → Subject D → G → Type 0)
+    (x : StateFacts K L D) (v : ℕ)
     (vote : Nullify S K G C) : Type 0 where
   pub round : vote.round ≡ round_number x v
   pub signer : x.me ≡ Some vote.signer
   pub signed : IsSignedAs is_signature x.me x.members (subject.Nullify vote.round) vote.signature
 
 -- the vote is this member's, with its signature on exactly its proposal
-pub record IsSignedNotarize {S L D K G C : Type 0} (is_signature : K → Subject D → G → Type 0) (x : StateFacts K L D) (vote : Notarize S D K G C) : Type 0 where
+pub record IsSignedNotarize {S L D K G C : Type 0} (is_signature : K → Subject D → G → Type 0) (x : StateFacts K L D)
+    (vote : Notarize S D K G C) : Type 0 where
   pub signer : x.me ≡ Some vote.signer
   pub signed : IsSignedAs is_signature x.me x.members (subject.Notarize vote.proposal) vote.signature
 

@@ -47,7 +47,8 @@ module _ {K L D : Type 0} where
   abbrev pub nullify_withheld : StateFacts K L D → ℕ → Option Withheld
   nullify_withheld x v =
       first_false
-      ((is_some x.me, NoKey) ∷ (v == x.current, NotCurrent) ∷ (not (is_finalize (round_of x v).decision), VotedToFinalize) ∷ [])
+      ((is_some x.me, NoKey) ∷ (v == x.current, NotCurrent)
+      ∷ (not (is_finalize (round_of x v).decision), VotedToFinalize) ∷ [])
 
 module _ {K L D : Type 0} (elect : Elect L) where
   -- `may_finalize`, by a member that has a key

@@ -21,7 +21,8 @@ impl<S: Scheme<D>, L: Elector<S>, D: Digest> Journaled<S, L, D> {
     /// - `short`: if not, and all of the record is queued, the record is short.
     pub fn is_record_too_long(&self, long: usize) -> bool
         ensures overgrown { result ≡ is_record_too_long long self.now }
-        ensures short { IsFalse result → ReachesTo self.now.reach self.now.stored self.now.member.facts.entries → IsWhole S.certificate_bytes self.now
+        ensures short { IsFalse result → ReachesTo self.now.reach self.now.stored self.now.member.facts.entries
+            → IsWhole S.certificate_bytes self.now
             → IsShort long self.now.member.facts }
     {
         match self.member.state() {
@@ -33,7 +34,8 @@ impl<S: Scheme<D>, L: Elector<S>, D: Digest> Journaled<S, L, D> {
     /// Returns whether a pruning would drop more views of the record than it retains.
     fn reaches_far_below(&self, state: &State<S, L, D>) -> bool
         ensures { let facts = self.now.member.facts in result
-            ≡ is_far_below self.now.reach (min (min_active state.now) (finalized_in facts.entries - facts.retention)) state.now.current }
+            ≡ is_far_below self.now.reach (min (min_active state.now) (finalized_in facts.entries - facts.retention))
+            state.now.current }
     {
         let active = state.min_active();
         let current = state.current_view();

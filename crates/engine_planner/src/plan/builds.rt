@@ -38,7 +38,8 @@ impl<D: Digest, P: Copy> Builds<D, P> {
         context: Context<D, P>,
         is_reported: bool,
     ) -> Result<(), AllocError>
-        ensures { OnOk result (self.new.buildings.items ≡ in_place (record { context = context; is_reported = is_reported }) self.old.buildings.items) }
+        ensures { OnOk result (self.new.buildings.items ≡ in_place
+            (record { context = context; is_reported = is_reported }) self.old.buildings.items) }
     {
         self.end(view_of(&context));
         self.buildings.push(Building {

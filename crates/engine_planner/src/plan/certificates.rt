@@ -25,8 +25,10 @@ impl<S: CertificateScheme, D: Digest> Plan<S, D> {
         reply: &Reply<S, D>,
         now: u64,
     ) -> Result<(), Fault>
-        ensures followed { OnOk result (IsCertificateFollowed D.bytes S.certificate_bytes now certificate.now reply.now self.old self.new) }
-        ensures refused { IfErr result (λ fault. IsUnrepaired (highest_view certificate.now) fault self.old.repair self.new.repair) }
+        ensures followed { OnOk result
+            (IsCertificateFollowed D.bytes S.certificate_bytes now certificate.now reply.now self.old self.new) }
+        ensures refused { IfErr result
+            (λ fault. IsUnrepaired (highest_view certificate.now) fault self.old.repair self.new.repair) }
     {
         match reply {
             Reply::Added(is_new, equivocator) => {
@@ -46,8 +48,10 @@ impl<S: CertificateScheme, D: Digest> Plan<S, D> {
         equivocator: Option<S::PublicKey>,
         now: u64,
     ) -> Result<(), Fault>
-        ensures followed { OnOk result (IsAddedFollowed D.bytes S.certificate_bytes now certificate.now is_new equivocator self.old self.new) }
-        ensures refused { IfErr result (λ fault. IsUnrepaired (highest_view certificate.now) fault self.old.repair self.new.repair) }
+        ensures followed { OnOk result
+            (IsAddedFollowed D.bytes S.certificate_bytes now certificate.now is_new equivocator self.old self.new) }
+        ensures refused { IfErr result
+            (λ fault. IsUnrepaired (highest_view certificate.now) fault self.old.repair self.new.repair) }
     {
         self.report_equivocation(certificate.view(), equivocator)?;
         self.follow_new(certificate, is_new, now)
@@ -60,8 +64,10 @@ impl<S: CertificateScheme, D: Digest> Plan<S, D> {
         is_new: bool,
         now: u64,
     ) -> Result<(), Fault>
-        ensures followed { OnOk result (IsNewFollowed D.bytes S.certificate_bytes now is_new certificate.now self.old self.new) }
-        ensures refused { IfErr result (λ fault. IsUnrepaired (highest_view certificate.now) fault self.old.repair self.new.repair) }
+        ensures followed { OnOk result
+            (IsNewFollowed D.bytes S.certificate_bytes now is_new certificate.now self.old self.new) }
+        ensures refused { IfErr result
+            (λ fault. IsUnrepaired (highest_view certificate.now) fault self.old.repair self.new.repair) }
     {
         if is_new {
             return self.accept(certificate, now);
@@ -85,9 +91,11 @@ impl<S: CertificateScheme, D: Digest> Plan<S, D> {
 
     /// Follows a new certificate: the resolver receives it.
     fn accept(&mut self, certificate: &Certificate<S, D>, now: u64) -> Result<(), Fault>
-        ensures followed { OnOk result (IsTakenInAbove D.bytes S.certificate_bytes now (certificate_view certificate.now == 0) certificate.now
+        ensures followed { OnOk result
+            (IsTakenInAbove D.bytes S.certificate_bytes now (certificate_view certificate.now == 0) certificate.now
             self.old self.new) }
-        ensures refused { IfErr result (λ fault. IsUnrepaired (highest_view certificate.now) fault self.old.repair self.new.repair) }
+        ensures refused { IfErr result
+            (λ fault. IsUnrepaired (highest_view certificate.now) fault self.old.repair self.new.repair) }
     {
         let view = certificate.view();
         if is_genesis(view) {
@@ -102,8 +110,10 @@ impl<S: CertificateScheme, D: Digest> Plan<S, D> {
     fn report_certificate(&mut self, certificate: &Certificate<S, D>, now: u64) -> Result<(), Fault>
         requires { 1 ≤ certificate_view certificate.now }
         ensures same { self.new ≡ record self.old { repair = self.new.repair } }
-        ensures heard { OnOk result (IsResolverNotified D.bytes S.certificate_bytes now certificate.now self.old self.new.repair) }
-        ensures refused { IfErr result (λ fault. IsUnrepaired (highest_view certificate.now) fault self.old.repair self.new.repair) }
+        ensures heard { OnOk result
+            (IsResolverNotified D.bytes S.certificate_bytes now certificate.now self.old self.new.repair) }
+        ensures refused { IfErr result
+            (λ fault. IsUnrepaired (highest_view certificate.now) fault self.old.repair self.new.repair) }
     {
         let moment = self.later(now);
         self.repair.updated(certificate, moment)?;

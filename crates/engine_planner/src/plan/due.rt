@@ -43,7 +43,8 @@ impl<S: CertificateScheme, D: Digest> Plan<S, D> {
 
     /// Plans to ask whether blocks are still needed, if something has changed since the last time.
     fn watch(&mut self) -> Result<(), AllocError>
-        ensures { OnOk result (HasPlanned (watching_where self.old.is_watch_due self.old.views.current self.old.builds.buildings.items)
+        ensures { OnOk result (HasPlanned
+            (watching_where self.old.is_watch_due self.old.views.current self.old.builds.buildings.items)
             (record self.old { is_watch_due = false }) self.new) }
     {
         if !self.is_watch_due {
@@ -55,7 +56,8 @@ impl<S: CertificateScheme, D: Digest> Plan<S, D> {
 
     /// Plans to abandon the blocks of past views, and to ask about each other one whether it must be abandoned.
     fn watch_builds(&mut self) -> Result<(), AllocError>
-        ensures { OnOk result (HasPlanned (watching_all self.old.views.current self.old.builds.buildings.items) self.old self.new) }
+        ensures { OnOk result (HasPlanned (watching_all self.old.views.current self.old.builds.buildings.items)
+            self.old self.new) }
     {
         watch_all(self.views.current, self.builds.all(), &mut self.steps)
     }

@@ -122,7 +122,8 @@ impl<S: CertificateScheme, D: Digest> Plan<S, D> {
 
     /// Asks to release a block that is abandoned, or else whether another replaces it.
     fn ask_of_build(&mut self, view: View, is_abandoned: bool) -> Result<(), AllocError>
-        ensures { OnOk result (IsConsequence (Asked (if is_abandoned then Release view else Supersede view)) self.old self.new) }
+        ensures { OnOk result (IsConsequence (Asked (if is_abandoned then Release view else Supersede view))
+            self.old self.new) }
     {
         if is_abandoned {
             self.ask(Task::Release(view))
@@ -149,7 +150,8 @@ impl<S: CertificateScheme, D: Digest> Plan<S, D> {
 
     /// Plans the fetch of a certificate that is missing for a proposal, unless it is outstanding.
     fn lack(&mut self, kind: FetchKind, view: View, proposal: View) -> Result<(), AllocError>
-        ensures { OnOk result (HasPlanned (lacking kind view proposal self.old.repair.fetches.wanted.items) self.old self.new) }
+        ensures { OnOk result (HasPlanned (lacking kind view proposal self.old.repair.fetches.wanted.items)
+            self.old self.new) }
     {
         if self.fetches().is_open(kind, view) {
             return Ok(());
@@ -227,7 +229,8 @@ impl<S: CertificateScheme, D: Digest> Plan<S, D> {
         notarization: Option<Notarization<S, D>>,
         now: u64,
     ) -> Result<(), Fault>
-        ensures followed { OnOk result (IsVerdictFollowed D.bytes S.certificate_bytes now is_success notarization self.old self.new) }
+        ensures followed { OnOk result
+            (IsVerdictFollowed D.bytes S.certificate_bytes now is_success notarization self.old self.new) }
         ensures refused { IfErr result (λ fault. IsUnjudged fault notarization self.old.repair self.new.repair) }
     {
         match notarization {
@@ -243,9 +246,12 @@ impl<S: CertificateScheme, D: Digest> Plan<S, D> {
         notarization: Notarization<S, D>,
         now: u64,
     ) -> Result<(), Fault>
-        ensures followed { OnOk result (IsVerdictReportedAbove D.bytes S.certificate_bytes now (notarization.proposal.round.view == 0) is_success notarization
+        ensures followed { OnOk result
+            (IsVerdictReportedAbove D.bytes S.certificate_bytes now (notarization.proposal.round.view == 0)
+            is_success notarization
             self.old self.new) }
-        ensures refused { IfErr result (λ fault. IsUnrepaired (highest_named notarization.proposal) fault self.old.repair self.new.repair) }
+        ensures refused { IfErr result
+            (λ fault. IsUnrepaired (highest_named notarization.proposal) fault self.old.repair self.new.repair) }
     {
         let view = notarization.view();
         if is_genesis(view) {

@@ -33,7 +33,8 @@ impl<S: CertificateScheme, D: Digest> Plan<S, D> {
     /// Closes the fetches that a finalization passed, if a later view is finalized than before.
     fn pass(&mut self, finalized: View)
         ensures same { self.new ≡ record self.old { repair = self.new.repair } }
-        ensures passed { IsPassedWhere (nat_lt self.old.views.last_finalized finalized) finalized self.old.repair self.new.repair }
+        ensures passed { IsPassedWhere (nat_lt self.old.views.last_finalized finalized) finalized self.old.repair
+            self.new.repair }
     {
         if self.views.last_finalized < finalized {
             self.repair.pass(finalized);
@@ -62,7 +63,8 @@ impl<S: CertificateScheme, D: Digest> Plan<S, D> {
     /// Passes on the early proposals whose view has been reached.
     fn offer_early(&mut self, view: View) -> Result<(), AllocError>
         ensures same { self.new ≡ record self.old { steps = self.new.steps; early = self.new.early } }
-        ensures steps { OnOk result (self.new.steps.items ≡ self.old.steps.items ++ offering view self.old.early.proposals.items) }
+        ensures steps { OnOk result
+            (self.new.steps.items ≡ self.old.steps.items ++ offering view self.old.early.proposals.items) }
         ensures early { OnOk result (self.new.early.proposals.items
             ≡ filter (λ early. nat_lt view early.view) self.old.early.proposals.items) }
     {

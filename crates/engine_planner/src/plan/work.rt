@@ -52,9 +52,12 @@ impl<S: CertificateScheme, D: Digest> Plan<S, D> {
         now: u64,
     ) -> Result<(), AllocError>
         ensures same { self.new ≡ record self.old { repair = self.new.repair } }
-        ensures opened { let fetches = self.old.repair.fetches in let moment = min (now + self.old.options.on_its_way) (2 ^ 64 - 1) in
-            OnOk result (HasFetches (opened kind view (place_of fetches.peers of) moment fetches.wanted.items) self.old.repair self.new.repair) }
-        ensures refused { OnErr result (HasFetches self.old.repair.fetches.wanted.items self.old.repair self.new.repair) }
+        ensures opened { let fetches = self.old.repair.fetches in let moment =
+            min (now + self.old.options.on_its_way) (2 ^ 64 - 1) in
+            OnOk result (HasFetches (opened kind view (place_of fetches.peers of) moment fetches.wanted.items)
+            self.old.repair self.new.repair) }
+        ensures refused { OnErr result
+            (HasFetches self.old.repair.fetches.wanted.items self.old.repair self.new.repair) }
     {
         let moment = self.later(now);
         self.repair.open(kind, view, of, moment)
@@ -67,7 +70,8 @@ impl<S: CertificateScheme, D: Digest> Plan<S, D> {
         is_reported: bool,
     ) -> Result<(), AllocError>
         ensures { OnOk result (HasBuilds (asking_for context is_reported)
-            (in_place (record { context = context; is_reported = is_reported }) self.old.builds.buildings.items) self.old self.new) }
+            (in_place (record { context = context; is_reported = is_reported }) self.old.builds.buildings.items)
+            self.old self.new) }
     {
         self.builds.put(context, is_reported)?;
         if is_reported {

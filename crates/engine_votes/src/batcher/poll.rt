@@ -198,7 +198,8 @@ fn take<S: Assembly<D>, D: Digest>(
     requires members { length (S.participants scheme.now) ≡ members }
     requires room { vote.signer < vec_len slots.old }
     requires first { ballot_of slots.old.items vote.signer ≡ None }
-    ensures counted { IfOk result (IsCountedIn D.eq (S.IsMadeOf scheme.now) members slots.old.items vote slots.new.items) }
+    ensures counted { IfOk result
+        (IsCountedIn D.eq (S.IsMadeOf scheme.now) members slots.old.items vote slots.new.items) }
     ensures kept { OnErr result (HoldsTheSame slots.old.items slots.new.items) }
 {
     let member = vote.signer.get() as usize;
@@ -245,7 +246,8 @@ pub(super) fn count<S: Assembly<D>, D: Digest>(
     vote: Vote<D, S::Signature>,
 ) -> Result<Counted<S, D>, AllocError>
     requires { length (S.participants scheme.now) ≡ members }
-    ensures counted { IfOk result (IsCountedIn D.eq (S.IsMadeOf scheme.now) members slots.old.items vote slots.new.items) }
+    ensures counted { IfOk result
+        (IsCountedIn D.eq (S.IsMadeOf scheme.now) members slots.old.items vote slots.new.items) }
     ensures kept { OnErr result (HoldsTheSame slots.old.items slots.new.items) }
 {
     let member = vote.signer.get() as usize;

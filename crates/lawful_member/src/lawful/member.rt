@@ -37,9 +37,11 @@ pub fn run_lawfully<S: Scheme<D>, L: Elector<S>, D: Digest>(
         → IsExecution D.eq L.elect term_length i
         (execution_of S.me S.participants L.terms L.elects_early S.certificate_bytes start steps.items replies.items)) }
     ensures shows { IfOk result (λ replies.
-        trace_of (execution_of S.me S.participants L.terms L.elects_early S.certificate_bytes start steps.items replies.items)
+        trace_of (execution_of S.me S.participants L.terms L.elects_early S.certificate_bytes start
+        steps.items replies.items)
         ≡ shown_trace start steps.items replies.items) }
-    ensures lawful { IfOk result (λ replies. (term_length i : ℕ) → AllStartAs S.me L.terms term_length i start steps.items
+    ensures lawful { IfOk result
+        (λ replies. (term_length i : ℕ) → AllStartAs S.me L.terms term_length i start steps.items
         → IsLawful term_length (shown_trace start steps.items replies.items)) }
     ensures ended { IfErr result (EndsRunFrom D.eq L.elect
         (start_facts S.me S.participants L.terms L.elects_early S.certificate_bytes start)
@@ -122,13 +124,16 @@ impl<S: Scheme<D>, L: Elector<S>, D: Digest> LawfulMember<S, L, D> {
     /// - `continues`: what the member has done grows by the accepted certificate and the returned vote.
     pub fn call(&mut self, call: Call<S, D>) -> Reply<S, D>
         ensures of_its_kind { is_reply_to (told S.certificate_bytes result) (asked S.certificate_bytes call) ≡ true }
-        ensures answered { IsCall D.eq L.elect self.old.facts (asked S.certificate_bytes call) (told S.certificate_bytes result) self.new.facts }
+        ensures answered { IsCall D.eq L.elect self.old.facts (asked S.certificate_bytes call)
+            (told S.certificate_bytes result) self.new.facts }
         ensures signed { IfSome self.old.facts.life (IsSignedReply S.IsSignature result) }
         ensures votes { self.new.votes ≡ self.old.votes ++ signed_reply result }
         ensures grown { HasGrown self.old.facts self.new.facts }
         ensures stored { stored_of self.new.facts ≡ stored_of self.old.facts }
-        ensures exact { ExactAt D.eq L.elect self.old.facts.life (Calls (asked S.certificate_bytes call)) (told S.certificate_bytes result) }
-        ensures continues { ExtendsHistory D.eq L.elect self.old.facts (taken_by call result ++ votes_in result) self.new.facts }
+        ensures exact { ExactAt D.eq L.elect self.old.facts.life (Calls (asked S.certificate_bytes call))
+            (told S.certificate_bytes result) }
+        ensures continues { ExtendsHistory D.eq L.elect self.old.facts
+            (taken_by call result ++ votes_in result) self.new.facts }
     {
         self.member.call(call)
     }
@@ -152,9 +157,11 @@ impl<S: Scheme<D>, L: Elector<S>, D: Digest> LawfulMember<S, L, D> {
     pub fn restart(&mut self, restart: Restart<S, L, D>) -> Result<(), RecoverError>
         requires { L.members restart.start.settings.elector ≡ length (S.participants restart.start.settings.scheme) }
         ensures restarted { IsRestart D.eq L.elect self.old.facts
-            (restart_facts S.me S.participants L.terms L.elects_early S.certificate_bytes restart) result self.new.facts }
+            (restart_facts S.me S.participants L.terms L.elects_early S.certificate_bytes restart)
+            result self.new.facts }
         ensures votes { self.new.votes
-            ≡ votes_left self.old.facts (restart_facts S.me S.participants L.terms L.elects_early S.certificate_bytes restart) self.old.votes }
+            ≡ votes_left self.old.facts
+            (restart_facts S.me S.participants L.terms L.elects_early S.certificate_bytes restart) self.old.votes }
         ensures continues { HasRestarted D.eq L.elect S.me L.terms self.old.facts restart.start result self.new.facts }
     {
         self.member.restart(restart)
@@ -168,6 +175,7 @@ impl<S: Scheme<D>, L: Elector<S>, D: Digest> LawfulMember<S, L, D> {
     pub fn keeps_the_laws(&self)
         ensures lawful { OfEachHistory D.eq L.elect self.now.facts (λ term_length i all. IsLawful term_length all) }
         ensures ran { OfEachHistory D.eq L.elect self.now.facts (MayBeHistoryOf S.PublicKey D.eq L.elect) }
-        ensures once { OfEachHistory D.eq L.elect self.now.facts (λ term_length i all. HoldsEachEntryOnce self.now.facts) }
+        ensures once { OfEachHistory D.eq L.elect self.now.facts
+            (λ term_length i all. HoldsEachEntryOnce self.now.facts) }
     {}
 }

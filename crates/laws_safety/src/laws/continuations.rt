@@ -34,7 +34,8 @@ pub fn conflicts_are_left()
 pub fn gaps_are_closed()
     ensures network { IsNetworkOf nat_eq in_turn 1 missing_certificates }
     ensures few { (length missing_certificates ≡ 4) × (faults missing_certificates ≡ 1) }
-    ensures lacks { (HasAccepted (Nullify (round 2)) 0 lacks_nullification → ⊥) × (HasAccepted (Notarize one) 2 member_without_notarization → ⊥) }
+    ensures lacks { (HasAccepted (Nullify (round 2)) 0 lacks_nullification → ⊥)
+        × (HasAccepted (Notarize one) 2 member_without_notarization → ⊥) }
     ensures continues { ContinuesToFinalize nat_eq in_turn 1 missing_certificates supplied over_two }
 {}
 

@@ -10,7 +10,8 @@ use simplex_types::types::{Digest, Elector, Scheme};
 ///
 /// - `never_falls`: neither the current view nor the last finalized one falls. A member that has failed stays failed.
 pub fn lifetimes_keep_order<S: Scheme<D>, L: Elector<S>, D: Digest>()
-    ensures never_falls { OfEachLifetime S.PublicKey D.eq L.elect (λ m calls replies end. WhileAlive NeverFalls m.life end.life) }
+    ensures never_falls { OfEachLifetime S.PublicKey D.eq L.elect
+        (λ m calls replies end. WhileAlive NeverFalls m.life end.life) }
 {}
 
 /// The lifetimes of a run, from a start on and with any number of restarts. The function does nothing: its contract is the law.
@@ -29,7 +30,8 @@ pub fn runs_keep_order<S: Scheme<D>, L: Elector<S>, D: Digest>()
     ensures handed_once { OfEachStretch S.PublicKey D.eq L.elect (λ m calls replies end. ReturnedOnce calls replies) }
     ensures dropped_for_good { OfEachStretch S.PublicKey D.eq L.elect
         (λ m calls replies end. WhileAlive (DroppedForGood replies) m.life end.life) }
-    ensures handed_as_asked { OfEachStretch S.PublicKey D.eq L.elect (λ m calls replies end. ReturnedAsRequested calls replies) }
+    ensures handed_as_asked { OfEachStretch S.PublicKey D.eq L.elect
+        (λ m calls replies end. ReturnedAsRequested calls replies) }
 {}
 
 /// The law of each state that a run leads to while its member has not failed, whatever the calls, restarts and records. The

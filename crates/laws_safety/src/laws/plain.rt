@@ -20,12 +20,14 @@ use simplex_types::types::plain::{PlainDigest as Payload, PlainElector as InTurn
 /// - `leads`, `follows`: what each honest member accepts and signs, whatever the payload.
 pub fn plain_members_agree()
     ensures network { (elector : PlainElector) × (payload : PlainDigest) × (members_of elector ≡ 4)
-        × IsNetworkOf ⟦<Payload as PartialEq>⟧.eq ⟦<InTurn as Elector<PlainScheme>>⟧.elect 5 (plain_four elector payload)
+        × IsNetworkOf ⟦<Payload as PartialEq>⟧.eq ⟦<InTurn as Elector<PlainScheme>>⟧.elect 5
+        (plain_four elector payload)
         × Backed (plain_four elector payload) (Finalize (plain_first payload)) }
     ensures leads { (elector : PlainElector) (payload : PlainDigest) → trace_of (plain_proposer elector payload) ≡
         Signs 0 (Notarize (plain_first payload)) ∷ Accepts (Notarize (plain_first payload))
         ∷ Signs 0 (Finalize (plain_first payload)) ∷ Accepts (Finalize (plain_first payload)) ∷ [] }
-    ensures follows { (elector : PlainElector) (payload : PlainDigest) (me : ℕ) → trace_of (plain_follower elector payload me) ≡
+    ensures follows { (elector : PlainElector) (payload : PlainDigest) (me : ℕ)
+        → trace_of (plain_follower elector payload me) ≡
         Signs me (Notarize (plain_first payload)) ∷ Accepts (Notarize (plain_first payload))
         ∷ Signs me (Finalize (plain_first payload)) ∷ Accepts (Finalize (plain_first payload)) ∷ [] }
 {}

@@ -115,14 +115,17 @@ impl<S: Assembly<D>, L: Elector<S>, D: Digest> Engine<S, L, D> {
     ) -> Result<Engine<S, L, D>, StartError>
         requires { L.members start.settings.elector ≡ length (S.participants start.settings.scheme) }
         ensures kept { IfOk result (λ engine. IsJournaled S.certificate_bytes [] engine.core) }
-        ensures traced { IfOk result (λ engine. BeginsTraced D.eq L.elect S.certificate_bytes engine.core.member engine.core) }
+        ensures traced { IfOk result
+            (λ engine. BeginsTraced D.eq L.elect S.certificate_bytes engine.core.member engine.core) }
         ensures signed { IfOk result (λ engine. BeginsSigned S.IsSignature engine.core.member engine.core) }
         ensures whole { IfOk result (λ engine. IsWhole S.certificate_bytes engine.core) }
-        ensures queued { IfOk result (λ engine. BeginsWith S.certificate_bytes engine.core.member engine.core.outbox.queue.items) }
+        ensures queued { IfOk result
+            (λ engine. BeginsWith S.certificate_bytes engine.core.member engine.core.outbox.queue.items) }
         ensures told { IfOk result (λ engine. ReportsNothing engine.core) }
         ensures due_work { IfOk result (HasReportedAll []) }
         ensures bounded { IfOk result (λ engine. HoldsNoneAhead S.participants engine.core engine.batcher) }
-        ensures begun { IfOk result (HasStartedWith D.bytes S.participants (S.participants start.settings.scheme) (S.me start.settings.scheme)
+        ensures begun { IfOk result
+            (HasStartedWith D.bytes S.participants (S.participants start.settings.scheme) (S.me start.settings.scheme)
             (L.terms start.settings.elector).term_length (with_a_retry options)) }
         ensures started { IfOk result (λ engine. engine.core.member.facts ≡ started_member D.eq L.elect
             (set_up S.me S.participants L.terms L.elects_early start.settings)
@@ -171,18 +174,22 @@ impl<S: Assembly<D>, L: Elector<S>, D: Digest> Engine<S, L, D> {
     ) -> Result<Engine<S, L, D>, StartError>
         requires { L.members start.settings.elector ≡ length (S.participants start.settings.scheme) }
         ensures kept { IfOk result (λ engine. IsJournaled S.certificate_bytes [] engine.core) }
-        ensures traced { IfOk result (λ engine. BeginsTraced D.eq L.elect S.certificate_bytes engine.core.member engine.core) }
+        ensures traced { IfOk result
+            (λ engine. BeginsTraced D.eq L.elect S.certificate_bytes engine.core.member engine.core) }
         ensures signed { IfOk result (λ engine. BeginsSigned S.IsSignature engine.core.member engine.core) }
         ensures whole { IfOk result (λ engine. IsWhole S.certificate_bytes engine.core) }
-        ensures queued { IfOk result (λ engine. BeginsWith S.certificate_bytes engine.core.member engine.core.outbox.queue.items) }
+        ensures queued { IfOk result
+            (λ engine. BeginsWith S.certificate_bytes engine.core.member engine.core.outbox.queue.items) }
         ensures told { IfOk result (λ engine. ReportsNothing engine.core) }
         ensures due_work { IfOk result (HasReportedAll []) }
         ensures bounded { IfOk result (λ engine. HoldsNoneAhead S.participants engine.core engine.batcher) }
-        ensures begun { IfOk result (HasStartedWith D.bytes S.participants (S.participants start.settings.scheme) (S.me start.settings.scheme)
+        ensures begun { IfOk result
+            (HasStartedWith D.bytes S.participants (S.participants start.settings.scheme) (S.me start.settings.scheme)
             (L.terms start.settings.elector).term_length (with_a_retry options)) }
         ensures resumed { IfOk result (λ engine. IsResumed D.eq L.elect stored
             (entries_of S.certificate_bytes entries.items)
-            (start_facts S.me S.participants L.terms L.elects_early S.certificate_bytes start) engine.core.member.facts) }
+            (start_facts S.me S.participants L.terms L.elects_early S.certificate_bytes start)
+            engine.core.member.facts) }
         ensures votes { IfOk result (λ engine. engine.core.member.votes ≡ votes_of entries.items) }
         ensures continues { IfOk result (λ engine. HasContinued D.eq L.elect S.me L.terms stored
             (entries_of S.certificate_bytes entries.items) start engine.core.member.facts) }
@@ -218,7 +225,8 @@ fn company_of<S: Assembly<D>, L: Elector<S>, D: Digest>(
     alloc: Global,
     start: &Start<S, L, D>,
 ) -> Result<Company<S, D>, AllocError>
-    ensures { IfOk result (IsCompanyOf S.participants (S.participants start.entry.now.settings.scheme) (S.me start.entry.now.settings.scheme)
+    ensures { IfOk result (IsCompanyOf S.participants (S.participants start.entry.now.settings.scheme)
+        (S.me start.entry.now.settings.scheme)
         (L.terms start.entry.now.settings.elector).term_length) }
 {
     let scheme = start.settings.scheme.copy(alloc)?;
@@ -240,13 +248,16 @@ fn begin<S: Assembly<D>, L: Elector<S>, D: Digest>(
     options: Options,
 ) -> Result<Engine<S, L, D>, StartError>
     ensures kept { IfOk result (λ engine. IsJournaled S.certificate_bytes [] engine.core) }
-    ensures traced { IfOk result (λ engine. BeginsTraced D.eq L.elect S.certificate_bytes engine.core.member engine.core) }
+    ensures traced { IfOk result
+        (λ engine. BeginsTraced D.eq L.elect S.certificate_bytes engine.core.member engine.core) }
     ensures signed { IfOk result (λ engine. BeginsSigned S.IsSignature engine.core.member engine.core) }
     ensures whole { IfOk result (λ engine. IsWhole S.certificate_bytes engine.core) }
     ensures told { IfOk result (λ engine. ReportsNothing engine.core) }
     ensures member { IfOk result (λ engine. engine.core.member ≡ member) }
-    ensures queued { IfOk result (λ engine. BeginsWith S.certificate_bytes engine.core.member engine.core.outbox.queue.items) }
-    ensures begun { (keys : List S.PublicKey) (me : Option ℕ) (term_length : ℕ) → IsCompanyOf S.participants keys me term_length company
+    ensures queued { IfOk result
+        (λ engine. BeginsWith S.certificate_bytes engine.core.member engine.core.outbox.queue.items) }
+    ensures begun { (keys : List S.PublicKey) (me : Option ℕ) (term_length : ℕ)
+        → IsCompanyOf S.participants keys me term_length company
         → IfOk result (HasStartedWith D.bytes S.participants keys me term_length (with_a_retry options)) }
     ensures refused { IfErr result (IsNotReplayed member.facts.entries) }
 {
@@ -268,7 +279,8 @@ fn plan_of<S: Scheme<D>, L: Elector<S>, D: Digest>(
     company: &Company<S, D>,
     options: Options,
 ) -> Result<Plan<S, D>, StartError>
-    ensures plan { IfOk result (IsPlanOf D.bytes company.now.term_length company.now.peers company.now.is_alone options member.now.facts) }
+    ensures plan { IfOk result
+        (IsPlanOf D.bytes company.now.term_length company.now.peers company.now.is_alone options member.now.facts) }
     ensures refused { IfErr result (IsNotReplayed member.now.facts.entries) }
 {
     let resolver = resolver_of(alloc, company.term_length, member.record())?;
@@ -283,7 +295,9 @@ fn resolver_of<S: CertificateScheme, D: Digest>(
     term_length: TermLength,
     record: &[Artifact<S, D>],
 ) -> Result<LawfulResolver, StartError>
-    ensures told { IfOk result (HasReceivedCalls term_length (Replayed ∷ calls_of D.bytes (reverse (entries_of S.certificate_bytes record.now)))) }
+    ensures told { IfOk result
+        (HasReceivedCalls term_length
+        (Replayed ∷ calls_of D.bytes (reverse (entries_of S.certificate_bytes record.now)))) }
     ensures refused { IfErr result (IsNotReplayed (entries_of S.certificate_bytes record.now)) }
 {
     match LawfulResolver::start(alloc, term_length, record) {

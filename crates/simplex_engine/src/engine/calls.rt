@@ -34,7 +34,8 @@ impl<S: Assembly<D>, L: Elector<S>, D: Digest> Engine<S, L, D> {
         ensures nothing { IfOk result (λ nothing. IsTrue nothing
             → ReturnNothing D.eq L.elect self.old.core.member.facts for_work self.new.core.member.facts) }
         ensures due_work { OnOk result (KeepsApplicationWork self.old self.new) }
-        ensures provenance { OnOk result (IsCausedWithoutInput D.eq L.elect D.bytes S.certificate_bytes now self.old self.new) }
+        ensures provenance { OnOk result
+            (IsCausedWithoutInput D.eq L.elect D.bytes S.certificate_bytes now self.old self.new) }
     {
         let mut has_none = self.ask_for(Task::Verify, now)?;
         has_none &= self.ask_for(Task::Propose, now)?;
@@ -94,7 +95,8 @@ impl<S: Assembly<D>, L: Elector<S>, D: Digest> Engine<S, L, D> {
     pub(super) fn ask(&mut self, task: Task<D>, now: u64) -> Result<bool, Fault>
         ensures continues { Continues D.eq L.elect S.certificate_bytes S.IsSignature None self.old.core self.new.core }
         ensures batcher { self.new.batcher ≡ self.old.batcher }
-        ensures acted { IfOk result (HasDoneTask D.eq L.elect task now self.old.core.member.facts self.new.core.member.facts) }
+        ensures acted { IfOk result
+            (HasDoneTask D.eq L.elect task now self.old.core.member.facts self.new.core.member.facts) }
         ensures due_work { OnOk result (KeepsApplicationWork self.old self.new) }
         ensures provenance { OnOk result ((came : _) → HasNoMissingCertificate came
             → IsCallCaused now (came ++ pending_causes self.old) self.old.core.member.facts (call_of task now)
@@ -109,11 +111,14 @@ impl<S: Assembly<D>, L: Elector<S>, D: Digest> Engine<S, L, D> {
         ensures core { self.new.core ≡ self.old.core }
         ensures batcher { self.new.batcher ≡ self.old.batcher }
         ensures of_use { IfOk result (λ is_of_use. is_of_use ≡ not (says_nothing (told S.certificate_bytes reply))) }
-        ensures planned { OnOk result (PlansAnswerThen task (told S.certificate_bytes reply) self.old.plan self.new.plan) }
+        ensures planned { OnOk result
+            (PlansAnswerThen task (told S.certificate_bytes reply) self.old.plan self.new.plan) }
         ensures seen { OnOk result (TracksViews self.new.core.member.facts self.new.plan) }
         ensures causes { OnOk result (AreAmong (planned_causes self.new.plan)
             (planned_causes self.old.plan ++ reply_causes now reply (call_of task now))) }
-        ensures asks { OnOk result (KeepsFetching (reply_causes now reply (call_of task now)) (λ kind view. is_final self.new.core.member.facts view)
+        ensures asks { OnOk result
+            (KeepsFetching (reply_causes now reply (call_of task now))
+            (λ kind view. is_final self.new.core.member.facts view)
             (received_by D.bytes S.certificate_bytes reply (call_of task now)) self.old.plan self.new.plan) }
     {
         let is_of_use = !says_nothing(&reply);
@@ -129,7 +134,8 @@ impl<S: Assembly<D>, L: Elector<S>, D: Digest> Engine<S, L, D> {
         ensures planned { OnOk result (KeepsPlannedThen self.old.plan self.new.plan) }
         ensures seen { OnOk result (TracksViews self.new.core.member.facts self.new.plan) }
         ensures causes { OnOk result (AreAmong (planned_causes self.new.plan) (planned_causes self.old.plan)) }
-        ensures asks { OnOk result (KeepsFetching [] (λ kind view. is_final self.new.core.member.facts view) [] self.old.plan self.new.plan) }
+        ensures asks { OnOk result
+            (KeepsFetching [] (λ kind view. is_final self.new.core.member.facts view) [] self.old.plan self.new.plan) }
     {
         let Some(state) = self.core.state() else {
             return Err(Fault::OutOfMemory);
@@ -153,8 +159,10 @@ impl<S: Assembly<D>, L: Elector<S>, D: Digest> Engine<S, L, D> {
         ensures core { self.new.core ≡ self.old.core }
         ensures batcher { self.new.batcher ≡ self.old.batcher }
         ensures planned { KeepsPlanned self.old.plan self.new.plan }
-        ensures causes { AreAmong (planned_causes self.new.plan) (planned_causes self.old.plan ++ MissingCertificate kind view ∷ []) }
-        ensures asks { OnOk result (KeepsFetching (MissingCertificate kind view ∷ []) never [] self.old.plan self.new.plan) }
+        ensures causes { AreAmong (planned_causes self.new.plan)
+            (planned_causes self.old.plan ++ MissingCertificate kind view ∷ []) }
+        ensures asks { OnOk result
+            (KeepsFetching (MissingCertificate kind view ∷ []) never [] self.old.plan self.new.plan) }
     {
         let leader = self.leader_of(proposal);
         self.plan.resolve(kind, view, leader, now)?;

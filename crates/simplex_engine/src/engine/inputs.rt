@@ -31,7 +31,8 @@ impl<S: Assembly<D>, L: Elector<S>, D: Digest> Engine<S, L, D> {
 
     /// Takes an input, while the engine has not failed, and counts it if it is ignored.
     pub(super) fn take(&mut self, input: Input<S, D>, now: u64) -> Result<bool, Fault>
-        ensures { IsInputTaken D.eq L.elect D.bytes S.certificate_bytes S.IsSignature S.IsMadeOf S.participants now input
+        ensures { IsInputTaken D.eq L.elect D.bytes S.certificate_bytes S.IsSignature S.IsMadeOf
+            S.participants now input
             self.old (ignoring self.old) self.new result }
     {
         let answer = self.take_in(input, now);
@@ -44,7 +45,8 @@ impl<S: Assembly<D>, L: Elector<S>, D: Digest> Engine<S, L, D> {
 
     /// Dispatches an input by its kind.
     fn take_in(&mut self, input: Input<S, D>, now: u64) -> Result<bool, Fault>
-        ensures { IsInputTaken D.eq L.elect D.bytes S.certificate_bytes S.IsSignature S.IsMadeOf S.participants now input
+        ensures { IsInputTaken D.eq L.elect D.bytes S.certificate_bytes S.IsSignature S.IsMadeOf
+            S.participants now input
             self.old self.old self.new result }
     {
         match input {
@@ -68,12 +70,16 @@ impl<S: Assembly<D>, L: Elector<S>, D: Digest> Engine<S, L, D> {
     ) -> Result<bool, Fault>
         ensures continues { Continues D.eq L.elect S.certificate_bytes S.IsSignature None self.old.core self.new.core }
         ensures batcher { self.new.batcher ≡ self.old.batcher }
-        ensures unadmitted { IsFalse (is_so (λ x. admits_proposal x from proposal.round) self.old.core.member.facts) → IfOk result (λ is_of_use.
+        ensures unadmitted { IsFalse (is_so (λ x. admits_proposal x from proposal.round) self.old.core.member.facts)
+            → IfOk result (λ is_of_use.
             IsFalse is_of_use × IsStoredEarly from proposal self.old self.new) }
-        ensures acted { IsTrue (is_so (λ x. admits_proposal x from proposal.round) self.old.core.member.facts) → IfOk result
-            (HasDoneTask D.eq L.elect (SetProposal proposal.round.view proposal) now self.old.core.member.facts self.new.core.member.facts) }
+        ensures acted { IsTrue (is_so (λ x. admits_proposal x from proposal.round) self.old.core.member.facts)
+            → IfOk result
+            (HasDoneTask D.eq L.elect (SetProposal proposal.round.view proposal) now self.old.core.member.facts
+            self.new.core.member.facts) }
         ensures due_work { OnOk result (KeepsApplicationWork self.old self.new) }
-        ensures provenance { OnOk result (IsCausedWith D.eq L.elect D.bytes S.certificate_bytes now (Arrival from proposal ∷ []) self.old self.new) }
+        ensures provenance { OnOk result
+            (IsCausedWith D.eq L.elect D.bytes S.certificate_bytes now (Arrival from proposal ∷ []) self.old self.new) }
     {
         if self.admits_proposal(from, proposal.round) {
             return self.ask(Task::SetProposal(proposal.view(), proposal), now);
@@ -124,10 +130,13 @@ impl<S: Assembly<D>, L: Elector<S>, D: Digest> Engine<S, L, D> {
     ) -> Result<bool, Fault>
         ensures continues { Continues D.eq L.elect S.certificate_bytes S.IsSignature None self.old.core self.new.core }
         ensures batcher { self.new.batcher ≡ self.old.batcher }
-        ensures acted { IfOk result (IsBlockTaken D.eq L.elect (list_any (is_asked_in D.eq context.now) self.old.plan.builds.buildings.items)
+        ensures acted { IfOk result
+            (IsBlockTaken D.eq L.elect (list_any (is_asked_in D.eq context.now) self.old.plan.builds.buildings.items)
             context.now.round.view payload now self.old.core.member.facts self.new.core.member.facts) }
         ensures due_work { OnOk result (KeepsApplicationWork self.old self.new) }
-        ensures provenance { OnOk result (IsCausedWith D.eq L.elect D.bytes S.certificate_bytes now (Message (Proposed context.now.round.view payload) ∷ [])
+        ensures provenance { OnOk result
+            (IsCausedWith D.eq L.elect D.bytes S.certificate_bytes now
+            (Message (Proposed context.now.round.view payload) ∷ [])
             self.old self.new) }
     {
         if !self.plan.is_building(context) {
@@ -141,11 +150,15 @@ impl<S: Assembly<D>, L: Elector<S>, D: Digest> Engine<S, L, D> {
     fn judge(&mut self, view: View, is_success: bool, now: u64) -> Result<bool, Fault>
         ensures continues { Continues D.eq L.elect S.certificate_bytes S.IsSignature None self.old.core self.new.core }
         ensures batcher { self.new.batcher ≡ self.old.batcher }
-        ensures unadmitted { IsFalse (is_offered self.old.core.member.facts.outstanding_work view) → (result ≡ Ok false) × (self.new ≡ self.old) }
+        ensures unadmitted { IsFalse (is_offered self.old.core.member.facts.outstanding_work view) → (result ≡ Ok false)
+            × (self.new ≡ self.old) }
         ensures acted { IsTrue (is_offered self.old.core.member.facts.outstanding_work view) → IfOk result
-            (HasDoneTask D.eq L.elect (Certified view is_success) now self.old.core.member.facts self.new.core.member.facts) }
+            (HasDoneTask D.eq L.elect (Certified view is_success) now self.old.core.member.facts
+            self.new.core.member.facts) }
         ensures due_work { OnOk result (KeepsApplicationWork self.old self.new) }
-        ensures provenance { OnOk result (IsCausedWith D.eq L.elect D.bytes S.certificate_bytes now (Message (Certified view is_success) ∷ []) self.old self.new) }
+        ensures provenance { OnOk result
+            (IsCausedWith D.eq L.elect D.bytes S.certificate_bytes now (Message (Certified view is_success) ∷ [])
+            self.old self.new) }
     {
         if !self.core.awaits_verdict(view) {
             return Ok(false);

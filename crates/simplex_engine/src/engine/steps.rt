@@ -48,7 +48,8 @@ impl<S: Assembly<D>, L: Elector<S>, D: Digest> Engine<S, L, D> {
         ensures lowest { OnOk result (HoldsFromKept self.new.core self.new.batcher) }
         ensures lacking { OnOk result (FetchesItsMissing self.new.core self.new.plan.repair) }
         ensures due_work { OnOk result (KeepsApplicationWork self.old self.new) }
-        ensures provenance { OnOk result (IsCausedWithPruning D.eq L.elect D.bytes S.certificate_bytes now self.old self.new) }
+        ensures provenance { OnOk result
+            (IsCausedWithPruning D.eq L.elect D.bytes S.certificate_bytes now self.old self.new) }
     {
         self.plan.begin();
         self.finish(now)
@@ -66,7 +67,8 @@ impl<S: Assembly<D>, L: Elector<S>, D: Digest> Engine<S, L, D> {
         ensures lowest { OnOk result (HoldsFromKept self.new.core self.new.batcher) }
         ensures lacking { OnOk result (FetchesItsMissing self.new.core self.new.plan.repair) }
         ensures due_work { OnOk result (KeepsApplicationWork self.old self.new) }
-        ensures provenance { OnOk result (IsCausedWithPruning D.eq L.elect D.bytes S.certificate_bytes now self.old self.new) }
+        ensures provenance { OnOk result
+            (IsCausedWithPruning D.eq L.elect D.bytes S.certificate_bytes now self.old self.new) }
     {
         self.run_to_short(now)?;
         self.settle()?;
@@ -82,7 +84,8 @@ impl<S: Assembly<D>, L: Elector<S>, D: Digest> Engine<S, L, D> {
         ensures short { (given : _) → IsJournaled S.certificate_bytes given self.old.core
             → OnOk result (IsShort self.new.plan.options.long_record self.new.core.member.facts) }
         ensures due_work { OnOk result (KeepsApplicationWork self.old self.new) }
-        ensures provenance { OnOk result (IsCausedWithoutInput D.eq L.elect D.bytes S.certificate_bytes now self.old self.new) }
+        ensures provenance { OnOk result
+            (IsCausedWithoutInput D.eq L.elect D.bytes S.certificate_bytes now self.old self.new) }
     {
         for _ in 0..u64::MAX {
             self.run_all(now)?;
@@ -100,9 +103,11 @@ impl<S: Assembly<D>, L: Elector<S>, D: Digest> Engine<S, L, D> {
         ensures member { self.new.core.member ≡ self.old.core.member }
         ensures plan { self.new.plan ≡ self.old.plan }
         ensures short { (given : _) → IsJournaled S.certificate_bytes given self.old.core
-            → IfOk result (λ short. IsTrue short → IsShort self.new.plan.options.long_record self.new.core.member.facts) }
+            → IfOk result (λ short. IsTrue short
+            → IsShort self.new.plan.options.long_record self.new.core.member.facts) }
         ensures due_work { OnOk result (KeepsApplicationWork self.old self.new) }
-        ensures provenance { OnOk result ((now : ℕ) → IsCausedWithoutInput D.eq L.elect D.bytes S.certificate_bytes now self.old self.new) }
+        ensures provenance { OnOk result
+            ((now : ℕ) → IsCausedWithoutInput D.eq L.elect D.bytes S.certificate_bytes now self.old self.new) }
     {
         self.core.store()?;
         Ok(!self.core.is_record_too_long(self.plan.long_record()))
@@ -118,7 +123,8 @@ impl<S: Assembly<D>, L: Elector<S>, D: Digest> Engine<S, L, D> {
         ensures lowest { OnOk result (HoldsFromKept self.new.core self.new.batcher) }
         ensures lacking { OnOk result (FetchesItsMissing self.new.core self.new.plan.repair) }
         ensures due_work { OnOk result (KeepsApplicationWork self.old self.new) }
-        ensures provenance { OnOk result ((now : ℕ) → IsCausedWithPruning D.eq L.elect D.bytes S.certificate_bytes now self.old self.new) }
+        ensures provenance { OnOk result
+            ((now : ℕ) → IsCausedWithPruning D.eq L.elect D.bytes S.certificate_bytes now self.old self.new) }
     {
         self.drop_unretained()?;
         self.core.store()?;
@@ -132,7 +138,8 @@ impl<S: Assembly<D>, L: Elector<S>, D: Digest> Engine<S, L, D> {
         ensures idle { OnOk result (IsIdle now self.new.plan) }
         ensures ahead { OnOk result (BuildsAhead self.new.core self.new.plan) }
         ensures due_work { OnOk result (KeepsApplicationWork self.old self.new) }
-        ensures provenance { OnOk result (IsCausedWithoutInput D.eq L.elect D.bytes S.certificate_bytes now self.old self.new) }
+        ensures provenance { OnOk result
+            (IsCausedWithoutInput D.eq L.elect D.bytes S.certificate_bytes now self.old self.new) }
     {
         for _ in 0..u64::MAX {
             if self.run_and_ask(now)? {
@@ -145,11 +152,13 @@ impl<S: Assembly<D>, L: Elector<S>, D: Digest> Engine<S, L, D> {
     /// Takes steps until none is due, then asks once for work, blocks and votes. Returns whether that brought nothing new.
     fn run_and_ask(&mut self, now: u64) -> Result<bool, Fault>
         ensures alone { ContinuesWithoutInput D.eq L.elect S.certificate_bytes S.IsSignature self.old self.new }
-        ensures quiet { IfOk result (λ settled. IsTrue settled → HasNothingNew D.eq L.elect self.new.core.member.facts) }
+        ensures quiet { IfOk result
+            (λ settled. IsTrue settled → HasNothingNew D.eq L.elect self.new.core.member.facts) }
         ensures idle { IfOk result (λ settled. IsTrue settled → IsIdle now self.new.plan) }
         ensures ahead { IfOk result (λ settled. IsTrue settled → BuildsAhead self.new.core self.new.plan) }
         ensures due_work { OnOk result (KeepsApplicationWork self.old self.new) }
-        ensures provenance { OnOk result (IsCausedWithoutInput D.eq L.elect D.bytes S.certificate_bytes now self.old self.new) }
+        ensures provenance { OnOk result
+            (IsCausedWithoutInput D.eq L.elect D.bytes S.certificate_bytes now self.old self.new) }
     {
         self.run(now)?;
         if !self.ask_for_work(now)? {
@@ -178,7 +187,8 @@ impl<S: Assembly<D>, L: Elector<S>, D: Digest> Engine<S, L, D> {
     fn run(&mut self, now: u64) -> Result<(), Fault>
         ensures alone { ContinuesWithoutInput D.eq L.elect S.certificate_bytes S.IsSignature self.old self.new }
         ensures due_work { OnOk result (KeepsApplicationWork self.old self.new) }
-        ensures provenance { OnOk result (IsCausedWithoutInput D.eq L.elect D.bytes S.certificate_bytes now self.old self.new) }
+        ensures provenance { OnOk result
+            (IsCausedWithoutInput D.eq L.elect D.bytes S.certificate_bytes now self.old self.new) }
     {
         for _ in 0..u64::MAX {
             if !self.step(now)? {
@@ -192,7 +202,8 @@ impl<S: Assembly<D>, L: Elector<S>, D: Digest> Engine<S, L, D> {
     fn step(&mut self, now: u64) -> Result<bool, Fault>
         ensures alone { ContinuesWithoutInput D.eq L.elect S.certificate_bytes S.IsSignature self.old self.new }
         ensures due_work { OnOk result (KeepsApplicationWork self.old self.new) }
-        ensures provenance { OnOk result (IsCausedWithoutInput D.eq L.elect D.bytes S.certificate_bytes now self.old self.new) }
+        ensures provenance { OnOk result
+            (IsCausedWithoutInput D.eq L.elect D.bytes S.certificate_bytes now self.old self.new) }
     {
         match self.plan.next(now)? {
             Some(step) => self.take_step(step, now),
@@ -204,7 +215,8 @@ impl<S: Assembly<D>, L: Elector<S>, D: Digest> Engine<S, L, D> {
     fn take_step(&mut self, step: Step<S, D>, now: u64) -> Result<bool, Fault>
         ensures alone { ContinuesWithoutInput D.eq L.elect S.certificate_bytes S.IsSignature self.old self.new }
         ensures due_work { OnOk result (KeepsTaken (work_planned (step ∷ [])) self.old self.new) }
-        ensures provenance { OnOk result (IsCausedWith D.eq L.elect D.bytes S.certificate_bytes now (of_step step) self.old self.new) }
+        ensures provenance { OnOk result
+            (IsCausedWith D.eq L.elect D.bytes S.certificate_bytes now (of_step step) self.old self.new) }
     {
         match step {
             Step::Ask(task) => taken(self.ask_planned(task, now)),
@@ -220,7 +232,8 @@ impl<S: Assembly<D>, L: Elector<S>, D: Digest> Engine<S, L, D> {
         ensures continues { Continues D.eq L.elect S.certificate_bytes S.IsSignature None self.old.core self.new.core }
         ensures batcher { self.new.batcher ≡ self.old.batcher }
         ensures due_work { OnOk result (KeepsApplicationWork self.old self.new) }
-        ensures provenance { OnOk result (IsCausedWith D.eq L.elect D.bytes S.certificate_bytes now (of_task task) self.old self.new) }
+        ensures provenance { OnOk result
+            (IsCausedWith D.eq L.elect D.bytes S.certificate_bytes now (of_task task) self.old self.new) }
     {
         if is_verdict(&task) {
             return Ok(false);
@@ -232,7 +245,8 @@ impl<S: Assembly<D>, L: Elector<S>, D: Digest> Engine<S, L, D> {
     fn repeat(&mut self, view: View) -> Result<bool, Fault>
         ensures alone { ContinuesWithoutInput D.eq L.elect S.certificate_bytes S.IsSignature self.old self.new }
         ensures due_work { OnOk result (KeepsApplicationWork self.old self.new) }
-        ensures provenance { OnOk result ((now : ℕ) → IsCausedWithoutInput D.eq L.elect D.bytes S.certificate_bytes now self.old self.new) }
+        ensures provenance { OnOk result
+            ((now : ℕ) → IsCausedWithoutInput D.eq L.elect D.bytes S.certificate_bytes now self.old self.new) }
     {
         self.core.repeat(view)?;
         Ok(true)
@@ -242,7 +256,8 @@ impl<S: Assembly<D>, L: Elector<S>, D: Digest> Engine<S, L, D> {
     fn push(&mut self, work: Work<S, D>) -> Result<bool, Fault>
         ensures alone { ContinuesWithoutInput D.eq L.elect S.certificate_bytes S.IsSignature self.old self.new }
         ensures due_work { OnOk result (KeepsTaken (work ∷ []) self.old self.new) }
-        ensures provenance { OnOk result ((now : ℕ) → IsCausedWith D.eq L.elect D.bytes S.certificate_bytes now (of_work work) self.old self.new) }
+        ensures provenance { OnOk result
+            ((now : ℕ) → IsCausedWith D.eq L.elect D.bytes S.certificate_bytes now (of_work work) self.old self.new) }
     {
         self.core.push(work)?;
         Ok(true)
@@ -257,7 +272,8 @@ impl<S: Assembly<D>, L: Elector<S>, D: Digest> Engine<S, L, D> {
         ensures lowest { OnOk result (HoldsFromKept self.new.core self.new.batcher) }
         ensures lacking { OnOk result (FetchesItsMissing self.new.core self.new.plan.repair) }
         ensures due_work { OnOk result (KeepsApplicationWork self.old self.new) }
-        ensures provenance { OnOk result ((now : ℕ) → IsCausedWithPruning D.eq L.elect D.bytes S.certificate_bytes now self.old self.new) }
+        ensures provenance { OnOk result
+            ((now : ℕ) → IsCausedWithPruning D.eq L.elect D.bytes S.certificate_bytes now self.old self.new) }
     {
         let lowest = self.lowest_retained()?;
         self.report_forgotten(lowest)?;
@@ -285,7 +301,8 @@ impl<S: Assembly<D>, L: Elector<S>, D: Digest> Engine<S, L, D> {
         ensures lacking { OnOk result (FetchesItsMissing self.new.core self.new.plan.repair) }
         ensures planned { KeepsPlanned self.old.plan self.new.plan }
         ensures causes { AreAmong (planned_causes self.new.plan) (planned_causes self.old.plan) }
-        ensures asks { OnOk result (KeepsFetching [] (λ kind view. held_by self.new kind view || is_final self.new.core.member.facts view)
+        ensures asks { OnOk result
+            (KeepsFetching [] (λ kind view. held_by self.new kind view || is_final self.new.core.member.facts view)
             [] self.old.plan self.new.plan) }
     {
         match self.core.state() {
@@ -300,7 +317,9 @@ impl<S: Assembly<D>, L: Elector<S>, D: Digest> Engine<S, L, D> {
         ensures member { self.new.core.member ≡ self.old.core.member }
         ensures plan { self.new.plan ≡ self.old.plan }
         ensures due_work { OnOk result (KeepsApplicationWork self.old self.new) }
-        ensures provenance { OnOk result ((now : ℕ) → IsCausedWith D.eq L.elect D.bytes S.certificate_bytes now (of_work (work.Forget lowest)) self.old self.new) }
+        ensures provenance { OnOk result
+            ((now : ℕ) → IsCausedWith D.eq L.elect D.bytes S.certificate_bytes now (of_work (work.Forget lowest))
+            self.old self.new) }
     {
         if lowest <= self.forgotten {
             return Ok(());
@@ -315,7 +334,8 @@ impl<S: Assembly<D>, L: Elector<S>, D: Digest> Engine<S, L, D> {
     fn prune_record(&mut self, now: u64) -> Result<(), Fault>
         ensures alone { ContinuesWithoutInput D.eq L.elect S.certificate_bytes S.IsSignature self.old self.new }
         ensures due_work { OnOk result (KeepsApplicationWork self.old self.new) }
-        ensures provenance { OnOk result (IsCausedWithoutInput D.eq L.elect D.bytes S.certificate_bytes now self.old self.new) }
+        ensures provenance { OnOk result
+            (IsCausedWithoutInput D.eq L.elect D.bytes S.certificate_bytes now self.old self.new) }
     {
         self.ask(Task::Prune, now)?;
         self.core.prune_record()?;

@@ -48,7 +48,8 @@ impl<S: Assembly<D>, L: Elector<S>, D: Digest> Engine<S, L, D> {
 
     /// Counts a vote if its round takes votes.
     pub(super) fn count(&mut self, vote: Vote<D, S::Signature>, now: u64) -> Result<bool, Fault>
-        ensures { IsInputTaken D.eq L.elect D.bytes S.certificate_bytes S.IsSignature S.IsMadeOf S.participants now (input.Vote vote)
+        ensures { IsInputTaken D.eq L.elect D.bytes S.certificate_bytes S.IsSignature S.IsMadeOf S.participants now
+            (input.Vote vote)
             self.old self.old self.new result }
     {
         if !self.admits_votes(round_of(&vote.subject)) {
@@ -60,7 +61,8 @@ impl<S: Assembly<D>, L: Elector<S>, D: Digest> Engine<S, L, D> {
     /// Counts a vote whose round takes votes, and passes the certificate that it completes to the member.
     fn count_admitted(&mut self, vote: Vote<D, S::Signature>, now: u64) -> Result<bool, Fault>
         requires { IsTrue (is_so (λ x. admits_votes x (subject_round vote.subject)) self.old.core.member.facts) }
-        ensures { IsInputTaken D.eq L.elect D.bytes S.certificate_bytes S.IsSignature S.IsMadeOf S.participants now (input.Vote vote)
+        ensures { IsInputTaken D.eq L.elect D.bytes S.certificate_bytes S.IsSignature S.IsMadeOf S.participants now
+            (input.Vote vote)
             self.old self.old self.new result }
     {
         match self.batcher.count(vote, true) {
@@ -71,12 +73,16 @@ impl<S: Assembly<D>, L: Elector<S>, D: Digest> Engine<S, L, D> {
 
     /// Follows the result of counting a vote. Returns false if the vote was ignored.
     fn follow_counted(&mut self, counted: Counted<S, D>, now: u64) -> Result<bool, Fault>
-        ensures continues { Continues D.eq L.elect S.certificate_bytes S.IsSignature (subject_made S.certificate_bytes counted) self.old.core self.new.core }
+        ensures continues { Continues D.eq L.elect S.certificate_bytes S.IsSignature
+            (subject_made S.certificate_bytes counted) self.old.core self.new.core }
         ensures batcher { self.new.batcher ≡ self.old.batcher }
-        ensures followed { IfOk result (IsCountFollowed D.eq L.elect S.certificate_bytes now counted self.old.plan.steps.items
+        ensures followed { IfOk result
+            (IsCountFollowed D.eq L.elect S.certificate_bytes now counted self.old.plan.steps.items
             self.old.core.member.facts self.new.plan.steps.items self.new.core.member.facts) }
         ensures due_work { OnOk result (KeepsApplicationWork self.old self.new) }
-        ensures provenance { OnOk result (IsCausedWith D.eq L.elect D.bytes S.certificate_bytes now (of_counted S.certificate_bytes counted) self.old self.new) }
+        ensures provenance { OnOk result
+            (IsCausedWith D.eq L.elect D.bytes S.certificate_bytes now (of_counted S.certificate_bytes counted)
+            self.old self.new) }
     {
         match counted {
             Counted::Certified(certificate) => match self.accept(&certificate, now) {
@@ -99,16 +105,22 @@ impl<S: Assembly<D>, L: Elector<S>, D: Digest> Engine<S, L, D> {
         now: u64,
     ) -> Result<bool, Fault>
         ensures continues { Continues D.eq L.elect S.certificate_bytes S.IsSignature
-            (Some (certificate_subject (certificate_facts S.certificate_bytes certificate.now))) self.old.core self.new.core }
+            (Some (certificate_subject (certificate_facts S.certificate_bytes certificate.now)))
+            self.old.core self.new.core }
         ensures votes { TakesNone self.old.batcher self.new.batcher }
         ensures batcher { self.new.batcher ≡ self.old.batcher }
-        ensures dropped { IfOk result (λ is_of_use. IsFalse is_of_use → self.new.core.member.facts ≡ self.old.core.member.facts) }
-        ensures unadmitted { IsFalse (is_so (λ x. admits x (certificate_facts S.certificate_bytes certificate.now)) self.old.core.member.facts)
+        ensures dropped { IfOk result
+            (λ is_of_use. IsFalse is_of_use → self.new.core.member.facts ≡ self.old.core.member.facts) }
+        ensures unadmitted { IsFalse
+            (is_so (λ x. admits x (certificate_facts S.certificate_bytes certificate.now)) self.old.core.member.facts)
             → (result ≡ Ok false) × (self.new ≡ self.old) }
-        ensures acted { IsTrue (is_so (λ x. admits x (certificate_facts S.certificate_bytes certificate.now)) self.old.core.member.facts) → IfOk result
-            (IsSubmitted D.eq L.elect S.certificate_bytes now certificate.now self.old.core.member.facts self.new.core.member.facts) }
+        ensures acted { IsTrue (is_so (λ x. admits x (certificate_facts S.certificate_bytes certificate.now))
+            self.old.core.member.facts) → IfOk result
+            (IsSubmitted D.eq L.elect S.certificate_bytes now certificate.now self.old.core.member.facts
+            self.new.core.member.facts) }
         ensures due_work { OnOk result (KeepsApplicationWork self.old self.new) }
-        ensures provenance { OnOk result (IsCausedWith D.eq L.elect D.bytes S.certificate_bytes now (Quorum (certificate_subject
+        ensures provenance { OnOk result
+            (IsCausedWith D.eq L.elect D.bytes S.certificate_bytes now (Quorum (certificate_subject
             (certificate_facts S.certificate_bytes certificate.now)) ∷ []) self.old self.new) }
     {
         if !self.admits(certificate) {
@@ -121,7 +133,8 @@ impl<S: Assembly<D>, L: Elector<S>, D: Digest> Engine<S, L, D> {
 
     /// Returns whether the certificate is admitted. A second certificate of a kind and view is not: it would change nothing.
     fn admits(&self, certificate: &Certificate<S, D>) -> bool
-        ensures { result ≡ is_so (λ x. admits x (certificate_facts S.certificate_bytes certificate.now)) self.now.core.member.facts }
+        ensures { result ≡ is_so (λ x. admits x (certificate_facts S.certificate_bytes certificate.now))
+            self.now.core.member.facts }
     {
         match self.core.state() {
             Some(state) => takes(state, certificate),
@@ -143,10 +156,14 @@ impl<S: Assembly<D>, L: Elector<S>, D: Digest> Engine<S, L, D> {
         ensures planned { OnOk result (KeepsPlannedThen self.old.plan self.new.plan) }
         ensures seen { OnOk result (TracksViews self.new.core.member.facts self.new.plan) }
         ensures causes { OnOk result (AreAmong (planned_causes self.new.plan)
-            (planned_causes self.old.plan ++ reply_causes now reply.now (certificate_call (certificate_facts S.certificate_bytes certificate.now) now))) }
+            (planned_causes self.old.plan
+            ++ reply_causes now reply.now
+            (certificate_call (certificate_facts S.certificate_bytes certificate.now) now))) }
         ensures asks { IsTrue (is_plain reply.now) → OnOk result (KeepsFetching (reply_causes now reply.now
-            (certificate_call (certificate_facts S.certificate_bytes certificate.now) now)) (λ kind view. is_final self.new.core.member.facts view)
-            (received_by D.bytes S.certificate_bytes reply.now (certificate_call (certificate_facts S.certificate_bytes certificate.now) now))
+            (certificate_call (certificate_facts S.certificate_bytes certificate.now) now))
+            (λ kind view. is_final self.new.core.member.facts view)
+            (received_by D.bytes S.certificate_bytes reply.now
+            (certificate_call (certificate_facts S.certificate_bytes certificate.now) now))
             self.old.plan self.new.plan) }
     {
         let is_of_use = !is_refused(reply);

@@ -19,7 +19,8 @@ pub(super) fn broadcast_notarization<S: CertificateScheme, L: Elector<S>, D: Dig
     ensures answer { IfOk result (λ c. option_map (certificate_facts S.certificate_bytes) c
         ≡ option_map Notarized (broadcast_notarization_answer state.old view)) }
     ensures after { OnOk result (state.new ≡ after_broadcast_notarization state.old view) }
-    ensures refused { IfErr result (Ends (is_some (broadcast_notarization_answer state.old view)) (plain_refusal state.old) state.old state.new) }
+    ensures refused { IfErr result
+        (Ends (is_some (broadcast_notarization_answer state.old view)) (plain_refusal state.old) state.old state.new) }
 {
     match state.broadcast_notarization(view) {
         Ok(Some(notarization)) => Ok(Some(Certificate::Notarization(notarization))),
@@ -38,7 +39,8 @@ pub(super) fn broadcast_nullification<S: CertificateScheme, L: Elector<S>, D: Di
     ensures answer { IfOk result (λ c. option_map (certificate_facts S.certificate_bytes) c
         ≡ option_map Nullified (broadcast_nullification_answer state.old view)) }
     ensures after { OnOk result (state.new ≡ after_broadcast_nullification state.old view) }
-    ensures refused { IfErr result (Ends (is_some (broadcast_nullification_answer state.old view)) (plain_refusal state.old) state.old state.new) }
+    ensures refused { IfErr result
+        (Ends (is_some (broadcast_nullification_answer state.old view)) (plain_refusal state.old) state.old state.new) }
 {
     match state.broadcast_nullification(view) {
         Ok(Some(nullification)) => Ok(Some(Certificate::Nullification(nullification))),
@@ -57,7 +59,8 @@ pub(super) fn broadcast_finalization<S: CertificateScheme, L: Elector<S>, D: Dig
     ensures answer { IfOk result (λ c. option_map (certificate_facts S.certificate_bytes) c
         ≡ option_map Finalized (broadcast_finalization_answer state.old view)) }
     ensures after { OnOk result (state.new ≡ after_broadcast_finalization state.old view) }
-    ensures refused { IfErr result (Ends (is_some (broadcast_finalization_answer state.old view)) (plain_refusal state.old) state.old state.new) }
+    ensures refused { IfErr result
+        (Ends (is_some (broadcast_finalization_answer state.old view)) (plain_refusal state.old) state.old state.new) }
 {
     match state.broadcast_finalization(view) {
         Ok(Some(finalization)) => Ok(Some(Certificate::Finalization(finalization))),

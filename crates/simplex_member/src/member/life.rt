@@ -93,12 +93,15 @@ impl<S: CertificateScheme, L: Elector<S>, D: Digest> Member<S, L, D> {
     pub fn start(alloc: Global, start: Start<S, L, D>) -> Result<Member<S, L, D>, RecoverError>
         requires { L.members start.settings.elector ≡ length (S.participants start.settings.scheme) }
         ensures started { IfOk result (λ member. member.facts ≡ started_member D.eq L.elect
-            (set_up S.me S.participants L.terms L.elects_early start.settings) (floor_facts S.certificate_bytes start.floor) start.now) }
+            (set_up S.me S.participants L.terms L.elects_early start.settings)
+            (floor_facts S.certificate_bytes start.floor) start.now) }
         ensures votes { IfOk result (λ member. member.votes ≡ []) }
-        ensures accepted { OnOk result (recover_error D.eq (set_up S.me S.participants L.terms L.elects_early start.settings)
+        ensures accepted { OnOk result
+            (recover_error D.eq (set_up S.me S.participants L.terms L.elects_early start.settings)
             (floor_facts S.certificate_bytes start.floor) start.now [] ≡ None) }
         ensures refused { IfErr result (IsErrorDue (recover_error D.eq
-            (set_up S.me S.participants L.terms L.elects_early start.settings) (floor_facts S.certificate_bytes start.floor) start.now [])) }
+            (set_up S.me S.participants L.terms L.elects_early start.settings)
+            (floor_facts S.certificate_bytes start.floor) start.now [])) }
     {
         let retention = retention_of(&start.settings);
         let (state, finalization) = begin(alloc, start.settings, start.floor, start.now)?;
@@ -165,11 +168,14 @@ impl<S: CertificateScheme, L: Elector<S>, D: Digest> Member<S, L, D> {
     pub fn call(&mut self, call: Call<S, D>) -> Reply<S, D>
     where
         S: Scheme<D>,
-        ensures made { IsCall D.eq L.elect self.old.facts (asked S.certificate_bytes call) (told S.certificate_bytes result) self.new.facts }
+        ensures made { IsCall D.eq L.elect self.old.facts (asked S.certificate_bytes call)
+            (told S.certificate_bytes result) self.new.facts }
         ensures of_its_kind { is_reply_to (told S.certificate_bytes result) (asked S.certificate_bytes call) ≡ true }
         ensures answered { IfAnswered (told S.certificate_bytes result)
-            (IsAnswered D.eq L.elect self.old.facts (asked S.certificate_bytes call) (told S.certificate_bytes result) self.new.facts) }
-        ensures kept { IfRefused (told S.certificate_bytes result) (λ refusal. UnchangedButLifetime self.old.facts refusal self.new.facts) }
+            (IsAnswered D.eq L.elect self.old.facts (asked S.certificate_bytes call) (told S.certificate_bytes result)
+            self.new.facts) }
+        ensures kept { IfRefused (told S.certificate_bytes result)
+            (λ refusal. UnchangedButLifetime self.old.facts refusal self.new.facts) }
         ensures grown { HasGrown self.old.facts self.new.facts }
         ensures signed { IfSome self.old.facts.life (IsSignedReply S.IsSignature result) }
         ensures votes { self.new.votes ≡ self.old.votes ++ signed_reply result }
@@ -181,7 +187,8 @@ impl<S: CertificateScheme, L: Elector<S>, D: Digest> Member<S, L, D> {
     fn make(&mut self, call: Call<S, D>) -> Reply<S, D>
     where
         S: Scheme<D>,
-        ensures made { IsCall D.eq L.elect self.old.facts (asked S.certificate_bytes call) (told S.certificate_bytes result) self.new.facts }
+        ensures made { IsCall D.eq L.elect self.old.facts (asked S.certificate_bytes call)
+            (told S.certificate_bytes result) self.new.facts }
         ensures signed { IfSome self.old.facts.life (IsSignedReply S.IsSignature result) }
         ensures votes { self.new.votes ≡ self.old.votes ++ signed_reply result }
     {

@@ -28,7 +28,11 @@ impl<D, P: Copy> Model for OutstandingWork<D, P> {
     ghost Value = { KeptWork P D };
 
     ghost view = { λ o. record {
-      open_now = record { contexts = o.contexts.entries; verifying = views_of o.verifying.entries; offered = map.keys o.offered };
+      open_now = record {
+        contexts = o.contexts.entries;
+        verifying = views_of o.verifying.entries;
+        offered = map.keys o.offered;
+      };
       has_room = o.contexts.has_room && o.verifying.has_room;
     } };
 }

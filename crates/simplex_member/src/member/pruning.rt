@@ -42,9 +42,11 @@ fn keep_within<S: CertificateScheme, L: Elector<S>, D: Digest>(
     lowest: View,
 )
     ensures left { entries_of S.certificate_bytes entries.new.items ≡ filter
-        (λ e. tracks (living failed state.now) (entry_view e) || nat_le lowest (entry_view e)) (entries_of S.certificate_bytes entries.old.items) }
+        (λ e. tracks (living failed state.now) (entry_view e) || nat_le lowest (entry_view e))
+        (entries_of S.certificate_bytes entries.old.items) }
     ensures votes { votes_of entries.new.items ≡ filter
-        (λ v. tracks (living failed state.now) (entry_view v.vote) || nat_le lowest (entry_view v.vote)) (votes_of entries.old.items) }
+        (λ v. tracks (living failed state.now) (entry_view v.vote) || nat_le lowest (entry_view v.vote))
+        (votes_of entries.old.items) }
 {
     if failed {
         keep_from(entries, lowest);
@@ -61,9 +63,11 @@ fn keep_tracked<S: CertificateScheme, L: Elector<S>, D: Digest>(
     lowest: View,
 )
     ensures left { entries_of S.certificate_bytes entries.new.items ≡ filter
-        (λ e. is_tracked state.now (entry_view e) || nat_le lowest (entry_view e)) (entries_of S.certificate_bytes entries.old.items) }
+        (λ e. is_tracked state.now (entry_view e) || nat_le lowest (entry_view e))
+        (entries_of S.certificate_bytes entries.old.items) }
     ensures votes { votes_of entries.new.items ≡ filter
-        (λ v. is_tracked state.now (entry_view v.vote) || nat_le lowest (entry_view v.vote)) (votes_of entries.old.items) }
+        (λ v. is_tracked state.now (entry_view v.vote) || nat_le lowest (entry_view v.vote))
+        (votes_of entries.old.items) }
 {
     entries.retain(|artifact| {
         let view = artifact.view();

@@ -42,7 +42,8 @@ pub(super) fn store_new<S: CertificateScheme, D: Digest>(
 )
     requires { vec_len artifacts.old < vec_capacity artifacts.old }
     ensures kept { entries_of S.certificate_bytes artifacts.new.items
-        ≡ entries_of S.certificate_bytes artifacts.old.items ++ if_new is_new (artifact_facts S.certificate_bytes artifact) }
+        ≡ entries_of S.certificate_bytes artifacts.old.items
+        ++ if_new is_new (artifact_facts S.certificate_bytes artifact) }
     ensures same_votes { signed_vote artifact ≡ [] → votes_of artifacts.new.items ≡ votes_of artifacts.old.items }
 {
     if is_new {
@@ -95,14 +96,17 @@ pub(super) fn certified<S: CertificateScheme, L: Elector<S>, D: Digest>(
     requires allowed { takes_verdict state.old view success ≡ true }
     requires room { vec_len artifacts.old < vec_capacity artifacts.old }
     ensures due { OnOk result (certified_refusal state.old view success now ≡ None) }
-    ensures answer { IfOk result (λ answer. option_map (notarization_facts S.certificate_bytes) answer ≡ certified_answer state.old view) }
+    ensures answer { IfOk result
+        (λ answer. option_map (notarization_facts S.certificate_bytes) answer ≡ certified_answer state.old view) }
     ensures after { OnOk result (state.new ≡ after_certified L.elect state.old view success now) }
-    ensures recorded { OnOk result (entries_of S.certificate_bytes artifacts.new.items ≡ entries_of S.certificate_bytes artifacts.old.items
+    ensures recorded { OnOk result
+        (entries_of S.certificate_bytes artifacts.new.items ≡ entries_of S.certificate_bytes artifacts.old.items
         ++ if_new (is_first_verdict state.old view) (Verdict (round_number state.old view) success)) }
     ensures closed { OnOk result (outstanding_work.new.open_now ≡ without_offer outstanding_work.old.open_now view) }
     ensures refused { IfErr result (Ends true (certified_refusal state.old view success now) state.old state.new) }
     ensures kept_open { IfErr result (UnchangedUnlessLost outstanding_work.old.open_now outstanding_work.new.open_now) }
-    ensures same_record { OnErr result (entries_of S.certificate_bytes artifacts.new.items ≡ entries_of S.certificate_bytes artifacts.old.items) }
+    ensures same_record { OnErr result
+        (entries_of S.certificate_bytes artifacts.new.items ≡ entries_of S.certificate_bytes artifacts.old.items) }
     ensures same_votes { votes_of artifacts.new.items ≡ votes_of artifacts.old.items }
 {
     let is_first = state.is_first_verdict(view);
@@ -127,9 +131,12 @@ pub(super) fn certify_candidates<S: CertificateScheme, L: Elector<S>, D: Digest>
 ) -> Result<(Vec<Proposal<D>>, Vec<CertificateFetch>), Fault>
     requires resumption { state.old.failed ≡ false }
     requires begun { is_started state.old ≡ true }
-    ensures answer { IfOk result (λ answer. (answer.0.items, answer.1.items) ≡ candidates_answer D.eq L.elect state.old) }
+    ensures answer { IfOk result
+        (λ answer. (answer.0.items, answer.1.items) ≡ candidates_answer D.eq L.elect state.old) }
     ensures after { OnOk result (state.new ≡ after_candidates state.old) }
-    ensures opened { OnOk result (outstanding_work.new.open_now ≡ with_offers outstanding_work.old.open_now (candidates_answer D.eq L.elect state.old).0) }
+    ensures opened { OnOk result
+        (outstanding_work.new.open_now ≡ with_offers outstanding_work.old.open_now
+        (candidates_answer D.eq L.elect state.old).0) }
     ensures refused { IfErr result (Ends true (plain_refusal state.old) state.old state.new) }
     ensures kept_open { IfErr result (UnchangedUnlessLost outstanding_work.old.open_now outstanding_work.new.open_now) }
 {

@@ -50,9 +50,11 @@ impl<S: CertificateScheme, L: Elector<S>, D: Digest> Member<S, L, D> {
     pub fn restart(&mut self, restart: Restart<S, L, D>) -> Result<(), RecoverError>
         requires { L.members restart.start.settings.elector ≡ length (S.participants restart.start.settings.scheme) }
         ensures restarted { IsRestart D.eq L.elect self.old.facts
-            (restart_facts S.me S.participants L.terms L.elects_early S.certificate_bytes restart) result self.new.facts }
+            (restart_facts S.me S.participants L.terms L.elects_early S.certificate_bytes restart)
+            result self.new.facts }
         ensures votes { self.new.votes
-            ≡ votes_left self.old.facts (restart_facts S.me S.participants L.terms L.elects_early S.certificate_bytes restart) self.old.votes }
+            ≡ votes_left self.old.facts
+            (restart_facts S.me S.participants L.terms L.elects_early S.certificate_bytes restart) self.old.votes }
     {
         let retention = retention_of(&restart.start.settings);
         if self.retention_grows(restart.prune, retention) {
@@ -121,7 +123,8 @@ pub(super) fn renew<S: CertificateScheme, L: Elector<S>, D: Digest>(
         (entries_of S.certificate_bytes artifacts.old.items) state.value) }
     ensures resumption { IfOk result (λ state. (state.value.failed ≡ false) × (is_started state.value ≡ true)) }
     ensures recorded { OnOk result (entries_of S.certificate_bytes artifacts.new.items
-        ≡ with_floor (entries_of S.certificate_bytes artifacts.old.items) (floor_facts S.certificate_bytes start.floor)) }
+        ≡ with_floor (entries_of S.certificate_bytes artifacts.old.items)
+        (floor_facts S.certificate_bytes start.floor)) }
     ensures votes { votes_of artifacts.new.items ≡ votes_of artifacts.old.items }
     ensures same { OnErr result (artifacts.new.items ≡ artifacts.old.items) }
     ensures refused { IfErr result (λ error. (error ≡ OutOfMemory) ⊎ IsRefusedBy D.eq
@@ -141,12 +144,14 @@ fn remake_by_view<S: CertificateScheme, L: Elector<S>, D: Digest>(
 ) -> Result<(Box<State<S, L, D>>, Option<Finalization<S, D>>), RecoverError>
     requires { L.members start.settings.elector ≡ length (S.participants start.settings.scheme) }
     ensures remade { IfOk result (λ made. IsRemadeBy D.eq L.elect
-        (start_facts S.me S.participants L.terms L.elects_early S.certificate_bytes start) (entries_of S.certificate_bytes artifacts.now) made.0.value) }
+        (start_facts S.me S.participants L.terms L.elects_early S.certificate_bytes start)
+        (entries_of S.certificate_bytes artifacts.now) made.0.value) }
     ensures floor { IfOk result (λ made. option_map (finalization_facts S.certificate_bytes) made.1
         ≡ floor_answer (floor_facts S.certificate_bytes start.floor)) }
     ensures resumption { IfOk result (λ made. (made.0.value.failed ≡ false) × (is_started made.0.value ≡ true)) }
     ensures refused { IfErr result (λ error. (error ≡ OutOfMemory) ⊎ IsRefusedBy D.eq
-        (start_facts S.me S.participants L.terms L.elects_early S.certificate_bytes start) (entries_of S.certificate_bytes artifacts.now) error) }
+        (start_facts S.me S.participants L.terms L.elects_early S.certificate_bytes start)
+        (entries_of S.certificate_bytes artifacts.now) error) }
 {
     let Ok(copy) = by_view(alloc, artifacts) else {
         return Err(RecoverError::OutOfMemory);
@@ -159,7 +164,8 @@ fn by_view<S: CertificateScheme, D: Digest>(
     alloc: Global,
     artifacts: &[Artifact<S, D>],
 ) -> Result<Vec<Artifact<S, D>>, Fault>
-    ensures { IfOk result (λ copy. IsByView (entries_of S.certificate_bytes artifacts.now) (entries_of S.certificate_bytes copy.items)) }
+    ensures { IfOk result (λ copy.
+        IsByView (entries_of S.certificate_bytes artifacts.now) (entries_of S.certificate_bytes copy.items)) }
 {
     let mut copy = copy_of(alloc, artifacts)?;
     copy.sort_by_key(|artifact| artifact.view())?;
@@ -171,7 +177,8 @@ fn copy_of<S: CertificateScheme, D: Digest>(
     alloc: Global,
     artifacts: &[Artifact<S, D>],
 ) -> Result<Vec<Artifact<S, D>>, Fault>
-    ensures { IfOk result (λ copy. entries_of S.certificate_bytes copy.items ≡ entries_of S.certificate_bytes artifacts.now) }
+    ensures { IfOk result (λ copy.
+        entries_of S.certificate_bytes copy.items ≡ entries_of S.certificate_bytes artifacts.now) }
 {
     let mut copy = Vec::new(alloc);
     for artifact in artifacts {
@@ -186,7 +193,8 @@ pub(super) fn store_finalization<S: CertificateScheme, D: Digest>(
     finalization: Option<Finalization<S, D>>,
 ) -> Result<(), RecoverError>
     ensures kept { OnOk result (entries_of S.certificate_bytes artifacts.new.items
-        ≡ with_finalization_entry (entries_of S.certificate_bytes artifacts.old.items) (option_map (finalization_facts S.certificate_bytes) finalization)) }
+        ≡ with_finalization_entry (entries_of S.certificate_bytes artifacts.old.items)
+        (option_map (finalization_facts S.certificate_bytes) finalization)) }
     ensures votes { votes_of artifacts.new.items ≡ votes_of artifacts.old.items }
     ensures same { OnErr result (artifacts.new.items ≡ artifacts.old.items) }
     ensures refused { IfErr result (λ error. error ≡ OutOfMemory) }

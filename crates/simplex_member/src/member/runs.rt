@@ -34,9 +34,13 @@ pub fn run<S: Scheme<D>, L: Elector<S>, D: Digest>(
 ) -> Result<Vec<Reply<S, D>>, RecoverError>
     requires started { L.members start.settings.elector ≡ length (S.participants start.settings.scheme) }
     requires restarted { AreSetUp S.participants L.members steps.items }
-    ensures whole { IfOk result (λ replies. IsRunFrom D.eq L.elect (start_facts S.me S.participants L.terms L.elects_early S.certificate_bytes start)
-        (steps_of S.me S.participants L.terms L.elects_early S.certificate_bytes steps.items) (map (told S.certificate_bytes) replies.items)) }
-    ensures ended { IfErr result (EndsRunFrom D.eq L.elect (start_facts S.me S.participants L.terms L.elects_early S.certificate_bytes start)
+    ensures whole { IfOk result
+        (λ replies. IsRunFrom D.eq L.elect
+        (start_facts S.me S.participants L.terms L.elects_early S.certificate_bytes start)
+        (steps_of S.me S.participants L.terms L.elects_early S.certificate_bytes steps.items)
+        (map (told S.certificate_bytes) replies.items)) }
+    ensures ended { IfErr result
+        (EndsRunFrom D.eq L.elect (start_facts S.me S.participants L.terms L.elects_early S.certificate_bytes start)
         (steps_of S.me S.participants L.terms L.elects_early S.certificate_bytes steps.items)) }
 {
     let mut member = Member::start(alloc, start)?;
@@ -51,9 +55,11 @@ fn take_steps<S: Scheme<D>, L: Elector<S>, D: Digest>(
 ) -> Result<Vec<Reply<S, D>>, RecoverError>
     requires { AreSetUp S.participants L.members steps.items }
     ensures whole { IfOk result (λ replies. IsRun D.eq L.elect member.old.facts
-        (steps_of S.me S.participants L.terms L.elects_early S.certificate_bytes steps.items) (map (told S.certificate_bytes) replies.items) member.new.facts) }
+        (steps_of S.me S.participants L.terms L.elects_early S.certificate_bytes steps.items)
+        (map (told S.certificate_bytes) replies.items) member.new.facts) }
     ensures ended { IfErr result (λ error. (error ≡ OutOfMemory)
-        ⊎ EndsRun D.eq L.elect member.old.facts (steps_of S.me S.participants L.terms L.elects_early S.certificate_bytes steps.items) error) }
+        ⊎ EndsRun D.eq L.elect member.old.facts
+        (steps_of S.me S.participants L.terms L.elects_early S.certificate_bytes steps.items) error) }
 {
     let mut replies = Vec::new(alloc);
     for step in steps {
@@ -82,7 +88,8 @@ fn take_step<S: Scheme<D>, L: Elector<S>, D: Digest>(
 ) -> Result<Reply<S, D>, RecoverError>
     requires { IsSetUp S.participants L.members step }
     ensures taken { IfOk result (λ reply. IsStep D.eq L.elect member.old.facts
-        (step_facts S.me S.participants L.terms L.elects_early S.certificate_bytes step) (told S.certificate_bytes reply) member.new.facts) }
+        (step_facts S.me S.participants L.terms L.elects_early S.certificate_bytes step)
+        (told S.certificate_bytes reply) member.new.facts) }
     ensures refused { IfErr result (λ error. IsRefused D.eq L.elect member.old.facts
         (step_facts S.me S.participants L.terms L.elects_early S.certificate_bytes step) error) }
 {

@@ -25,8 +25,10 @@ pub(super) fn store_nullify<S: CertificateScheme, D: Digest>(
     ensures same { IfOk result (λ vote. made ≡ Ok vote) }
     ensures kept { IfOk result (λ vote. entries_of S.certificate_bytes artifacts.new.items
         ≡ entries_of S.certificate_bytes artifacts.old.items ++ unrepeated_vote (reply_nullify vote)) }
-    ensures votes { IfOk result (λ vote. votes_of artifacts.new.items ≡ votes_of artifacts.old.items ++ signed_nullify vote) }
-    ensures same_record { OnErr result (entries_of S.certificate_bytes artifacts.new.items ≡ entries_of S.certificate_bytes artifacts.old.items) }
+    ensures votes { IfOk result
+        (λ vote. votes_of artifacts.new.items ≡ votes_of artifacts.old.items ++ signed_nullify vote) }
+    ensures same_record { OnErr result
+        (entries_of S.certificate_bytes artifacts.new.items ≡ entries_of S.certificate_bytes artifacts.old.items) }
     ensures same_votes { OnErr result (votes_of artifacts.new.items ≡ votes_of artifacts.old.items) }
     ensures refused { IfErr result (λ fault. (made ≡ Err fault) ⊎ (fault ≡ OutOfMemory)) }
 {
@@ -50,8 +52,10 @@ pub(super) fn store_notarize<S: CertificateScheme, D: Digest>(
     ensures same { IfOk result (λ vote. made ≡ Ok vote) }
     ensures kept { IfOk result (λ vote. entries_of S.certificate_bytes artifacts.new.items
         ≡ entries_of S.certificate_bytes artifacts.old.items ++ vote_entry (reply_notarize vote)) }
-    ensures votes { IfOk result (λ vote. votes_of artifacts.new.items ≡ votes_of artifacts.old.items ++ signed_notarize vote) }
-    ensures same_record { OnErr result (entries_of S.certificate_bytes artifacts.new.items ≡ entries_of S.certificate_bytes artifacts.old.items) }
+    ensures votes { IfOk result
+        (λ vote. votes_of artifacts.new.items ≡ votes_of artifacts.old.items ++ signed_notarize vote) }
+    ensures same_record { OnErr result
+        (entries_of S.certificate_bytes artifacts.new.items ≡ entries_of S.certificate_bytes artifacts.old.items) }
     ensures same_votes { OnErr result (votes_of artifacts.new.items ≡ votes_of artifacts.old.items) }
     ensures refused { IfErr result (λ fault. (made ≡ Err fault) ⊎ (fault ≡ OutOfMemory)) }
 {
@@ -75,8 +79,10 @@ pub(super) fn store_finalize<S: CertificateScheme, D: Digest>(
     ensures same { IfOk result (λ vote. made ≡ Ok vote) }
     ensures kept { IfOk result (λ vote. entries_of S.certificate_bytes artifacts.new.items
         ≡ entries_of S.certificate_bytes artifacts.old.items ++ vote_entry (reply_finalize vote)) }
-    ensures votes { IfOk result (λ vote. votes_of artifacts.new.items ≡ votes_of artifacts.old.items ++ signed_finalize vote) }
-    ensures same_record { OnErr result (entries_of S.certificate_bytes artifacts.new.items ≡ entries_of S.certificate_bytes artifacts.old.items) }
+    ensures votes { IfOk result
+        (λ vote. votes_of artifacts.new.items ≡ votes_of artifacts.old.items ++ signed_finalize vote) }
+    ensures same_record { OnErr result
+        (entries_of S.certificate_bytes artifacts.new.items ≡ entries_of S.certificate_bytes artifacts.old.items) }
     ensures same_votes { OnErr result (votes_of artifacts.new.items ≡ votes_of artifacts.old.items) }
     ensures refused { IfErr result (λ fault. (made ≡ Err fault) ⊎ (fault ≡ OutOfMemory)) }
 {

@@ -26,7 +26,10 @@ impl<V> Model for Waiting<V> {
 
     ghost Value = { WaitingFacts V };
 
-    ghost view = { λ w. record { entries = map.entries (with_newest w.newest w.others); has_room = not (is_some w.newest) } };
+    ghost view = { λ w. record {
+      entries = map.entries (with_newest w.newest w.others);
+      has_room = not (is_some w.newest);
+    } };
 }
 
 impl<V: Drop> Waiting<V> {

@@ -41,8 +41,10 @@ pub(super) fn check_floor<S: CertificateScheme, D: Digest>(
     epoch: Epoch,
     floor: &Floor<S, D>,
 ) -> Result<(), RecoverError>
-    ensures broken { IfErr result (λ error. first_error (recovery_floor_rules epoch (floor_facts S.certificate_bytes floor.now)) ≡ Some error) }
-    ensures kept { OnOk result (first_error (recovery_floor_rules epoch (floor_facts S.certificate_bytes floor.now)) ≡ None) }
+    ensures broken { IfErr result
+        (λ error. first_error (recovery_floor_rules epoch (floor_facts S.certificate_bytes floor.now)) ≡ Some error) }
+    ensures kept { OnOk result
+        (first_error (recovery_floor_rules epoch (floor_facts S.certificate_bytes floor.now)) ≡ None) }
 {
     match floor {
         Floor::Genesis(_) => Ok(()),
@@ -60,8 +62,11 @@ fn check_entries<S: CertificateScheme, D: Digest>(
     epoch: Epoch,
     entries: &[Artifact<S, D>],
 ) -> Result<(), RecoverError>
-    ensures broken { IfErr result (λ error. first_broken_after D.eq epoch (S.me scheme.now) [] (entries_of S.certificate_bytes entries.now) ≡ Some error) }
-    ensures kept { OnOk result (first_broken_after D.eq epoch (S.me scheme.now) [] (entries_of S.certificate_bytes entries.now) ≡ None) }
+    ensures broken { IfErr result
+        (λ error. first_broken_after D.eq epoch (S.me scheme.now) []
+        (entries_of S.certificate_bytes entries.now) ≡ Some error) }
+    ensures kept { OnOk result
+        (first_broken_after D.eq epoch (S.me scheme.now) [] (entries_of S.certificate_bytes entries.now) ≡ None) }
 {
     let mut seen = Seen::new(View::zero());
     for artifact in entries {
@@ -79,10 +84,14 @@ fn check_next<S: CertificateScheme, D: Digest>(
     artifact: &Artifact<S, D>,
 ) -> Result<(), RecoverError>
     ensures broken { IfErr result (λ error. first_error
-        (next_rules D.eq epoch (S.me scheme.now) seen.old (artifact_facts S.certificate_bytes artifact.now)) ≡ Some error) }
-    ensures kept { OnOk result (first_error (next_rules D.eq epoch (S.me scheme.now) seen.old (artifact_facts S.certificate_bytes artifact.now)) ≡ None) }
+        (next_rules D.eq epoch (S.me scheme.now) seen.old (artifact_facts S.certificate_bytes artifact.now)) ≡ Some
+        error) }
+    ensures kept { OnOk result
+        (first_error (next_rules D.eq epoch (S.me scheme.now) seen.old
+        (artifact_facts S.certificate_bytes artifact.now)) ≡ None) }
     ensures seen { OnOk result (seen.new ≡ seen_with
-        (turned_to seen.old (entry_view (artifact_facts S.certificate_bytes artifact.now))) (artifact_facts S.certificate_bytes artifact.now)) }
+        (turned_to seen.old (entry_view (artifact_facts S.certificate_bytes artifact.now)))
+        (artifact_facts S.certificate_bytes artifact.now)) }
 {
     let view = artifact.view();
     if view < seen.view {
@@ -101,8 +110,10 @@ fn check_alone<S: CertificateScheme, D: Digest>(
     me: Option<Participant>,
     artifact: &Artifact<S, D>,
 ) -> Result<(), RecoverError>
-    ensures broken { IfErr result (λ error. first_error (own_rules epoch me (artifact_facts S.certificate_bytes artifact.now)) ≡ Some error) }
-    ensures kept { OnOk result (first_error (own_rules epoch me (artifact_facts S.certificate_bytes artifact.now)) ≡ None) }
+    ensures broken { IfErr result
+        (λ error. first_error (own_rules epoch me (artifact_facts S.certificate_bytes artifact.now)) ≡ Some error) }
+    ensures kept { OnOk result
+        (first_error (own_rules epoch me (artifact_facts S.certificate_bytes artifact.now)) ≡ None) }
 {
     match artifact {
         Artifact::Notarize(vote) => check_vote(epoch, me, vote.signer, &vote.proposal),

@@ -16,7 +16,8 @@ pub fn drop_last<S: CertificateScheme, D: Digest>(
     closed: usize,
     count: u64,
 )
-    ensures left { entries_of S.certificate_bytes entries.new.items ≡ without_last closed count (entries_of S.certificate_bytes entries.old.items) }
+    ensures left { entries_of S.certificate_bytes entries.new.items ≡ without_last closed count
+        (entries_of S.certificate_bytes entries.old.items) }
     ensures votes { votes_of entries.new.items ≡ votes_of entries.old.items }
 {
     let mut left = count;
@@ -32,7 +33,8 @@ pub fn prune_record<S: CertificateScheme, D: Digest>(
     entries: &mut Vec<Artifact<S, D>>,
     retention: ViewDelta,
 )
-    ensures left { entries_of S.certificate_bytes entries.new.items ≡ pruned_entries retention (entries_of S.certificate_bytes entries.old.items) }
+    ensures left { entries_of S.certificate_bytes entries.new.items ≡ pruned_entries retention
+        (entries_of S.certificate_bytes entries.old.items) }
     ensures votes { votes_of entries.new.items
         ≡ pruned_votes retention (entries_of S.certificate_bytes entries.old.items) (votes_of entries.old.items) }
 {
@@ -55,7 +57,8 @@ pub fn lowest_retained<S: CertificateScheme, D: Digest>(
 pub fn keep_from<S: CertificateScheme, D: Digest>(entries: &mut Vec<Artifact<S, D>>, view: View)
     ensures left { entries_of S.certificate_bytes entries.new.items
         ≡ filter (λ e. nat_le view (entry_view e)) (entries_of S.certificate_bytes entries.old.items) }
-    ensures votes { votes_of entries.new.items ≡ filter (λ v. nat_le view (entry_view v.vote)) (votes_of entries.old.items) }
+    ensures votes { votes_of entries.new.items ≡ filter (λ v. nat_le view (entry_view v.vote))
+        (votes_of entries.old.items) }
 {
     entries.retain(|artifact| artifact.view() >= view);
 }

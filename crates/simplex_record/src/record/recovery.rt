@@ -31,7 +31,8 @@ fn add<S: CertificateScheme, L: Elector<S>, D: Digest>(
     requires in_time { has_late_deadline state.old now ≡ false }
     requires kept { takes_round state.old (artifact_round artifact.now) ≡ true }
     requires small { artifact_too_large artifact.now ≡ false }
-    ensures after { OnOk result (state.new ≡ after_adding D.eq L.elect state.old now (artifact_facts S.certificate_bytes artifact.now)) }
+    ensures after { OnOk result
+        (state.new ≡ after_adding D.eq L.elect state.old now (artifact_facts S.certificate_bytes artifact.now)) }
     ensures refused { IfErr result (λ fault. fault ≡ OutOfMemory) }
 {
     match artifact {
@@ -77,7 +78,8 @@ fn replay<S: CertificateScheme, L: Elector<S>, D: Digest>(
     requires resumption { state.old.failed ≡ false }
     requires small { artifact_too_large artifact.now ≡ false }
     requires taken { TakesReplay state.old artifact.now }
-    ensures after { OnOk result (state.new ≡ after_replaying D.eq L.elect state.old (artifact_facts S.certificate_bytes artifact.now)) }
+    ensures after { OnOk result
+        (state.new ≡ after_replaying D.eq L.elect state.old (artifact_facts S.certificate_bytes artifact.now)) }
     ensures refused { IfErr result (λ fault. fault ≡ OutOfMemory) }
 {
     state.replay(artifact)
@@ -92,7 +94,8 @@ fn give<S: CertificateScheme, L: Elector<S>, D: Digest>(
     requires resumption { state.old.failed ≡ false }
     requires in_time { has_late_deadline state.old now ≡ false }
     requires allowed { GivesVerdict state.old (artifact_facts S.certificate_bytes artifact.now) }
-    ensures after { OnOk result (state.new ≡ after_verdict_of L.elect state.old now (artifact_facts S.certificate_bytes artifact.now)) }
+    ensures after { OnOk result
+        (state.new ≡ after_verdict_of L.elect state.old now (artifact_facts S.certificate_bytes artifact.now)) }
     ensures refused { IfErr result (λ fault. fault ≡ OutOfMemory) }
 {
     if let Artifact::Certification(round, success) = artifact {
@@ -112,7 +115,8 @@ fn take<S: CertificateScheme, L: Elector<S>, D: Digest>(
     requires in_time { has_late_deadline state.old now ≡ false }
     requires small { artifact_too_large artifact.now ≡ false }
     requires taken { TakesEntry S.certificate_bytes D.eq L.elect state.old now artifact.now }
-    ensures after { OnOk result (state.new ≡ after_entry D.eq L.elect state.old now (artifact_facts S.certificate_bytes artifact.now)) }
+    ensures after { OnOk result
+        (state.new ≡ after_entry D.eq L.elect state.old now (artifact_facts S.certificate_bytes artifact.now)) }
     ensures refused { IfErr result (λ fault. fault ≡ OutOfMemory) }
 {
     add(alloc, state, artifact, now)?;
@@ -131,7 +135,8 @@ fn take_kept<S: CertificateScheme, L: Elector<S>, D: Digest>(
     requires resumption { state.old.failed ≡ false }
     requires in_time { has_late_deadline state.old now ≡ false }
     requires next { TakesNext S.certificate_bytes D.eq L.elect state.old now artifact.now }
-    ensures after { OnOk result (state.new ≡ after_kept_entry D.eq L.elect state.old now (artifact_facts S.certificate_bytes artifact.now)) }
+    ensures after { OnOk result
+        (state.new ≡ after_kept_entry D.eq L.elect state.old now (artifact_facts S.certificate_bytes artifact.now)) }
     ensures refused { IfErr result (λ fault. fault ≡ OutOfMemory) }
 {
     if artifact.view() < state.min_active() {
@@ -150,7 +155,8 @@ fn take_all<S: CertificateScheme, L: Elector<S>, D: Digest>(
     requires resumption { state.old.failed ≡ false }
     requires in_time { has_late_deadline state.old now ≡ false }
     requires each { TakesEntries S.certificate_bytes D.eq L.elect state.old now entries.now }
-    ensures after { OnOk result (state.new ≡ after_entries D.eq L.elect state.old now (entries_of S.certificate_bytes entries.now)) }
+    ensures after { OnOk result
+        (state.new ≡ after_entries D.eq L.elect state.old now (entries_of S.certificate_bytes entries.now)) }
     ensures refused { IfErr result (λ fault. fault ≡ OutOfMemory) }
 {
     for artifact in entries {
@@ -166,14 +172,18 @@ pub fn remake<S: CertificateScheme, L: Elector<S>, D: Digest>(
     entries: &[Artifact<S, D>],
 ) -> Result<(Box<State<S, L, D>>, Option<Finalization<S, D>>), RecoverError>
     requires { L.members start.settings.elector ≡ length (S.participants start.settings.scheme) }
-    ensures recovered { IfOk result (λ made. made.0.value ≡ recovered_state D.eq L.elect (set_up S.me S.participants L.terms L.elects_early start.settings)
+    ensures recovered { IfOk result
+        (λ made. made.0.value ≡ recovered_state D.eq L.elect
+        (set_up S.me S.participants L.terms L.elects_early start.settings)
         (floor_facts S.certificate_bytes start.floor) start.now (entries_of S.certificate_bytes entries.now)) }
     ensures resumption { IfOk result (λ made. (made.0.value.failed ≡ false) × (is_started made.0.value ≡ true)) }
     ensures floor { IfOk result (λ made. option_map (finalization_facts S.certificate_bytes) made.1
         ≡ floor_answer (floor_facts S.certificate_bytes start.floor)) }
-    ensures accepted { OnOk result (recover_error D.eq (set_up S.me S.participants L.terms L.elects_early start.settings)
+    ensures accepted { OnOk result
+        (recover_error D.eq (set_up S.me S.participants L.terms L.elects_early start.settings)
         (floor_facts S.certificate_bytes start.floor) start.now (entries_of S.certificate_bytes entries.now) ≡ None) }
-    ensures refused { IfErr result (IsErrorDue (recover_error D.eq (set_up S.me S.participants L.terms L.elects_early start.settings)
+    ensures refused { IfErr result
+        (IsErrorDue (recover_error D.eq (set_up S.me S.participants L.terms L.elects_early start.settings)
         (floor_facts S.certificate_bytes start.floor) start.now (entries_of S.certificate_bytes entries.now))) }
 {
     let Start {
@@ -203,11 +213,15 @@ pub fn recover<S: CertificateScheme, L: Elector<S>, D: Digest>(
     entries: &[Artifact<S, D>],
 ) -> Result<State<S, L, D>, RecoverError>
     requires { L.members start.settings.elector ≡ length (S.participants start.settings.scheme) }
-    ensures recovered { IfOk result (λ state. state ≡ recovered_state D.eq L.elect (set_up S.me S.participants L.terms L.elects_early start.settings)
+    ensures recovered { IfOk result
+        (λ state. state ≡ recovered_state D.eq L.elect
+        (set_up S.me S.participants L.terms L.elects_early start.settings)
         (floor_facts S.certificate_bytes start.floor) start.now (entries_of S.certificate_bytes entries.now)) }
-    ensures accepted { OnOk result (recover_error D.eq (set_up S.me S.participants L.terms L.elects_early start.settings)
+    ensures accepted { OnOk result
+        (recover_error D.eq (set_up S.me S.participants L.terms L.elects_early start.settings)
         (floor_facts S.certificate_bytes start.floor) start.now (entries_of S.certificate_bytes entries.now) ≡ None) }
-    ensures refused { IfErr result (IsErrorDue (recover_error D.eq (set_up S.me S.participants L.terms L.elects_early start.settings)
+    ensures refused { IfErr result
+        (IsErrorDue (recover_error D.eq (set_up S.me S.participants L.terms L.elects_early start.settings)
         (floor_facts S.certificate_bytes start.floor) start.now (entries_of S.certificate_bytes entries.now))) }
 {
     let (state, _finalization) = remake(alloc, start, entries)?;

@@ -50,8 +50,11 @@ impl<D: Digest> Seen<D> {
         &self,
         artifact: &Artifact<S, D>,
     ) -> Result<(), RecoverError>
-        ensures broken { IfErr result (λ error. first_error (seen_rules D.eq self.now (artifact_facts S.certificate_bytes artifact.now)) ≡ Some error) }
-        ensures kept { OnOk result (first_error (seen_rules D.eq self.now (artifact_facts S.certificate_bytes artifact.now)) ≡ None) }
+        ensures broken { IfErr result
+            (λ error. first_error (seen_rules D.eq self.now (artifact_facts S.certificate_bytes artifact.now)) ≡ Some
+            error) }
+        ensures kept { OnOk result
+            (first_error (seen_rules D.eq self.now (artifact_facts S.certificate_bytes artifact.now)) ≡ None) }
     {
         match artifact {
             Artifact::Notarize(vote) => refuse_if(

@@ -47,8 +47,10 @@ impl<S: Scheme<D>, L: Elector<S>, D: Digest> Start<S, L, D> {
         ensures tested { MatchOption
             (start_error (first_broken_rule (length (S.participants config.scheme)) (S.accepts config.scheme) config)
             (L.members elector == length (S.participants config.scheme)))
-            (result ≡ Ok (start_by (length (S.participants config.scheme)) config elector now)) (λ error. result ≡ Err error) }
-        ensures fits { IfOk result (λ start. L.members start.settings.elector ≡ length (S.participants start.settings.scheme)) }
+            (result ≡ Ok (start_by (length (S.participants config.scheme)) config elector now))
+            (λ error. result ≡ Err error) }
+        ensures fits { IfOk result
+            (λ start. L.members start.settings.elector ≡ length (S.participants start.settings.scheme)) }
     {
         if let Err(broken) = config.assert() {
             return Err(StartError::Config(broken));

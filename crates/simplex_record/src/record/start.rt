@@ -47,8 +47,11 @@ pub fn begin<S: CertificateScheme, L: Elector<S>, D: Digest>(
 ) -> Result<(Box<State<S, L, D>>, Option<Finalization<S, D>>), RecoverError>
     requires { L.members settings.elector ≡ length (S.participants settings.scheme) }
     ensures begun { IfOk result (λ begun. begun.0.value
-        ≡ after_set_floor D.eq L.elect (set_up S.me S.participants L.terms L.elects_early settings) (floor_facts S.certificate_bytes floor) now) }
-    ensures floor { IfOk result (λ begun. option_map (finalization_facts S.certificate_bytes) begun.1 ≡ floor_answer (floor_facts S.certificate_bytes floor)) }
+        ≡ after_set_floor D.eq L.elect (set_up S.me S.participants L.terms L.elects_early settings)
+        (floor_facts S.certificate_bytes floor) now) }
+    ensures floor { IfOk result
+        (λ begun. option_map (finalization_facts S.certificate_bytes) begun.1 ≡ floor_answer
+        (floor_facts S.certificate_bytes floor)) }
     ensures accepted { OnOk result (recover_error D.eq (set_up S.me S.participants L.terms L.elects_early settings)
         (floor_facts S.certificate_bytes floor) now [] ≡ None) }
     ensures refused { IfErr result (IsErrorDue (recover_error D.eq

@@ -21,7 +21,8 @@ pub(super) fn pass_every<S: CertificateScheme, D: Digest>(
 ) -> Result<(), Fault>
     requires resumption { state.old.is_failed ≡ false }
     requires sound { record_error (newest_first S.certificate_bytes entries.now) ≡ None }
-    ensures after { OnOk result (state.new ≡ all_after state.old (record_calls D.bytes S.certificate_bytes entries.now)) }
+    ensures after { OnOk result
+        (state.new ≡ all_after state.old (record_calls D.bytes S.certificate_bytes entries.now)) }
     ensures refused { IfErr result (λ fault. fault ≡ OutOfMemory) }
 {
     let mut places = Places::new(alloc);
@@ -44,9 +45,11 @@ fn hand<S: CertificateScheme, D: Digest>(
 ) -> Result<(), Fault>
     requires resumption { state.old.is_failed ≡ false }
     requires noted { AreNoted S.certificate_bytes places.now before.now }
-    requires sound { record_error (artifact_facts S.certificate_bytes artifact.now ∷ newest_first S.certificate_bytes before.now) ≡ None }
+    requires sound { record_error
+        (artifact_facts S.certificate_bytes artifact.now ∷ newest_first S.certificate_bytes before.now) ≡ None }
     ensures after { OnOk result (state.new ≡ all_after state.old
-        (entry_calls D.bytes (newest_first S.certificate_bytes before.now) (artifact_facts S.certificate_bytes artifact.now))) }
+        (entry_calls D.bytes (newest_first S.certificate_bytes before.now)
+        (artifact_facts S.certificate_bytes artifact.now))) }
     ensures refused { IfErr result (λ fault. fault ≡ OutOfMemory) }
 {
     match artifact {
@@ -75,7 +78,8 @@ fn pass_certificate<S: CertificateScheme, D: Digest>(
 ) -> Result<(), Fault>
     requires resumption { state.old.is_failed ≡ false }
     requires sound { certificate_error (certificate_facts S.certificate_bytes certificate) ≡ None }
-    ensures after { OnOk result (state.new ≡ after state.old (update D.bytes (certificate_facts S.certificate_bytes certificate))) }
+    ensures after { OnOk result
+        (state.new ≡ after state.old (update D.bytes (certificate_facts S.certificate_bytes certificate))) }
     ensures refused { IfErr result (λ fault. fault ≡ OutOfMemory) }
 {
     let _effects = state.updated(&certificate)?;

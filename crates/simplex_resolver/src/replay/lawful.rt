@@ -69,7 +69,8 @@ impl LawfulResolver {
         term_length: TermLength,
         entries: &[Artifact<S, D>],
     ) -> Result<LawfulResolver, ReplayError>
-        ensures begins { IfOk result (HasReceivedCalls term_length (replay_calls D.bytes S.certificate_bytes entries.now)) }
+        ensures begins { IfOk result
+            (HasReceivedCalls term_length (replay_calls D.bytes S.certificate_bytes entries.now)) }
         ensures accepted { OnOk result (record_error (newest_first S.certificate_bytes entries.now) ≡ None) }
         ensures refused { IfErr result (IsDue (record_error (newest_first S.certificate_bytes entries.now))) }
     {
@@ -96,8 +97,11 @@ impl LawfulResolver {
         certificate: &Certificate<S, D>,
     ) -> Result<Vec<Effect>, Fault>
         requires { 1 ≤ certificate_view certificate.now }
-        ensures made { IfOk result (λ es. IsMade (update D.bytes (certificate_facts S.certificate_bytes certificate.now)) self.old es.items self.new) }
-        ensures told { OnOk result (ReceivesMore self.old (update D.bytes (certificate_facts S.certificate_bytes certificate.now)) self.new) }
+        ensures made { IfOk result
+            (λ es. IsMade (update D.bytes (certificate_facts S.certificate_bytes certificate.now)) self.old
+            es.items self.new) }
+        ensures told { OnOk result
+            (ReceivesMore self.old (update D.bytes (certificate_facts S.certificate_bytes certificate.now)) self.new) }
         ensures accepted { OnOk result ((self.old.state.is_failed ≡ false) × (highest_view certificate.now < 2 ^ 63)) }
         ensures refused { IfErr result (λ fault. IsLeftBy self.old (highest_view certificate.now)
             (update D.bytes (certificate_facts S.certificate_bytes certificate.now)) fault self.new) }
@@ -120,9 +124,14 @@ impl LawfulResolver {
         success: bool,
     ) -> Result<Vec<Effect>, Fault>
         requires { 1 ≤ notarization.proposal.round.view }
-        ensures made { IfOk result (λ es. IsMade (verdict D.bytes (notarization_facts S.certificate_bytes notarization) success) self.old es.items self.new) }
-        ensures told { OnOk result (ReceivesMore self.old (verdict D.bytes (notarization_facts S.certificate_bytes notarization) success) self.new) }
-        ensures accepted { OnOk result ((self.old.state.is_failed ≡ false) × (highest_named notarization.proposal < 2 ^ 63)) }
+        ensures made { IfOk result
+            (λ es. IsMade (verdict D.bytes (notarization_facts S.certificate_bytes notarization) success) self.old
+            es.items self.new) }
+        ensures told { OnOk result
+            (ReceivesMore self.old (verdict D.bytes (notarization_facts S.certificate_bytes notarization) success)
+            self.new) }
+        ensures accepted { OnOk result
+            ((self.old.state.is_failed ≡ false) × (highest_named notarization.proposal < 2 ^ 63)) }
         ensures refused { IfErr result (λ fault. IsLeftBy self.old (highest_named notarization.proposal)
             (verdict D.bytes (notarization_facts S.certificate_bytes notarization) success) fault self.new) }
     {

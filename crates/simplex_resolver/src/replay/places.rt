@@ -84,7 +84,8 @@ fn store_position<S: CertificateScheme, D: Digest>(
     artifact: &Artifact<S, D>,
     place: usize,
 ) -> Result<(), AllocFailed<usize>>
-    ensures kept { OnOk result (places.new ≡ with_place places.old (artifact_facts S.certificate_bytes artifact.now) place) }
+    ensures kept { OnOk result
+        (places.new ≡ with_place places.old (artifact_facts S.certificate_bytes artifact.now) place) }
     ensures refused { OnErr result (places.new ≡ places.old) }
 {
     match artifact {

@@ -25,8 +25,11 @@ fn replay<S: CertificateScheme, D: Digest>(
 ) -> Result<Vec<Effect>, Fault>
     requires resumption { state.old.is_failed ≡ false }
     requires sound { record_error (newest_first S.certificate_bytes entries.now) ≡ None }
-    ensures after { OnOk result (state.new ≡ all_after state.old (replay_calls D.bytes S.certificate_bytes entries.now)) }
-    ensures effects { IfOk result (λ es. es.items ≡ effects (all_after state.old (record_calls D.bytes S.certificate_bytes entries.now)) Replayed) }
+    ensures after { OnOk result
+        (state.new ≡ all_after state.old (replay_calls D.bytes S.certificate_bytes entries.now)) }
+    ensures effects { IfOk result
+        (λ es. es.items ≡ effects
+        (all_after state.old (record_calls D.bytes S.certificate_bytes entries.now)) Replayed) }
     ensures refused { IfErr result (λ fault. fault ≡ OutOfMemory) }
 {
     pass_every(alloc, state, entries)?;
@@ -49,7 +52,8 @@ pub fn replay_record<S: CertificateScheme, D: Digest>(
     term_length: TermLength,
     entries: &[Artifact<S, D>],
 ) -> Result<(State, Vec<Effect>), ReplayError>
-    ensures state { IfOk result (λ made. made.0 ≡ facts_of term_length (replay_calls D.bytes S.certificate_bytes entries.now)) }
+    ensures state { IfOk result
+        (λ made. made.0 ≡ facts_of term_length (replay_calls D.bytes S.certificate_bytes entries.now)) }
     ensures effects { IfOk result (λ made. made.1.items
         ≡ effects (facts_of term_length (record_calls D.bytes S.certificate_bytes entries.now)) Replayed) }
     ensures named { OnOk result (AllByRecursion NamesAView (replay_calls D.bytes S.certificate_bytes entries.now)) }

@@ -69,7 +69,8 @@ impl Notarizations {
 
     /// Records that the view's last verdict was true, and stores the encoding to serve.
     pub(super) fn certify(&mut self, view: View, encoding: Bytes) -> Result<(), Fault>
-        ensures { OnOk result (self.new ≡ record self.old { by_view = map.insert self.old.by_view view (Some encoding) }) }
+        ensures { OnOk result (self.new ≡ record
+            self.old { by_view = map.insert self.old.by_view view (Some encoding) }) }
     {
         served::put(&mut self.certified, view, encoding)?;
         self.noted.remove(view);

@@ -70,7 +70,8 @@ fn fetch_anchor(
     effects: &mut Vec<Effect>,
 ) -> Result<(), AllocError>
     ensures { OnOk result (effects.new.items ≡ effects.old.items
-        ++ (if not (has_covering nullifications.now anchor) then Fetch anchor cause MissingNullification ∷ [] else [])) }
+        ++ (if not (has_covering nullifications.now anchor)
+        then Fetch anchor cause MissingNullification ∷ [] else [])) }
 {
     if covering_nullification(nullifications, anchor).is_none() {
         effects.push(Effect::Fetch {

@@ -37,7 +37,8 @@ pub(super) fn store_nullification<S: CertificateScheme, D: Digest>(
 ) -> Result<(), Fault>
     requires { IsVotable view }
     ensures kept { OnOk result (nullifications.new ≡ record nullifications.old {
-      by_view = insert_new nullifications.old.by_view view (encoding D.bytes (certificate_facts S.certificate_bytes certificate.now));
+      by_view = insert_new nullifications.old.by_view view
+          (encoding D.bytes (certificate_facts S.certificate_bytes certificate.now));
     }) }
     ensures same_terms { nullifications.new.term_length ≡ nullifications.old.term_length }
 {
@@ -59,7 +60,8 @@ pub(super) fn store_finalization<S: CertificateScheme, D: Digest>(
     certificate: &Certificate<S, D>,
 ) -> Result<(), Fault>
     ensures kept { OnOk result (finalization.new ≡ (if nat_lt (option_map_or (λ f. f.0) finalization.old 0) view
-        then Some (view, encoding D.bytes (certificate_facts S.certificate_bytes certificate.now)) else finalization.old)) }
+        then Some (view, encoding D.bytes (certificate_facts S.certificate_bytes certificate.now))
+        else finalization.old)) }
     ensures refused { OnErr result (finalization.new ≡ finalization.old) }
 {
     let last = match finalization {

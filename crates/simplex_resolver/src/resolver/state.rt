@@ -163,8 +163,11 @@ impl State {
         certificate: &Certificate<S, D>,
     ) -> Result<Vec<Effect>, Fault>
         requires { 1 ≤ certificate_view certificate.now }
-        ensures after { OnOk result (self.new ≡ after self.old (update D.bytes (certificate_facts S.certificate_bytes certificate.now))) }
-        ensures effects { IfOk result (λ es. es.items ≡ effects self.old (update D.bytes (certificate_facts S.certificate_bytes certificate.now))) }
+        ensures after { OnOk result
+            (self.new ≡ after self.old (update D.bytes (certificate_facts S.certificate_bytes certificate.now))) }
+        ensures effects { IfOk result
+            (λ es. es.items ≡ effects self.old
+            (update D.bytes (certificate_facts S.certificate_bytes certificate.now))) }
         ensures accepted { OnOk result ((self.old.is_failed ≡ false) × (highest_view certificate.now < 2 ^ 63)) }
         ensures refused { IfErr result (λ fault. Refused self.old (highest_view certificate.now) fault self.new) }
     {
@@ -199,10 +202,15 @@ impl State {
         success: bool,
     ) -> Result<Vec<Effect>, Fault>
         requires { 1 ≤ notarization.proposal.round.view }
-        ensures after { OnOk result (self.new ≡ after self.old (verdict D.bytes (notarization_facts S.certificate_bytes notarization) success)) }
-        ensures effects { IfOk result (λ es. es.items ≡ effects self.old (verdict D.bytes (notarization_facts S.certificate_bytes notarization) success)) }
+        ensures after { OnOk result
+            (self.new ≡ after self.old
+            (verdict D.bytes (notarization_facts S.certificate_bytes notarization) success)) }
+        ensures effects { IfOk result
+            (λ es. es.items ≡ effects self.old
+            (verdict D.bytes (notarization_facts S.certificate_bytes notarization) success)) }
         ensures accepted { OnOk result ((self.old.is_failed ≡ false) × (highest_named notarization.proposal < 2 ^ 63)) }
-        ensures refused { IfErr result (λ fault. Refused self.old (highest_named notarization.proposal) fault self.new) }
+        ensures refused { IfErr result
+            (λ fault. Refused self.old (highest_named notarization.proposal) fault self.new) }
     {
         if self.failed {
             return Err(Fault::Failed);

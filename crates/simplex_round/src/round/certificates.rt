@@ -81,7 +81,8 @@ impl<S: CertificateScheme, D: Digest> Round<S, D> {
     ) -> (bool, Option<S::PublicKey>)
         ensures added { result ≡ (if is_some self.old.notarization then (false, None) else
             (true, equivocator (same_proposal D.eq) self.old notarization.proposal)) }
-        ensures facts { self.new ≡ with_notarization (same_proposal D.eq) self.old (notarization_facts S.certificate_bytes notarization) }
+        ensures facts { self.new ≡ with_notarization (same_proposal D.eq) self.old
+            (notarization_facts S.certificate_bytes notarization) }
     {
         let proposal = notarization.proposal;
         if store_first(&mut self.notarization, notarization) {
@@ -107,7 +108,8 @@ impl<S: CertificateScheme, D: Digest> Round<S, D> {
     ) -> (bool, Option<S::PublicKey>)
         ensures added { result ≡ (if is_some self.old.finalization then (false, None) else
             (true, equivocator (same_proposal D.eq) self.old finalization.proposal)) }
-        ensures facts { self.new ≡ with_finalization (same_proposal D.eq) self.old (finalization_facts S.certificate_bytes finalization) }
+        ensures facts { self.new ≡ with_finalization (same_proposal D.eq) self.old
+            (finalization_facts S.certificate_bytes finalization) }
     {
         let proposal = finalization.proposal;
         if store_first(&mut self.finalization, finalization) {
@@ -124,11 +126,15 @@ impl<S: CertificateScheme, D: Digest> Round<S, D> {
         alloc: Global,
     ) -> Result<Option<Notarization<S, D>>, Fault>
         ensures refused { IsOkUnless result Fault.OutOfMemory }
-        ensures refused_only_a_copy { OnErr result (is_some (once self.old.notarization_broadcast self.old.notarization) ≡ true) }
+        ensures refused_only_a_copy { OnErr result
+            (is_some (once self.old.notarization_broadcast self.old.notarization) ≡ true) }
         ensures unchanged { OnErr result (self.new ≡ self.old) }
         ensures answer { IfOk result (λ c. option_map (notarization_facts S.certificate_bytes) c
             ≡ once self.old.notarization_broadcast self.old.notarization) }
-        ensures facts { OnOk result (self.new ≡ record self.old { notarization_broadcast = self.old.notarization_broadcast || is_some self.old.notarization }) }
+        ensures facts { OnOk result
+            (self.new ≡ record self.old {
+              notarization_broadcast = self.old.notarization_broadcast || is_some self.old.notarization;
+            }) }
     {
         let copy = match self.unsent_notarization() {
             Some(notarization) => notarization.clone(alloc)?,
@@ -155,7 +161,8 @@ impl<S: CertificateScheme, D: Digest> Round<S, D> {
         alloc: Global,
     ) -> Result<Option<Nullification<S>>, Fault>
         ensures refused { IsOkUnless result Fault.OutOfMemory }
-        ensures refused_only_a_copy { OnErr result (is_some (once self.old.nullification_broadcast self.old.nullification) ≡ true) }
+        ensures refused_only_a_copy { OnErr result
+            (is_some (once self.old.nullification_broadcast self.old.nullification) ≡ true) }
         ensures unchanged { OnErr result (self.new ≡ self.old) }
         ensures answer { IfOk result (λ c. option_map (nullification_facts S.certificate_bytes) c
             ≡ once self.old.nullification_broadcast self.old.nullification) }
@@ -188,11 +195,15 @@ impl<S: CertificateScheme, D: Digest> Round<S, D> {
         alloc: Global,
     ) -> Result<Option<Finalization<S, D>>, Fault>
         ensures refused { IsOkUnless result Fault.OutOfMemory }
-        ensures refused_only_a_copy { OnErr result (is_some (once self.old.finalization_broadcast self.old.finalization) ≡ true) }
+        ensures refused_only_a_copy { OnErr result
+            (is_some (once self.old.finalization_broadcast self.old.finalization) ≡ true) }
         ensures unchanged { OnErr result (self.new ≡ self.old) }
         ensures answer { IfOk result (λ c. option_map (finalization_facts S.certificate_bytes) c
             ≡ once self.old.finalization_broadcast self.old.finalization) }
-        ensures facts { OnOk result (self.new ≡ record self.old { finalization_broadcast = self.old.finalization_broadcast || is_some self.old.finalization }) }
+        ensures facts { OnOk result
+            (self.new ≡ record self.old {
+              finalization_broadcast = self.old.finalization_broadcast || is_some self.old.finalization;
+            }) }
     {
         let copy = match self.unsent_finalization() {
             Some(finalization) => finalization.clone(alloc)?,

@@ -73,7 +73,8 @@ impl<S: CertificateScheme, D: Digest> Round<S, D> {
     /// Returns false, and changes nothing, if nullify was decided or another proposal is held, for
     /// example when a certificate came first.
     pub fn proposed(&mut self, now: u64, proposal: Proposal<D>) -> bool
-        ensures recorded { result ≡ (not (is_nullify self.old.decision) && holds_or_empty (same_proposal D.eq) self.old.slot proposal) }
+        ensures recorded { result ≡
+            (not (is_nullify self.old.decision) && holds_or_empty (same_proposal D.eq) self.old.slot proposal) }
         ensures facts { self.new ≡ (if result then record self.old {
           slot = after_own
               (same_proposal D.eq) self.old.slot proposal;
@@ -148,7 +149,8 @@ impl<S: CertificateScheme, D: Digest> Round<S, D> {
     /// decided, no proposal is held, it was verified before, or two were seen.
     pub fn verified(&mut self) -> bool
         ensures marked { result ≡ (not (is_nullify self.old.decision) && is_unverified self.old.slot) }
-        ensures facts { self.new ≡ (if is_nullify self.old.decision then self.old else record self.old { slot = after_mark self.old.slot }) }
+        ensures facts { self.new ≡
+            (if is_nullify self.old.decision then self.old else record self.old { slot = after_mark self.old.slot }) }
     {
         !self.is_nullified() && self.slot.mark_verified()
     }

@@ -96,7 +96,8 @@ impl<S: CertificateScheme, D: Digest> Round<S, D> {
         ensures refused { IsOkUnless result Fault.TimeOverflow }
         ensures unchanged { OnErr result (self.new ≡ self.old) }
         ensures facts { OnOk result (self.new ≡ with_retry self.old now retry_interval) }
-        ensures answer { IfOk result (λ timeout. timeout ≡ round_timeout (with_retry self.old now retry_interval) allow_latched) }
+        ensures answer { IfOk result
+            (λ timeout. timeout ≡ round_timeout (with_retry self.old now retry_interval) allow_latched) }
     {
         if self.finalization.is_some() {
             return Ok(None);

@@ -27,7 +27,8 @@ impl<S: CertificateScheme, D: Digest> Round<S, D> {
     /// Decides the vote to notarize and returns its proposal, once, if `can_construct_notarize`.
     pub fn construct_notarize(&mut self) -> Option<Proposal<D>>
         ensures vote { result ≡ (if can_notarize self.old then self.old.slot.held else None) }
-        ensures facts { self.new ≡ record self.old { notarize_decided = self.old.notarize_decided || can_notarize self.old } }
+        ensures facts { self.new ≡ record
+            self.old { notarize_decided = self.old.notarize_decided || can_notarize self.old } }
     {
         if !self.can_construct_notarize() {
             return None;
@@ -68,7 +69,8 @@ impl<S: CertificateScheme, D: Digest> Round<S, D> {
     /// Otherwise nothing changes.
     pub fn construct_finalize(&mut self) -> Option<Proposal<D>>
         ensures vote { result ≡ (if can_finalize self.old then self.old.slot.held else None) }
-        ensures facts { self.new ≡ (if can_finalize self.old then record self.old { decision = Finalize } else self.old) }
+        ensures facts { self.new ≡
+            (if can_finalize self.old then record self.old { decision = Finalize } else self.old) }
     {
         if !self.can_construct_finalize() {
             return None;

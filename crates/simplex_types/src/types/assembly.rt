@@ -27,8 +27,10 @@ pub trait Assembly<D: Digest>: Scheme<D> {
         ensures { IfOk result (IsMadeOf self.now subject.now signatures.now) };
 
     /// A certificate of valid signatures is valid.
-    ghost made_is_good: { (s : Self) (subject : Subject D) (signatures : List (ℕ × Self.Signature)) (certificate : Self.Certificate)
-        → IsSignedByQuorum Self.IsSignature (Self.participants s) subject signatures → IsMadeOf s subject signatures certificate
+    ghost made_is_good: { (s : Self) (subject : Subject D) (signatures : List (ℕ × Self.Signature))
+        (certificate : Self.Certificate)
+        → IsSignedByQuorum Self.IsSignature (Self.participants s) subject signatures
+        → IsMadeOf s subject signatures certificate
         → Self.accepts s subject certificate ≡ true };
 }
 

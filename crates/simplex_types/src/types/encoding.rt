@@ -25,7 +25,8 @@ impl<S: CertificateScheme, D: Digest> Certificate<S, D> {
     /// Two certificates have equal encodings exactly if their kind, round, proposal and scheme's bytes are equal. The
     /// only fault is `OutOfMemory`. `decode_certificate` of `simplex_codec` is the inverse.
     pub fn encode(&self, alloc: Global) -> Result<Bytes, Fault>
-        ensures encoded { IfOk result (λ bytes. bytes ≡ encoding D.bytes (certificate_facts S.certificate_bytes self.now)) }
+        ensures encoded { IfOk result
+            (λ bytes. bytes ≡ encoding D.bytes (certificate_facts S.certificate_bytes self.now)) }
         ensures refused { IsOkUnless result Fault.OutOfMemory }
     {
         let mut out = BytesMut::new(alloc);

@@ -106,7 +106,8 @@ pub trait Scheme<D: Digest>: CertificateScheme {
         subject: &Subject<D>,
     ) -> Result<Option<Self::Signature>, AllocError>
         ensures signs { IfOk result (λ s. is_some s ≡ is_some (Self.me self.now)) }
-        ensures signed { IfOk result (λ s. IfSome s (IsSignedAs IsSignature (Self.me self.now) (Self.participants self.now) subject.now)) };
+        ensures signed { IfOk result
+            (λ s. IfSome s (IsSignedAs IsSignature (Self.me self.now) (Self.participants self.now) subject.now)) };
 
     /// Returns whether the certificate is valid for the subject.
     fn verify(&self, subject: &Subject<D>, certificate: &Self::Certificate) -> bool
@@ -147,5 +148,6 @@ pub trait Elector<S: CertificateScheme>: Drop {
     ghost elected_is_member: { (e : Self) (round : Round) (seed : Option (List ℕ)) → elect e round seed < members e };
 
     /// If leaders are known early, the certificate makes no difference.
-    ghost early_needs_no_seed: { (e : Self) (round : Round) (seed : Option (List ℕ)) → elects_early e ≡ true → elect e round seed ≡ elect e round None };
+    ghost early_needs_no_seed: { (e : Self) (round : Round) (seed : Option (List ℕ)) → elects_early e ≡ true
+        → elect e round seed ≡ elect e round None };
 }

@@ -25,9 +25,11 @@ impl<S: CertificateScheme, L: Elector<S>, D: Digest> State<S, L, D> {
     pub fn get_best_certificate(&self) -> Result<Option<Certificate<S, D>>, Fault>
         requires { (self.now.failed || is_started self.now) ≡ true }
         ensures refused { IfSome (plain_refusal self.now) (λ fault. result ≡ Err fault) }
-        ensures answer { IfOk result (λ answer. option_map (certificate_facts S.certificate_bytes) answer ≡ best_certificate self.now) }
+        ensures answer { IfOk result
+            (λ answer. option_map (certificate_facts S.certificate_bytes) answer ≡ best_certificate self.now) }
         ensures out_of_memory { plain_refusal self.now ≡ None → IfErr result (λ fault. fault ≡ OutOfMemory) }
-        ensures refused_only_a_copy { plain_refusal self.now ≡ None → OnErr result (is_some (best_certificate self.now) ≡ true) }
+        ensures refused_only_a_copy { plain_refusal self.now ≡ None
+            → OnErr result (is_some (best_certificate self.now) ≡ true) }
     {
         if self.is_failed() {
             return Err(Fault::Failed);
@@ -40,7 +42,8 @@ impl<S: CertificateScheme, L: Elector<S>, D: Digest> State<S, L, D> {
 
     /// Returns a copy of the certificate of a view that helps others past it.
     fn entry_certificate(&self, view: View) -> Result<Option<Certificate<S, D>>, Fault>
-        ensures answer { IfOk result (λ answer. option_map (certificate_facts S.certificate_bytes) answer ≡ entry_certificate self.now view) }
+        ensures answer { IfOk result
+            (λ answer. option_map (certificate_facts S.certificate_bytes) answer ≡ entry_certificate self.now view) }
         ensures refused { IfErr result (λ fault. fault ≡ OutOfMemory) }
         ensures refused_only_a_copy { OnErr result (is_some (entry_certificate self.now view) ≡ true) }
     {
@@ -64,7 +67,8 @@ impl<S: CertificateScheme, L: Elector<S>, D: Digest> State<S, L, D> {
 
     /// The nullification that covers a view and is stored at the highest nullified view, if the current view starts a term.
     fn entry_nullification(&self, view: View) -> Option<&Nullification<S>>
-        ensures { option_map (nullification_facts S.certificate_bytes) (option_copied result) ≡ entry_nullification self.now view }
+        ensures { option_map (nullification_facts S.certificate_bytes) (option_copied result) ≡
+            entry_nullification self.now view }
     {
         if !self.is_term_start(self.current) {
             return None;
@@ -91,10 +95,13 @@ impl<S: CertificateScheme, L: Elector<S>, D: Digest> State<S, L, D> {
     ) -> Result<Option<Notarization<S, D>>, Fault>
         requires { (self.old.failed || is_started self.old) ≡ true }
         ensures refused { IfSome (plain_refusal self.old) (λ fault. (result ≡ Err fault) × (self.new ≡ self.old)) }
-        ensures answer { IfOk result (λ c. option_map (notarization_facts S.certificate_bytes) c ≡ broadcast_notarization_answer self.old view) }
+        ensures answer { IfOk result
+            (λ c. option_map (notarization_facts S.certificate_bytes) c ≡ broadcast_notarization_answer self.old view) }
         ensures after { OnOk result (self.new ≡ after_broadcast_notarization self.old view) }
-        ensures out_of_memory { plain_refusal self.old ≡ None → IfErr result (λ fault. (fault ≡ OutOfMemory) × HasFailed self.old self.new) }
-        ensures refused_only_a_copy { plain_refusal self.old ≡ None → OnErr result (is_some (broadcast_notarization_answer self.old view) ≡ true) }
+        ensures out_of_memory { plain_refusal self.old ≡ None
+            → IfErr result (λ fault. (fault ≡ OutOfMemory) × HasFailed self.old self.new) }
+        ensures refused_only_a_copy { plain_refusal self.old ≡ None
+            → OnErr result (is_some (broadcast_notarization_answer self.old view) ≡ true) }
     {
         if self.is_failed() {
             return Err(Fault::Failed);
@@ -114,10 +121,14 @@ impl<S: CertificateScheme, L: Elector<S>, D: Digest> State<S, L, D> {
     pub fn broadcast_nullification(&mut self, view: View) -> Result<Option<Nullification<S>>, Fault>
         requires { (self.old.failed || is_started self.old) ≡ true }
         ensures refused { IfSome (plain_refusal self.old) (λ fault. (result ≡ Err fault) × (self.new ≡ self.old)) }
-        ensures answer { IfOk result (λ c. option_map (nullification_facts S.certificate_bytes) c ≡ broadcast_nullification_answer self.old view) }
+        ensures answer { IfOk result
+            (λ c. option_map (nullification_facts S.certificate_bytes) c ≡
+            broadcast_nullification_answer self.old view) }
         ensures after { OnOk result (self.new ≡ after_broadcast_nullification self.old view) }
-        ensures out_of_memory { plain_refusal self.old ≡ None → IfErr result (λ fault. (fault ≡ OutOfMemory) × HasFailed self.old self.new) }
-        ensures refused_only_a_copy { plain_refusal self.old ≡ None → OnErr result (is_some (broadcast_nullification_answer self.old view) ≡ true) }
+        ensures out_of_memory { plain_refusal self.old ≡ None
+            → IfErr result (λ fault. (fault ≡ OutOfMemory) × HasFailed self.old self.new) }
+        ensures refused_only_a_copy { plain_refusal self.old ≡ None
+            → OnErr result (is_some (broadcast_nullification_answer self.old view) ≡ true) }
     {
         if self.is_failed() {
             return Err(Fault::Failed);
@@ -140,10 +151,13 @@ impl<S: CertificateScheme, L: Elector<S>, D: Digest> State<S, L, D> {
     ) -> Result<Option<Finalization<S, D>>, Fault>
         requires { (self.old.failed || is_started self.old) ≡ true }
         ensures refused { IfSome (plain_refusal self.old) (λ fault. (result ≡ Err fault) × (self.new ≡ self.old)) }
-        ensures answer { IfOk result (λ c. option_map (finalization_facts S.certificate_bytes) c ≡ broadcast_finalization_answer self.old view) }
+        ensures answer { IfOk result
+            (λ c. option_map (finalization_facts S.certificate_bytes) c ≡ broadcast_finalization_answer self.old view) }
         ensures after { OnOk result (self.new ≡ after_broadcast_finalization self.old view) }
-        ensures out_of_memory { plain_refusal self.old ≡ None → IfErr result (λ fault. (fault ≡ OutOfMemory) × HasFailed self.old self.new) }
-        ensures refused_only_a_copy { plain_refusal self.old ≡ None → OnErr result (is_some (broadcast_finalization_answer self.old view) ≡ true) }
+        ensures out_of_memory { plain_refusal self.old ≡ None
+            → IfErr result (λ fault. (fault ≡ OutOfMemory) × HasFailed self.old self.new) }
+        ensures refused_only_a_copy { plain_refusal self.old ≡ None
+            → OnErr result (is_some (broadcast_finalization_answer self.old view) ≡ true) }
     {
         if self.is_failed() {
             return Err(Fault::Failed);

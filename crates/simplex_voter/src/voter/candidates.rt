@@ -146,7 +146,8 @@ impl<S: CertificateScheme, L: Elector<S>, D: Digest> State<S, L, D> {
 
     /// Returns whether the view is neither certified nor notarized.
     fn is_unknown(&self, view: View) -> bool
-        ensures { result ≡ (is_none (explicit_ancestry_payload self.now view) && is_none (round_of self.now view).notarization) }
+        ensures { result ≡ (is_none (explicit_ancestry_payload self.now view)
+            && is_none (round_of self.now view).notarization) }
     {
         self.explicit_ancestry_payload(view).is_none() && self.notarization(view).is_none()
     }
@@ -160,9 +161,11 @@ impl<S: CertificateScheme, L: Elector<S>, D: Digest> State<S, L, D> {
     pub fn certify_candidates(&mut self) -> Result<(Vec<Proposal<D>>, Vec<CertificateFetch>), Fault>
         requires { (self.old.failed || is_started self.old) ≡ true }
         ensures refused { IfSome (plain_refusal self.old) (λ fault. (result ≡ Err fault) × (self.new ≡ self.old)) }
-        ensures answer { IfOk result (λ answer. (answer.0.items, answer.1.items) ≡ candidates_answer D.eq L.elect self.old) }
+        ensures answer { IfOk result
+            (λ answer. (answer.0.items, answer.1.items) ≡ candidates_answer D.eq L.elect self.old) }
         ensures after { OnOk result (self.new ≡ after_candidates self.old) }
-        ensures out_of_memory { plain_refusal self.old ≡ None → IfErr result (λ fault. (fault ≡ OutOfMemory) × HasFailed self.old self.new) }
+        ensures out_of_memory { plain_refusal self.old ≡ None
+            → IfErr result (λ fault. (fault ≡ OutOfMemory) × HasFailed self.old self.new) }
     {
         if self.is_failed() {
             return Err(Fault::Failed);
@@ -184,8 +187,10 @@ impl<S: CertificateScheme, L: Elector<S>, D: Digest> State<S, L, D> {
         &self,
         mut views: Entries<'_, ()>,
     ) -> Result<(Vec<Proposal<D>>, Vec<CertificateFetch>), Fault>
-        ensures offers { IfOk result (λ answer. answer.0.items ≡ filter_map (λ e. offered_of D.eq L.elect self.now e.0) views.entry) }
-        ensures fetches { IfOk result (λ answer. answer.1.items ≡ filter_map (λ e. fetched_of L.elect self.now e.0) views.entry) }
+        ensures offers { IfOk result
+            (λ answer. answer.0.items ≡ filter_map (λ e. offered_of D.eq L.elect self.now e.0) views.entry) }
+        ensures fetches { IfOk result
+            (λ answer. answer.1.items ≡ filter_map (λ e. fetched_of L.elect self.now e.0) views.entry) }
         ensures refused { IfErr result (λ fault. fault ≡ OutOfMemory) }
     {
         let mut offers = Vec::new(self.alloc);

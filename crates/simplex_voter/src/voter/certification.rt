@@ -30,8 +30,10 @@ impl<S: CertificateScheme, L: Elector<S>, D: Digest> State<S, L, D> {
         now: u64,
     ) -> Result<Option<Notarization<S, D>>, Fault>
         requires { (self.old.failed || takes_verdict self.old view success) ≡ true }
-        ensures refused { IfSome (certified_refusal self.old view success now) (λ fault. (result ≡ Err fault) × (self.new ≡ self.old)) }
-        ensures answer { IfOk result (λ answer. option_map (notarization_facts S.certificate_bytes) answer ≡ certified_answer self.old view) }
+        ensures refused { IfSome (certified_refusal self.old view success now)
+            (λ fault. (result ≡ Err fault) × (self.new ≡ self.old)) }
+        ensures answer { IfOk result
+            (λ answer. option_map (notarization_facts S.certificate_bytes) answer ≡ certified_answer self.old view) }
         ensures after { OnOk result (self.new ≡ after_certified L.elect self.old view success now) }
         ensures out_of_memory { certified_refusal self.old view success now ≡ None
             → IfErr result (λ fault. (fault ≡ OutOfMemory) × HasFailed self.old self.new) }
@@ -64,8 +66,10 @@ impl<S: CertificateScheme, L: Elector<S>, D: Digest> State<S, L, D> {
     ) -> Result<Option<Notarization<S, D>>, Fault>
         requires taken { takes_verdict self.old view success ≡ true }
         requires tracked { is_tracked self.old view ≡ true }
-        requires deadlines { success ≡ true → nat_lt self.old.current (view + 1) ≡ true → deadlines.now ≡ deadlines_at self.old now }
-        ensures answer { IfOk result (λ answer. option_map (notarization_facts S.certificate_bytes) answer ≡ certified_answer self.old view) }
+        requires deadlines { success ≡ true → nat_lt self.old.current (view + 1) ≡ true
+            → deadlines.now ≡ deadlines_at self.old now }
+        ensures answer { IfOk result
+            (λ answer. option_map (notarization_facts S.certificate_bytes) answer ≡ certified_answer self.old view) }
         ensures taken { OnOk result (self.new ≡ verdict_taken L.elect (at_moment self.old now) view success now) }
         ensures refused { IfErr result (λ fault. fault ≡ OutOfMemory) }
         ensures setup { HasSameSetup self.old self.new }
@@ -85,7 +89,8 @@ impl<S: CertificateScheme, L: Elector<S>, D: Digest> State<S, L, D> {
     ) -> Result<(), Fault>
         requires taken { takes_verdict self.old view success ≡ true }
         requires tracked { is_tracked self.old view ≡ true }
-        requires deadlines { success ≡ true → nat_lt self.old.current (view + 1) ≡ true → deadlines.now ≡ deadlines_at self.old now }
+        requires deadlines { success ≡ true → nat_lt self.old.current (view + 1) ≡ true
+            → deadlines.now ≡ deadlines_at self.old now }
         ensures taken { OnOk result (self.new ≡ verdict_taken L.elect (at_moment self.old now) view success now) }
         ensures refused { IfErr result (λ fault. fault ≡ OutOfMemory) }
         ensures setup { HasSameSetup self.old self.new }
@@ -116,7 +121,8 @@ impl<S: CertificateScheme, L: Elector<S>, D: Digest> State<S, L, D> {
 
     /// Returns a copy of the view's notarization, if there is one.
     fn copy_notarization(&self, view: View) -> Result<Option<Notarization<S, D>>, Fault>
-        ensures copy { IfOk result (λ answer. option_map (notarization_facts S.certificate_bytes) answer ≡ certified_answer self.now view) }
+        ensures copy { IfOk result
+            (λ answer. option_map (notarization_facts S.certificate_bytes) answer ≡ certified_answer self.now view) }
         ensures refused { IfErr result (λ fault. fault ≡ OutOfMemory) }
     {
         match self.notarization(view) {

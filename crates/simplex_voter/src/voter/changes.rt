@@ -33,7 +33,8 @@ impl<S: CertificateScheme, D: Digest> Rounds<S, D> {
     ) -> Result<(bool, Option<S::PublicKey>), Fault>
         requires { view < 2 ^ 63 }
         ensures added { IfOk result (λ added.
-            added ≡ added_answer D.eq (round_in self.old view).notarization (round_in self.old view) notarization.proposal) }
+            added ≡ added_answer D.eq (round_in self.old view).notarization (round_in self.old view)
+            notarization.proposal) }
         ensures kept { OnOk result (self.new ≡ with_change self.old view (λ r.
             with_notarization (same_proposal D.eq) r (notarization_facts S.certificate_bytes notarization))) }
         ensures refused { IfErr result (λ fault. fault ≡ OutOfMemory) }
@@ -53,7 +54,9 @@ impl<S: CertificateScheme, D: Digest> Rounds<S, D> {
         nullification: Nullification<S>,
     ) -> Result<(), Fault>
         requires { view ≤ largest_tracked }
-        ensures kept { OnOk result (self.new ≡ with_change self.old view (λ r. with_nullification r (nullification_facts S.certificate_bytes nullification))) }
+        ensures kept { OnOk result
+            (self.new ≡ with_change self.old view
+            (λ r. with_nullification r (nullification_facts S.certificate_bytes nullification))) }
         ensures refused { IfErr result (λ fault. fault ≡ OutOfMemory) }
         ensures origin { HasSameOrigin self.old self.new }
     {
@@ -74,7 +77,8 @@ impl<S: CertificateScheme, D: Digest> Rounds<S, D> {
     ) -> Result<(bool, Option<S::PublicKey>), Fault>
         requires { view ≤ largest_tracked }
         ensures added { IfOk result (λ added.
-            added ≡ added_answer D.eq (round_in self.old view).finalization (round_in self.old view) finalization.proposal) }
+            added ≡ added_answer D.eq (round_in self.old view).finalization (round_in self.old view)
+            finalization.proposal) }
         ensures kept { OnOk result (self.new ≡ with_change self.old view (λ r.
             with_finalization (same_proposal D.eq) r (finalization_facts S.certificate_bytes finalization))) }
         ensures refused { IfErr result (λ fault. fault ≡ OutOfMemory) }
@@ -185,7 +189,8 @@ impl<S: CertificateScheme, D: Digest> Rounds<S, D> {
 
     /// Records the verdict of a view's certification; no other verdict may contradict it.
     pub(super) fn judge(&mut self, view: View, success: bool) -> Result<(), Fault>
-        requires { option_map_or (λ r. is_judged (not success) r.certification) (find_round self.old view) false ≡ false }
+        requires { option_map_or (λ r. is_judged (not success) r.certification)
+            (find_round self.old view) false ≡ false }
         ensures judged { OnOk result (self.new ≡ with_change_in_place self.old view (λ r. certified_round r success)) }
         ensures refused { IfErr result (λ fault. fault ≡ OutOfMemory) }
         ensures origin { HasSameOrigin self.old self.new }
@@ -223,7 +228,8 @@ impl<S: CertificateScheme, D: Digest> Rounds<S, D> {
         ensures refused { IfErr result (λ fault. (fault ≡ TimeOverflow) × (self.new ≡ self.old)) }
         ensures polled { OnOk result (self.new ≡ with_change_in_place self.old view (λ r. with_retry r now retry)) }
         ensures answer { IfOk result (λ timeout.
-            timeout ≡ option_and_then (λ r. round_timeout (with_retry r now retry) allow_latched) (find_round self.old view)) }
+            timeout ≡ option_and_then (λ r. round_timeout (with_retry r now retry) allow_latched)
+            (find_round self.old view)) }
         ensures origin { HasSameOrigin self.old self.new }
     {
         let Some(round) = self.by_view.get_mut(view) else {
@@ -234,7 +240,8 @@ impl<S: CertificateScheme, D: Digest> Rounds<S, D> {
 
     /// Stores the token of a view's certification, in place of any before.
     pub(super) fn set_certify_handle(&mut self, view: View, token: u64)
-        ensures set { self.new ≡ with_change_in_place self.old view (λ r. record r { certification = Outstanding token }) }
+        ensures set { self.new ≡ with_change_in_place self.old view
+            (λ r. record r { certification = Outstanding token }) }
         ensures origin { HasSameOrigin self.old self.new }
     {
         let Some(round) = self.by_view.get_mut(view) else {
@@ -246,7 +253,8 @@ impl<S: CertificateScheme, D: Digest> Rounds<S, D> {
 
     /// Clears the request to build a proposal in a view.
     pub(super) fn release(&mut self, view: View)
-        ensures released { self.new ≡ with_change_in_place self.old view (λ r. record r { slot = build_requested false r.slot }) }
+        ensures released { self.new ≡ with_change_in_place self.old view
+            (λ r. record r { slot = build_requested false r.slot }) }
         ensures origin { HasSameOrigin self.old self.new }
     {
         let Some(round) = self.by_view.get_mut(view) else {

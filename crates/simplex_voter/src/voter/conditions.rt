@@ -133,7 +133,8 @@ impl<S: CertificateScheme, L: Elector<S>, D: Digest> State<S, L, D> {
 
     /// Returns whether an empty round accepts an entry of the record: a vote is this member's own.
     fn takes_first_artifact(&self, artifact: &Artifact<S, D>) -> bool
-        ensures { IsTrue result ↔ TakesArtifact (new_round self.now.me self.now.members (artifact_round artifact.now)) artifact.now }
+        ensures { IsTrue result ↔ TakesArtifact
+            (new_round self.now.me self.now.members (artifact_round artifact.now)) artifact.now }
     {
         match artifact {
             Artifact::Notarize(vote) => self.is_me(vote.signer),

@@ -46,10 +46,16 @@ impl<S: CertificateScheme, L: Elector<S>, D: Digest> State<S, L, D> {
         finalization: Finalization<S, D>,
         now: u64,
     ) -> Result<(bool, Option<S::PublicKey>), Fault>
-        requires { (self.old.failed || takes_proposal_certificate self.old (finalization_facts S.certificate_bytes finalization)) ≡ true }
-        ensures refused { IfSome (finalization_refusal self.old finalization.proposal now) (λ fault. (result ≡ Err fault) × (self.new ≡ self.old)) }
-        ensures added { IfOk result (λ added. added ≡ finalization_added D.eq L.elect self.old (finalization_facts S.certificate_bytes finalization)) }
-        ensures after { OnOk result (self.new ≡ after_add_finalization D.eq L.elect self.old (finalization_facts S.certificate_bytes finalization) now) }
+        requires { (self.old.failed
+            || takes_proposal_certificate self.old (finalization_facts S.certificate_bytes finalization)) ≡ true }
+        ensures refused { IfSome (finalization_refusal self.old finalization.proposal now)
+            (λ fault. (result ≡ Err fault) × (self.new ≡ self.old)) }
+        ensures added { IfOk result
+            (λ added. added ≡ finalization_added D.eq L.elect self.old
+            (finalization_facts S.certificate_bytes finalization)) }
+        ensures after { OnOk result
+            (self.new ≡ after_add_finalization D.eq L.elect self.old
+            (finalization_facts S.certificate_bytes finalization) now) }
         ensures out_of_memory { finalization_refusal self.old finalization.proposal now ≡ None
             → IfErr result (λ fault. (fault ≡ OutOfMemory) × HasFailed self.old self.new) }
     {
@@ -69,11 +75,13 @@ impl<S: CertificateScheme, L: Elector<S>, D: Digest> State<S, L, D> {
         finalization: &Finalization<S, D>,
         now: u64,
     ) -> Result<Deadlines, Fault>
-        ensures refused { IfErr result (λ fault. finalization_refusal self.now finalization.now.proposal now ≡ Some fault) }
+        ensures refused { IfErr result
+            (λ fault. finalization_refusal self.now finalization.now.proposal now ≡ Some fault) }
         ensures taken { OnOk result ((finalization_refusal self.now finalization.now.proposal now ≡ None)
             × (finalization.now.proposal.round.view < 2 ^ 63)) }
         ensures moments { IfOk result (λ deadlines.
-            nat_lt self.now.current (finalization.now.proposal.round.view + 1) ≡ true → deadlines ≡ deadlines_at self.now now) }
+            nat_lt self.now.current (finalization.now.proposal.round.view + 1) ≡ true
+            → deadlines ≡ deadlines_at self.now now) }
     {
         if self.is_failed() {
             return Err(Fault::Failed);
@@ -95,9 +103,14 @@ impl<S: CertificateScheme, L: Elector<S>, D: Digest> State<S, L, D> {
         deadlines: &Deadlines,
     ) -> Result<(bool, Option<S::PublicKey>), Fault>
         requires votable { IsVotable finalization.proposal.round.view }
-        requires deadlines { nat_lt self.old.current (finalization.proposal.round.view + 1) ≡ true → deadlines.now ≡ deadlines_at self.old now }
-        ensures added { IfOk result (λ added. added ≡ finalization_added D.eq L.elect self.old (finalization_facts S.certificate_bytes finalization)) }
-        ensures accepted { OnOk result (self.new ≡ after_add_finalization D.eq L.elect self.old (finalization_facts S.certificate_bytes finalization) now) }
+        requires deadlines { nat_lt self.old.current (finalization.proposal.round.view + 1) ≡ true
+            → deadlines.now ≡ deadlines_at self.old now }
+        ensures added { IfOk result
+            (λ added. added ≡ finalization_added D.eq L.elect self.old
+            (finalization_facts S.certificate_bytes finalization)) }
+        ensures accepted { OnOk result
+            (self.new ≡ after_add_finalization D.eq L.elect self.old
+            (finalization_facts S.certificate_bytes finalization) now) }
         ensures refused { IfErr result (λ fault. fault ≡ OutOfMemory) }
         ensures setup { HasSameSetup self.old self.new }
     {
@@ -117,8 +130,12 @@ impl<S: CertificateScheme, L: Elector<S>, D: Digest> State<S, L, D> {
         finalization: Finalization<S, D>,
     ) -> Result<(bool, Option<S::PublicKey>), Fault>
         requires { IsVotable finalization.proposal.round.view }
-        ensures added { IfOk result (λ added. added ≡ finalization_added D.eq L.elect self.old (finalization_facts S.certificate_bytes finalization)) }
-        ensures kept { OnOk result (self.new ≡ with_finalization_at D.eq L.elect self.old (finalization_facts S.certificate_bytes finalization)) }
+        ensures added { IfOk result
+            (λ added. added ≡ finalization_added D.eq L.elect self.old
+            (finalization_facts S.certificate_bytes finalization)) }
+        ensures kept { OnOk result
+            (self.new ≡ with_finalization_at D.eq L.elect self.old
+            (finalization_facts S.certificate_bytes finalization)) }
         ensures refused { IfErr result (λ fault. fault ≡ OutOfMemory) }
         ensures setup { HasSameSetup self.old self.new }
     {

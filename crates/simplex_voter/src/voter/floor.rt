@@ -25,7 +25,8 @@ impl<S: CertificateScheme, L: Elector<S>, D: Digest> State<S, L, D> {
     /// The state must have no floor, or have failed. Returns `TimeOverflow` if a deadline of view 1 passes 2^64 - 1.
     pub fn set_genesis(&mut self, payload: D, now: u64) -> Result<(), Fault>
         requires { (self.old.failed || self.old.current == 0) ≡ true }
-        ensures refused { IfSome (floor_refusal self.old (Genesis payload) now) (λ fault. (result ≡ Err fault) × (self.new ≡ self.old)) }
+        ensures refused { IfSome (floor_refusal self.old (Genesis payload) now)
+            (λ fault. (result ≡ Err fault) × (self.new ≡ self.old)) }
         ensures after { OnOk result (self.new ≡ after_set_genesis L.elect self.old payload now) }
         ensures out_of_memory { floor_refusal self.old (Genesis payload) now ≡ None
             → IfErr result (λ fault. (fault ≡ OutOfMemory) × HasFailed self.old self.new) }
@@ -74,8 +75,10 @@ impl<S: CertificateScheme, L: Elector<S>, D: Digest> State<S, L, D> {
         ensures refused { IfSome (floor_refusal self.old (floor_facts S.certificate_bytes floor) now)
             (λ fault. (result ≡ Err fault) × (self.new ≡ self.old)) }
         ensures answer { IfOk result (λ answer.
-            option_map (finalization_facts S.certificate_bytes) answer ≡ floor_answer (floor_facts S.certificate_bytes floor)) }
-        ensures after { OnOk result (self.new ≡ after_set_floor D.eq L.elect self.old (floor_facts S.certificate_bytes floor) now) }
+            option_map (finalization_facts S.certificate_bytes) answer ≡ floor_answer
+            (floor_facts S.certificate_bytes floor)) }
+        ensures after { OnOk result
+            (self.new ≡ after_set_floor D.eq L.elect self.old (floor_facts S.certificate_bytes floor) now) }
         ensures out_of_memory { floor_refusal self.old (floor_facts S.certificate_bytes floor) now ≡ None
             → IfErr result (λ fault. (fault ≡ OutOfMemory) × HasFailed self.old self.new) }
     {
@@ -94,9 +97,11 @@ impl<S: CertificateScheme, L: Elector<S>, D: Digest> State<S, L, D> {
         now: u64,
     ) -> Result<Option<Finalization<S, D>>, Fault>
         requires { (self.old.failed || nat_le 1 finalization.proposal.round.view) ≡ true }
-        ensures refused { IfSome (finalization_refusal self.old finalization.proposal now) (λ fault. (result ≡ Err fault) × (self.new ≡ self.old)) }
+        ensures refused { IfSome (finalization_refusal self.old finalization.proposal now)
+            (λ fault. (result ≡ Err fault) × (self.new ≡ self.old)) }
         ensures answer { IfOk result (λ answer.
-            option_map (finalization_facts S.certificate_bytes) answer ≡ Some (finalization_facts S.certificate_bytes finalization)) }
+            option_map (finalization_facts S.certificate_bytes) answer ≡ Some
+            (finalization_facts S.certificate_bytes finalization)) }
         ensures after { OnOk result (self.new ≡ with_finalization_broadcast
             (after_add_finalization D.eq L.elect self.old (finalization_facts S.certificate_bytes finalization) now)
             finalization.proposal.round.view) }
@@ -120,9 +125,11 @@ impl<S: CertificateScheme, L: Elector<S>, D: Digest> State<S, L, D> {
         deadlines: &Deadlines,
     ) -> Result<Option<Finalization<S, D>>, Fault>
         requires votable { IsVotable finalization.proposal.round.view }
-        requires deadlines { nat_lt self.old.current (finalization.proposal.round.view + 1) ≡ true → deadlines.now ≡ deadlines_at self.old now }
+        requires deadlines { nat_lt self.old.current (finalization.proposal.round.view + 1) ≡ true
+            → deadlines.now ≡ deadlines_at self.old now }
         ensures answer { IfOk result (λ answer.
-            option_map (finalization_facts S.certificate_bytes) answer ≡ Some (finalization_facts S.certificate_bytes finalization)) }
+            option_map (finalization_facts S.certificate_bytes) answer ≡ Some
+            (finalization_facts S.certificate_bytes finalization)) }
         ensures started { OnOk result (self.new ≡ with_finalization_broadcast
             (after_add_finalization D.eq L.elect self.old (finalization_facts S.certificate_bytes finalization) now)
             finalization.proposal.round.view) }
@@ -143,8 +150,10 @@ impl<S: CertificateScheme, L: Elector<S>, D: Digest> State<S, L, D> {
     ) -> Result<Option<Finalization<S, D>>, Fault>
         requires { IsVotable finalization.proposal.round.view }
         ensures answer { IfOk result (λ answer.
-            option_map (finalization_facts S.certificate_bytes) answer ≡ Some (finalization_facts S.certificate_bytes finalization)) }
-        ensures counted { OnOk result (self.new ≡ with_finalization_broadcast self.old finalization.proposal.round.view) }
+            option_map (finalization_facts S.certificate_bytes) answer ≡ Some
+            (finalization_facts S.certificate_bytes finalization)) }
+        ensures counted { OnOk result
+            (self.new ≡ with_finalization_broadcast self.old finalization.proposal.round.view) }
         ensures refused { IfErr result (λ fault. fault ≡ OutOfMemory) }
         ensures setup { HasSameSetup self.old self.new }
     {

@@ -107,21 +107,24 @@ impl<S: CertificateScheme, L: Elector<S>, D: Digest> State<S, L, D> {
 
     /// The notarization of a tracked view, if it is there.
     pub fn notarization(&self, view: View) -> Option<&Notarization<S, D>>
-        ensures { option_map (notarization_facts S.certificate_bytes) (option_copied result) ≡ notarization_of self.now view }
+        ensures { option_map (notarization_facts S.certificate_bytes) (option_copied result) ≡
+            notarization_of self.now view }
     {
         self.round_at(view)?.notarization()
     }
 
     /// The nullification of a tracked view, if it is there.
     pub fn nullification(&self, view: View) -> Option<&Nullification<S>>
-        ensures { option_map (nullification_facts S.certificate_bytes) (option_copied result) ≡ nullification_of self.now view }
+        ensures { option_map (nullification_facts S.certificate_bytes) (option_copied result) ≡
+            nullification_of self.now view }
     {
         self.round_at(view)?.nullification()
     }
 
     /// The finalization of a tracked view, if it is there.
     pub fn finalization(&self, view: View) -> Option<&Finalization<S, D>>
-        ensures { option_map (finalization_facts S.certificate_bytes) (option_copied result) ≡ finalization_of self.now view }
+        ensures { option_map (finalization_facts S.certificate_bytes) (option_copied result) ≡
+            finalization_of self.now view }
     {
         self.round_at(view)?.finalization()
     }

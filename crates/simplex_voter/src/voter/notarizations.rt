@@ -24,12 +24,18 @@ impl<S: CertificateScheme, L: Elector<S>, D: Digest> State<S, L, D> {
         &mut self,
         notarization: Notarization<S, D>,
     ) -> Result<(bool, Option<S::PublicKey>), Fault>
-        requires { (self.old.failed || takes_proposal_certificate self.old (notarization_facts S.certificate_bytes notarization)) ≡ true }
+        requires { (self.old.failed
+            || takes_proposal_certificate self.old (notarization_facts S.certificate_bytes notarization)) ≡ true }
         ensures refused { IfSome (notarization_refusal self.old (notarization_facts S.certificate_bytes notarization))
             (λ fault. (result ≡ Err fault) × (self.new ≡ self.old)) }
-        ensures added { IfOk result (λ added. added ≡ notarization_added D.eq L.elect self.old (notarization_facts S.certificate_bytes notarization)) }
-        ensures after { OnOk result (self.new ≡ after_add_notarization D.eq L.elect self.old (notarization_facts S.certificate_bytes notarization)) }
-        ensures out_of_memory { notarization_refusal self.old (notarization_facts S.certificate_bytes notarization) ≡ None
+        ensures added { IfOk result
+            (λ added. added ≡ notarization_added D.eq L.elect self.old
+            (notarization_facts S.certificate_bytes notarization)) }
+        ensures after { OnOk result
+            (self.new ≡ after_add_notarization D.eq L.elect self.old
+            (notarization_facts S.certificate_bytes notarization)) }
+        ensures out_of_memory { notarization_refusal self.old
+            (notarization_facts S.certificate_bytes notarization) ≡ None
             → IfErr result (λ fault. (fault ≡ OutOfMemory) × HasFailed self.old self.new) }
     {
         if self.is_failed() {
@@ -52,8 +58,12 @@ impl<S: CertificateScheme, L: Elector<S>, D: Digest> State<S, L, D> {
         notarization: Notarization<S, D>,
     ) -> Result<(bool, Option<S::PublicKey>), Fault>
         requires { IsVotable notarization.proposal.round.view }
-        ensures added { IfOk result (λ added. added ≡ notarization_added D.eq L.elect self.old (notarization_facts S.certificate_bytes notarization)) }
-        ensures accepted { OnOk result (self.new ≡ after_add_notarization D.eq L.elect self.old (notarization_facts S.certificate_bytes notarization)) }
+        ensures added { IfOk result
+            (λ added. added ≡ notarization_added D.eq L.elect self.old
+            (notarization_facts S.certificate_bytes notarization)) }
+        ensures accepted { OnOk result
+            (self.new ≡ after_add_notarization D.eq L.elect self.old
+            (notarization_facts S.certificate_bytes notarization)) }
         ensures refused { IfErr result (λ fault. fault ≡ OutOfMemory) }
         ensures setup { HasSameSetup self.old self.new }
     {
@@ -74,8 +84,12 @@ impl<S: CertificateScheme, L: Elector<S>, D: Digest> State<S, L, D> {
         notarization: Notarization<S, D>,
     ) -> Result<(bool, Option<S::PublicKey>), Fault>
         requires { IsVotable notarization.proposal.round.view }
-        ensures added { IfOk result (λ added. added ≡ notarization_added D.eq L.elect self.old (notarization_facts S.certificate_bytes notarization)) }
-        ensures kept { OnOk result (self.new ≡ with_notarization_at D.eq L.elect self.old (notarization_facts S.certificate_bytes notarization)) }
+        ensures added { IfOk result
+            (λ added. added ≡ notarization_added D.eq L.elect self.old
+            (notarization_facts S.certificate_bytes notarization)) }
+        ensures kept { OnOk result
+            (self.new ≡ with_notarization_at D.eq L.elect self.old
+            (notarization_facts S.certificate_bytes notarization)) }
         ensures refused { IfErr result (λ fault. fault ≡ OutOfMemory) }
         ensures setup { HasSameSetup self.old self.new }
     {

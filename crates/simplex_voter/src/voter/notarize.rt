@@ -29,10 +29,12 @@ impl<S: CertificateScheme, L: Elector<S>, D: Digest> State<S, L, D> {
         S: Scheme<D>,
         requires { (self.old.failed || is_started self.old) ≡ true }
         ensures refused { IfSome (plain_refusal self.old) (λ fault. (result ≡ Err fault) × (self.new ≡ self.old)) }
-        ensures vote { IfOk result (λ vote. option_map (λ v. v.proposal) vote ≡ notarize_answer D.eq L.elect self.old view) }
+        ensures vote { IfOk result
+            (λ vote. option_map (λ v. v.proposal) vote ≡ notarize_answer D.eq L.elect self.old view) }
         ensures signed { IfOk result (λ vote. IfSome vote (IsSignedNotarize S.IsSignature self.old)) }
         ensures after { OnOk result (self.new ≡ after_construct_notarize D.eq L.elect self.old view) }
-        ensures out_of_memory { plain_refusal self.old ≡ None → IfErr result (λ fault. (fault ≡ OutOfMemory) × HasFailed self.old self.new) }
+        ensures out_of_memory { plain_refusal self.old ≡ None
+            → IfErr result (λ fault. (fault ≡ OutOfMemory) × HasFailed self.old self.new) }
     {
         if self.is_failed() {
             return Err(Fault::Failed);

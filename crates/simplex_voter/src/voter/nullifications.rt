@@ -30,12 +30,18 @@ impl<S: CertificateScheme, L: Elector<S>, D: Digest> State<S, L, D> {
         nullification: Nullification<S>,
         now: u64,
     ) -> Result<bool, Fault>
-        requires { (self.old.failed || takes_nullification self.old (nullification_facts S.certificate_bytes nullification)) ≡ true }
-        ensures refused { IfSome (nullification_refusal self.old (nullification_facts S.certificate_bytes nullification) now)
+        requires { (self.old.failed
+            || takes_nullification self.old (nullification_facts S.certificate_bytes nullification)) ≡ true }
+        ensures refused { IfSome
+            (nullification_refusal self.old (nullification_facts S.certificate_bytes nullification) now)
             (λ fault. (result ≡ Err fault) × (self.new ≡ self.old)) }
-        ensures added { IfOk result (λ added. added ≡ nullification_added self.old (nullification_facts S.certificate_bytes nullification)) }
-        ensures after { OnOk result (self.new ≡ after_add_nullification L.elect self.old (nullification_facts S.certificate_bytes nullification) now) }
-        ensures out_of_memory { nullification_refusal self.old (nullification_facts S.certificate_bytes nullification) now ≡ None
+        ensures added { IfOk result
+            (λ added. added ≡ nullification_added self.old (nullification_facts S.certificate_bytes nullification)) }
+        ensures after { OnOk result
+            (self.new ≡ after_add_nullification L.elect self.old
+            (nullification_facts S.certificate_bytes nullification) now) }
+        ensures out_of_memory { nullification_refusal self.old
+            (nullification_facts S.certificate_bytes nullification) now ≡ None
             → IfErr result (λ fault. (fault ≡ OutOfMemory) × HasFailed self.old self.new) }
     {
         if self.is_failed() {
@@ -82,7 +88,9 @@ impl<S: CertificateScheme, L: Elector<S>, D: Digest> State<S, L, D> {
         requires next { next ≡ next_term_start self.old.terms.term_length nullification.round.view }
         requires in_range { next ≤ largest_current }
         requires deadlines { nat_lt self.old.current next ≡ true → deadlines.now ≡ deadlines_at self.old now }
-        ensures accepted { OnOk result (self.new ≡ after_add_nullification L.elect self.old (nullification_facts S.certificate_bytes nullification) now) }
+        ensures accepted { OnOk result
+            (self.new ≡ after_add_nullification L.elect self.old
+            (nullification_facts S.certificate_bytes nullification) now) }
         ensures refused { IfErr result (λ fault. fault ≡ OutOfMemory) }
         ensures setup { HasSameSetup self.old self.new }
     {
@@ -106,7 +114,8 @@ impl<S: CertificateScheme, L: Elector<S>, D: Digest> State<S, L, D> {
 
     fn store_nullification(&mut self, nullification: Nullification<S>) -> Result<(), Fault>
         requires { IsVotable nullification.round.view }
-        ensures kept { OnOk result (self.new ≡ with_nullification_at self.old (nullification_facts S.certificate_bytes nullification)) }
+        ensures kept { OnOk result
+            (self.new ≡ with_nullification_at self.old (nullification_facts S.certificate_bytes nullification)) }
         ensures refused { IfErr result (λ fault. fault ≡ OutOfMemory) }
         ensures setup { HasSameSetup self.old self.new }
     {

@@ -40,7 +40,8 @@ impl<S: CertificateScheme, L: Elector<S>, D: Digest> State<S, L, D> {
     /// parent's is above 2^63 - 1.
     pub fn set_proposal(&mut self, view: View, proposal: &Proposal<D>) -> Result<bool, Fault>
         requires { (self.old.failed || takes_proposal self.old view proposal.now) ≡ true }
-        ensures refused { IfSome (proposal_refusal self.old proposal.now) (λ fault. (result ≡ Err fault) × (self.new ≡ self.old)) }
+        ensures refused { IfSome (proposal_refusal self.old proposal.now)
+            (λ fault. (result ≡ Err fault) × (self.new ≡ self.old)) }
         ensures answer { IfOk result (λ answer. answer ≡ set_proposal_answer self.old view) }
         ensures after { OnOk result (self.new ≡ after_set_proposal D.eq L.elect self.old view proposal.now) }
         ensures out_of_memory { proposal_refusal self.old proposal.now ≡ None
@@ -76,7 +77,8 @@ impl<S: CertificateScheme, L: Elector<S>, D: Digest> State<S, L, D> {
     fn take_proposal(&mut self, view: View, proposal: &Proposal<D>) -> Result<bool, Fault>
         requires { view ≤ largest_tracked }
         ensures answer { IfOk result (λ answer. answer ≡ set_proposal_answer self.old view) }
-        ensures taken { OnOk result (self.new ≡ with_round self.old view (with_proposal D.eq (round_of self.old view) proposal.now)) }
+        ensures taken { OnOk result
+            (self.new ≡ with_round self.old view (with_proposal D.eq (round_of self.old view) proposal.now)) }
         ensures refused { IfErr result (λ fault. fault ≡ OutOfMemory) }
         ensures setup { HasSameSetup self.old self.new }
     {
@@ -97,7 +99,8 @@ impl<S: CertificateScheme, L: Elector<S>, D: Digest> State<S, L, D> {
     ) -> Result<bool, Fault>
         requires { (self.old.failed || is_started self.old) ≡ true }
         ensures refused { IfSome (plain_refusal self.old) (λ fault. (result ≡ Err fault) × (self.new ≡ self.old)) }
-        ensures answer { IfOk result (λ recorded. recorded ≡ proposed_answer D.eq L.elect self.old context.now payload) }
+        ensures answer { IfOk result
+            (λ recorded. recorded ≡ proposed_answer D.eq L.elect self.old context.now payload) }
         ensures after { OnOk result (self.new ≡ after_proposed D.eq L.elect self.old context.now payload now) }
         ensures taken { plain_refusal self.old ≡ None → IsOk result }
     {
@@ -117,7 +120,8 @@ impl<S: CertificateScheme, L: Elector<S>, D: Digest> State<S, L, D> {
     /// parent's payload, as a replay binds it, so that a certificate of another payload invalidates it.
     fn record_proposed(&mut self, context: &Context<D, S::PublicKey>, payload: D, now: u64) -> bool
         ensures recorded { result ≡ option_map_or
-            (λ r. not (is_nullify r.decision) && holds_or_empty (same_proposal D.eq) r.slot (proposal_of context.now payload))
+            (λ r. not (is_nullify r.decision)
+            && holds_or_empty (same_proposal D.eq) r.slot (proposal_of context.now payload))
             (round_at self.old context.now.round.view) false }
         ensures after { self.new ≡ (if result
             then with_round self.old context.now.round.view

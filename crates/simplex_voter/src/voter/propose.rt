@@ -153,7 +153,8 @@ impl<S: CertificateScheme, L: Elector<S>, D: Digest> State<S, L, D> {
     fn next_request(&self) -> Option<ProposalRequest<D, S::PublicKey>>
         requires { 1 ≤ self.now.current }
         ensures answer { result ≡ propose_answer D.eq L.elect self.now }
-        ensures ready { IfSome result (λ request. should_propose (round_of self.now (request_context request).round.view) ≡ true) }
+        ensures ready { IfSome result
+            (λ request. should_propose (round_of self.now (request_context request).round.view) ≡ true) }
     {
         let near = self.last_near();
         let last = self.last_ahead();

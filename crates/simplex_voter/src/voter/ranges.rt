@@ -86,7 +86,8 @@ fn end_certifications<S: CertificateScheme, D: Digest>(
 )
     requires in_range { view < 2 ^ 63 }
     requires quiet { IsQuietBelow rounds.old from }
-    ensures { map.entries rounds.new ≡ map_list (λ e. (e.0, if nat_le e.0 view then without_token e.1 else e.1)) (map.entries rounds.old) }
+    ensures { map.entries rounds.new ≡ map_list (λ e. (e.0, if nat_le e.0 view then without_token e.1 else e.1))
+        (map.entries rounds.old) }
 {
     let mut next = from.min(view);
     while let Some(entry) = rounds.first_at(next) {
@@ -101,7 +102,8 @@ fn end_certifications<S: CertificateScheme, D: Digest>(
 
 /// Ends the certification of a tracked view, if it is under way.
 fn end_certification<S: CertificateScheme, D: Digest>(rounds: &mut Tracked<Round<S, D>>, view: View)
-    ensures { rounds.new ≡ option_map_or (λ r. map.insert rounds.old view (without_token r)) (map.get rounds.old view) rounds.old }
+    ensures { rounds.new ≡ option_map_or (λ r. map.insert rounds.old view (without_token r))
+        (map.get rounds.old view) rounds.old }
 {
     let Some(round) = rounds.get_mut(view) else {
         return;
@@ -169,7 +171,11 @@ impl<S: CertificateScheme, D: Digest> Rounds<S, D> {
     /// Ends the certifications that are under way at or below a view.
     pub(super) fn end_certifications(&mut self, view: View)
         requires { view < 2 ^ 63 }
-        ensures { self.new ≡ record self.old { by_view = map_list (λ e. (e.0, if nat_le e.0 view then without_token e.1 else e.1)) self.old.by_view } }
+        ensures { self.new ≡ record
+            self.old {
+              by_view = map_list (λ e. (e.0, if nat_le e.0 view then without_token e.1 else e.1))
+                  self.old.by_view;
+            } }
     {
         end_certifications(&mut self.by_view, self.bounds.under_way, view);
         self.bounds.end_certifications(view);
@@ -177,7 +183,8 @@ impl<S: CertificateScheme, D: Digest> Rounds<S, D> {
 
     /// The tracked views below a view, rising.
     pub(super) fn views_below(&self, view: View) -> Result<Vec<View>, Fault>
-        ensures views { IfOk result (λ views. views.items ≡ map_list (λ e. e.0) (filter (λ e. nat_lt e.0 view) self.now.by_view)) }
+        ensures views { IfOk result
+            (λ views. views.items ≡ map_list (λ e. e.0) (filter (λ e. nat_lt e.0 view) self.now.by_view)) }
         ensures refused { IfErr result (λ fault. fault ≡ OutOfMemory) }
     {
         Ok(self.by_view.views_below(self.alloc, view)?)

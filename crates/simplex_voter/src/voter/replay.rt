@@ -77,7 +77,9 @@ impl<S: CertificateScheme, D: Digest> Rounds<S, D> {
     ) -> Result<(), Fault>
         requires in_range { view ≤ largest_tracked }
         requires taken { TakesArtifact (round_in self.old view) artifact.now }
-        ensures recalled { OnOk result (self.new ≡ with_change self.old view (λ r. bound_again (after_replay (same_proposal D.eq) r artifact.now) binding)) }
+        ensures recalled { OnOk result
+            (self.new ≡ with_change self.old view
+            (λ r. bound_again (after_replay (same_proposal D.eq) r artifact.now) binding)) }
         ensures refused { IfErr result (λ fault. fault ≡ OutOfMemory) }
         ensures origin { HasSameOrigin self.old self.new }
     {
@@ -123,7 +125,8 @@ impl<S: CertificateScheme, L: Elector<S>, D: Digest> State<S, L, D> {
     /// proposal's parent is above 2^63 - 1.
     pub fn replay(&mut self, artifact: &Artifact<S, D>) -> Result<(), Fault>
         requires { self.old.failed ≡ false → TakesReplay self.old artifact.now }
-        ensures refused { IfSome (replay_refusal self.old artifact.now) (λ fault. (result ≡ Err fault) × (self.new ≡ self.old)) }
+        ensures refused { IfSome (replay_refusal self.old artifact.now)
+            (λ fault. (result ≡ Err fault) × (self.new ≡ self.old)) }
         ensures after { OnOk result (self.new ≡ after_replayed D.eq L.elect self.old artifact.now) }
         ensures out_of_memory { replay_refusal self.old artifact.now ≡ None
             → IfErr result (λ fault. (fault ≡ OutOfMemory) × HasFailed self.old self.new) }
@@ -162,7 +165,8 @@ impl<S: CertificateScheme, L: Elector<S>, D: Digest> State<S, L, D> {
     fn restore_round(&mut self, artifact: &Artifact<S, D>) -> Result<(), Fault>
         requires taken { TakesArtifact (round_of self.old (artifact_view artifact.now)) artifact.now }
         requires votable { IsVotable (artifact_view artifact.now) }
-        ensures restored { OnOk result (self.new ≡ with_round self.old (artifact_view artifact.now) (replayed_round D.eq self.old artifact.now)) }
+        ensures restored { OnOk result
+            (self.new ≡ with_round self.old (artifact_view artifact.now) (replayed_round D.eq self.old artifact.now)) }
         ensures refused { IfErr result (λ fault. fault ≡ OutOfMemory) }
         ensures setup { HasSameSetup self.old self.new }
     {

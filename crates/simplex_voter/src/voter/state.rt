@@ -163,7 +163,8 @@ impl<S: CertificateScheme, L: Elector<S>, D: Digest> State<S, L, D> {
     /// The deadlines of a view that may be entered at a moment; `None` if it is ahead and one passes 2^64 - 1.
     pub(super) fn deadlines_to(&self, view: View, now: u64) -> Option<Deadlines>
         ensures late { IsNone result ↔ IsTrue (enters_late self.now view now) }
-        ensures moments { IfSome result (λ deadlines. nat_lt self.now.current view ≡ true → deadlines ≡ deadlines_at self.now now) }
+        ensures moments { IfSome result
+            (λ deadlines. nat_lt self.now.current view ≡ true → deadlines ≡ deadlines_at self.now now) }
     {
         if view <= self.current {
             return Some(Deadlines::none());
@@ -179,7 +180,8 @@ impl<S: CertificateScheme, L: Elector<S>, D: Digest> State<S, L, D> {
     ) -> Result<(), Fault>
         requires { view ≤ largest_tracked }
         ensures elected { OnOk result (self.new
-            ≡ with_elected_leader L.elect self.old view (option_map S.certificate_bytes (option_copied certificate.entry))) }
+            ≡ with_elected_leader L.elect self.old view
+            (option_map S.certificate_bytes (option_copied certificate.entry))) }
         ensures refused { IfErr result (λ fault. fault ≡ OutOfMemory) }
         ensures setup { HasSameSetup self.old self.new }
     {

@@ -33,7 +33,8 @@ fn first_deadline<S: CertificateScheme, D: Digest>(
     finalized: View,
     current: View,
 ) -> Option<u64>
-    ensures { result ≡ option_and_then (λ e. standing_deadline e.1) (slice_get (filter (is_entered_between finalized current) entries.entry) 0) }
+    ensures { result ≡ option_and_then (λ e. standing_deadline e.1)
+        (slice_get (filter (is_entered_between finalized current) entries.entry) 0) }
 {
     while let Some(entry) = entries.pop_first() {
         if is_entered_between(entry.0, entry.1, finalized, current) {
@@ -213,7 +214,8 @@ impl<S: CertificateScheme, L: Elector<S>, D: Digest> State<S, L, D> {
     pub fn next_timeout(&mut self, now: u64) -> Result<(u64, TimeoutReason), Fault>
         requires started { (self.old.failed || is_started self.old) ≡ true }
         requires timeout { (self.old.failed || has_timeout self.old) ≡ true }
-        ensures refused { IfSome (next_timeout_refusal self.old now) (λ fault. (result ≡ Err fault) × (self.new ≡ self.old)) }
+        ensures refused { IfSome (next_timeout_refusal self.old now)
+            (λ fault. (result ≡ Err fault) × (self.new ≡ self.old)) }
         ensures answer { IfOk result (λ timeout. next_timeout_answer self.old now ≡ Some timeout) }
         ensures after { OnOk result (self.new ≡ after_next_timeout self.old now) }
         ensures taken { next_timeout_refusal self.old now ≡ None → IsOk result }
@@ -231,10 +233,13 @@ impl<S: CertificateScheme, L: Elector<S>, D: Digest> State<S, L, D> {
 
     /// The next timeout of the current view's round, if it has one.
     fn poll(&mut self, now: u64) -> Result<Option<(u64, TimeoutReason)>, Fault>
-        ensures late { is_err result ≡ (awaits_retry (round_of self.old self.old.current) && is_past_u64 (now + self.old.settings.timeout_retry)) }
+        ensures late { is_err result ≡
+            (awaits_retry (round_of self.old self.old.current) && is_past_u64 (now + self.old.settings.timeout_retry)) }
         ensures refused { IfErr result (λ fault. (fault ≡ TimeOverflow) × (self.new ≡ self.old)) }
-        ensures polled { OnOk result (self.new ≡ with_tracked self.old self.old.current (round_with_retry self.old now)) }
-        ensures answer { IfOk result (λ timeout. timeout ≡ round_timeout (round_with_retry self.old now) (has_skip_budget self.old)) }
+        ensures polled { OnOk result
+            (self.new ≡ with_tracked self.old self.old.current (round_with_retry self.old now)) }
+        ensures answer { IfOk result
+            (λ timeout. timeout ≡ round_timeout (round_with_retry self.old now) (has_skip_budget self.old)) }
     {
         let allow_latched = self.has_skip_budget();
         self.rounds

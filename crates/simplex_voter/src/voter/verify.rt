@@ -217,7 +217,8 @@ impl<S: CertificateScheme, L: Elector<S>, D: Digest> State<S, L, D> {
     fn visit(&mut self, view: View) -> Option<Verify<D, S::PublicKey>>
         requires { is_tracked self.old view ≡ true }
         ensures answer { result ≡ answer_in D.eq L.elect self.old (view, round_of self.old view) }
-        ensures left { self.new ≡ left_at self.old (view, round_of self.old view) (standing D.eq L.elect self.old (view, round_of self.old view)) }
+        ensures left { self.new ≡ left_at self.old (view, round_of self.old view)
+            (standing D.eq L.elect self.old (view, round_of self.old view)) }
     {
         let round = self.round_at(view)?;
         let (leader, proposal) = round.pending_verification()?;

@@ -47,7 +47,8 @@ impl<S: CertificateScheme, L: Elector<S>, D: Digest> State<S, L, D> {
         requires in_range { view ≤ largest_current }
         requires deadlines { nat_lt self.old.current view ≡ true → deadlines.now ≡ deadlines_at self.old now }
         ensures entered { OnOk result (self.new
-            ≡ with_elected_leader L.elect (with_view_entered self.old view now) view (Some (S.certificate_bytes certificate.now))) }
+            ≡ with_elected_leader L.elect (with_view_entered self.old view now) view
+            (Some (S.certificate_bytes certificate.now))) }
         ensures refused { IfErr result (λ fault. fault ≡ OutOfMemory) }
         ensures setup { HasSameSetup self.old self.new }
     {
@@ -67,7 +68,8 @@ impl<S: CertificateScheme, L: Elector<S>, D: Digest> State<S, L, D> {
         requires in_range { view < 2 ^ 63 }
         requires deadlines { nat_lt self.old.current (view + 1) ≡ true → deadlines.now ≡ deadlines_at self.old now }
         ensures passed { OnOk result (self.new
-            ≡ with_elected_leader L.elect (with_view_entered (with_finalized_view (at_moment self.old now) view) (view + 1) now) (view + 1)
+            ≡ with_elected_leader L.elect
+            (with_view_entered (with_finalized_view (at_moment self.old now) view) (view + 1) now) (view + 1)
             (Some (S.certificate_bytes certificate.now))) }
         ensures refused { IfErr result (λ fault. fault ≡ OutOfMemory) }
         ensures setup { HasSameSetup self.old self.new }

@@ -41,7 +41,8 @@ impl<S: CertificateScheme, L: Elector<S>, D: Digest> State<S, L, D> {
         ensures vote { IfOk result (λ vote. option_map (λ v. v.0) vote ≡ nullify_answer self.old view) }
         ensures signed { IfOk result (λ vote. IfSome vote (λ v. IsSignedNullify S.IsSignature self.old view v.1)) }
         ensures after { OnOk result (self.new ≡ after_construct_nullify self.old view) }
-        ensures out_of_memory { plain_refusal self.old ≡ None → IfErr result (λ fault. (fault ≡ OutOfMemory) × HasFailed self.old self.new) }
+        ensures out_of_memory { plain_refusal self.old ≡ None
+            → IfErr result (λ fault. (fault ≡ OutOfMemory) × HasFailed self.old self.new) }
     {
         if self.is_failed() {
             return Err(Fault::Failed);
@@ -65,7 +66,8 @@ impl<S: CertificateScheme, L: Elector<S>, D: Digest> State<S, L, D> {
         S: Scheme<D>,
         requires first { 1 ≤ view }
         requires in_range { view ≤ largest_tracked }
-        ensures cast { OnOk result (self.new ≡ nullify_cast (with_round self.old view (after_nullify (round_of self.old view))) view) }
+        ensures cast { OnOk result
+            (self.new ≡ nullify_cast (with_round self.old view (after_nullify (round_of self.old view))) view) }
         ensures keyed { IfOk result (λ vote. is_some vote ≡ is_some self.old.me) }
         ensures signed { IfOk result (λ vote. IfSome vote (IsSignedNullify S.IsSignature self.old view)) }
         ensures refused { IfErr result (λ fault. fault ≡ OutOfMemory) }
@@ -93,7 +95,8 @@ impl<S: CertificateScheme, L: Elector<S>, D: Digest> State<S, L, D> {
         S: Scheme<D>,
         ensures keyed { IfOk result (λ signed. is_some signed ≡ is_some self.now.me) }
         ensures signer { IfOk result (λ signed. IfSome signed (λ s. self.now.me ≡ Some s.0)) }
-        ensures signed { IfOk result (λ signed. IfSome signed (λ s. IsSignedAs S.IsSignature self.now.me self.now.members subject.now s.1)) }
+        ensures signed { IfOk result
+            (λ signed. IfSome signed (λ s. IsSignedAs S.IsSignature self.now.me self.now.members subject.now s.1)) }
         ensures refused { IfErr result (λ fault. fault ≡ OutOfMemory) }
     {
         let scheme = self.rounds.scheme();
@@ -109,7 +112,8 @@ impl<S: CertificateScheme, L: Elector<S>, D: Digest> State<S, L, D> {
     /// Records that this member voted to nullify a view.
     pub(super) fn note_nullify_vote(&mut self, view: View) -> Result<(), Fault>
         requires { 1 ≤ view }
-        ensures noted { OnOk result (self.new ≡ record self.old { nullify_votes = insert_key nat_cmp self.old.nullify_votes view }) }
+        ensures noted { OnOk result
+            (self.new ≡ record self.old { nullify_votes = insert_key nat_cmp self.old.nullify_votes view }) }
         ensures refused { IfErr result (λ fault. fault ≡ OutOfMemory) }
         ensures setup { HasSameSetup self.old self.new }
     {
@@ -120,7 +124,8 @@ impl<S: CertificateScheme, L: Elector<S>, D: Digest> State<S, L, D> {
     /// covers the rest of the term, so it is never for a view below, which may be finalized.
     #[tactic(auto, unfolding(crate::specs::Rules::may_nullify))]
     fn nullify_retry(&self, view: View) -> Option<bool>
-        ensures retry { result ≡ (if may_nullify self.now view then Some (is_nullify (round_of self.now view).decision) else None) }
+        ensures retry { result ≡
+            (if may_nullify self.now view then Some (is_nullify (round_of self.now view).decision) else None) }
         ensures current { OnSome result ((view ≡ self.now.current) × (view ≤ largest_tracked)) }
     {
         if view != self.current {
@@ -148,7 +153,8 @@ impl<S: CertificateScheme, L: Elector<S>, D: Digest> State<S, L, D> {
         ensures vote { IfOk result (λ vote. option_map (λ v. v.proposal) vote ≡ finalize_answer L.elect self.old view) }
         ensures signed { IfOk result (λ vote. IfSome vote (IsSignedFinalize S.IsSignature self.old)) }
         ensures after { OnOk result (self.new ≡ after_construct_finalize L.elect self.old view) }
-        ensures out_of_memory { plain_refusal self.old ≡ None → IfErr result (λ fault. (fault ≡ OutOfMemory) × HasFailed self.old self.new) }
+        ensures out_of_memory { plain_refusal self.old ≡ None
+            → IfErr result (λ fault. (fault ≡ OutOfMemory) × HasFailed self.old self.new) }
     {
         if self.is_failed() {
             return Err(Fault::Failed);

@@ -29,7 +29,8 @@ impl<S: CertificateScheme, D: Digest> Rounds<S, D> {
     /// Sets the request to build a proposal in a view that is ready for it.
     pub(super) fn ask_to_build(&mut self, view: View)
         requires { should_propose (round_in self.old view) ≡ true }
-        ensures asked { self.new ≡ with_change_in_place self.old view (λ r. record r { slot = build_requested true r.slot }) }
+        ensures asked { self.new ≡ with_change_in_place self.old view
+            (λ r. record r { slot = build_requested true r.slot }) }
         ensures origin { HasSameOrigin self.old self.new }
     {
         let Some(round) = self.by_view.get_mut(view) else {
@@ -67,7 +68,8 @@ impl<S: CertificateScheme, D: Digest> Rounds<S, D> {
 
     /// Marks the held proposal of a view as verified, and returns whether it did.
     pub(super) fn mark(&mut self, view: View) -> bool
-        ensures first { result ≡ option_map_or (λ r. not (is_nullify r.decision) && is_unverified r.slot) (find_round self.old view) false }
+        ensures first { result ≡ option_map_or (λ r. not (is_nullify r.decision) && is_unverified r.slot)
+            (find_round self.old view) false }
         ensures marked { self.new ≡ with_change_in_place self.old view with_mark }
         ensures origin { HasSameOrigin self.old self.new }
     {
@@ -97,7 +99,8 @@ impl<S: CertificateScheme, D: Digest> Rounds<S, D> {
         now: u64,
     ) -> bool
         ensures recorded { result ≡ option_map_or
-            (λ r. not (is_nullify r.decision) && holds_or_empty (same_proposal D.eq) r.slot (proposal_of context.now payload))
+            (λ r. not (is_nullify r.decision)
+            && holds_or_empty (same_proposal D.eq) r.slot (proposal_of context.now payload))
             (find_round self.old context.now.round.view) false }
         ensures after { self.new ≡ (if result
             then with_change self.old context.now.round.view (λ r. proposed_round D.eq r context.now payload now)

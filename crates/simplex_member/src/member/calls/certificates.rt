@@ -26,14 +26,17 @@ impl<S: Scheme<D>, L: Elector<S>, D: Digest> Member<S, L, D> {
         &mut self,
         notarization: Notarization<S, D>,
     ) -> Result<(bool, Option<S::PublicKey>), Refusal>
-        ensures made { IsCall D.eq L.elect self.old.facts (AddNotarization (notarization_facts S.certificate_bytes notarization))
+        ensures made { IsCall D.eq L.elect self.old.facts
+            (AddNotarization (notarization_facts S.certificate_bytes notarization))
             (told_of (λ added. Added added.0 added.1) result) self.new.facts }
         ensures answered { IfOk result (λ added. IsAnswered D.eq L.elect self.old.facts
-            (AddNotarization (notarization_facts S.certificate_bytes notarization)) (Added added.0 added.1) self.new.facts) }
+            (AddNotarization (notarization_facts S.certificate_bytes notarization)) (Added added.0 added.1)
+            self.new.facts) }
         ensures kept { IfErr result (λ refusal. UnchangedButLifetime self.old.facts refusal self.new.facts) }
         ensures votes { self.new.votes ≡ self.old.votes }
         ensures recorded { IfOk result (λ added. self.new.facts.entries
-            ≡ self.old.facts.entries ++ if_new added.0 (Accepted (Notarized (notarization_facts S.certificate_bytes notarization)))) }
+            ≡ self.old.facts.entries
+            ++ if_new added.0 (Accepted (Notarized (notarization_facts S.certificate_bytes notarization)))) }
     {
         if self.failed {
             return Err(Refusal::Fault(Fault::Failed));
@@ -63,14 +66,17 @@ impl<S: Scheme<D>, L: Elector<S>, D: Digest> Member<S, L, D> {
         nullification: Nullification<S>,
         now: u64,
     ) -> Result<bool, Refusal>
-        ensures made { IsCall D.eq L.elect self.old.facts (AddNullification (nullification_facts S.certificate_bytes nullification) now)
+        ensures made { IsCall D.eq L.elect self.old.facts
+            (AddNullification (nullification_facts S.certificate_bytes nullification) now)
             (told_of (λ is_new. AddedNullification is_new) result) self.new.facts }
         ensures answered { IfOk result (λ is_new. IsAnswered D.eq L.elect self.old.facts
-            (AddNullification (nullification_facts S.certificate_bytes nullification) now) (AddedNullification is_new) self.new.facts) }
+            (AddNullification (nullification_facts S.certificate_bytes nullification) now) (AddedNullification is_new)
+            self.new.facts) }
         ensures kept { IfErr result (λ refusal. UnchangedButLifetime self.old.facts refusal self.new.facts) }
         ensures votes { self.new.votes ≡ self.old.votes }
         ensures recorded { IfOk result (λ is_new. self.new.facts.entries
-            ≡ self.old.facts.entries ++ if_new is_new (Accepted (Nullified (nullification_facts S.certificate_bytes nullification)))) }
+            ≡ self.old.facts.entries
+            ++ if_new is_new (Accepted (Nullified (nullification_facts S.certificate_bytes nullification)))) }
     {
         if self.failed {
             return Err(Refusal::Fault(Fault::Failed));
@@ -102,14 +108,17 @@ impl<S: Scheme<D>, L: Elector<S>, D: Digest> Member<S, L, D> {
         finalization: Finalization<S, D>,
         now: u64,
     ) -> Result<(bool, Option<S::PublicKey>), Refusal>
-        ensures made { IsCall D.eq L.elect self.old.facts (AddFinalization (finalization_facts S.certificate_bytes finalization) now)
+        ensures made { IsCall D.eq L.elect self.old.facts
+            (AddFinalization (finalization_facts S.certificate_bytes finalization) now)
             (told_of (λ added. Added added.0 added.1) result) self.new.facts }
         ensures answered { IfOk result (λ added. IsAnswered D.eq L.elect self.old.facts
-            (AddFinalization (finalization_facts S.certificate_bytes finalization) now) (Added added.0 added.1) self.new.facts) }
+            (AddFinalization (finalization_facts S.certificate_bytes finalization) now) (Added added.0 added.1)
+            self.new.facts) }
         ensures kept { IfErr result (λ refusal. UnchangedButLifetime self.old.facts refusal self.new.facts) }
         ensures votes { self.new.votes ≡ self.old.votes }
         ensures recorded { IfOk result (λ added. self.new.facts.entries
-            ≡ self.old.facts.entries ++ if_new added.0 (Accepted (Finalized (finalization_facts S.certificate_bytes finalization)))) }
+            ≡ self.old.facts.entries
+            ++ if_new added.0 (Accepted (Finalized (finalization_facts S.certificate_bytes finalization)))) }
     {
         if self.failed {
             return Err(Refusal::Fault(Fault::Failed));

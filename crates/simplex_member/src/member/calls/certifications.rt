@@ -41,8 +41,10 @@ impl<S: Scheme<D>, L: Elector<S>, D: Digest> Member<S, L, D> {
     /// Returns `NotAllowed` if the view's proposal wasn't offered, or has its verdict.
     #[tactic(auto, unfolding(crate::specs::MemberFacts::IsCall))]
     pub fn set_certify_handle(&mut self, view: View, token: u64) -> Result<(), Refusal>
-        ensures made { IsCall D.eq L.elect self.old.facts (SetCertifyHandle view token) (told_of (λ _. Done) result) self.new.facts }
-        ensures answered { IfOk result (λ _. IsAnswered D.eq L.elect self.old.facts (SetCertifyHandle view token) Done self.new.facts) }
+        ensures made { IsCall D.eq L.elect self.old.facts (SetCertifyHandle view token)
+            (told_of (λ _. Done) result) self.new.facts }
+        ensures answered { IfOk result
+            (λ _. IsAnswered D.eq L.elect self.old.facts (SetCertifyHandle view token) Done self.new.facts) }
         ensures kept { IfErr result (λ refusal. UnchangedButLifetime self.old.facts refusal self.new.facts) }
         ensures votes { self.new.votes ≡ self.old.votes }
     {
@@ -72,8 +74,10 @@ impl<S: Scheme<D>, L: Elector<S>, D: Digest> Member<S, L, D> {
         now: u64,
     ) -> Result<Option<Notarization<S, D>>, Refusal>
         ensures made { IsCall D.eq L.elect self.old.facts (Certified view success now)
-            (told_of (λ notarization. Judged success (option_map (notarization_facts S.certificate_bytes) notarization)) result) self.new.facts }
-        ensures answered { IfOk result (λ notarization. IsAnswered D.eq L.elect self.old.facts (Certified view success now)
+            (told_of (λ notarization. Judged success (option_map (notarization_facts S.certificate_bytes) notarization))
+            result) self.new.facts }
+        ensures answered { IfOk result
+            (λ notarization. IsAnswered D.eq L.elect self.old.facts (Certified view success now)
             (Judged success (option_map (notarization_facts S.certificate_bytes) notarization)) self.new.facts) }
         ensures kept { IfErr result (λ refusal. UnchangedButLifetime self.old.facts refusal self.new.facts) }
         ensures votes { self.new.votes ≡ self.old.votes }

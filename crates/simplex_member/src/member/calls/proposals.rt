@@ -18,8 +18,10 @@ impl<S: Scheme<D>, L: Elector<S>, D: Digest> Member<S, L, D> {
     /// Returns `OutOfMemory` with nothing changed: the member makes room for the request before it asks the state.
     #[tactic(auto, unfolding(crate::specs::MemberFacts::IsCall))]
     pub fn try_propose(&mut self) -> Result<Option<ProposalRequest<D, S::PublicKey>>, Refusal>
-        ensures made { IsCall D.eq L.elect self.old.facts TryPropose (told_of (λ request. Requested request) result) self.new.facts }
-        ensures answered { IfOk result (λ request. IsAnswered D.eq L.elect self.old.facts TryPropose (Requested request) self.new.facts) }
+        ensures made { IsCall D.eq L.elect self.old.facts TryPropose
+            (told_of (λ request. Requested request) result) self.new.facts }
+        ensures answered { IfOk result
+            (λ request. IsAnswered D.eq L.elect self.old.facts TryPropose (Requested request) self.new.facts) }
         ensures kept { IfErr result (λ refusal. UnchangedButLifetime self.old.facts refusal self.new.facts) }
         ensures votes { self.new.votes ≡ self.old.votes }
     {
@@ -39,8 +41,11 @@ impl<S: Scheme<D>, L: Elector<S>, D: Digest> Member<S, L, D> {
     /// Returns `NotAllowed` if no request is open in the view.
     #[tactic(auto, unfolding(crate::specs::MemberFacts::IsCall))]
     pub fn proposed(&mut self, view: View, payload: D, now: u64) -> Result<bool, Refusal>
-        ensures made { IsCall D.eq L.elect self.old.facts (Proposed view payload now) (told_of (λ is_held. Answered is_held) result) self.new.facts }
-        ensures answered { IfOk result (λ is_held. IsAnswered D.eq L.elect self.old.facts (Proposed view payload now) (Answered is_held) self.new.facts) }
+        ensures made { IsCall D.eq L.elect self.old.facts (Proposed view payload now)
+            (told_of (λ is_held. Answered is_held) result) self.new.facts }
+        ensures answered { IfOk result
+            (λ is_held. IsAnswered D.eq L.elect self.old.facts (Proposed view payload now) (Answered is_held)
+            self.new.facts) }
         ensures kept { IfErr result (λ refusal. UnchangedButLifetime self.old.facts refusal self.new.facts) }
         ensures votes { self.new.votes ≡ self.old.votes }
     {
@@ -89,8 +94,11 @@ impl<S: Scheme<D>, L: Elector<S>, D: Digest> Member<S, L, D> {
         &mut self,
         view: View,
     ) -> Result<Option<HandoffAbandonedReason>, Refusal>
-        ensures made { IsCall D.eq L.elect self.old.facts (PendingHandoffAbandonment view) (told_of (λ reason. Abandoned reason) result) self.new.facts }
-        ensures answered { IfOk result (λ reason. IsAnswered D.eq L.elect self.old.facts (PendingHandoffAbandonment view) (Abandoned reason) self.new.facts) }
+        ensures made { IsCall D.eq L.elect self.old.facts (PendingHandoffAbandonment view)
+            (told_of (λ reason. Abandoned reason) result) self.new.facts }
+        ensures answered { IfOk result
+            (λ reason. IsAnswered D.eq L.elect self.old.facts (PendingHandoffAbandonment view) (Abandoned reason)
+            self.new.facts) }
         ensures kept { IfErr result (λ refusal. UnchangedButLifetime self.old.facts refusal self.new.facts) }
         ensures votes { self.new.votes ≡ self.old.votes }
     {
@@ -107,8 +115,11 @@ impl<S: Scheme<D>, L: Elector<S>, D: Digest> Member<S, L, D> {
     /// one was open.
     #[tactic(auto, unfolding(crate::specs::MemberFacts::IsCall))]
     pub fn release_proposal_request(&mut self, view: View) -> Result<bool, Refusal>
-        ensures made { IsCall D.eq L.elect self.old.facts (ReleaseProposalRequest view) (told_of (λ was_open. Released was_open) result) self.new.facts }
-        ensures answered { IfOk result (λ was_open. IsAnswered D.eq L.elect self.old.facts (ReleaseProposalRequest view) (Released was_open) self.new.facts) }
+        ensures made { IsCall D.eq L.elect self.old.facts (ReleaseProposalRequest view)
+            (told_of (λ was_open. Released was_open) result) self.new.facts }
+        ensures answered { IfOk result
+            (λ was_open. IsAnswered D.eq L.elect self.old.facts (ReleaseProposalRequest view) (Released was_open)
+            self.new.facts) }
         ensures kept { IfErr result (λ refusal. UnchangedButLifetime self.old.facts refusal self.new.facts) }
         ensures votes { self.new.votes ≡ self.old.votes }
     {

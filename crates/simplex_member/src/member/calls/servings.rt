@@ -24,13 +24,16 @@ impl<S: Scheme<D>, L: Elector<S>, D: Digest> Member<S, L, D> {
         view: View,
     ) -> Result<Option<Certificate<S, D>>, Refusal>
         ensures made { IsCall D.eq L.elect self.old.facts (BroadcastNotarization view)
-            (told_of (λ certificate. Returned (option_map (certificate_facts S.certificate_bytes) certificate)) result) self.new.facts }
-        ensures answered { IfOk result (λ certificate. IsAnswered D.eq L.elect self.old.facts (BroadcastNotarization view)
+            (told_of (λ certificate. Returned (option_map (certificate_facts S.certificate_bytes) certificate)) result)
+            self.new.facts }
+        ensures answered { IfOk result
+            (λ certificate. IsAnswered D.eq L.elect self.old.facts (BroadcastNotarization view)
             (Returned (option_map (certificate_facts S.certificate_bytes) certificate)) self.new.facts) }
         ensures kept { IfErr result (λ refusal. UnchangedButLifetime self.old.facts refusal self.new.facts) }
         ensures votes { self.new.votes ≡ self.old.votes }
         ensures once { OnOk result (HasNoneLeft broadcast_notarization_answer self.new.facts view) }
-        ensures none_left { HasNoneLeft broadcast_notarization_answer self.old.facts view → IfOk result (λ certificate. IsNone certificate) }
+        ensures none_left { HasNoneLeft broadcast_notarization_answer self.old.facts view
+            → IfOk result (λ certificate. IsNone certificate) }
     {
         if self.failed {
             return Err(Refusal::Fault(Fault::Failed));
@@ -49,13 +52,16 @@ impl<S: Scheme<D>, L: Elector<S>, D: Digest> Member<S, L, D> {
         view: View,
     ) -> Result<Option<Certificate<S, D>>, Refusal>
         ensures made { IsCall D.eq L.elect self.old.facts (BroadcastNullification view)
-            (told_of (λ certificate. Returned (option_map (certificate_facts S.certificate_bytes) certificate)) result) self.new.facts }
-        ensures answered { IfOk result (λ certificate. IsAnswered D.eq L.elect self.old.facts (BroadcastNullification view)
+            (told_of (λ certificate. Returned (option_map (certificate_facts S.certificate_bytes) certificate)) result)
+            self.new.facts }
+        ensures answered { IfOk result
+            (λ certificate. IsAnswered D.eq L.elect self.old.facts (BroadcastNullification view)
             (Returned (option_map (certificate_facts S.certificate_bytes) certificate)) self.new.facts) }
         ensures kept { IfErr result (λ refusal. UnchangedButLifetime self.old.facts refusal self.new.facts) }
         ensures votes { self.new.votes ≡ self.old.votes }
         ensures once { OnOk result (HasNoneLeft broadcast_nullification_answer self.new.facts view) }
-        ensures none_left { HasNoneLeft broadcast_nullification_answer self.old.facts view → IfOk result (λ certificate. IsNone certificate) }
+        ensures none_left { HasNoneLeft broadcast_nullification_answer self.old.facts view
+            → IfOk result (λ certificate. IsNone certificate) }
     {
         if self.failed {
             return Err(Refusal::Fault(Fault::Failed));
@@ -74,13 +80,16 @@ impl<S: Scheme<D>, L: Elector<S>, D: Digest> Member<S, L, D> {
         view: View,
     ) -> Result<Option<Certificate<S, D>>, Refusal>
         ensures made { IsCall D.eq L.elect self.old.facts (BroadcastFinalization view)
-            (told_of (λ certificate. Returned (option_map (certificate_facts S.certificate_bytes) certificate)) result) self.new.facts }
-        ensures answered { IfOk result (λ certificate. IsAnswered D.eq L.elect self.old.facts (BroadcastFinalization view)
+            (told_of (λ certificate. Returned (option_map (certificate_facts S.certificate_bytes) certificate)) result)
+            self.new.facts }
+        ensures answered { IfOk result
+            (λ certificate. IsAnswered D.eq L.elect self.old.facts (BroadcastFinalization view)
             (Returned (option_map (certificate_facts S.certificate_bytes) certificate)) self.new.facts) }
         ensures kept { IfErr result (λ refusal. UnchangedButLifetime self.old.facts refusal self.new.facts) }
         ensures votes { self.new.votes ≡ self.old.votes }
         ensures once { OnOk result (HasNoneLeft broadcast_finalization_answer self.new.facts view) }
-        ensures none_left { HasNoneLeft broadcast_finalization_answer self.old.facts view → IfOk result (λ certificate. IsNone certificate) }
+        ensures none_left { HasNoneLeft broadcast_finalization_answer self.old.facts view
+            → IfOk result (λ certificate. IsNone certificate) }
     {
         if self.failed {
             return Err(Refusal::Fault(Fault::Failed));
@@ -96,7 +105,8 @@ impl<S: Scheme<D>, L: Elector<S>, D: Digest> Member<S, L, D> {
     #[tactic(auto, unfolding(crate::specs::MemberFacts::IsCall))]
     pub fn get_best_certificate(&mut self) -> Result<Option<Certificate<S, D>>, Refusal>
         ensures made { IsCall D.eq L.elect self.old.facts GetBestCertificate
-            (told_of (λ certificate. Returned (option_map (certificate_facts S.certificate_bytes) certificate)) result) self.new.facts }
+            (told_of (λ certificate. Returned (option_map (certificate_facts S.certificate_bytes) certificate)) result)
+            self.new.facts }
         ensures answered { IfOk result (λ certificate. IsAnswered D.eq L.elect self.old.facts GetBestCertificate
             (Returned (option_map (certificate_facts S.certificate_bytes) certificate)) self.new.facts) }
         ensures kept { IfErr result (λ refusal. UnchangedButLifetime self.old.facts refusal self.new.facts) }
@@ -113,8 +123,10 @@ impl<S: Scheme<D>, L: Elector<S>, D: Digest> Member<S, L, D> {
     /// Returns `OutOfMemory`.
     #[tactic(auto, unfolding(crate::specs::MemberFacts::IsCall))]
     pub fn prune(&mut self) -> Result<Vec<View>, Refusal>
-        ensures made { IsCall D.eq L.elect self.old.facts Prune (told_of (λ views. Dropped views.items) result) self.new.facts }
-        ensures answered { IfOk result (λ views. IsAnswered D.eq L.elect self.old.facts Prune (Dropped views.items) self.new.facts) }
+        ensures made { IsCall D.eq L.elect self.old.facts Prune
+            (told_of (λ views. Dropped views.items) result) self.new.facts }
+        ensures answered { IfOk result
+            (λ views. IsAnswered D.eq L.elect self.old.facts Prune (Dropped views.items) self.new.facts) }
         ensures kept { IfErr result (λ refusal. UnchangedButLifetime self.old.facts refusal self.new.facts) }
         ensures votes { self.new.votes ≡ self.old.votes }
     {

@@ -22,8 +22,11 @@ impl<S: Scheme<D>, L: Elector<S>, D: Digest> Member<S, L, D> {
         reason: TimeoutReason,
         now: u64,
     ) -> Result<bool, Refusal>
-        ensures made { IsCall D.eq L.elect self.old.facts (TriggerTimeout view reason now) (told_of (λ latched. Triggered latched) result) self.new.facts }
-        ensures answered { IfOk result (λ latched. IsAnswered D.eq L.elect self.old.facts (TriggerTimeout view reason now) (Triggered latched) self.new.facts) }
+        ensures made { IsCall D.eq L.elect self.old.facts (TriggerTimeout view reason now)
+            (told_of (λ latched. Triggered latched) result) self.new.facts }
+        ensures answered { IfOk result
+            (λ latched. IsAnswered D.eq L.elect self.old.facts (TriggerTimeout view reason now) (Triggered latched)
+            self.new.facts) }
         ensures kept { IfErr result (λ refusal. UnchangedButLifetime self.old.facts refusal self.new.facts) }
         ensures votes { self.new.votes ≡ self.old.votes }
     {
@@ -38,8 +41,11 @@ impl<S: Scheme<D>, L: Elector<S>, D: Digest> Member<S, L, D> {
     /// Returns `NotAllowed` if the current view has no timeout, `TimeOverflow` if the moment of a repeat passes 2^64 - 1.
     #[tactic(auto, unfolding(crate::specs::MemberFacts::IsCall))]
     pub fn next_timeout(&mut self, now: u64) -> Result<(u64, TimeoutReason), Refusal>
-        ensures made { IsCall D.eq L.elect self.old.facts (NextTimeout now) (told_of (λ timeout. TimesOut (Some timeout)) result) self.new.facts }
-        ensures answered { IfOk result (λ timeout. IsAnswered D.eq L.elect self.old.facts (NextTimeout now) (TimesOut (Some timeout)) self.new.facts) }
+        ensures made { IsCall D.eq L.elect self.old.facts (NextTimeout now)
+            (told_of (λ timeout. TimesOut (Some timeout)) result) self.new.facts }
+        ensures answered { IfOk result
+            (λ timeout. IsAnswered D.eq L.elect self.old.facts (NextTimeout now) (TimesOut (Some timeout))
+            self.new.facts) }
         ensures kept { IfErr result (λ refusal. UnchangedButLifetime self.old.facts refusal self.new.facts) }
         ensures votes { self.new.votes ≡ self.old.votes }
     {

@@ -19,8 +19,11 @@ impl<S: Scheme<D>, L: Elector<S>, D: Digest> Member<S, L, D> {
     /// view or its parent's is above 2^63 - 1; `OutOfMemory`.
     #[tactic(auto, unfolding(crate::specs::MemberFacts::IsCall))]
     pub fn set_proposal(&mut self, view: View, proposal: Proposal<D>) -> Result<bool, Refusal>
-        ensures made { IsCall D.eq L.elect self.old.facts (SetProposal view proposal) (told_of (λ is_new. Answered is_new) result) self.new.facts }
-        ensures answered { IfOk result (λ is_new. IsAnswered D.eq L.elect self.old.facts (SetProposal view proposal) (Answered is_new) self.new.facts) }
+        ensures made { IsCall D.eq L.elect self.old.facts (SetProposal view proposal)
+            (told_of (λ is_new. Answered is_new) result) self.new.facts }
+        ensures answered { IfOk result
+            (λ is_new. IsAnswered D.eq L.elect self.old.facts (SetProposal view proposal) (Answered is_new)
+            self.new.facts) }
         ensures kept { IfErr result (λ refusal. UnchangedButLifetime self.old.facts refusal self.new.facts) }
         ensures votes { self.new.votes ≡ self.old.votes }
     {
@@ -41,8 +44,10 @@ impl<S: Scheme<D>, L: Elector<S>, D: Digest> Member<S, L, D> {
     /// Returns `OutOfMemory` with nothing changed: the member makes room for the verification before it asks the state.
     #[tactic(auto, unfolding(crate::specs::MemberFacts::IsCall))]
     pub fn try_verify(&mut self) -> Result<Verify<D, S::PublicKey>, Refusal>
-        ensures made { IsCall D.eq L.elect self.old.facts TryVerify (told_of (λ verify. Standing verify) result) self.new.facts }
-        ensures answered { IfOk result (λ verify. IsAnswered D.eq L.elect self.old.facts TryVerify (Standing verify) self.new.facts) }
+        ensures made { IsCall D.eq L.elect self.old.facts TryVerify
+            (told_of (λ verify. Standing verify) result) self.new.facts }
+        ensures answered { IfOk result
+            (λ verify. IsAnswered D.eq L.elect self.old.facts TryVerify (Standing verify) self.new.facts) }
         ensures kept { IfErr result (λ refusal. UnchangedButLifetime self.old.facts refusal self.new.facts) }
         ensures votes { self.new.votes ≡ self.old.votes }
     {
@@ -61,8 +66,10 @@ impl<S: Scheme<D>, L: Elector<S>, D: Digest> Member<S, L, D> {
     /// Returns `NotAllowed` if no proposal of the view is being verified.
     #[tactic(auto, unfolding(crate::specs::MemberFacts::IsCall))]
     pub fn verified(&mut self, view: View) -> Result<bool, Refusal>
-        ensures made { IsCall D.eq L.elect self.old.facts (Verified view) (told_of (λ is_marked. Answered is_marked) result) self.new.facts }
-        ensures answered { IfOk result (λ is_marked. IsAnswered D.eq L.elect self.old.facts (Verified view) (Answered is_marked) self.new.facts) }
+        ensures made { IsCall D.eq L.elect self.old.facts (Verified view)
+            (told_of (λ is_marked. Answered is_marked) result) self.new.facts }
+        ensures answered { IfOk result
+            (λ is_marked. IsAnswered D.eq L.elect self.old.facts (Verified view) (Answered is_marked) self.new.facts) }
         ensures kept { IfErr result (λ refusal. UnchangedButLifetime self.old.facts refusal self.new.facts) }
         ensures votes { self.new.votes ≡ self.old.votes }
     {
@@ -88,8 +95,10 @@ impl<S: Scheme<D>, L: Elector<S>, D: Digest> Member<S, L, D> {
         reason: TimeoutReason,
         now: u64,
     ) -> Result<(), Refusal>
-        ensures made { IsCall D.eq L.elect self.old.facts (VerificationFailed view reason now) (told_of (λ _. Done) result) self.new.facts }
-        ensures answered { IfOk result (λ _. IsAnswered D.eq L.elect self.old.facts (VerificationFailed view reason now) Done self.new.facts) }
+        ensures made { IsCall D.eq L.elect self.old.facts (VerificationFailed view reason now)
+            (told_of (λ _. Done) result) self.new.facts }
+        ensures answered { IfOk result
+            (λ _. IsAnswered D.eq L.elect self.old.facts (VerificationFailed view reason now) Done self.new.facts) }
         ensures kept { IfErr result (λ refusal. UnchangedButLifetime self.old.facts refusal self.new.facts) }
         ensures votes { self.new.votes ≡ self.old.votes }
     {

@@ -27,8 +27,10 @@ impl<S: Scheme<D>, L: Elector<S>, D: Digest> Member<S, L, D> {
         ensures answered { IfOk result (λ vote. IsAnswered D.eq L.elect self.old.facts (ConstructNotarize view)
             (told.Notarize (reply_notarize vote)) self.new.facts) }
         ensures kept { IfErr result (λ refusal. UnchangedButLifetime self.old.facts refusal self.new.facts) }
-        ensures signed { IfOk result (λ vote. IfSome self.old.facts.life (IsSignedReply S.IsSignature (reply.Notarize vote))) }
-        ensures recorded { IfOk result (λ vote. self.new.facts.entries ≡ self.old.facts.entries ++ vote_entry (reply_notarize vote)) }
+        ensures signed { IfOk result
+            (λ vote. IfSome self.old.facts.life (IsSignedReply S.IsSignature (reply.Notarize vote))) }
+        ensures recorded { IfOk result
+            (λ vote. self.new.facts.entries ≡ self.old.facts.entries ++ vote_entry (reply_notarize vote)) }
         ensures votes { IfOk result (λ vote. self.new.votes ≡ self.old.votes ++ signed_notarize vote) }
         ensures same_votes { OnErr result (self.new.votes ≡ self.old.votes) }
         ensures decided { IfOk result (λ vote. IfSome vote (λ _. HasNotarizeVote self.new.facts view)) }
@@ -59,8 +61,10 @@ impl<S: Scheme<D>, L: Elector<S>, D: Digest> Member<S, L, D> {
         ensures answered { IfOk result (λ vote. IsAnswered D.eq L.elect self.old.facts (ConstructNullify view)
             (told.Nullify (reply_nullify vote)) self.new.facts) }
         ensures kept { IfErr result (λ refusal. UnchangedButLifetime self.old.facts refusal self.new.facts) }
-        ensures signed { IfOk result (λ vote. IfSome self.old.facts.life (IsSignedReply S.IsSignature (reply.Nullify vote))) }
-        ensures recorded { IfOk result (λ vote. self.new.facts.entries ≡ self.old.facts.entries ++ unrepeated_vote (reply_nullify vote)) }
+        ensures signed { IfOk result
+            (λ vote. IfSome self.old.facts.life (IsSignedReply S.IsSignature (reply.Nullify vote))) }
+        ensures recorded { IfOk result
+            (λ vote. self.new.facts.entries ≡ self.old.facts.entries ++ unrepeated_vote (reply_nullify vote)) }
         ensures votes { IfOk result (λ vote. self.new.votes ≡ self.old.votes ++ signed_nullify vote) }
         ensures same_votes { OnErr result (self.new.votes ≡ self.old.votes) }
         ensures decided { IfOk result (λ vote. IfSome vote (λ _. HasNullifyVote self.new.facts view)) }
@@ -87,8 +91,10 @@ impl<S: Scheme<D>, L: Elector<S>, D: Digest> Member<S, L, D> {
         ensures answered { IfOk result (λ vote. IsAnswered D.eq L.elect self.old.facts (ConstructFinalize view)
             (told.Finalize (reply_finalize vote)) self.new.facts) }
         ensures kept { IfErr result (λ refusal. UnchangedButLifetime self.old.facts refusal self.new.facts) }
-        ensures signed { IfOk result (λ vote. IfSome self.old.facts.life (IsSignedReply S.IsSignature (reply.Finalize vote))) }
-        ensures recorded { IfOk result (λ vote. self.new.facts.entries ≡ self.old.facts.entries ++ vote_entry (reply_finalize vote)) }
+        ensures signed { IfOk result
+            (λ vote. IfSome self.old.facts.life (IsSignedReply S.IsSignature (reply.Finalize vote))) }
+        ensures recorded { IfOk result
+            (λ vote. self.new.facts.entries ≡ self.old.facts.entries ++ vote_entry (reply_finalize vote)) }
         ensures votes { IfOk result (λ vote. self.new.votes ≡ self.old.votes ++ signed_finalize vote) }
         ensures same_votes { OnErr result (self.new.votes ≡ self.old.votes) }
         ensures decided { IfOk result (λ vote. IfSome vote (λ _. HasFinalizeVote self.new.facts view)) }

@@ -66,7 +66,9 @@ impl State {
         effects: &mut Vec<Effect>,
     ) -> Result<(), Fault>
         requires { IsVotable view }
-        ensures after { OnOk result (self.new ≡ after_nullification self.old view (encoding D.bytes (certificate_facts S.certificate_bytes certificate.now))) }
+        ensures after { OnOk result
+            (self.new ≡ after_nullification self.old view
+            (encoding D.bytes (certificate_facts S.certificate_bytes certificate.now))) }
         ensures settled { OnOk result (effects.new.items ≡ effects.old.items ++ nullification_effects self.old view) }
         ensures same_terms { term_length self.new ≡ term_length self.old }
     {
@@ -115,7 +117,8 @@ impl State {
     ) -> Result<(), Fault>
         requires { view < 2 ^ 63 }
         ensures after { OnOk result (self.new
-            ≡ with_stored_finalization self.old view (encoding D.bytes (certificate_facts S.certificate_bytes certificate.now))) }
+            ≡ with_stored_finalization self.old view
+            (encoding D.bytes (certificate_facts S.certificate_bytes certificate.now))) }
         ensures same_terms { term_length self.new ≡ term_length self.old }
     {
         served::store_finalization(self.alloc, &mut self.finalization, view, certificate)?;
@@ -139,7 +142,9 @@ impl State {
         effects: &mut Vec<Effect>,
     ) -> Result<(), Fault>
         requires { IsVotable view }
-        ensures after { OnOk result (self.new ≡ after_finalization self.old view (encoding D.bytes (certificate_facts S.certificate_bytes certificate.now))) }
+        ensures after { OnOk result
+            (self.new ≡ after_finalization self.old view
+            (encoding D.bytes (certificate_facts S.certificate_bytes certificate.now))) }
         ensures settled { OnOk result (effects.new.items ≡ effects.old.items ++ finalization_effects self.old view) }
         ensures same_terms { term_length self.new ≡ term_length self.old }
     {
@@ -155,8 +160,11 @@ impl State {
         certificate: &Certificate<S, D>,
     ) -> Result<Vec<Effect>, Fault>
         requires { IsVotable (certificate_view certificate.now) }
-        ensures after { OnOk result (self.new ≡ after self.old (update D.bytes (certificate_facts S.certificate_bytes certificate.now))) }
-        ensures effects { IfOk result (λ es. es.items ≡ effects self.old (update D.bytes (certificate_facts S.certificate_bytes certificate.now))) }
+        ensures after { OnOk result
+            (self.new ≡ after self.old (update D.bytes (certificate_facts S.certificate_bytes certificate.now))) }
+        ensures effects { IfOk result
+            (λ es. es.items ≡ effects self.old
+            (update D.bytes (certificate_facts S.certificate_bytes certificate.now))) }
         ensures same_terms { term_length self.new ≡ term_length self.old }
     {
         let mut effects = Vec::new(self.alloc);

@@ -65,7 +65,8 @@ impl State {
         ensures served { IfOk result (λ bytes. bytes ≡ served_encoding self.now view) }
         ensures failed { self.now.is_failed ≡ true → result ≡ Err Failed }
         ensures live { self.now.is_failed ≡ false → IfErr result (λ fault. fault ≡ OutOfMemory) }
-        ensures refused_only_a_copy { self.now.is_failed ≡ false → OnErr result (is_some (served_encoding self.now view) ≡ true) }
+        ensures refused_only_a_copy { self.now.is_failed ≡ false
+            → OnErr result (is_some (served_encoding self.now view) ≡ true) }
     {
         if self.failed {
             return Err(Fault::Failed);

@@ -50,8 +50,11 @@ impl State {
         notarization: Notarization<S, D>,
     ) -> Result<Vec<Effect>, Fault>
         requires { IsVotable notarization.proposal.round.view }
-        ensures after { OnOk result (self.new ≡ after self.old (verdict D.bytes (notarization_facts S.certificate_bytes notarization) true)) }
-        ensures effects { IfOk result (λ es. es.items ≡ effects self.old (verdict D.bytes (notarization_facts S.certificate_bytes notarization) true)) }
+        ensures after { OnOk result
+            (self.new ≡ after self.old (verdict D.bytes (notarization_facts S.certificate_bytes notarization) true)) }
+        ensures effects { IfOk result
+            (λ es. es.items ≡ effects self.old
+            (verdict D.bytes (notarization_facts S.certificate_bytes notarization) true)) }
         ensures same_terms { term_length self.new ≡ term_length self.old }
     {
         let view = notarization.view();
@@ -85,7 +88,8 @@ impl State {
 
     fn record_failure(&mut self, view: View) -> Result<Vec<Effect>, Fault>
         ensures after { OnOk result (self.new ≡ after_failure self.old view) }
-        ensures effects { IfOk result (λ es. es.items ≡ (Settled OfNotarization view view ∷ []) ++ failure_fetches (failing self.old view)) }
+        ensures effects { IfOk result
+            (λ es. es.items ≡ (Settled OfNotarization view view ∷ []) ++ failure_fetches (failing self.old view)) }
         ensures same_terms { term_length self.new ≡ term_length self.old }
     {
         let mut effects = Vec::new(self.alloc);
@@ -112,8 +116,12 @@ impl State {
         success: bool,
     ) -> Result<Vec<Effect>, Fault>
         requires { IsVotable notarization.proposal.round.view }
-        ensures after { OnOk result (self.new ≡ after self.old (verdict D.bytes (notarization_facts S.certificate_bytes notarization) success)) }
-        ensures effects { IfOk result (λ es. es.items ≡ effects self.old (verdict D.bytes (notarization_facts S.certificate_bytes notarization) success)) }
+        ensures after { OnOk result
+            (self.new ≡ after self.old
+            (verdict D.bytes (notarization_facts S.certificate_bytes notarization) success)) }
+        ensures effects { IfOk result
+            (λ es. es.items ≡ effects self.old
+            (verdict D.bytes (notarization_facts S.certificate_bytes notarization) success)) }
         ensures same_terms { term_length self.new ≡ term_length self.old }
     {
         if success {
