@@ -8,7 +8,7 @@ mod certificates;
 mod due;
 mod early;
 mod replies;
-mod views;
+mod view_changes;
 mod work;
 
 ghost use Rattle.std.specs.Prelude.{◌≡◌, ◌+◌, ◌-◌, ◌^◌, ℕ, min, max, true, [], ◌∷◌, ◌++◌, filter, OnOk, IfErr, IsOk, IsTrue, ◌↔◌, ◌≤◌, false};
