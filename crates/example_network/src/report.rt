@@ -77,15 +77,15 @@ impl Report {
 
     /// Stores what a member reports, if no member reported it before.
     pub(crate) fn note(&mut self, member: u8, news: News, now: u64) -> Result<(), RunError> {
-        let is_new = self.is_new(&news)?;
+        let is_new = self.note_once(&news)?;
         if is_new && !self.options.is_quiet {
             self.lines.push(Line { now, member, news })?;
         }
         Ok(())
     }
 
-    /// Returns whether no member reported it before, and stores it.
-    fn is_new(&mut self, news: &News) -> Result<bool, RunError> {
+    /// Stores what a member reports. Returns whether no member reported it before.
+    fn note_once(&mut self, news: &News) -> Result<bool, RunError> {
         match news {
             News::Finalized(proposal) => self.note_finalized(proposal),
             News::Nullified(view) => Ok(self.note_nullified(*view)?),
