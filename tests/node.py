@@ -204,6 +204,7 @@ def wrong_bodies(surroundings, room, only):
     copy = room / "copy"
     shutil.copytree(NODE, copy / "node", ignore=shutil.ignore_patterns("target"))
     shutil.copytree(ROOT / "bindings", copy / "bindings", ignore=shutil.ignore_patterns("target", "*.a"))
+    shutil.copytree(ROOT / "docs", copy / "docs")  # whose commands are tried
     for name, file, old, new in (it for it in WRONG_BODIES if only in it[0]):
         path = copy / "node/node/src" / file
         right = path.read_text()
