@@ -10,6 +10,7 @@ use std::fs;
 use std::io::Write;
 use std::os::unix::fs::{OpenOptionsExt, PermissionsExt};
 use std::path::Path;
+use std::sync::atomic::{AtomicU64, Ordering::Relaxed};
 
 pub use simplex_identity::hex;
 
@@ -25,6 +26,8 @@ pub struct Keys {
     pub me: Participant,
     secret: PKey<Private>,
     public: Vec<PKey<Public>>,
+    /// How many signatures were verified.
+    verified: AtomicU64,
 }
 
 impl Keys {
@@ -52,6 +55,7 @@ impl Keys {
             me: settings.me(),
             secret,
             public,
+            verified: AtomicU64::new(0),
         })
     }
 
@@ -79,9 +83,15 @@ impl Keys {
         let Some(key) = self.public.get(by.get() as usize) else {
             return false;
         };
+        self.verified.fetch_add(1, Relaxed);
         signature.len() == SIGNATURE
             && Verifier::new_without_digest(key)
                 .is_ok_and(|mut it| it.verify_oneshot(signature, &self.network.signed(text)).unwrap_or(false))
+    }
+
+    /// How many signatures were verified, good ones and others.
+    pub fn verified(&self) -> u64 {
+        self.verified.load(Relaxed)
     }
 
     /// Whether a vote is its signer's.
@@ -172,6 +182,7 @@ mod tests {
             me: Participant::new(index),
             secret: secret.clone(),
             public: Vec::new(),
+            verified: AtomicU64::new(0),
         };
         let mut all: Vec<Keys> = (0..).zip(&secret).map(keys_of).collect();
         all.iter_mut()

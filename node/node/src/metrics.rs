@@ -60,6 +60,12 @@ counters! {
     verified: "counter",
     /// Signatures and certificates that were verified and not good.
     forged: "counter",
+    /// Signatures that were verified, those in certificates among them.
+    signatures: "counter",
+    /// Bytes of messages that were sent to peers.
+    sent_bytes: "counter",
+    /// Certificates that were sent to peers.
+    sent_certificates: "counter",
     /// Votes that contradict another one of their signer.
     contradictions: "counter",
     /// Views whose leader was found to have proposed twice.

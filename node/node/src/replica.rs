@@ -438,6 +438,8 @@ impl Replica {
             Output::Vote(order) => self.cast(&order)?,
             Output::Broadcast(it) => {
                 self.parts.horizon.know(it.subject());
+                let others = self.heard.len() as u64 - 1;
+                self.parts.counters.sent_certificates.fetch_add(others, Relaxed);
                 self.parts.peers.send_to_all(&Message::Certificate(it));
             }
             Output::Fetch(it) => self.fetch(&it),
@@ -479,6 +481,7 @@ impl Replica {
         counters.last_finalized.store(views.last_finalized.get(), Relaxed);
         counters.journal_bytes.store(self.parts.journal.bytes(), Relaxed);
         counters.record_entries.store(self.parts.journal.entries(), Relaxed);
+        counters.signatures.store(self.parts.keys.verified(), Relaxed);
         counters.ignored_inputs.store(self.parts.engine.ignored(), Relaxed);
         if self.parts.settings.trial.fault == Some(Fault::Jumps) && self.parts.clock.jump(AN_HOUR, views.current.get()) {
             info!(view = views.current.get(), "the clock jumps");
