@@ -99,13 +99,25 @@ impl Keys {
         self.is_signed(vote.signer, &vote.subject.encode(), &vote.signature)
     }
 
-    /// Whether a certificate is one that an engine makes of good votes: its bytes are signatures on its subject, of just as many different
-    /// members as it takes, by rising index.
-    pub fn is_certificate(&self, it: &Certificate) -> bool {
-        let text = it.subject().encode();
-        it.signatures().is_some_and(|signed| {
-            signed.len() == self.quorum() && signed.iter().all(|(signer, signature)| self.is_signed(*signer, &text, signature))
+    /// The votes in a certificate, whose signatures are not verified yet. `None` where it is none that an engine makes: its bytes are
+    /// signatures on its subject, of just as many different members as it takes, by rising index.
+    pub fn votes_in(&self, it: &Certificate) -> Option<Vec<Vote>> {
+        let (subject, signed) = (it.subject(), it.signatures()?);
+        let is_quorum = signed.len() == self.quorum() && signed.iter().all(|(_, it)| it.len() == SIGNATURE);
+        is_quorum.then(|| {
+            let vote = |(signer, signature): (Participant, &[u8])| Vote {
+                subject,
+                signer,
+                signature: signature.to_vec(),
+            };
+            signed.into_iter().map(vote).collect()
         })
+    }
+
+    /// Whether a certificate is one that an engine makes of good votes.
+    pub fn is_certificate(&self, it: &Certificate) -> bool {
+        self.votes_in(it)
+            .is_some_and(|votes| votes.iter().all(|it| self.is_signed_vote(it)))
     }
 }
 

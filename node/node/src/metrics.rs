@@ -66,6 +66,8 @@ counters! {
     sent_bytes: "counter",
     /// Certificates that were sent to peers.
     sent_certificates: "counter",
+    /// Certificates that were not sent to peers, since they have them.
+    spared_certificates: "counter",
     /// Votes that contradict another one of their signer.
     contradictions: "counter",
     /// Views whose leader was found to have proposed twice.

@@ -1,8 +1,11 @@
 //! The other members: messages over the links of `simplex_net`, and what is read from them, verified on the reading threads.
 
+mod holders;
+mod horizon;
 mod reader;
+mod verified;
 
-pub use reader::Horizon;
+pub use horizon::Horizon;
 
 use crate::crypto::Keys;
 use crate::inbox::Inbox;
@@ -118,7 +121,8 @@ impl Peers {
         }
     }
 
-    fn send_frame(&self, to: Participant, frame: Arc<Vec<u8>>) {
+    /// Sends bytes as they are to a member.
+    pub fn send_frame(&self, to: Participant, frame: Arc<Vec<u8>>) {
         if !self.is_cut_off(to) && to != self.me {
             self.counters.sent_bytes.fetch_add(frame.len() as u64, Relaxed);
             self.links.send(to, frame);
