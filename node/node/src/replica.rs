@@ -30,6 +30,7 @@ use crate::settings::{Outcome, Settings, Turns};
 use crate::trace::Trace;
 use crate::waiting::Waiting;
 use broadcasting::Held;
+use counting::Begun;
 use far::Far;
 use finality::Lag;
 use simplex_chain::CatchUp;
@@ -118,6 +119,7 @@ pub struct Replica {
     far: Far,
     /// The certificates that are held back for a moment.
     held: Held,
+    begun: Begun,
     old_votes: Vec<Vote>,
     told_at: u64,
 }
@@ -153,6 +155,7 @@ impl Replica {
             lag: Lag::none(),
             far: None,
             held: Held::new(),
+            begun: Begun::default(),
             old_votes: Vec::new(),
             told_at: u64::MAX,
             parts,
@@ -420,6 +423,7 @@ impl Replica {
         if self.parts.journal.sync()? {
             self.parts.counters.syncs.fetch_add(1, Relaxed);
             self.spent(&self.parts.counters.sync_us, begun);
+            self.parts.counters.durations.sync(begun.elapsed().as_secs_f64());
         }
         Ok(())
     }

@@ -58,8 +58,10 @@ impl Connection for Link {
     type Message = Message;
 
     fn verify(&mut self, frame: &[u8]) -> io::Result<Option<Message>> {
+        let begun = Instant::now();
         let message = Message::decode(frame)?;
         let is_of_use = self.admit(&message);
+        self.reader.counters.durations.verify(begun.elapsed().as_secs_f64());
         if self.forged > MOST_FORGED {
             return Err(io::ErrorKind::PermissionDenied.into());
         }
