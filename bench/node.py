@@ -3,27 +3,32 @@
 how its memory goes over some minutes.
 
     bench/node.py [--seconds N]            networks of four and of ten nodes, with the disk waited for and without
+    bench/node.py --counts [--seconds N]   what a view costs each of 4, 10, 16 and 25 nodes, in signatures, bytes and certificates: counts, which say
+                                           the same on a machine that does much else
     bench/node.py --soak MINUTES [--svg FILE]    a network of four, its memory and its record each ten seconds, drawn
 
 Both build with optimizations what stands in `node/`, over `bindings/libsimplex.a`; which of the two that is, proved or not, is said by
 whoever built it."""
 
 import argparse
+import os
 import re
 import subprocess
 from pathlib import Path
 
 ROOT = Path(__file__).resolve().parent.parent
 NODE = ROOT / "node"
+TARGET = Path(os.environ.get("CARGO_TARGET_DIR", NODE / "target"))
 LINE = re.compile(r"^ *(\d+) s  view (\d+), (\d+) a second, .*?, at most (\d+) kB and (\d+) entries a node$")
 LIFE = re.compile(r"^node \d+, last lifetime: ([\d.]+) % in the core, ([\d.]+) % signing, ([\d.]+) % waiting for the disk \((\d+) times\), "
                   r"([\d.]+) % for the application, ([\d.]+) % for events")
 ROW = re.compile(r"^node \d+: (\d+) blocks, the last of view (\d+), (\d+) a second, ([\d.]+) ms \(median\), ([\d.]+) ms")
+COSTS = re.compile(r"^node \d+, a view of that lifetime: ([\d.]+) signatures verified, (\d+) bytes sent, ([\d.]+) certificates sent$")
 
 
 def run(*arguments):
     """The lines that a network prints as they come."""
-    with subprocess.Popen([NODE / "target/release/simplex-local", *arguments], stdout=subprocess.PIPE, text=True) as running:
+    with subprocess.Popen([TARGET / "release/simplex-local", *arguments], stdout=subprocess.PIPE, text=True) as running:
         for line in running.stdout:
             yield line.rstrip("\n")
     if running.returncode:
@@ -45,6 +50,17 @@ def table(seconds):
             shares = " | ".join(f"{mean(lives, place):.1f} %" for place in (0, 1, 2, 4, 5))
             disk = "not waited for" if words else "waited for"
             print(f"| {nodes} | {disk} | {views:.0f} | {half:.1f} ms | {most:.1f} ms | {waits:.2f} | {shares} |", flush=True)
+
+
+def counts(seconds):
+    print("| Nodes | Views | Signatures verified a view | Certificates sent a view | Bytes sent a view |")
+    print("|---|---|---|---|---|")
+    for nodes in (4, 10, 16, 25):
+        lines = list(run("--nodes", str(nodes), "--seconds", str(seconds)))
+        rows = [found.groups() for line in lines if (found := ROW.match(line))]
+        costs = [found.groups() for line in lines if (found := COSTS.match(line))]
+        signatures, sent, certificates = (sum(float(it[place]) for it in costs) / len(costs) for place in range(3))
+        print(f"| {nodes} | {max(int(it[1]) for it in rows)} | {signatures:.1f} | {certificates:.1f} | {sent:,.0f} |", flush=True)
 
 
 def drawn(samples):
@@ -81,12 +97,15 @@ def soak(minutes, svg):
 def main():
     parser = argparse.ArgumentParser(description=__doc__, formatter_class=argparse.RawDescriptionHelpFormatter)
     parser.add_argument("--seconds", type=int, default=20, help="how long each network runs")
+    parser.add_argument("--counts", action="store_true", help="what a view costs")
     parser.add_argument("--soak", type=int, metavar="MINUTES", help="one network's memory over so many minutes")
     parser.add_argument("--svg", type=Path, help="draws the soak into this file")
     given = parser.parse_args()
     subprocess.run(["cargo", "build", "--offline", "--quiet", "--release"], cwd=NODE, check=True)
     if given.soak:
         soak(given.soak, given.svg)
+    elif given.counts:
+        counts(given.seconds)
     else:
         table(given.seconds)
 

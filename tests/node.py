@@ -6,12 +6,14 @@ finalized chains agree, no honest node signed two votes that contradict each oth
 members that a test plays. Then a network as a newcomer begins it, with a faulty node and some that are killed.
 
     tests/node.py [--archive PATH] [--long]     without an archive one is built, unproved, in a minute or two
+    tests/node.py --chaos MINUTES               a network under one fault after another, alone: `node/node/tests/chaos.rs`
     tests/node.py --wrong                       each wrong body of a table, in a copy: a test has to fail
 
 It ends with status 1 where something is not as it has to be. Where packages are lacking it has `node/setup` install them; where they
 can't be had it says so in one line, and ends with status 77: skipped."""
 
 import argparse
+import json
 import os
 import re
 import shutil
@@ -25,13 +27,42 @@ from lib.program import ROOT
 NODE = ROOT / "node"
 SKIPPED = 77
 LEAST_TESTS = 233
+# The libraries that the container of `node/Containerfile` has.
+IN_CONTAINER = {"libssl", "libcrypto", "libgcc_s", "libc", "libm", "libdl", "libpthread"}
 # The words of the network that `./demo` runs.
 NETWORK = re.compile(r"words=\((--.*)\)")
 
 # A file, what stands there, what is put in its place, and what fails then.
 WRONG_BODIES = (
     ("what is recorded is not stored", "replica.rs", "Output::Store(entries) => self.parts.journal.append(&entries)?,", "Output::Store(_) => {}"),
-    ("votes are not verified", "peers/reader.rs", "let is_good = self.count(self.reader.keys.is_signed_vote(vote));", "let is_good = self.count(true);"),
+    ("votes are not verified", "peers/reader.rs", "is_good.unwrap_or_else(|| horizon.is_good_in_the_end(vote, verify)) || self.count(false)",
+     "is_good.is_some() || self.count(false)"),
+    ("a signature that is not good is remembered as good", "peers/verified.rs", "        if is_good {\n            self.lock().remember(vote);\n        }",
+     "        self.lock().remember(vote);"),
+    ("signatures are remembered by view and signer alone", "peers/verified.rs", "self.good.get(&key_of(vote)).is_some_and(|it| it.contains(vote))",
+     "self.good.keys().any(|it| (it.0, it.2) == (vote.subject.round().view, vote.signer))"),
+    ("signatures are remembered by subject and signer, whatever their bytes", "peers/verified.rs", "is_some_and(|it| it.contains(vote))",
+     "is_some_and(|it| it.iter().any(|it| it.subject == vote.subject))"),
+    ("signatures of far views are remembered", "peers/horizon.rs", "            true => self.verified.is_good(vote, verify),\n            false => Some(verify(vote)),",
+     "            _ => self.verified.is_good(vote, verify),"),
+    ("two readers verify one signature", "peers/verified.rs", "if !state.running.insert(vote.clone()) {", "if !state.running.insert(vote.clone()) && vote.signature.is_empty() {"),
+    ("each certificate on a subject is passed on", "peers/horizon.rs", "!is_known && known.passed.insert(key, subject) != Some(subject)", "!is_known"),
+    ("a certificate that was dropped is taken from nobody else", "replica.rs", "            self.parts.horizon.took(subject);\n", "            let _ = subject;\n"),
+    ("a certificate waits behind what its sender sent", "peers/reader.rs", "            self.reader.inbox.tell(Event::Message(self.from, message));",
+     "            return self.reader.inbox.put(self.from, message, 0) != Put::Closed;"),
+    ("certificates are sent back to who sent them", "peers/reader.rs", "                horizon.show(self.from, subject);\n", ""),
+    ("what an honest member sent is broadcast by all", "peers/holders.rs", "if !is_again && senders > most_faulty(members) as usize {", "if !is_again && senders > members as usize {"),
+    ("what faulty members say to have is broadcast by nobody", "peers/holders.rs", "if !is_again && senders > most_faulty(members) as usize {",
+     "if !is_again && senders + 1 > most_faulty(members) as usize {"),
+    ("what was sent is not sent again to those that missed it", "peers/holders.rs", "let was_sent = |member| !is_again && self", "let was_sent = |member| self"),
+    ("a signer signs two votes of a kind and view", "signer/guard.rs", "            Some(_) => return Err(format!(\"another vote", "            Some(_) if view == 0 => return Err(format!(\"another vote"),
+    ("a signer signs to nullify and to finalize a view", "signer/guard.rs", "if self.votes.contains_key(&(view, against)) {", "if view == 0 && self.votes.contains_key(&(view, against)) {"),
+    ("a signer signs below its lowest view", "signer/guard.rs", "if view < self.lowest {", "if view == 0 {"),
+    ("a signer forgets what it signed", "signer/guard.rs", "        let written = self.file.write_all(line.as_bytes()).and_then(|()| self.file.sync_data());",
+     "        let written = (!line.is_empty()).then_some(()).ok_or(\"none\");"),
+    ("a signer signs any text", "signer/server.rs", "Subject::decode(text).ok_or(\"what is to be signed is no vote\")?",
+     "match Subject::decode(text) { Some(it) => it, None => return Ok(self.key.sign(&Subject::Nullify(Default::default()), text)?.to_vec()) }"),
+    ("a signer of another network is taken", "signer/remote.rs", "if status != DONE || there != who(&self.owner) {", "if status != DONE {"),
     ("a member may hold many connections", "../../net/src/accept.rs", "if let Some(older) = place.replace(open) {",
      "std::mem::forget(open); if let Some(older) = None::<Open> {"),
     ("a greeting takes as long as it likes", "../../net/src/session.rs", "pub const GREETING: Duration = Duration::from_secs(2);",
@@ -90,7 +121,7 @@ WRONG_BODIES = (
     ("a leader's vote is not sent to those that voted for another proposal", "leader_votes.rs", "found.to_send = seen.others(leader);", ""),
     ("a leader's vote is dropped where its view is certified", "peers/reader.rs", "(is_proposal || !horizon.knows(&vote.subject))",
      "!horizon.knows(&vote.subject)"),
-    ("a vote for another proposal is dropped where the view is certified", "peers/reader.rs",
+    ("a vote for another proposal is dropped where the view is certified", "peers/horizon.rs",
      "locked(&self.known).certificates.get(&key) == Some(subject)", "locked(&self.known).certificates.contains_key(&key)"),
     ("votes in a notarization are not compared", "replica/far.rs", "let found = self.leader_votes.see_certificate(&it);", "let found = Default::default();"),
     ("what is signed in one network counts in another", "../../identity/src/network_name.rs", "[SIGNED, &self.prefixed(), text].concat()", "[SIGNED, text].concat()"),
@@ -175,6 +206,7 @@ def faults(surroundings, target):
     passed = 0
     # Built alone first, as a newcomer does: the tests' build would bring what a command lacks.
     yield from newcomers_faults(surroundings, target)
+    yield from operators_faults(target)
     for words in (("fmt", "--check"), ("clippy", "--offline", "--quiet", "--all-targets", "--", "-D", "warnings"), ("test", "--offline")):
         done = cargo(NODE, surroundings, *words)
         passed += sum(int(count) for count in re.findall(r"test result: \w+\. (\d+) passed", done.stdout))
@@ -182,6 +214,34 @@ def faults(surroundings, target):
             yield f"cargo {' '.join(words)}:\n{(done.stdout + done.stderr)[-4000:]}"
     if passed < LEAST_TESTS:
         yield f"{passed} tests passed, where {LEAST_TESTS} are asked for"
+
+
+def operators_faults(target):
+    """What is not as it has to be of the units of systemd and of the container file, over the program that was built."""
+    program = target / "debug/simplex-node"
+    if not program.is_file():
+        return
+    if shutil.which("systemd-analyze"):
+        for unit in sorted(NODE.glob("*.service")):
+            tried = target / unit.name
+            tried.write_text(re.sub(r"^User=.*$", "User=root", unit.read_text(), flags=re.M).replace("/usr/local/bin/simplex-node", str(program)))
+            done = subprocess.run(["systemd-analyze", "verify", "--man=no", tried], capture_output=True, text=True)
+            about = [line for line in done.stderr.splitlines() if unit.name in line]
+            if done.returncode or about:
+                yield f"systemd-analyze verify {unit.name}: {about or done.stderr[-500:]}"
+    else:
+        print("node: the units of systemd were not verified: there is no systemd-analyze")
+    text = re.sub(r"\\\n", " ", (NODE / "Containerfile").read_text())
+    lines = dict(line.split(" ", 1) for line in text.splitlines() if line and not line.startswith("#"))
+    words = json.loads(lines["ENTRYPOINT"]) + json.loads(lines["CMD"])
+    if lines["COPY"].split() != [program.name, words[0]] or lines["USER"] in ("root", "0") or lines["VOLUME"] not in text.split("--home-dir")[1]:
+        yield f"the container runs {words} as {lines['USER']}, and copies {lines['COPY']}"
+    asked = subprocess.run([program, *words[1:]], capture_output=True, text=True)
+    if words[-1] not in asked.stderr:
+        yield f"simplex-node {' '.join(words[1:])} does not read these settings: {asked.stderr}"
+    libraries = set(re.findall(r"(lib[\w.+-]+)\.so", subprocess.run(["ldd", program], capture_output=True, text=True).stdout))
+    if not libraries <= IN_CONTAINER:
+        yield f"the container lacks {', '.join(sorted(libraries - IN_CONTAINER))}"
 
 
 def newcomers_faults(surroundings, target):
@@ -197,6 +257,15 @@ def newcomers_faults(surroundings, target):
         yield f"simplex-local {' '.join(words)}:\n{(done.stdout + done.stderr)[-2000:]}"
     elif "--html" in words and not (target / words[words.index("--html") + 1]).is_file():
         yield f"simplex-local {' '.join(words)} wrote no page"
+
+
+def chaos(surroundings, minutes):
+    """What is not as it has to be of a network under one fault after another, whose figures are printed."""
+    words = ("test", "--offline", "--quiet", "--release", "--package", "simplex-node", "--test", "chaos", "--", "--nocapture")
+    done = cargo(NODE, {**surroundings, "SIMPLEX_CHAOS": str(minutes)}, *words)
+    print(done.stdout.strip())
+    if done.returncode:
+        yield f"chaos: {done.stderr[-4000:]}"
 
 
 def wrong_bodies(surroundings, room, only):
@@ -224,6 +293,7 @@ def main():
     parser = argparse.ArgumentParser(description=__doc__, formatter_class=argparse.RawDescriptionHelpFormatter)
     parser.add_argument("--archive", type=Path, help="the library, if it is built already")
     parser.add_argument("--long", action="store_true", help="fifty kills")
+    parser.add_argument("--chaos", type=float, metavar="MINUTES", help="one network under one fault after another, for so long, alone")
     parser.add_argument("--wrong", action="store_true", help="the wrong bodies alone")
     parser.add_argument("--only", default="", help="the wrong bodies whose name holds this")
     given = parser.parse_args()
@@ -237,7 +307,10 @@ def main():
         target = room / "target"
         surroundings = {**os.environ, "SIMPLEX_ARCHIVE": str(archive), "CARGO_TARGET_DIR": str(target), "CARGO_NET_OFFLINE": "true"}
         surroundings |= {"SIMPLEX_LONG": "1"} if given.long else {}
-        found = list(wrong_bodies(surroundings, room, given.only) if given.wrong else faults(surroundings, target))
+        if given.chaos:
+            found = list(chaos(surroundings, given.chaos))
+        else:
+            found = list(wrong_bodies(surroundings, room, given.only) if given.wrong else faults(surroundings, target))
     for it in found:
         print(it)
     print(f"node: {len(found)} not as they have to be")

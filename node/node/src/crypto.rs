@@ -1,15 +1,18 @@
 //! Keys, signatures and certificates: ed25519 and SHA-256 of OpenSSL.
 
 use crate::settings::{Outcome, Settings};
+use crate::signer::guard::Owner;
+use crate::signer::{Local, Remote, Signer};
 use openssl::pkey::{Id, PKey, Private, Public};
-use openssl::sign::{Signer, Verifier};
+use openssl::sign::Verifier;
 use simplex_identity::NetworkName;
 use simplex_net::Members;
-use simplex_view_state::{Certificate, Participant, Vote};
+use simplex_view_state::{Certificate, Participant, Subject, Vote};
 use std::fs;
 use std::io::Write;
 use std::os::unix::fs::{OpenOptionsExt, PermissionsExt};
 use std::path::Path;
+use std::sync::atomic::{AtomicU64, Ordering::Relaxed};
 
 pub use simplex_identity::hex;
 
@@ -23,44 +26,54 @@ pub struct Keys {
     network: NetworkName,
     /// Which member this node is.
     pub me: Participant,
+    /// The key of this node's links, and that of its votes too where no other process signs them.
     secret: PKey<Private>,
+    signer: Box<dyn Signer>,
     public: Vec<PKey<Public>>,
+    /// The public keys of the members' links.
+    links: Vec<[u8; 32]>,
+    /// How many signatures were verified.
+    verified: AtomicU64,
 }
 
 impl Keys {
-    /// The keys that the settings name. The secret one has to be that of the member.
+    /// The keys that the settings name. The secret one has to be that of the member, or of its links where a signer has the other.
     pub fn read(settings: &Settings) -> Outcome<Keys> {
-        let named = |error: &dyn std::fmt::Display| format!("{}: {error}", settings.key.display());
-        let mode = fs::metadata(&settings.key).map_err(|error| named(&error))?.permissions().mode();
-        if mode & 0o077 != 0 {
-            return Err(named(&format!(
-                "others may read this secret key: run chmod 600 {}",
-                settings.key.display()
-            ))
-            .into());
-        }
-        let mut pem = fs::read(&settings.key).map_err(|error| named(&error))?;
-        let secret = PKey::private_key_from_pem(&pem);
-        wipe(&mut pem);
-        let secret = secret.map_err(|error| named(&error))?;
+        let secret = read_secret(&settings.key)?;
         let public = settings.members.iter().map(|it| public_key(&it.key)).collect::<Outcome<Vec<_>>>()?;
-        if !secret.public_eq(&public[settings.index as usize]) {
-            return Err(format!("{} is not the key of member {}", settings.key.display(), settings.index).into());
+        let links = settings
+            .members
+            .iter()
+            .map(|it| raw_key(it.link_key()))
+            .collect::<Outcome<Vec<_>>>()?;
+        let index = settings.index as usize;
+        if secret.raw_public_key()? != links[index] {
+            let which = if settings.members[index].link.is_some() {
+                "the `link` key"
+            } else {
+                "the key"
+            };
+            return Err(format!(
+                "{} is not {which} of member {}: name its own",
+                settings.key.display(),
+                settings.index
+            )
+            .into());
         }
         Ok(Keys {
             network: settings.network.clone(),
             me: settings.me(),
+            signer: signer(settings, &secret)?,
             secret,
             public,
+            links,
+            verified: AtomicU64::new(0),
         })
     }
 
     /// The keys, for links to the members.
     pub(crate) fn members(&self) -> Outcome<Members> {
-        let raw =
-            |key: &PKey<Public>| -> Outcome<[u8; 32]> { Ok(key.raw_public_key()?.try_into().map_err(|_| "an ed25519 key has 32 bytes")?) };
-        let public = self.public.iter().map(raw).collect::<Outcome<Vec<_>>>()?;
-        Ok(Members::new(self.me, self.secret.clone(), &public)?)
+        Ok(Members::new(self.me, self.secret.clone(), &self.links)?)
     }
 
     /// How many votes make a certificate: all members but a third of them, rounded down.
@@ -68,10 +81,14 @@ impl Keys {
         self.public.len() - (self.public.len() - 1) / 3
     }
 
-    /// This node's signature on a text, which is signed behind the network's name.
+    /// This member's signature on a vote, whose text is this.
+    pub fn sign_vote(&self, subject: &Subject, text: &[u8]) -> Outcome<Signature> {
+        self.signer.sign(subject, text)
+    }
+
+    /// This node's signature on a text, which is signed behind the network's name: by its own key, which a signer's votes are not under.
     pub fn sign(&self, text: &[u8]) -> Outcome<Signature> {
-        let signature = Signer::new_without_digest(&self.secret)?.sign_oneshot_to_vec(&self.network.signed(text))?;
-        Ok(signature.try_into().map_err(|_| "an ed25519 signature has 64 bytes")?)
+        Local::new(self.network.clone(), self.secret.clone()).sign(&Subject::Nullify(Default::default()), text)
     }
 
     /// Whether a member of this network signed a text.
@@ -79,9 +96,15 @@ impl Keys {
         let Some(key) = self.public.get(by.get() as usize) else {
             return false;
         };
+        self.verified.fetch_add(1, Relaxed);
         signature.len() == SIGNATURE
             && Verifier::new_without_digest(key)
                 .is_ok_and(|mut it| it.verify_oneshot(signature, &self.network.signed(text)).unwrap_or(false))
+    }
+
+    /// How many signatures were verified, good ones and others.
+    pub fn verified(&self) -> u64 {
+        self.verified.load(Relaxed)
     }
 
     /// Whether a vote is its signer's.
@@ -89,14 +112,56 @@ impl Keys {
         self.is_signed(vote.signer, &vote.subject.encode(), &vote.signature)
     }
 
-    /// Whether a certificate is one that an engine makes of good votes: its bytes are signatures on its subject, of just as many different
-    /// members as it takes, by rising index.
-    pub fn is_certificate(&self, it: &Certificate) -> bool {
-        let text = it.subject().encode();
-        it.signatures().is_some_and(|signed| {
-            signed.len() == self.quorum() && signed.iter().all(|(signer, signature)| self.is_signed(*signer, &text, signature))
+    /// The votes in a certificate, whose signatures are not verified yet. `None` where it is none that an engine makes: its bytes are
+    /// signatures on its subject, of just as many different members as it takes, by rising index.
+    pub fn votes_in(&self, it: &Certificate) -> Option<Vec<Vote>> {
+        let (subject, signed) = (it.subject(), it.signatures()?);
+        let is_quorum = signed.len() == self.quorum() && signed.iter().all(|(_, it)| it.len() == SIGNATURE);
+        is_quorum.then(|| {
+            let vote = |(signer, signature): (Participant, &[u8])| Vote {
+                subject,
+                signer,
+                signature: signature.to_vec(),
+            };
+            signed.into_iter().map(vote).collect()
         })
     }
+
+    /// Whether a certificate is one that an engine makes of good votes.
+    pub fn is_certificate(&self, it: &Certificate) -> bool {
+        self.votes_in(it)
+            .is_some_and(|votes| votes.iter().all(|it| self.is_signed_vote(it)))
+    }
+}
+
+/// Who signs the votes of this member.
+fn signer(settings: &Settings, secret: &PKey<Private>) -> Outcome<Box<dyn Signer>> {
+    let Some(socket) = &settings.signer else {
+        return Ok(Box::new(Local::new(settings.network.clone(), secret.clone())));
+    };
+    let owner = Owner {
+        network: settings.network.clone(),
+        epoch: settings.protocol.epoch,
+        key: raw_key(&settings.members[settings.index as usize].key)?,
+    };
+    Ok(Box::new(Remote::connect(socket, owner)?))
+}
+
+/// The secret key in a file, which its owner alone may read.
+pub(crate) fn read_secret(path: &Path) -> Outcome<PKey<Private>> {
+    let named = |error: &dyn std::fmt::Display| format!("{}: {error}", path.display());
+    let mode = fs::metadata(path).map_err(|error| named(&error))?.permissions().mode();
+    if mode & 0o077 != 0 {
+        return Err(named(&format!("others may read this secret key: run chmod 600 {}", path.display())).into());
+    }
+    let mut pem = fs::read(path).map_err(|error| named(&error))?;
+    let secret = PKey::private_key_from_pem(&pem);
+    wipe(&mut pem);
+    let secret = secret.map_err(|error| named(&error))?;
+    if secret.id() != Id::ED25519 {
+        return Err(named(&"this is no ed25519 key: make one by `simplex-node keygen`").into());
+    }
+    Ok(secret)
 }
 
 fn public_key(hex: &str) -> Outcome<PKey<Public>> {
@@ -171,7 +236,13 @@ mod tests {
             network: NetworkName::try_from("test".to_owned()).expect("a name"),
             me: Participant::new(index),
             secret: secret.clone(),
+            signer: Box::new(Local::new(
+                NetworkName::try_from("test".to_owned()).expect("a name"),
+                secret.clone(),
+            )),
             public: Vec::new(),
+            links: Vec::new(),
+            verified: AtomicU64::new(0),
         };
         let mut all: Vec<Keys> = (0..).zip(&secret).map(keys_of).collect();
         all.iter_mut()

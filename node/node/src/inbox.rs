@@ -172,6 +172,11 @@ impl Inbox {
         }
     }
 
+    /// Whether nobody takes messages any more.
+    pub fn is_closed(&self) -> bool {
+        self.lock().is_closed
+    }
+
     /// Nobody takes messages any more.
     pub fn close(&self) {
         self.lock().is_closed = true;

@@ -70,6 +70,7 @@ pub mod replica;
 pub mod run_folder;
 pub mod segments;
 pub mod settings;
+pub mod signer;
 pub mod start;
 pub mod trace;
 pub mod version;

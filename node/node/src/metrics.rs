@@ -1,12 +1,39 @@
-//! What is counted, and served over HTTP in Prometheus' text format.
+//! What is counted and measured, in Prometheus' text format: times in seconds and sizes in bytes.
 
-use std::fmt::Write as _;
-use std::io::{self, BufRead, BufReader, Read, Write};
-use std::net::{SocketAddr, TcpListener, TcpStream};
-use std::sync::Arc;
+mod durations;
+mod serving;
+
+pub use durations::Durations;
+pub use serving::serve;
+
+use prometheus::proto::{Counter, Gauge, Metric, MetricFamily, MetricType};
+use prometheus::{Encoder, TextEncoder};
 use std::sync::atomic::{AtomicU64, Ordering::Relaxed};
-use std::thread;
-use std::time::{Duration, Instant};
+
+/// A number that is counted here, as it is served.
+#[derive(Clone, Debug, PartialEq)]
+pub struct Exported {
+    /// The name that it is served under.
+    pub name: String,
+    /// What it is multiplied by, to be in seconds or bytes.
+    pub scale: f64,
+}
+
+/// A name of [`Counters`], as it is served: in base units, and a counter with `total` behind it.
+fn exported(name: &str, kind: &str) -> Exported {
+    let (stem, unit, scale) = if let Some(stem) = name.strip_suffix("_us") {
+        (stem, "_seconds", 1e-6)
+    } else if let Some(stem) = name.strip_suffix("_kb") {
+        (stem, "_bytes", 1024.0)
+    } else {
+        (name, "", 1.0)
+    };
+    let end = if kind == "counter" { "_total" } else { "" };
+    Exported {
+        name: format!("simplex_{stem}{unit}{end}"),
+        scale,
+    }
+}
 
 macro_rules! counters {
     ($($(#[doc = $help:literal])+ $name:ident: $kind:literal,)+) => {
@@ -14,21 +41,56 @@ macro_rules! counters {
         #[derive(Default, Debug)]
         pub struct Counters {
             $($(#[doc = $help])+ pub $name: AtomicU64,)+
+            /// How long things took.
+            pub durations: Durations,
         }
 
         impl Counters {
-            /// All of them, in Prometheus' text format.
-            pub fn text(&self) -> String {
-                let mut text = String::new();
-                $(
-                    let help = concat!($($help),+).trim();
-                    let name = concat!("simplex_", stringify!($name));
-                    let _ = writeln!(text, "# HELP {name} {help}\n# TYPE {name} {}\n{name} {}", $kind, self.$name.load(Relaxed));
-                )+
-                text
+            /// Each name with its kind, its help, and what is counted.
+            fn all(&self) -> Vec<(&'static str, &'static str, &'static str, u64)> {
+                vec![$((stringify!($name), $kind, concat!($($help),+), self.$name.load(Relaxed)),)+]
+            }
+
+            /// How a count is served; `None` where none has this name.
+            pub fn exported(name: &str) -> Option<Exported> {
+                match name {
+                    $(stringify!($name) => Some(exported(name, $kind)),)+
+                    _ => None,
+                }
             }
         }
     };
+}
+
+impl Counters {
+    /// All of them, in Prometheus' text format.
+    pub fn text(&self) -> String {
+        let mut families: Vec<MetricFamily> = self.all().into_iter().map(family).collect();
+        families.extend(self.durations.collect());
+        let mut text = Vec::new();
+        let encoded = TextEncoder::new().encode(&families, &mut text);
+        encoded.ok().and_then(|()| String::from_utf8(text).ok()).unwrap_or_default()
+    }
+}
+
+fn family((name, kind, help, count): (&str, &str, &str, u64)) -> MetricFamily {
+    let Exported { name, scale } = exported(name, kind);
+    let (mut family, mut metric, value) = (MetricFamily::default(), Metric::default(), count as f64 * scale);
+    family.set_name(name);
+    family.set_help(help.trim().to_owned());
+    if kind == "counter" {
+        let mut counter = Counter::default();
+        counter.set_value(value);
+        metric.set_counter(counter);
+        family.set_field_type(MetricType::COUNTER);
+    } else {
+        let mut gauge = Gauge::default();
+        gauge.set_value(value);
+        metric.set_gauge(gauge);
+        family.set_field_type(MetricType::GAUGE);
+    }
+    family.set_metric(vec![metric]);
+    family
 }
 
 counters! {
@@ -60,6 +122,14 @@ counters! {
     verified: "counter",
     /// Signatures and certificates that were verified and not good.
     forged: "counter",
+    /// Signatures that were verified, those in certificates among them.
+    signatures: "counter",
+    /// Bytes of messages that were sent to peers.
+    sent_bytes: "counter",
+    /// Certificates that were sent to peers.
+    sent_certificates: "counter",
+    /// Certificates that were not sent to peers, since they have them.
+    spared_certificates: "counter",
     /// Votes that contradict another one of their signer.
     contradictions: "counter",
     /// Views whose leader was found to have proposed twice.
@@ -74,23 +144,23 @@ counters! {
     ignored_inputs: "counter",
     /// Times that the disk was waited for.
     syncs: "counter",
-    /// Microseconds that the disk was waited for.
+    /// Time that the disk was waited for.
     sync_us: "counter",
     /// Replies of the application that a turn waited for, before it waited for the disk.
     awaited_replies: "counter",
-    /// Microseconds that replies of the application were waited for so.
+    /// Time that replies of the application were waited for so.
     reply_us: "counter",
     /// Replies of the application that were waited for in vain.
     missed_replies: "counter",
-    /// Microseconds that were spent in the library.
+    /// Time that was spent in the library.
     core_us: "counter",
-    /// Microseconds that were spent signing.
+    /// Time that was spent signing.
     sign_us: "counter",
-    /// Microseconds in which there was nothing to do.
+    /// Time in which there was nothing to do.
     idle_us: "counter",
-    /// Microseconds since the node began.
+    /// Time since the node began.
     life_us: "counter",
-    /// Memory of the process, in kilobytes.
+    /// Memory of the process.
     resident_kb: "gauge",
     /// Bytes of the journal.
     journal_bytes: "gauge",
@@ -124,83 +194,86 @@ pub fn resident_kb() -> u64 {
         .unwrap_or(0)
 }
 
-/// How long a request may be, in bytes.
-const LONGEST_REQUEST: u64 = 8192;
-/// How many requests are answered at once: who is slow with one holds up no other.
-const MOST_REQUESTS: usize = 16;
-
-/// Serves the counters by HTTP, one request a connection.
-pub fn serve(address: SocketAddr, counters: Arc<Counters>) -> io::Result<SocketAddr> {
-    let listener = TcpListener::bind(address)?;
-    let bound = listener.local_addr()?;
-    thread::Builder::new().name("metrics".into()).spawn(move || {
-        let open = Arc::new(());
-        for stream in listener.incoming().flatten() {
-            if Arc::strong_count(&open) > MOST_REQUESTS {
-                continue;
-            }
-            let (counters, its_place) = (counters.clone(), open.clone());
-            let begun = thread::Builder::new().name("metrics of one".into()).spawn(move || {
-                let _ = answer(stream, &counters);
-                drop(its_place);
-            });
-            if begun.is_err() {
-                thread::sleep(Duration::from_millis(50));
-            }
-        }
-    })?;
-    Ok(bound)
-}
-
-/// Reads a request up to its end, within a second and so many bytes, and answers it.
-fn answer(mut stream: TcpStream, counters: &Counters) -> io::Result<()> {
-    stream.set_read_timeout(Some(Duration::from_secs(1)))?;
-    stream.set_write_timeout(Some(Duration::from_secs(1)))?;
-    let begun = Instant::now();
-    let mut lines = BufReader::new(&stream).take(LONGEST_REQUEST);
-    let mut request = String::new();
-    lines.read_line(&mut request)?;
-    let mut line = request.clone();
-    while !line.trim_end().is_empty() && begun.elapsed() < Duration::from_secs(2) {
-        line.clear();
-        lines.read_line(&mut line)?;
-    }
-    let is_asked = request.starts_with("GET /metrics ");
-    let (status, body) = if is_asked {
-        ("200 OK", counters.text())
-    } else {
-        ("404 Not Found", String::new())
-    };
-    let length = body.len();
-    let head =
-        format!("HTTP/1.1 {status}\r\nContent-Type: text/plain; version=0.0.4\r\nContent-Length: {length}\r\nConnection: close\r\n\r\n");
-    stream.write_all(head.as_bytes())?;
-    stream.write_all(body.as_bytes())
-}
-
 #[cfg(test)]
 mod tests {
     use super::*;
+    use serde_json::Value;
+    use std::collections::BTreeSet;
+
+    /// All names that are served, of histograms those of their parts too.
+    fn names(text: &str) -> BTreeSet<&str> {
+        let lines = text.lines().filter(|line| !line.starts_with('#'));
+        lines.filter_map(|line| line.split(['{', ' ']).next()).collect()
+    }
+
+    /// The names in a text that are names of metrics.
+    fn named(text: &str) -> BTreeSet<&str> {
+        let words = text.split(|it: char| !it.is_ascii_alphanumeric() && it != '_');
+        words.filter(|it| it.starts_with("simplex_")).collect()
+    }
+
+    fn text() -> String {
+        let counters = Counters::default();
+        counters.durations.silence(1, 0.5);
+        counters.text()
+    }
 
     #[test]
-    fn counters_are_served() {
-        let counters = Arc::new(Counters::default());
+    fn counts_are_served_in_base_units() {
+        let counters = Counters::default();
         counters.height.store(7, Relaxed);
-        let address = serve("127.0.0.1:0".parse().expect("an address"), counters).expect("a port");
-        let ask = |path: &str| {
-            let mut stream = TcpStream::connect(address).expect("it listens");
-            write!(stream, "GET {path} HTTP/1.1\r\nHost: x\r\n\r\n").expect("it reads");
-            let mut text = String::new();
-            stream.read_to_string(&mut text).expect("it answers");
-            text
-        };
-        // Who sends no request holds up nobody.
-        let slow: Vec<TcpStream> = (0..12).map(|_| TcpStream::connect(address).expect("it listens")).collect();
-        let begun = Instant::now();
-        assert!(ask("/metrics").contains("\n# TYPE simplex_height gauge\nsimplex_height 7\n"));
-        assert!(ask("/").starts_with("HTTP/1.1 404"));
-        // (one after another they would take a second each)
-        assert!(begun.elapsed() < Duration::from_secs(8), "{:?}", begun.elapsed());
-        drop(slow);
+        counters.sync_us.store(2_500_000, Relaxed);
+        counters.resident_kb.store(3, Relaxed);
+        counters.durations.sync(0.003);
+        counters.durations.silence(2, 1.5);
+        let text = counters.text();
+        for line in [
+            "# TYPE simplex_height gauge",
+            "simplex_height 7",
+            "# TYPE simplex_sync_seconds_total counter",
+            "simplex_sync_seconds_total 2.5",
+            "simplex_resident_bytes 3072",
+            "simplex_sync_duration_seconds_bucket{le=\"0.004\"} 1",
+            "simplex_sync_duration_seconds_bucket{le=\"0.002\"} 0",
+            "simplex_sync_duration_seconds_sum 0.003",
+            "simplex_peer_silence_seconds{member=\"2\"} 1.5",
+        ] {
+            assert!(text.lines().any(|it| it == line), "{line}: {text}");
+        }
+        assert!(names(&text).iter().all(|it| !it.ends_with("_us") && !it.ends_with("_kb")), "{text}");
+    }
+
+    #[test]
+    fn the_dashboard_names_metrics_that_are_served() {
+        let dashboard: Value = serde_json::from_str(include_str!("../../dashboard.json")).expect("JSON");
+        let panels = dashboard["panels"].as_array().expect("panels");
+        assert!(panels.len() >= 8);
+        let text = text();
+        let served = names(&text);
+        for panel in panels {
+            let title = panel["title"].as_str().expect("a title");
+            let targets = panel["targets"].as_array().expect("targets");
+            assert!(!targets.is_empty(), "{title}");
+            for target in targets {
+                let expression = target["expr"].as_str().expect("an expression");
+                let named = named(expression);
+                assert!(!named.is_empty() && named.is_subset(&served), "{title}: {expression}");
+            }
+        }
+    }
+
+    #[test]
+    fn the_page_names_metrics_that_are_served() {
+        let (page, text) = (include_str!("../../../docs/PRODUCTION.md"), text());
+        let served: BTreeSet<&str> = names(&text)
+            .into_iter()
+            .flat_map(|it| [it, it.trim_end_matches("_bucket")])
+            .collect();
+        let missing: Vec<&str> = named(page)
+            .into_iter()
+            .filter(|it| *it != "simplex_" && !served.contains(it))
+            .collect();
+        assert!(missing.is_empty(), "{missing:?}");
+        assert!(named(page).len() > 15);
     }
 }

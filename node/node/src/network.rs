@@ -3,6 +3,7 @@
 use crate::crypto;
 use crate::faults::{Fault, Trial};
 use crate::ledger::{self, Link};
+use crate::metrics::Counters;
 use crate::run_folder::RunFolder;
 use crate::settings::{Archived, Outcome, Peer, Protocol, Settings};
 use crate::trace::{self, Line};
@@ -56,20 +57,14 @@ impl Network {
     pub fn new(plan: Plan) -> Outcome<Network> {
         let folder = RunFolder::take(&plan.folder)?;
         let addresses = free_addresses(2 * plan.nodes as usize)?;
-        let mut members = Vec::new();
-        for index in 0..plan.nodes {
-            let key = crypto::make_key(&plan.folder.join(format!("{index}.pem")))?;
-            members.push(Peer {
-                address: addresses[2 * index as usize].into(),
-                key,
-            });
-        }
+        let members = make_members(&plan, &addresses)?;
         let name = NetworkName::try_from("local".to_owned())?;
         let settings_of = |index: u32| Settings {
             network: name.clone(),
             index,
             data: PathBuf::from(index.to_string()),
             key: PathBuf::from(format!("{index}.pem")),
+            signer: None,
             listen: None,
             metrics: Some(addresses[2 * index as usize + 1]),
             sync: plan.sync,
@@ -178,6 +173,11 @@ impl Network {
         Ok(file.write_all(begun)?)
     }
 
+    /// The process of a node that runs.
+    pub fn process(&self, index: u32) -> Option<u32> {
+        self.children[index as usize].as_ref().map(Child::id)
+    }
+
     /// Whether a node has ended by itself.
     pub fn has_ended(&mut self, index: u32) -> Outcome<bool> {
         match &mut self.children[index as usize] {
@@ -279,14 +279,30 @@ impl Network {
     }
 }
 
+/// The members of a network, each with a key that is made in the plan's folder.
+fn make_members(plan: &Plan, addresses: &[SocketAddr]) -> Outcome<Vec<Peer>> {
+    let member = |index: u32| -> Outcome<Peer> {
+        Ok(Peer {
+            address: addresses[2 * index as usize].into(),
+            key: crypto::make_key(&plan.folder.join(format!("{index}.pem")))?,
+            link: None,
+        })
+    };
+    (0..plan.nodes).map(member).collect()
+}
+
 /// What a node counts, all read at one moment.
 pub struct Metrics(String);
 
 impl Metrics {
-    /// The count under a name; `None` where nothing is counted so.
+    /// The count under a name of [`Counters`], in its units; `None` where nothing is counted so.
     pub fn get(&self, name: &str) -> Option<u64> {
-        let line = self.0.lines().find_map(|line| line.strip_prefix(&format!("simplex_{name} ")))?;
-        line.parse().ok()
+        let exported = Counters::exported(name)?;
+        let line = self
+            .0
+            .lines()
+            .find_map(|line| line.strip_prefix(&exported.name)?.strip_prefix(' '))?;
+        Some((line.parse::<f64>().ok()? / exported.scale).round() as u64)
     }
 }
 

@@ -1,8 +1,11 @@
 //! The other members: messages over the links of `simplex_net`, and what is read from them, verified on the reading threads.
 
+mod holders;
+mod horizon;
 mod reader;
+mod verified;
 
-pub use reader::Horizon;
+pub use horizon::Horizon;
 
 use crate::crypto::Keys;
 use crate::inbox::Inbox;
@@ -40,6 +43,7 @@ pub fn credentials(settings: &Settings, keys: &Keys) -> Outcome<Credentials> {
 /// The other members.
 pub struct Peers {
     links: simplex_net::Peers,
+    me: Participant,
     counters: Arc<Counters>,
     cut_off: Mutex<BTreeSet<u32>>,
 }
@@ -68,6 +72,7 @@ impl Peers {
         };
         Ok(Peers {
             links: simplex_net::Peers::start(&places, credentials(settings, keys)?, reader, counters.clone())?,
+            me: settings.me(),
             counters: counters.clone(),
             cut_off: Mutex::default(),
         })
@@ -90,8 +95,11 @@ impl Peers {
 
     /// Sends a message that a member asked for, within what it may be served. Returns whether that was left.
     pub fn serve(&self, to: Participant, message: &Message) -> bool {
-        let is_left = !self.is_cut_off(to) && self.links.serve(to, message.frame());
+        let frame = message.frame();
+        let bytes = frame.len() as u64;
+        let is_left = !self.is_cut_off(to) && self.links.serve(to, frame);
         self.counters.served.fetch_add(u64::from(is_left), Relaxed);
+        self.counters.sent_bytes.fetch_add(if is_left { bytes } else { 0 }, Relaxed);
         is_left
     }
 
@@ -113,8 +121,10 @@ impl Peers {
         }
     }
 
-    fn send_frame(&self, to: Participant, frame: Arc<Vec<u8>>) {
-        if !self.is_cut_off(to) {
+    /// Sends bytes as they are to a member.
+    pub fn send_frame(&self, to: Participant, frame: Arc<Vec<u8>>) {
+        if !self.is_cut_off(to) && to != self.me {
+            self.counters.sent_bytes.fetch_add(frame.len() as u64, Relaxed);
             self.links.send(to, frame);
         }
     }

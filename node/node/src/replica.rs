@@ -5,7 +5,9 @@
 //! waits leaves, in order. A disk or an engine that fails ends the process; what was not stored was not sent.
 
 mod asking;
+mod broadcasting;
 mod casting;
+mod counting;
 mod far;
 mod faulty;
 mod finality;
@@ -21,12 +23,14 @@ use crate::events::Events;
 use crate::faults::Fault;
 use crate::inbox::{Event, Inbox};
 use crate::leader_votes::LeaderVotes;
-use crate::metrics::{Counters, resident_kb};
+use crate::metrics::Counters;
 use crate::pace::Pace;
 use crate::peers::{Horizon, Peers};
 use crate::settings::{Outcome, Settings, Turns};
 use crate::trace::Trace;
 use crate::waiting::Waiting;
+use broadcasting::Held;
+use counting::Begun;
 use far::Far;
 use finality::Lag;
 use simplex_chain::CatchUp;
@@ -37,7 +41,7 @@ use simplex_view_state::{
 use simplex_wire::{Block, Message};
 use std::collections::{BTreeMap, BTreeSet};
 use std::sync::Arc;
-use std::sync::atomic::{AtomicU64, Ordering::Relaxed};
+use std::sync::atomic::Ordering::Relaxed;
 use std::time::{Duration, Instant};
 use tracing::info;
 
@@ -49,9 +53,6 @@ const LONGEST_WAIT: Duration = Duration::from_millis(50);
 const MOST_ROUNDS: usize = 32;
 /// How many views ahead of the current one a proposal may come: so early the engine keeps it.
 const EARLY_VIEWS: u64 = 8;
-/// How far a clock jumps in a trial.
-const AN_HOUR: Duration = Duration::from_secs(3600);
-
 /// What a replica is made of.
 pub struct Parts {
     /// The settings.
@@ -116,6 +117,9 @@ pub struct Replica {
     catch_up: CatchUp,
     lag: Lag,
     far: Far,
+    /// The certificates that are held back for a moment.
+    held: Held,
+    begun: Begun,
     old_votes: Vec<Vote>,
     told_at: u64,
 }
@@ -150,6 +154,8 @@ impl Replica {
             catch_up: CatchUp::new(parts.settings.me(), members),
             lag: Lag::none(),
             far: None,
+            held: Held::new(),
+            begun: Begun::default(),
             old_votes: Vec::new(),
             told_at: u64::MAX,
             parts,
@@ -180,6 +186,7 @@ impl Replica {
             self.watch_leader()?;
             self.build_due()?;
             is_settled = self.settle()?;
+            self.broadcast_due();
             self.fetch_blocks();
             self.catch_up();
             self.tell()?;
@@ -190,7 +197,8 @@ impl Replica {
     fn longest_wait(&self) -> Duration {
         let wake = self.parts.clock.until(self.parts.engine.wake());
         let build = self.pace.wait(Instant::now()).unwrap_or(LONGEST_WAIT);
-        wake.min(build).min(LONGEST_WAIT)
+        let broadcast = self.until_broadcast().unwrap_or(LONGEST_WAIT);
+        wake.min(build).min(broadcast).min(LONGEST_WAIT)
     }
 
     fn stop(mut self) -> Outcome {
@@ -226,16 +234,6 @@ impl Replica {
         Ok(is_of_use)
     }
 
-    /// Counts the time since a moment. The lifetime is counted first: so a reader, who reads it last, finds no share above the whole.
-    fn spent(&self, on: &AtomicU64, since: Instant) {
-        let spent = since.elapsed().as_micros() as u64;
-        self.parts
-            .counters
-            .life_us
-            .store(self.parts.clock.life().as_micros() as u64, Relaxed);
-        on.fetch_add(spent, Relaxed);
-    }
-
     fn poll(&mut self) -> Outcome<Option<Output>> {
         let now = self.parts.clock.now();
         let begun = Instant::now();
@@ -245,13 +243,21 @@ impl Replica {
     }
 
     fn take(&mut self, event: Event) -> Outcome {
-        let (from, message) = match event {
-            Event::Message(from, message) => (from, message),
-            _ => return Ok(()),
+        let Event::Message(from, message) = event else { return Ok(()) };
+        let certified = match &message {
+            Message::Certificate(it) => Some(it.subject()),
+            _ => None,
         };
-        if self.parts.peers.is_cut_off(from) {
-            return Ok(());
+        if !self.parts.peers.is_cut_off(from) {
+            self.take_message(from, message)?;
         }
+        if let Some(subject) = certified {
+            self.parts.horizon.took(subject);
+        }
+        Ok(())
+    }
+
+    fn take_message(&mut self, from: Participant, message: Message) -> Outcome {
         self.heard[from.get() as usize] = Instant::now();
         match message {
             Message::Proposal(vote, block) => self.take_proposal(vote, block),
@@ -367,6 +373,9 @@ impl Replica {
     /// so the chain is never ahead of the journal.
     fn poll_all(&mut self) -> Outcome {
         while let Some(output) = self.poll()? {
+            if let Output::Broadcast(it) = &output {
+                self.parts.horizon.know(it.subject());
+            }
             let is_behind = self.parts.journal.is_dirty() || !self.leaving.is_empty();
             if matches!(output, Output::Finalized(_)) || is_behind && is_seen(&output) {
                 self.leaving.push(output);
@@ -414,6 +423,7 @@ impl Replica {
         if self.parts.journal.sync()? {
             self.parts.counters.syncs.fetch_add(1, Relaxed);
             self.spent(&self.parts.counters.sync_us, begun);
+            self.parts.counters.durations.sync(begun.elapsed().as_secs_f64());
         }
         Ok(())
     }
@@ -436,10 +446,7 @@ impl Replica {
                 self.parts.counters.compactions.fetch_add(1, Relaxed);
             }
             Output::Vote(order) => self.cast(&order)?,
-            Output::Broadcast(it) => {
-                self.parts.horizon.know(it.subject());
-                self.parts.peers.send_to_all(&Message::Certificate(it));
-            }
+            Output::Broadcast(it) => self.broadcast(it),
             Output::Fetch(it) => self.fetch(&it),
             Output::Finalized(proposal) => self.finalize(&proposal)?,
             Output::Verify(context, proposal) => self.verify(context, proposal)?,
@@ -461,31 +468,6 @@ impl Replica {
                 self.proposed_twice = self.proposed_twice.split_off(&lowest);
                 self.shown = self.shown.split_off(&(lowest, Participant::new(0)));
             }
-        }
-        Ok(())
-    }
-
-    fn tell(&mut self) -> Outcome {
-        let (views, counters) = (self.views()?, &self.parts.counters);
-        counters.life_us.store(self.parts.clock.life().as_micros() as u64, Relaxed);
-        if counters.life_us.load(Relaxed) / 1_000_000 != self.told_at {
-            self.told_at = counters.life_us.load(Relaxed) / 1_000_000;
-            counters.resident_kb.store(resident_kb(), Relaxed);
-            // Each open fetch is a call, and of a node that is far behind there may be many.
-            let fetches = self.parts.engine.fetches().len() + self.waiting.len();
-            counters.open_fetches.store(fetches as u64, Relaxed);
-        }
-        counters.current_view.store(views.current.get(), Relaxed);
-        counters.last_finalized.store(views.last_finalized.get(), Relaxed);
-        counters.journal_bytes.store(self.parts.journal.bytes(), Relaxed);
-        counters.record_entries.store(self.parts.journal.entries(), Relaxed);
-        counters.ignored_inputs.store(self.parts.engine.ignored(), Relaxed);
-        if self.parts.settings.trial.fault == Some(Fault::Jumps) && self.parts.clock.jump(AN_HOUR, views.current.get()) {
-            info!(view = views.current.get(), "the clock jumps");
-        }
-        if self.parts.settings.trial.cut.is_some() {
-            let members = self.parts.settings.trial.cut_off();
-            self.parts.peers.cut_off(members);
         }
         Ok(())
     }

@@ -27,6 +27,9 @@ pub struct Settings {
     pub data: PathBuf,
     /// The file of its secret key, as `simplex-node keygen` makes it.
     pub key: PathBuf,
+    /// The socket of the process that signs this member's votes, `simplex-node signer`; by default the node signs them itself. With it `key` is
+    /// the secret key of the node's links, whose public one is the member's `link`.
+    pub signer: Option<PathBuf>,
     /// Where this node listens; by default at its own address among the members. It differs where others dial it by another one.
     pub listen: Option<Address>,
     /// Where metrics are served, by HTTP, to whoever asks; nowhere by default.
@@ -81,6 +84,15 @@ pub struct Peer {
     pub address: Address,
     /// Its public key, in hexadecimal digits.
     pub key: String,
+    /// The public key of its links, where another process than the node has the key of its votes; by default it is `key`.
+    pub link: Option<String>,
+}
+
+impl Peer {
+    /// The public key of its links.
+    pub fn link_key(&self) -> &str {
+        self.link.as_deref().unwrap_or(&self.key)
+    }
 }
 
 /// What all members have to agree on, and the times of a member.
@@ -135,6 +147,7 @@ impl Settings {
         let folder = path.parent().unwrap_or(Path::new("."));
         settings.data = folder.join(&settings.data);
         settings.key = folder.join(&settings.key);
+        settings.signer = settings.signer.map(|signer| folder.join(signer));
         settings.trace = settings.trace.map(|trace| folder.join(trace));
         settings.events = settings.events.map(|events| folder.join(events));
         settings.floor = settings.floor.map(|floor| folder.join(floor));
@@ -151,15 +164,33 @@ impl Settings {
                 self.index
             ));
         }
+        let has_link = self.members[self.index as usize].link.is_some();
+        if has_link != self.signer.is_some() {
+            return Err(format!(
+                "`signer` and the `link` of member {} go together: a process that signs votes has the member's key, and the node that of its links",
+                self.index
+            ));
+        }
         self.test_members()
     }
 
     /// Each member has a key and an address of its own: two with one key would vote against each other.
     fn test_members(&self) -> Result<(), String> {
         for (index, member) in self.members.iter().enumerate() {
-            raw_key(&member.key).map_err(|error| format!("member {index}: {error}"))?;
+            for key in [&member.key, member.link_key()] {
+                raw_key(key).map_err(|error| format!("member {index}: {error}"))?;
+            }
+            if member.link.as_ref().is_some_and(|it| it.eq_ignore_ascii_case(&member.key)) {
+                return Err(format!(
+                    "member {index} has one key for its votes and its links: leave `link` away, or give it another key"
+                ));
+            }
             for (other, earlier) in self.members[..index].iter().enumerate() {
-                if earlier.key.eq_ignore_ascii_case(&member.key) {
+                let keys = [&member.key, member.link_key()];
+                if keys
+                    .iter()
+                    .any(|it| it.eq_ignore_ascii_case(&earlier.key) || it.eq_ignore_ascii_case(earlier.link_key()))
+                {
                     return Err(format!("members {other} and {index} have one key: give each a key of its own"));
                 }
                 if earlier.address == member.address {
@@ -295,6 +326,27 @@ mod tests {
             (settings.test(), settings.listens_at().to_string()),
             (Ok(()), "0.0.0.0:27100".to_owned())
         );
+    }
+
+    #[test]
+    fn the_keys_of_links_are_told_where_a_signer_has_the_other_and_are_nobody_elses() {
+        let mut settings: Settings = toml::from_str(EXAMPLE).expect("settings");
+        let (own, others) = (settings.members[0].key.clone(), settings.members[3].key.clone());
+        let refused = |it: &Settings| it.test().expect_err("it is refused");
+        settings.signer = Some("0.sock".into());
+        assert!(refused(&settings).contains("`signer` and the `link` of member 0 go together"));
+        settings.members[0].link = Some(others);
+        assert!(refused(&settings).contains("members 0 and 3 have one key"));
+        settings.members[0].link = Some(own.to_uppercase());
+        assert!(refused(&settings).contains("member 0 has one key for its votes and its links"));
+        settings.members[0].link = Some("26e8958fc2b227b045c3f489f2ef98f0d5dfac05d3c63339b13802886d53fc05".into());
+        assert!(refused(&settings).contains("small order"));
+        settings.members[0].link = Some(format!("02{}", "00".repeat(31)));
+        assert_eq!(settings.test(), Ok(()));
+        settings.signer = None;
+        assert!(refused(&settings).contains("go together"));
+        settings.index = 1;
+        assert_eq!(settings.test(), Ok(()), "others need no signer");
     }
 
     #[test]

@@ -1,154 +1,22 @@
 //! One node among members that the test plays: what it asks of them, and what it makes of what they send.
 
 mod members;
+mod others;
 
-use members::{Link, SOON, chain, hear, played, settings_of, stored_blocks};
+use members::{SOON, chain, stored_blocks};
+use others::{Others, round};
 use simplex_node::crypto::{Keys, hex};
-use simplex_node::network::{Network, Plan, folder_of};
-use simplex_node::peers;
-use simplex_node::settings::{Protocol, Settings};
-use simplex_view_state::{Certificate, Context, Digest, Epoch, FetchKind, Participant, Proposal, Round, Subject, View, Vote};
+use simplex_node::settings::Settings;
+use simplex_view_state::{Certificate, Digest, FetchKind, Participant, Proposal, Subject, View, Vote};
 use simplex_wire::{Block, Message, Range};
 use std::collections::BTreeSet;
 use std::fs;
-use std::net::TcpListener;
 use std::sync::Arc;
-use std::sync::mpsc::{Receiver, channel};
-use std::thread::{self, sleep};
+use std::thread::sleep;
 use std::time::{Duration, Instant};
 
 /// How long it is looked whether something is not done.
 const WHILE: Duration = Duration::from_millis(600);
-
-/// Members 1 to 3 around node 0, whose views end by what they send alone.
-struct Others {
-    network: Network,
-    keys: Vec<Arc<Keys>>,
-    links: Vec<Link>,
-    heard: Receiver<(u32, Message)>,
-    genesis: Digest,
-}
-
-fn plan(name: &str) -> Plan {
-    Plan {
-        nodes: 4,
-        protocol: Protocol {
-            leader_timeout_ms: 60_000,
-            certification_timeout_ms: 120_000,
-            inactivity_ms: 240_000,
-            ..Protocol::default()
-        },
-        sync: true,
-        faults: Vec::new(),
-        delay_ms: 0,
-        program: env!("CARGO_BIN_EXE_simplex-node").into(),
-        folder: folder_of(name),
-    }
-}
-
-impl Others {
-    fn around_a_node(name: &str) -> Others {
-        let mut network = Network::new(plan(name)).expect("keys and settings");
-        let settings = settings_of(&network);
-        let (keys, credentials) = played(&settings);
-        let (told, heard) = channel();
-        for (member, peer) in (0..).zip(&settings[0].members).skip(1) {
-            let (listener, told) = (TcpListener::bind(&peer.address).expect("a free address"), told.clone());
-            let its_own = peers::credentials(&settings[member as usize], &keys[member as usize]).expect("a certificate");
-            thread::spawn(move || hear(&listener, member, &its_own, &told));
-        }
-        network.begin(0).expect("a process");
-        assert!(network.wait_until(&[0], "current_view", 1, SOON), "it does not begin");
-        let address = &settings[0].members[0].address;
-        let links: Vec<Link> = credentials[1..].iter().map(|it| Link::begin(it, address)).collect();
-        links.iter().for_each(Link::show_life);
-        assert!(network.wait_until(&[0], "connections", 3, SOON), "it does not connect");
-        Others {
-            network,
-            links,
-            keys,
-            heard,
-            genesis: settings[0].identity().expect("keys").genesis(),
-        }
-    }
-
-    fn send(&mut self, from: usize, message: &Message) {
-        self.links[from - 1].write_all(&message.frame()).expect("it reads");
-    }
-
-    fn vote(&self, signer: usize, subject: Subject) -> Vote {
-        Vote {
-            subject,
-            signer: Participant::new(signer as u32),
-            signature: self.keys[signer].sign(&subject.encode()).expect("a signature").to_vec(),
-        }
-    }
-
-    /// The certificate that these members' votes make.
-    fn certificate(&self, signers: &[usize], subject: Subject) -> Certificate {
-        let mut bytes = Vec::new();
-        for vote in signers.iter().map(|signer| self.vote(*signer, subject)) {
-            bytes.extend_from_slice(&vote.signer.get().to_be_bytes());
-            bytes.extend_from_slice(&(vote.signature.len() as u64).to_be_bytes());
-            bytes.extend_from_slice(&vote.signature);
-        }
-        Certificate::of(subject, bytes)
-    }
-
-    fn nullify(&mut self, view: u64) {
-        let certificate = self.certificate(&[1, 2, 3], Subject::Nullify(round(view)));
-        self.send(1, &Message::Certificate(certificate));
-    }
-
-    /// A block on genesis, and the proposal of it.
-    fn proposal(&self, view: u64, leader: usize, content: u8) -> (Vote, Block) {
-        let context = Context {
-            round: round(view),
-            leader: Participant::new(leader as u32),
-            parent: View::GENESIS,
-            parent_payload: self.genesis,
-        };
-        let block = Block::new(&context, &[content; 256]);
-        let proposal = Proposal {
-            round: context.round,
-            parent: context.parent,
-            payload: block.payload(),
-        };
-        (self.vote(leader, Subject::Notarize(proposal)), block)
-    }
-
-    fn counts(&self, name: &str) -> u64 {
-        self.network.metric(0, name).expect("it answers")
-    }
-
-    fn comes_to(&self, name: &str, least: u64) {
-        let is_there = self.network.wait_until(&[0], name, least, SOON);
-        assert!(is_there, "{name} is {} in place of {least}", self.counts(name));
-    }
-
-    /// What the node sends until there was enough of it, or for so long.
-    fn hears(&self, within: Duration, mut is_enough: impl FnMut(u32, &Message) -> bool) -> bool {
-        let begun = Instant::now();
-        while let Some(left) = within.checked_sub(begun.elapsed()) {
-            match self.heard.recv_timeout(left) {
-                Ok((member, message)) if is_enough(member, &message) => return true,
-                Ok(_) => {}
-                Err(_) => return false,
-            }
-        }
-        false
-    }
-
-    fn end(mut self) {
-        self.network.stop().expect("it stops");
-        fs::remove_dir_all(self.network.folder()).expect("a folder");
-    }
-}
-
-fn round(view: u64) -> Round {
-    let (epoch, view) = (Epoch::new(1), View::new(view));
-    Round { epoch, view }
-}
 
 #[test]
 fn a_certificate_that_is_lacking_is_asked_of_each_member_until_it_comes() {

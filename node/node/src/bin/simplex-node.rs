@@ -4,7 +4,7 @@ use clap::{Parser, Subcommand};
 use simplex_node::ledger::Ledger;
 use simplex_node::version::version;
 use simplex_node::{Outcome, Settings};
-use simplex_node::{crypto, floor};
+use simplex_node::{crypto, floor, signer};
 use std::fs::File;
 use std::io::Write;
 use std::path::PathBuf;
@@ -34,6 +34,27 @@ enum Command {
         #[arg(long)]
         out: PathBuf,
     },
+    /// Signs the votes of a member for its node, over a Unix socket, and never two that contradict each other.
+    Signer {
+        /// The network's name.
+        #[arg(long)]
+        network: String,
+        /// The epoch.
+        #[arg(long, default_value_t = 1)]
+        epoch: u64,
+        /// The file of the member's secret key.
+        #[arg(long)]
+        key: PathBuf,
+        /// The file of what was signed. It has to stay as long as the key does.
+        #[arg(long)]
+        guard: PathBuf,
+        /// Where the signer listens.
+        #[arg(long)]
+        socket: PathBuf,
+        /// Begins the file of a key that has signed nothing from this view on.
+        #[arg(long)]
+        begin_at: Option<u64>,
+    },
     /// Writes the last finalized proposal of a node that does not run, with its certificate: another node can begin there.
     Floor {
         /// The settings of that node.
@@ -55,6 +76,7 @@ fn main() -> ExitCode {
     let outcome = match (arguments.command, arguments.config) {
         (Some(Command::Keygen { out }), _) => crypto::make_key(&out).map(|public| println!("{public}")),
         (Some(Command::Floor { config, out }), _) => write_floor(&config, &out),
+        (Some(it @ Command::Signer { .. }), _) => sign(it),
         (None, Some(config)) => run(&config, arguments.trace),
         (None, None) => Err("--config is lacking".into()),
     };
@@ -65,6 +87,28 @@ fn main() -> ExitCode {
             ExitCode::FAILURE
         }
     }
+}
+
+fn sign(command: Command) -> Outcome {
+    let Command::Signer {
+        network,
+        epoch,
+        key,
+        guard,
+        socket,
+        begin_at,
+    } = command
+    else {
+        return Ok(());
+    };
+    signer::run(&signer::Settings {
+        network: network.try_into()?,
+        epoch,
+        key,
+        guard,
+        socket,
+        begin_at,
+    })
 }
 
 fn write_floor(config: &std::path::Path, out: &std::path::Path) -> Outcome {

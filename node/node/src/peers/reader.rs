@@ -1,134 +1,24 @@
 //! What comes over a connection: it is verified here, and put into the peer's queue where it is of use.
 //!
-//! Signatures are verified and blocks hashed on the thread of the connection, so that the thread which owns the engine has neither to do. A
-//! vote that was verified is remembered: the same one from another connection, or once more, costs a look-up.
+//! Signatures are verified and blocks hashed on the thread of the connection, so that the thread which owns the engine has neither to do.
+//! Each good signature is verified once, alone or in certificates, and one certificate on a subject is passed on.
 
+use super::horizon::Horizon;
 use crate::crypto::Keys;
-use crate::inbox::{Inbox, Put};
+use crate::inbox::{Event, Inbox, Put};
 use crate::metrics::Counters;
 use crate::settings::Turns;
-use crate::vote::{is_sound, kind_of};
+use crate::vote::is_sound;
 use simplex_net::{Bucket, Connection, Receiver};
-use simplex_view_state::{CertificateKind, Digest, Epoch, Participant, Subject, View, Vote};
+use simplex_view_state::{Certificate, Digest, Epoch, Participant, Subject, Vote};
 use simplex_wire::{Message, digest};
-use std::collections::{BTreeMap, HashMap, HashSet};
 use std::io;
-use std::sync::atomic::{AtomicU64, Ordering::Relaxed};
-use std::sync::{Arc, Mutex, MutexGuard};
+use std::sync::Arc;
+use std::sync::atomic::Ordering::Relaxed;
 use std::time::Instant;
 
-/// How far above the current view the signature of a vote or proposal is verified at all.
-const AHEAD: u64 = 64;
 /// How many forged messages end a connection.
 const MOST_FORGED: u32 = 16;
-/// How many proposals of a view's leader are taken: a second one is evidence, and any more tell nothing.
-const PROPOSALS_A_VIEW: usize = 2;
-
-/// What the reading threads know of the member.
-#[derive(Default)]
-pub struct Horizon {
-    current: AtomicU64,
-    min_active: AtomicU64,
-    known: Mutex<Known>,
-    wanted: Mutex<HashSet<Digest>>,
-    ranges: Mutex<HashSet<View>>,
-}
-
-#[derive(Default)]
-struct Known {
-    /// What the certificates that the member has are on, by view and kind.
-    certificates: HashMap<(View, CertificateKind), Subject>,
-    /// The signatures of votes that were good, by view, kind and signer.
-    votes: HashMap<(View, CertificateKind, Participant), Vote>,
-    /// The payloads of proposals that came, by view.
-    proposals: BTreeMap<View, Vec<Digest>>,
-}
-
-fn locked<T>(it: &Mutex<T>) -> MutexGuard<'_, T> {
-    it.lock().unwrap_or_else(|it| it.into_inner())
-}
-
-fn key_of(vote: &Vote) -> (View, CertificateKind, Participant) {
-    (vote.subject.round().view, kind_of(&vote.subject), vote.signer)
-}
-
-impl Horizon {
-    /// The member has moved to these views.
-    pub fn moved(&self, current: View, min_active: View) {
-        self.current.store(current.get(), Relaxed);
-        if self.min_active.swap(min_active.get(), Relaxed) != min_active.get() {
-            let mut known = locked(&self.known);
-            known.certificates.retain(|(view, _), _| *view >= min_active);
-            known.votes.retain(|(view, ..), _| *view >= min_active);
-            known.proposals = known.proposals.split_off(&min_active);
-        }
-    }
-
-    /// The member has a certificate on this: its votes need not be verified again.
-    pub fn know(&self, subject: Subject) {
-        let key = (subject.round().view, kind_of(&subject));
-        locked(&self.known).certificates.insert(key, subject);
-    }
-
-    /// The blocks that the member asks for. Others are dropped unread.
-    pub fn want(&self, blocks: HashSet<Digest>) {
-        *locked(&self.wanted) = blocks;
-    }
-
-    /// The views behind which the member asks for final blocks. Other ranges are dropped.
-    pub fn want_ranges(&self, after: HashSet<View>) {
-        *locked(&self.ranges) = after;
-    }
-
-    fn wants_range(&self, after: View) -> bool {
-        locked(&self.ranges).contains(&after)
-    }
-
-    fn wants(&self, block: &[u8]) -> bool {
-        let is_any = !locked(&self.wanted).is_empty();
-        is_any && {
-            let payload = digest(block);
-            locked(&self.wanted).contains(&payload)
-        }
-    }
-
-    /// Whether the member has a certificate on just this. Votes for another proposal of the view are evidence.
-    fn knows(&self, subject: &Subject) -> bool {
-        let key = (subject.round().view, kind_of(subject));
-        locked(&self.known).certificates.get(&key) == Some(subject)
-    }
-
-    /// Whether just this vote, with its signature, was verified before.
-    fn was_verified(&self, vote: &Vote) -> bool {
-        locked(&self.known).votes.get(&key_of(vote)) == Some(vote)
-    }
-
-    fn verified(&self, vote: &Vote) {
-        locked(&self.known).votes.insert(key_of(vote), vote.clone());
-    }
-
-    /// Whether a proposal tells something: it is among the first of its view, or came before.
-    fn takes_proposal(&self, view: View, payload: Digest) -> bool {
-        let mut known = locked(&self.known);
-        let payloads = known.proposals.entry(view).or_default();
-        let is_known = payloads.contains(&payload);
-        if !is_known && payloads.len() < PROPOSALS_A_VIEW {
-            payloads.push(payload);
-            return true;
-        }
-        false
-    }
-
-    /// Whether a vote of the view may be of use.
-    fn admits(&self, view: View) -> bool {
-        self.min_active.load(Relaxed) <= view.get() && view.get() <= self.current.load(Relaxed) + AHEAD
-    }
-
-    fn is_kept(&self, view: View) -> bool {
-        self.min_active.load(Relaxed) <= view.get()
-    }
-}
-
 /// How many requests of a peer are looked at: a second, and at once.
 const ASKS: (f64, f64) = (1e3, 2e3);
 
@@ -168,8 +58,10 @@ impl Connection for Link {
     type Message = Message;
 
     fn verify(&mut self, frame: &[u8]) -> io::Result<Option<Message>> {
+        let begun = Instant::now();
         let message = Message::decode(frame)?;
         let is_of_use = self.admit(&message);
+        self.reader.counters.durations.verify(begun.elapsed().as_secs_f64());
         if self.forged > MOST_FORGED {
             return Err(io::ErrorKind::PermissionDenied.into());
         }
@@ -177,6 +69,11 @@ impl Connection for Link {
     }
 
     fn take(&mut self, message: Message, bytes: usize) -> bool {
+        if let Message::Certificate(it) = &message
+            && self.reader.horizon.admits(it.round().view)
+        {
+            return self.pass(it.subject(), message);
+        }
         let put = self.reader.inbox.put(self.from, message, bytes);
         if put == Put::Dropped {
             self.reader.counters.dropped_messages.fetch_add(1, Relaxed);
@@ -203,6 +100,7 @@ impl Link {
             }
             Message::Vote(vote) => {
                 let view = vote.subject.round().view;
+                horizon.show_by(self.from, vote);
                 let is_proposal = matches!(vote.subject, Subject::Notarize(_)) && vote.signer == self.reader.turns.leader(view);
                 is_sound(&vote.subject, epoch)
                     && horizon.admits(view)
@@ -211,16 +109,14 @@ impl Link {
             }
             Message::Certificate(it) => {
                 let subject = it.subject();
-                is_sound(&subject, epoch)
-                    && horizon.is_kept(subject.round().view)
-                    && !horizon.knows(&subject)
-                    && self.count(self.reader.keys.is_certificate(it))
+                horizon.show(self.from, subject);
+                is_sound(&subject, epoch) && horizon.is_kept(subject.round().view) && !horizon.has(&subject) && self.verify_first(it)
             }
             Message::AskCertificate(..) | Message::AskBlock(..) | Message::AskRange(..) => self.asks.take(1.0, Instant::now()),
             Message::Range(it) => {
                 is_sound(&it.certificate.subject(), epoch)
                     && horizon.wants_range(it.after)
-                    && self.count(self.reader.keys.is_certificate(&it.certificate))
+                    && self.verify_certificate(&it.certificate)
                     && (it.is_linked() || self.count(false))
             }
             Message::NoRange(after, _) => horizon.wants_range(*after),
@@ -230,14 +126,66 @@ impl Link {
 
     /// Returns whether a vote's signature is good. One that was verified before is not verified again.
     fn verify_vote(&mut self, vote: &Vote) -> bool {
-        if self.reader.horizon.was_verified(vote) {
-            return true;
+        let Reader {
+            keys, counters, horizon, ..
+        } = &self.reader;
+        let verify = |it: &Vote| {
+            let is_good = keys.is_signed_vote(it);
+            counters.verified.fetch_add(u64::from(is_good), Relaxed);
+            is_good
+        };
+        let is_good = horizon.is_good(vote, verify);
+        is_good.unwrap_or_else(|| horizon.is_good_in_the_end(vote, verify)) || self.count(false)
+    }
+
+    /// Returns whether a certificate is good. Of its signatures those are verified that were not good before.
+    fn verify_certificate(&mut self, it: &Certificate) -> bool {
+        let votes = self.reader.keys.votes_in(it);
+        let is_good = votes.is_some_and(|it| self.verify_all(&it, || false) == Some(true));
+        self.count(is_good)
+    }
+
+    /// Returns whether a certificate is good, and none on the same was passed on before it or meanwhile.
+    fn verify_first(&mut self, it: &Certificate) -> bool {
+        let (subject, horizon) = (it.subject(), self.reader.horizon.clone());
+        let votes = self.reader.keys.votes_in(it);
+        match votes.map_or(Some(false), |it| self.verify_all(&it, || horizon.has(&subject))) {
+            Some(is_good) => self.count(is_good),
+            None => false,
         }
-        let is_good = self.count(self.reader.keys.is_signed_vote(vote));
-        if is_good {
-            self.reader.horizon.verified(vote);
+    }
+
+    /// Returns whether all votes are good: first those that no other reader verifies at the moment. `None` where it was ended before.
+    fn verify_all(&self, votes: &[Vote], is_over: impl Fn() -> bool) -> Option<bool> {
+        let verify = |it: &Vote| self.reader.keys.is_signed_vote(it);
+        let mut running = Vec::new();
+        for vote in votes {
+            match self.reader.horizon.is_good(vote, verify) {
+                _ if is_over() => return None,
+                Some(false) => return Some(false),
+                Some(true) => {}
+                None => running.push(vote),
+            }
         }
-        is_good
+        for vote in running {
+            if is_over() {
+                return None;
+            }
+            if !self.reader.horizon.is_good_in_the_end(vote, verify) {
+                return Some(false);
+            }
+        }
+        Some(true)
+    }
+
+    /// Passes on a certificate that is good, where it is the first on its subject. It comes before all that peers sent: no queue of a peer's
+    /// holds it up. Returns whether messages are still taken.
+    fn pass(&self, subject: Subject, message: Message) -> bool {
+        let is_open = !self.reader.inbox.is_closed();
+        if is_open && self.reader.horizon.is_first(subject) {
+            self.reader.inbox.tell(Event::Message(self.from, message));
+        }
+        is_open
     }
 
     /// Returns whether a block is the one that its proposal names. A block under another name counts as a forged signature.
@@ -256,31 +204,4 @@ impl Link {
 }
 
 #[cfg(test)]
-mod tests {
-    use super::*;
-    use crate::settings::Settings;
-
-    #[test]
-    fn a_block_that_nobody_asked_for_is_of_no_use() {
-        let mut settings: Settings = toml::from_str(include_str!("../../../node.toml")).expect("settings");
-        settings.key = crate::trace::scratch("reader").join("0.pem");
-        settings.members[0].key = crate::crypto::make_key(&settings.key).expect("a key");
-        let reader = Reader {
-            keys: Arc::new(Keys::read(&settings).expect("a key")),
-            horizon: Arc::default(),
-            counters: Arc::default(),
-            inbox: Arc::new(Inbox::new(4)),
-            epoch: Epoch::new(1),
-            turns: settings.turns(),
-        };
-        let block = vec![7; 100];
-        let frame = Message::Block(block.clone()).frame();
-        let is_of_use = |wanted: &[Digest]| {
-            reader.horizon.want(wanted.iter().copied().collect());
-            let verified = reader.connection(Participant::new(1)).verify(&frame[4..]);
-            verified.expect("a message").is_some()
-        };
-        assert!(!is_of_use(&[]) && !is_of_use(&[digest(b"another")]));
-        assert!(is_of_use(&[digest(&block), digest(b"another")]));
-    }
-}
+mod tests;

@@ -29,7 +29,11 @@ impl Replica {
     /// Serves a peer that asks for a certificate. It may ask for what is no view: that is no error of this node.
     pub(super) fn serve(&mut self, from: Participant, kind: FetchKind, view: View) {
         if let Ok(Some(it)) = self.certificate_for(kind, view) {
-            self.parts.peers.serve(from, &Message::Certificate(it));
+            let subject = it.subject();
+            self.broadcast_before(&subject);
+            if self.parts.peers.serve(from, &Message::Certificate(it)) {
+                self.parts.horizon.sent(from, subject);
+            }
             self.events.served(from, kind, view);
         }
     }

@@ -15,8 +15,9 @@ impl Replica {
     /// Signs a vote that is stored, sends it to all, and tells the engine.
     pub(super) fn cast(&mut self, order: &Order) -> Outcome {
         let begun = Instant::now();
-        let vote = order.signed(self.parts.keys.sign(&order.text)?.to_vec());
+        let vote = order.signed(self.parts.keys.sign_vote(&order.subject, &order.text)?.to_vec());
         self.spent(&self.parts.counters.sign_us, begun);
+        self.parts.counters.durations.sign(begun.elapsed().as_secs_f64());
         let (counter, block) = match &order.subject {
             Subject::Notarize(it) => (&self.parts.counters.notarizes, self.own_block(it)),
             Subject::Nullify(_) => (&self.parts.counters.nullifies, None),

@@ -75,6 +75,11 @@ pub fn print(network: &Network, arguments: &Arguments, run: &Run, svg: Option<&m
             println!("node {index}, last lifetime: {shares}");
         }
     }
+    for (index, metrics) in run.metrics.iter().enumerate() {
+        if let Some(costs) = metrics.as_ref().and_then(costs) {
+            println!("node {index}, a view of that lifetime: {costs}");
+        }
+    }
     let seen = run.metrics.iter().flatten().filter_map(|it| it.get("equivocations"));
     println!(
         "evidence: {} in which a leader proposed twice, with both of its votes in the nodes' logs",
@@ -151,6 +156,18 @@ fn shares(metrics: &Metrics) -> Option<String> {
         share("idle_us")?,
         metrics.get("record_entries")?,
         metrics.get("resident_kb")?,
+    ))
+}
+
+/// What a view of its last lifetime cost a node; `None` where the node did not count that.
+fn costs(metrics: &Metrics) -> Option<String> {
+    let views = metrics.get("current_view")?.max(1) as f64;
+    let of_a_view = |name| Some(metrics.get(name)? as f64 / views);
+    Some(format!(
+        "{:.1} signatures verified, {:.0} bytes sent, {:.1} certificates sent",
+        of_a_view("signatures")?,
+        of_a_view("sent_bytes")?,
+        of_a_view("sent_certificates")?,
     ))
 }
 

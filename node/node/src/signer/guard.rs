@@ -1,0 +1,384 @@
+//! What a signer has signed, on the disk: it never signs two votes that contradict each other, whoever asks and whatever was restarted.
+//!
+//! A vote is in the file, and the file synced, before its signature is returned. Below the lowest view of the file nothing is signed, so
+//! old votes can be dropped: the lowest view rises, and the votes of some thousand views above it stay.
+
+use crate::crypto::hex;
+use crate::settings::Outcome;
+use simplex_identity::NetworkName;
+use simplex_view_state::Subject;
+use std::collections::BTreeMap;
+use std::fs::{self, File, OpenOptions, TryLockError};
+use std::io::Write;
+use std::path::{Path, PathBuf};
+
+/// How many votes are in the file before old ones are dropped.
+const MOST_VOTES: usize = 16_384;
+/// Of how many views below the highest one votes stay then.
+const KEPT_VIEWS: u64 = 4096;
+/// What a file begins with.
+const BEGIN: &str = "simplex-signer 1";
+
+/// Whose votes a guard is of: its file is no other signer's.
+#[derive(Clone, Debug, PartialEq, Eq)]
+pub struct Owner {
+    /// The network.
+    pub network: NetworkName,
+    /// The epoch.
+    pub epoch: u64,
+    /// The public key.
+    pub key: [u8; 32],
+}
+
+/// The votes that were signed.
+#[derive(Debug)]
+pub struct Guard {
+    path: PathBuf,
+    file: File,
+    owner: Owner,
+    /// Below this view nothing is signed.
+    lowest: u64,
+    /// The texts of votes, by view and kind.
+    votes: BTreeMap<(u64, char), String>,
+}
+
+fn kind_of(subject: &Subject) -> char {
+    match subject {
+        Subject::Notarize(_) => 'n',
+        Subject::Nullify(_) => 'x',
+        Subject::Finalize(_) => 'f',
+    }
+}
+
+/// An error at a file, with what to do.
+fn at(path: &Path, error: impl std::fmt::Display) -> String {
+    format!("{}: {error}", path.display())
+}
+
+impl Guard {
+    /// A new file, for a key that has signed nothing from this view on.
+    ///
+    /// # Errors
+    ///
+    /// Where the file is here already, or can't be written.
+    pub fn create(path: &Path, owner: Owner, lowest: u64) -> Outcome<Guard> {
+        let created = OpenOptions::new().create_new(true).append(true).read(true).open(path);
+        let file = created.map_err(|error| {
+            at(
+                path,
+                format!("{error}: a signer that has signed goes on from its file, so leave --begin-at away"),
+            )
+        })?;
+        lock(path, &file)?;
+        let guard = Guard {
+            path: path.to_owned(),
+            file,
+            owner,
+            lowest,
+            votes: BTreeMap::new(),
+        };
+        (&guard.file).write_all(guard.head().as_bytes())?;
+        guard.file.sync_all()?;
+        sync_folder(path)?;
+        Ok(guard)
+    }
+
+    /// The file of a signer that goes on. A line that a crash cut off is dropped: its signature was not returned.
+    ///
+    /// # Errors
+    ///
+    /// Where the file is not here, is damaged or of another signer, or another process has it: says what to do.
+    pub fn open(path: &Path, owner: Owner) -> Outcome<Guard> {
+        let opened = OpenOptions::new().append(true).read(true).open(path);
+        let file = opened.map_err(|error| {
+            at(
+                path,
+                format!(
+                    "{error}: what this key has signed is lost, and it could contradict its votes. Put the file back. A key that has signed \
+                     nothing begins by --begin-at 1, a key whose file is lost never signs again: make a new one for the next epoch"
+                ),
+            )
+        })?;
+        lock(path, &file)?;
+        let bytes = fs::read(path).map_err(|error| at(path, error))?;
+        let whole = whole_lines(&bytes);
+        file.set_len(whole.len() as u64)?;
+        let damaged = || {
+            at(
+                path,
+                "the file is damaged: put back a whole copy that is not older, or make a new key",
+            )
+        };
+        let text = std::str::from_utf8(whole).map_err(|_| damaged())?;
+        let (lowest, votes) = read(text, &owner).ok_or_else(damaged)?;
+        let lowest = lowest.ok_or_else(|| {
+            at(
+                path,
+                format!(
+                    "the file is of another network, epoch or key than {}: name this signer's own",
+                    head_of(&owner, 0).trim_end()
+                ),
+            )
+        })?;
+        Ok(Guard {
+            path: path.to_owned(),
+            file,
+            owner,
+            lowest,
+            votes,
+        })
+    }
+
+    /// Stores that a vote is signed. Once it returns, the vote may be signed: it is on the disk, and no other one that contradicts it was
+    /// or will be.
+    ///
+    /// # Errors
+    ///
+    /// Where the vote is of another epoch, below the lowest view, or contradicts one that was signed; or where the disk refuses.
+    pub fn admit(&mut self, subject: &Subject) -> Outcome {
+        let (round, kind, text) = (subject.round(), kind_of(subject), hex(&subject.encode()));
+        let (view, epoch) = (round.view.get(), round.epoch.get());
+        if epoch != self.owner.epoch {
+            return Err(format!("a vote of epoch {epoch}, and this signer is of epoch {}", self.owner.epoch).into());
+        }
+        if view < self.lowest {
+            return Err(format!("a vote of view {view}, and nothing below view {} is signed", self.lowest).into());
+        }
+        match self.votes.get(&(view, kind)) {
+            Some(signed) if *signed == text => return Ok(()),
+            Some(_) => return Err(format!("another vote of this kind ({kind}) was signed in view {view}").into()),
+            None => {}
+        }
+        let against = match kind {
+            'x' => 'f',
+            'f' => 'x',
+            _ => kind,
+        };
+        if self.votes.contains_key(&(view, against)) {
+            return Err(format!("view {view} was voted to be nullified, or finalized: never both").into());
+        }
+        self.store(view, kind, text)
+    }
+
+    fn store(&mut self, view: u64, kind: char, text: String) -> Outcome {
+        let line = format!("{view} {kind} {text}\n");
+        let written = self.file.write_all(line.as_bytes()).and_then(|()| self.file.sync_data());
+        self.votes.insert((view, kind), text);
+        written.map_err(|error| at(&self.path, error))?;
+        if self.votes.len() > MOST_VOTES {
+            self.drop_old()?;
+        }
+        Ok(())
+    }
+
+    /// Drops the votes of old views, which are signed no more from now on.
+    fn drop_old(&mut self) -> Outcome {
+        let highest = self.votes.last_key_value().map_or(0, |((view, _), _)| *view);
+        self.lowest = self.lowest.max(highest.saturating_sub(KEPT_VIEWS));
+        self.votes = self.votes.split_off(&(self.lowest, '\0'));
+        let new = self.path.with_extension("new");
+        let mut file = OpenOptions::new().create(true).truncate(true).write(true).read(true).open(&new)?;
+        lock(&new, &file)?;
+        let lines = self.votes.iter().map(|((view, kind), text)| format!("{view} {kind} {text}\n"));
+        let all: String = std::iter::once(self.head()).chain(lines).collect();
+        file.write_all(all.as_bytes())?;
+        file.sync_all()?;
+        fs::rename(&new, &self.path)?;
+        sync_folder(&self.path)?;
+        self.file = file;
+        Ok(())
+    }
+
+    fn head(&self) -> String {
+        head_of(&self.owner, self.lowest)
+    }
+}
+
+fn head_of(owner: &Owner, lowest: u64) -> String {
+    format!("{BEGIN} {} {} {} {lowest}\n", owner.network, owner.epoch, hex(&owner.key))
+}
+
+fn lock(path: &Path, file: &File) -> Outcome {
+    match file.try_lock() {
+        Ok(()) => Ok(()),
+        Err(TryLockError::WouldBlock) => Err(at(path, "another signer has this file: end that one first").into()),
+        Err(TryLockError::Error(error)) => Err(at(path, error).into()),
+    }
+}
+
+fn sync_folder(path: &Path) -> Outcome {
+    let folder = path.parent().filter(|it| !it.as_os_str().is_empty()).unwrap_or(Path::new("."));
+    Ok(File::open(folder).and_then(|it| it.sync_all()).map_err(|error| at(folder, error))?)
+}
+
+/// The bytes up to the end of the last line that is whole. A power cut leaves zeros where a line was.
+fn whole_lines(bytes: &[u8]) -> &[u8] {
+    let end = |bytes: &[u8]| bytes.iter().rposition(|it| *it == b'\n').map_or(0, |it| it + 1);
+    let whole = &bytes[..end(bytes)];
+    let before = end(&whole[..whole.len().saturating_sub(1)]);
+    if whole[before..].contains(&0) { &whole[..before] } else { whole }
+}
+
+type Votes = BTreeMap<(u64, char), String>;
+
+/// The lowest view, `None` where the file is another signer's, and the votes. `None` where the text is damaged.
+fn read(text: &str, owner: &Owner) -> Option<(Option<u64>, Votes)> {
+    let mut lines = text.lines();
+    let head = lines.next()?.strip_prefix(BEGIN)?;
+    let lowest: u64 = head.rsplit(' ').next()?.parse().ok()?;
+    let is_own = head_of(owner, lowest).trim_end().strip_prefix(BEGIN) == Some(head);
+    let vote = |line: &str| {
+        let mut words = line.split(' ');
+        let view: u64 = words.next()?.parse().ok()?;
+        let kind = words.next()?.parse().ok()?;
+        let text = words.next()?.to_owned();
+        (words.next().is_none() && text.len().is_multiple_of(2) && text.len() >= 34).then_some(((view, kind), text))
+    };
+    Some((is_own.then_some(lowest), lines.map(vote).collect::<Option<Votes>>()?))
+}
+
+#[cfg(test)]
+mod tests {
+    use super::*;
+    use simplex_view_state::{Digest, Epoch, Proposal, Round, View};
+
+    fn owner() -> Owner {
+        Owner {
+            network: NetworkName::try_from("test".to_owned()).expect("a name"),
+            epoch: 1,
+            key: [7; 32],
+        }
+    }
+
+    fn round(view: u64) -> Round {
+        let (epoch, view) = (Epoch::new(1), View::new(view));
+        Round { epoch, view }
+    }
+
+    fn proposal(view: u64, payload: u8) -> Proposal {
+        Proposal {
+            round: round(view),
+            parent: View::GENESIS,
+            payload: Digest::new([payload; 32]),
+        }
+    }
+
+    fn notarize(view: u64, payload: u8) -> Subject {
+        Subject::Notarize(proposal(view, payload))
+    }
+
+    fn finalize(view: u64) -> Subject {
+        Subject::Finalize(proposal(view, 7))
+    }
+
+    fn nullify(view: u64) -> Subject {
+        Subject::Nullify(round(view))
+    }
+
+    fn refused(guard: &mut Guard, subject: Subject) -> String {
+        guard.admit(&subject).expect_err("it is refused").to_string()
+    }
+
+    fn path(name: &str) -> PathBuf {
+        crate::trace::scratch(name).join("guard")
+    }
+
+    #[test]
+    fn two_votes_of_one_kind_and_view_are_not_signed_whatever_is_restarted() {
+        let path = path("guard-two");
+        let mut guard = Guard::create(&path, owner(), 1).expect("a disk");
+        for _ in 0..2 {
+            guard.admit(&notarize(1, 7)).expect("once more is the same vote");
+            assert!(refused(&mut guard, notarize(1, 8)).contains("another vote of this kind (n) was signed in view 1"));
+            guard.admit(&notarize(2, 8)).expect("another view");
+            guard.admit(&finalize(1)).expect("another kind");
+            assert!(refused(&mut guard, nullify(1)).contains("never both"));
+            guard.admit(&nullify(2)).expect("it was not finalized");
+            assert!(refused(&mut guard, finalize(2)).contains("never both"));
+            drop(guard);
+            guard = Guard::open(&path, owner()).expect("its own");
+        }
+    }
+
+    #[test]
+    fn below_the_lowest_view_nothing_is_signed() {
+        let path = path("guard-lowest");
+        let mut guard = Guard::create(&path, owner(), 10).expect("a disk");
+        assert!(refused(&mut guard, nullify(9)).contains("nothing below view 10 is signed"));
+        guard.admit(&nullify(10)).expect("it is not below");
+        drop(guard);
+        let mut guard = Guard::open(&path, owner()).expect("its own");
+        assert!(refused(&mut guard, nullify(9)).contains("nothing below view 10"));
+        let other = Subject::Nullify(Round {
+            epoch: Epoch::new(2),
+            ..round(11)
+        });
+        assert!(refused(&mut guard, other).contains("epoch 2"));
+    }
+
+    #[test]
+    fn old_votes_are_dropped_and_the_lowest_view_rises() {
+        let path = path("guard-old");
+        let mut guard = Guard::create(&path, owner(), 1).expect("a disk");
+        for view in 1..=20_000 {
+            guard.votes.insert((view, 'x'), hex(&nullify(view).encode()));
+        }
+        guard.admit(&nullify(20_001)).expect("a disk");
+        let lowest = 20_001 - KEPT_VIEWS;
+        for _ in 0..2 {
+            assert_eq!((guard.lowest, guard.votes.len() as u64), (lowest, KEPT_VIEWS + 1));
+            assert!(refused(&mut guard, nullify(lowest - 1)).contains("nothing below"));
+            assert!(refused(&mut guard, finalize(lowest)).contains("never both"));
+            drop(guard);
+            guard = Guard::open(&path, owner()).expect("its own");
+        }
+        guard.admit(&nullify(20_002)).expect("the new file grows");
+        drop(guard);
+        let mut guard = Guard::open(&path, owner()).expect("its own");
+        assert!(refused(&mut guard, finalize(20_002)).contains("never both"));
+    }
+
+    #[test]
+    fn a_line_that_a_crash_cut_off_is_dropped_and_no_other() {
+        let path = path("guard-torn");
+        let mut guard = Guard::create(&path, owner(), 1).expect("a disk");
+        guard.admit(&notarize(1, 7)).expect("a disk");
+        let before = fs::metadata(&path).expect("a file").len() as usize;
+        guard.admit(&notarize(2, 7)).expect("a disk");
+        drop(guard);
+        let bytes = fs::read(&path).expect("a file");
+        for cut in before..bytes.len() {
+            for zeros in [0, 1, bytes.len() - cut] {
+                fs::write(&path, [&bytes[..cut], &vec![0; zeros]].concat()).expect("a disk");
+                let mut guard = Guard::open(&path, owner()).expect("a torn end is cut off");
+                assert!(refused(&mut guard, notarize(1, 8)).contains("view 1"));
+                guard.admit(&notarize(2, 8)).expect("that signature was not returned");
+                drop(guard);
+                let mut guard = Guard::open(&path, owner()).expect("the file is whole again");
+                assert!(refused(&mut guard, notarize(2, 7)).contains("view 2"));
+            }
+        }
+    }
+
+    #[test]
+    fn a_file_that_is_lost_damaged_or_of_another_signer_is_refused_by_name() {
+        let path = path("guard-lost");
+        let said = |owner: Owner| Guard::open(&path, owner).expect_err("it is refused").to_string();
+        let named = path.display().to_string();
+        assert!(said(owner()).contains(&named) && said(owner()).contains("--begin-at 1"));
+        let mut guard = Guard::create(&path, owner(), 1).expect("a disk");
+        assert!(said(owner()).contains("another signer has this file"));
+        guard.admit(&notarize(1, 7)).expect("a disk");
+        guard.admit(&notarize(2, 7)).expect("a disk");
+        drop(guard);
+        let again = Guard::create(&path, owner(), 1).expect_err("it is here").to_string();
+        assert!(again.contains(&named) && again.contains("--begin-at"), "{again}");
+        let (epoch, key) = (2, [8; 32]);
+        for other in [Owner { epoch, ..owner() }, Owner { key, ..owner() }] {
+            assert!(said(other).contains("another network, epoch or key"));
+        }
+        let text = fs::read_to_string(&path).expect("a file").replacen("1 n ", "1 n x ", 1);
+        fs::write(&path, text).expect("a disk");
+        assert!(said(owner()).contains("damaged"));
+    }
+}

@@ -1,0 +1,199 @@
+//! A node whose votes another process signs.
+
+use simplex_node::crypto::{hex, make_key, raw_key};
+use simplex_node::network::{Network, Plan, folder_of};
+use simplex_node::settings::{Protocol, Settings};
+use simplex_node::signer::guard::Owner;
+use simplex_node::signer::{Remote, Signer};
+use simplex_view_state::{Digest, Epoch, Proposal, Round, Subject, View};
+use std::fs;
+use std::path::PathBuf;
+use std::process::{Child, Command, Output, Stdio};
+use std::time::Duration;
+
+const SOON: Duration = Duration::from_secs(120);
+
+/// Four nodes, of which the first has a signer.
+struct Signed {
+    network: Network,
+    key: String,
+    signer: Option<Child>,
+}
+
+impl Signed {
+    fn new(name: &str) -> Signed {
+        let plan = Plan {
+            nodes: 4,
+            protocol: Protocol {
+                pace_ms: 5,
+                ..Protocol::default()
+            },
+            sync: true,
+            faults: Vec::new(),
+            delay_ms: 0,
+            program: env!("CARGO_BIN_EXE_simplex-node").into(),
+            folder: folder_of(name),
+        };
+        let mut network = Network::new(plan).expect("keys and settings");
+        let link = make_key(&network.folder().join("link.pem")).expect("a key");
+        let key = Settings::read(&network.config(0)).expect("settings").members[0].key.clone();
+        for index in 0..4 {
+            let change = |it: &mut Settings| {
+                it.members[0].link = Some(link.clone());
+                if index == 0 {
+                    (it.key, it.signer) = ("link.pem".into(), Some("sock".into()));
+                }
+            };
+            network.set(index, change).expect("a disk");
+        }
+        Signed {
+            network,
+            key,
+            signer: None,
+        }
+    }
+
+    fn path(&self, name: &str) -> PathBuf {
+        self.network.folder().join(name)
+    }
+
+    fn command(&self, more: &[&str]) -> Command {
+        let mut command = Command::new(env!("CARGO_BIN_EXE_simplex-node"));
+        command.args(["signer", "--network", "local", "--key"]).arg(self.path("0.pem"));
+        command
+            .arg("--guard")
+            .arg(self.path("guard"))
+            .arg("--socket")
+            .arg(self.path("sock"));
+        command.args(more).stdin(Stdio::null()).stdout(Stdio::null());
+        command
+    }
+
+    fn begin(&mut self, more: &[&str]) {
+        self.signer = Some(self.command(more).stderr(Stdio::null()).spawn().expect("a process"));
+    }
+
+    fn kill(&mut self) {
+        if let Some(mut signer) = self.signer.take() {
+            signer.kill().expect("it runs");
+            signer.wait().expect("it ends");
+        }
+    }
+
+    /// The signer, as anybody who can open the socket reaches it.
+    fn remote(&self) -> Remote {
+        let owner = Owner {
+            network: "local".to_owned().try_into().expect("a name"),
+            epoch: 1,
+            key: raw_key(&self.key).expect("a key"),
+        };
+        Remote::connect(&self.path("sock"), owner).expect("it listens")
+    }
+}
+
+impl Drop for Signed {
+    fn drop(&mut self) {
+        self.kill();
+    }
+}
+
+fn said(output: &Output) -> String {
+    String::from_utf8_lossy(&output.stderr).into_owned()
+}
+
+fn round(view: u64) -> Round {
+    let (epoch, view) = (Epoch::new(1), View::new(view));
+    Round { epoch, view }
+}
+
+fn proposal(view: u64, payload: u8) -> Proposal {
+    Proposal {
+        round: round(view),
+        parent: View::GENESIS,
+        payload: Digest::new([payload; 32]),
+    }
+}
+
+#[test]
+fn a_node_votes_by_its_signer_also_where_that_is_killed_and_begun_again() {
+    let mut signed = Signed::new("signed");
+    signed.begin(&["--begin-at", "1"]);
+    signed.network.begin_all().expect("processes");
+    let network = &signed.network;
+    assert!(network.wait_until(&[0], "finalizes", 5, SOON), "it does not vote");
+    for _ in 0..2 {
+        signed.kill();
+        signed.begin(&[]);
+        let votes = signed.network.metric(0, "finalizes").expect("it replies");
+        assert!(signed.network.wait_until(&[0], "finalizes", votes + 5, SOON), "it votes no more");
+    }
+    signed.network.stop().expect("they stop");
+    let guard = fs::read_to_string(signed.path("guard")).expect("a file");
+    assert!(guard.lines().count() > 15 && guard.starts_with("simplex-signer 1 local 1 "));
+    assert!(simplex_node::audit::disagreements(&signed.network.chains().expect("chains")).is_empty());
+    fs::remove_dir_all(signed.network.folder()).expect("a folder");
+}
+
+/// Whoever has the socket, with the node's settings and without its journal, gets no contradiction signed, before or after a restart.
+#[test]
+fn a_signer_signs_no_two_votes_that_contradict_each_other() {
+    let mut signed = Signed::new("contradicts");
+    signed.begin(&["--begin-at", "10"]);
+    let sign = |remote: &Remote, subject: Subject| remote.sign(&subject, &subject.encode()).map_err(|it| it.to_string());
+    for _ in 0..2 {
+        let remote = signed.remote();
+        let first = sign(&remote, Subject::Notarize(proposal(12, 7))).expect("it signs");
+        assert_eq!(
+            sign(&remote, Subject::Notarize(proposal(12, 7))).map(|it| hex(&it)),
+            Ok(hex(&first))
+        );
+        let refused = |subject| sign(&remote, subject).expect_err("it is refused");
+        assert!(refused(Subject::Notarize(proposal(12, 8))).contains("another vote of this kind"));
+        sign(&remote, Subject::Finalize(proposal(12, 7))).expect("it signs");
+        assert!(refused(Subject::Nullify(round(12))).contains("never both"));
+        assert!(refused(Subject::Nullify(round(9))).contains("nothing below view 10"));
+        let text = remote
+            .sign(&Subject::Nullify(round(13)), b"a handshake, or any text")
+            .map_err(|it| it.to_string());
+        assert!(text.expect_err("it is refused").contains("no vote"));
+        signed.kill();
+        signed.begin(&[]);
+    }
+    fs::remove_dir_all(signed.network.folder()).expect("a folder");
+}
+
+#[test]
+fn what_does_not_fit_is_refused_by_name_and_with_what_to_do() {
+    let mut signed = Signed::new("unfit");
+    let lost = signed.command(&[]).output().expect("it ends");
+    assert!(
+        !lost.status.success() && said(&lost).contains("guard: ") && said(&lost).contains("--begin-at 1"),
+        "{lost:?}"
+    );
+    signed.begin(&["--begin-at", "1"]);
+    drop(signed.remote());
+    let second = signed.command(&[]).output().expect("it ends");
+    assert!(said(&second).contains("sock: another signer listens there"), "{second:?}");
+    let elsewhere = signed.path("sock-2").display().to_string();
+    let second = signed.command(&["--socket", &elsewhere]).output();
+    assert!(!second.expect("it ends").status.success());
+    // A node whose signer has the key of another member.
+    signed
+        .network
+        .set(0, |it| it.network = "other".to_owned().try_into().expect("a name"))
+        .expect("a disk");
+    let mut node = Command::new(env!("CARGO_BIN_EXE_simplex-node"));
+    let ended = node.arg("--config").arg(signed.network.config(0)).output().expect("it ends");
+    assert!(said(&ended).contains("it is of another network, epoch or key"), "{ended:?}");
+    signed.kill();
+    signed
+        .network
+        .set(0, |it| it.network = "local".to_owned().try_into().expect("a name"))
+        .expect("a disk");
+    let ended = node.output().expect("it ends");
+    assert!(
+        said(&ended).contains("sock: ") && said(&ended).contains("simplex-node signer"),
+        "{ended:?}"
+    );
+    fs::remove_dir_all(signed.network.folder()).expect("a folder");
+}
