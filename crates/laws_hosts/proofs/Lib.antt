@@ -1,0 +1,5 @@
+pub mod Counting
+pub mod CallTraces
+pub mod Stops
+pub mod Hosts
+pub mod Networks

@@ -1,0 +1,4 @@
+pub mod EngineCalls
+pub mod Processes
+pub mod HostNetworks
+pub mod HostAgreement
