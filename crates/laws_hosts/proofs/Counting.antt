@@ -24,9 +24,11 @@ module _ {X G : Type 0} (P : ℕ → X → Type 0) where
             (λ t among k y is at. has t among (suc k) y is (omega arith)))
         | inr here ↦
             let same : s.0 ≡ i = omega arith in
-            inl (subst (λ j. P j x) same (has s (zero, omega arith, refl) 0 x refl (omega arith)),
-            at_least xs (suc i) (s.0 + 1) rest (omega arith) (subst (λ n. AreRising n (s.0 + 1) rest) wider rising.2)
-            (λ t among k y is at. has t (Contains-cons_rest s rest t among) (suc k) y is (omega arith)))
+            inl (
+              subst (λ j. P j x) same (has s (zero, omega arith, refl) 0 x refl (omega arith)),
+              at_least xs (suc i) (s.0 + 1) rest (omega arith) (subst (λ n. AreRising n (s.0 + 1) rest) wider rising.2)
+                  (λ t among k y is at. has t (Contains-cons_rest s rest t among) (suc k) y is (omega arith)),
+            )
       ]
 
 module _ {X Y : Type 0} (R : ℕ → X → Y → Type 0) where
@@ -42,9 +44,9 @@ module _ {X Y : Type 0} (R : ℕ → X → Y → Type 0) where
   paired (x ∷ xs) i each =
       let first = each 0 x refl in
       let rest = paired xs (suc i) (λ k y is. (
-        let found = each (suc k) y is in
-        let at : i + suc k ≡ suc i + k = omega arith in
-        (found.0, subst (λ j. R j y found.0) at found.1))) in
+      let found = each (suc k) y is in
+      let at : i + suc k ≡ suc i + k = omega arith in
+      (found.0, subst (λ j. R j y found.0) at found.1))) in
       let here : i + 0 ≡ i = omega arith in
       (first.0 ∷ rest.0, (subst (λ j. R j x first.0) here first.1, rest.1))
 

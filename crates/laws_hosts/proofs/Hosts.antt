@@ -1,5 +1,5 @@
 -- All that an honest host's member has done, over all its processes.
-use Rattle.std.proofs.Common.{◌≡◌, ◌⊎◌, inl, inr, ℕ, Bool, List, [], ◌∷◌, ◌++◌, length, Option, Some, None, refl, ap, sym, subst, ◌∙◌, append_assoc, append-nil}
+use Rattle.std.proofs.Common.{◌≡◌, ◌⊎◌, inl, inr, ℕ, Bool, true, List, [], ◌∷◌, ◌++◌, length, Option, Some, None, refl, ap, sym, subst, ◌∙◌, append_assoc, append-nil}
 use Rattle.std.specs.Prelude.{Contains}
 use Rattle.std.proofs.lemmas.List.Elements.{Contains-append_left, Contains-append_cases}
 use Rattle.simplex_types.specs.declared.types.messages.Proposal.{Proposal}
@@ -13,6 +13,7 @@ use Rattle.simplex_member.specs.declared.member.journal.Stored.{Stored}
 use Rattle.laws_safety.specs.MemberHistory.{HasHistory}
 use Rattle.laws_safety.specs.ObservedTraces.{floor_in, StartsAs}
 use Rattle.laws_safety.specs.Traces.{TraceEvent, Accepts, Signs}
+use Rattle.laws_safety.proofs.executions.Living.{done_lawful}
 use Rattle.laws_safety.proofs.lists.Splits.{Contains-cons_rest}
 use Rattle.engine_votes.specs.declared.votes.Vote.{Vote}
 use Rattle.engine_outbox.specs.Entries.{votes_of_entries}
@@ -25,6 +26,7 @@ use Rattle.engine_outbox.proofs.EmittedVotes.{all_signed, was_stored}
 use Rattle.engine_outbox.proofs.Finalizations.{finalized_in-append}
 use Rattle.engine_outbox.proofs.HostStops.{lawful_stops, signed_still}
 use Rattle.laws_hosts.specs.EngineCalls.{outputs_of}
+use Rattle.laws_hosts.specs.HostVotes.{EachHostKeepsRules}
 use Rattle.laws_hosts.specs.Processes.{Process, carried_by, MemberBegins, IsProcess, AreProcesses}
 use Rattle.laws_hosts.proofs.CallTraces.{none_in, here, AcceptsGood, good_both, QuorumsAreGood, PassesGood, IsAt, called}
 use Rattle.laws_hosts.proofs.Stops.{final_returned, among_finals, HasStopped, stopped}
@@ -168,8 +170,8 @@ module _ {S L D K G C : Type 0} (same : D → D → Bool) (elect : Elect L) (byt
       let each : EachStopIsLawful same elect bytes_of term_length i from.all at.all (outs ++ queue) =
       lawful_stops same elect bytes_of term_length i from.all at.all (outs ++ queue) at.traced.kept.lawful.behind (at.traced.stops is.alive) in
       let reported : FinalsAreGood IsGood process.carried = λ p has. at.good (subject.Finalize p) (at.traced.finals p
-          (subst (λ ps. Contains ps p) (sym (finalized_in-append outs queue)) (Contains-append_left (finals_in outs) (finals_in queue) p
-          (among_finals outs p (final_returned outs process.carried p is.carries_out has))))) in
+      (subst (λ ps. Contains ps p) (sym (finalized_in-append outs queue)) (Contains-append_left (finals_in outs) (finals_in queue) p
+      (among_finals outs p (final_returned outs process.carried p is.carries_out has))))) in
       elim (stopped same elect bytes_of term_length i from.all at.all outs queue process.carried each is.carries_out) [
         | inl none ↦ unchanged before process.carried member none from finals stored
         | inr stop ↦ changed before process.carried from.all at.all from.has.votes at.good (finals_both before process.carried finals reported) stop
@@ -186,3 +188,18 @@ module _ {S L D K G C : Type 0} (same : D → D → Bool) (elect : Elect L) (byt
       let one = processed quorums before process are.0 (passes process (here process (next ∷ rest))) finals stored in
       subst (HasRun same elect bytes_of IsGood term_length i) (append_assoc before process.carried (carried_by (next ∷ rest)))
       (all_processed quorums next rest (before ++ process.carried) are.1 (λ p has. passes p (Contains-cons_rest process (next ∷ rest) p has)) one.finals one.stored)
+
+module _ {S L D K G C : Type 0} (same : D → D → Bool) (elect : Elect L) (bytes_of : C → List ℕ) (is_signature : K → Subject D → G → Type 0)
+    (keys_of : S → List K) (me : S → Option ℕ) (terms : L → Terms) (decides : (d e : D) → same d e ≡ true → d ≡ e) where
+  -- whatever came in
+  pub votes_keep_rules : EachHostKeepsRules {C = C} same elect bytes_of is_signature keys_of me terms
+  votes_keep_rules term_length i members [] some runs = absurd (some refl)
+  votes_keep_rules term_length i members (process ∷ rest) some runs =
+      let ran = all_processed same elect bytes_of is_signature keys_of me terms members (λ vote. Unit {0}) (λ c. Unit {0}) term_length i (λ votes c sent has. tt)
+          process rest [] runs
+          (λ p has. record { calls = record { votes = λ vote among. tt; certificates = λ certificate among. tt }; floor = λ c among. tt }) (λ p has. tt) (inl refl) in
+      record {
+        all = ran.all;
+        lawful = done_lawful same elect term_length i decides ran.all ran.facts ran.has.done;
+        votes = ran.has.votes;
+      }

@@ -3,3 +3,4 @@ pub mod CallTraces
 pub mod Stops
 pub mod Hosts
 pub mod Networks
+pub mod LoneHosts

@@ -37,10 +37,10 @@ module _ {S L D K G C : Type 0} (same : D → D → Bool) (elect : Elect L) (byt
       let from_zero : length hosts ≡ 0 + length hosts = omega arith in
       subst (λ count. AtLeastFrom 0 count (MayHaveSent vote_subject) hosts) has.quorum
       (at_least (MayHaveSent vote_subject) hosts 0 0 has.signed (omega arith) (subst (λ n. AreRising n 0 has.signed) from_zero has.rising) (λ s among k host at is. (
-        let index : k ≡ s.0 = omega (arith, is) in
-        sent (record { subject = vote_subject; signer = s.0; signature = s.1 })
-        (All-contains (λ t. Contains votes (record { subject = vote_subject; signer = t.0; signature = t.1 })) has.signed s has.are_given among)
-        host (subst (λ j. slice_get hosts j ≡ Some host) index at))))
+      let index : k ≡ s.0 = omega (arith, is) in
+      sent (record { subject = vote_subject; signer = s.0; signature = s.1 })
+      (All-contains (λ t. Contains votes (record { subject = vote_subject; signer = t.0; signature = t.1 })) has.signed s has.are_given among)
+      host (subst (λ j. slice_get hosts j ≡ Some host) index at))))
 
   run : (i : ℕ) (processes : List (Process S L D K G C)) → IsHonestHost same elect bytes_of is_signature keys_of me terms term_length i hosts processes
       → HasRun same elect bytes_of (IsCertifiable hosts) term_length i (carried_by processes)
@@ -69,17 +69,20 @@ module _ {S L D K G C : Type 0} (same : D → D → Bool) (elect : Elect L) (byt
   member_of i Faulty at = (replica.Faulty, tt)
   member_of i (Honest processes) at =
       let ran = run i processes (network.honest i processes at) in
-      let found = done_ran same elect term_length i ran.all ran.facts ran.has.done in
-      (replica.Honest found.0, (
-      found.1,
-      (λ vote sent. subst (λ xs. Contains xs (Signs i vote)) (sym found.2) (ran.has.votes (record { subject = vote; signer = i; signature = sent.0 }) sent.1)),
-      (λ c among. ran.has.good c (subst (λ xs. Contains xs (Accepts c)) found.2 among))))
+      let found = done_ran same elect term_length i ran.all ran.facts ran.has.done in (
+        replica.Honest found.0,
+        (
+          found.1,
+          (λ vote sent. subst (λ xs. Contains xs (Signs i vote)) (sym found.2) (ran.has.votes (record { subject = vote; signer = i; signature = sent.0 }) sent.1)),
+          (λ c among. ran.has.good c (subst (λ xs. Contains xs (Accepts c)) found.2 among)),
+        ),
+      )
 
   pub made : (members : List (Replica K L D)) × ArePairs IsMember 0 hosts members
   made = paired IsMember hosts 0 (λ k host at. (
-    let index : k ≡ 0 + k = omega arith in
-    let found = member_of k host at in
-    (found.0, subst (λ j. IsMember j host found.0) index found.1)))
+      let index : k ≡ 0 + k = omega arith in
+      let found = member_of k host at in
+      (found.0, subst (λ j. IsMember j host found.0) index found.1)))
 
   abbrev pub members_are : List (Replica K L D)
   members_are = made.0
@@ -119,11 +122,11 @@ module _ {S L D K G C : Type 0} (same : D → D → Bool) (elect : Elect L) (byt
   is_network = record {
     few_faulty = few;
     honest = λ i s at. (
-      let found = pair_at IsMember hosts members_are 0 i (replica.Honest s) made.1 at in
-      (execution_at i found.0 s (subst (λ j. IsMember j found.0 (replica.Honest s)) (let index : 0 + i ≡ i = omega arith in index) found.2)).0);
+        let found = pair_at IsMember hosts members_are 0 i (replica.Honest s) made.1 at in
+        (execution_at i found.0 s (subst (λ j. IsMember j found.0 (replica.Honest s)) (let index : 0 + i ≡ i = omega arith in index) found.2)).0);
     backed = λ i s c at among. (
-      let found = pair_at IsMember hosts members_are 0 i (replica.Honest s) made.1 at in
-      backed c ((execution_at i found.0 s (subst (λ j. IsMember j found.0 (replica.Honest s)) (let index : 0 + i ≡ i = omega arith in index) found.2)).1 c among));
+        let found = pair_at IsMember hosts members_are 0 i (replica.Honest s) made.1 at in
+        backed c ((execution_at i found.0 s (subst (λ j. IsMember j found.0 (replica.Honest s)) (let index : 0 + i ≡ i = omega arith in index) found.2)).1 c among));
   }
 
   -- what an honest host reported as final has a certificate

@@ -60,16 +60,20 @@ module _ {S D J K G C : Type 0} where
           let head : x ≡ first = cc in
           let tail : rest ≡ front ++ output.Store torn.entries ∷ torn.back = cc in
           let carried_tail : others ≡ front ++ output.Store torn.part ∷ [] = cc in
-          inr (others, ap (λ y. y ∷ others) head, inr (record {
-            front = front;
-            back = torn.back;
-            entries = torn.entries;
-            part = torn.part;
-            rest = torn.rest;
-            outs_are = tail;
-            entries_are = torn.entries_are;
-            carried_is = carried_tail;
-          }))
+          inr (
+            others,
+            ap (λ y. y ∷ others) head,
+            inr (record {
+              front = front;
+              back = torn.back;
+              entries = torn.entries;
+              part = torn.part;
+              rest = torn.rest;
+              outs_are = tail;
+              entries_are = torn.entries_are;
+              carried_is = carried_tail;
+            }),
+          )
 
   -- also of longer outputs
   of_more : (outs more carried : List (Output S D J K G C)) → MayBeCarriedOut outs carried → MayBeCarriedOut (outs ++ more) carried

@@ -1,7 +1,8 @@
-//! Agreement of the hosts of a network. The function does nothing: its contract is the law.
+//! Agreement of the hosts of a network, and the votes of each. A function does nothing: its contract is the law.
 
 ghost use Rattle.laws_hosts.specs.HostNetworks.{OfEachHostNetwork};
 ghost use Rattle.laws_hosts.specs.HostAgreement.{OneFinalOfEachView, ChainsHoldFinals};
+ghost use Rattle.laws_hosts.specs.HostVotes.{EachHostKeepsRules};
 
 use laws_safety::laws::agreement;
 use simplex_types::types::{Digest, Elector, Scheme};
@@ -31,3 +32,12 @@ pub fn hosts_agree<S: Scheme<D>, L: Elector<S>, D: Digest>()
 {
     agreement::<S, L, D>();
 }
+
+/// The votes that one host has carried out, over all its processes, keep the voting rules (`IsLawful`), whatever it passed to its engines and
+/// whatever the other hosts did.
+///
+/// The host runs processes as `hosts_agree` says. So it never carries out votes to notarize two proposals of one view, votes to finalize
+/// two, or votes to nullify and to finalize one view.
+pub fn hosts_keep_voting_rules<S: Scheme<D>, L: Elector<S>, D: Digest>()
+    ensures { EachHostKeepsRules D.eq L.elect S.certificate_bytes S.IsSignature S.participants S.me L.terms }
+{}
