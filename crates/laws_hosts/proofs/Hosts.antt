@@ -196,8 +196,8 @@ module _ {S L D K G C : Type 0} (same : D → D → Bool) (elect : Elect L) (byt
   votes_keep_rules term_length i members [] some runs = absurd (some refl)
   votes_keep_rules term_length i members (process ∷ rest) some runs =
       let ran = all_processed same elect bytes_of is_signature keys_of me terms members (λ vote. Unit {0}) (λ c. Unit {0}) term_length i (λ votes c sent has. tt)
-          process rest [] runs
-          (λ p has. record { calls = record { votes = λ vote among. tt; certificates = λ certificate among. tt }; floor = λ c among. tt }) (λ p has. tt) (inl refl) in
+      process rest [] runs
+      (λ p has. record { calls = record { votes = λ vote among. tt; certificates = λ certificate among. tt }; floor = λ c among. tt }) (λ p has. tt) (inl refl) in
       record {
         all = ran.all;
         lawful = done_lawful same elect term_length i decides ran.all ran.facts ran.has.done;

@@ -1,16 +1,21 @@
 -- A lone host whose processes passed nothing is a network.
-use Rattle.std.proofs.Common.{◌≡◌, ◌≢◌, ◌⊎◌, inl, inr, ℕ, zero, suc, ◌||◌, Bool, true, false, List, [], ◌∷◌, length, slice_get, Option, Some, None, refl, ap, sym, subst, ◌∙◌, arith}
-use Rattle.std.specs.Prelude.{Contains}
+use Rattle.std.proofs.Common.{◌≡◌, ◌≢◌, ◌⊎◌, inl, inr, ℕ, zero, suc, ◌||◌, Bool, true, false, List, [], ◌∷◌, length, slice_get, Option, Some, None, Result, Ok, Err, refl, ap, sym, subst, ◌∙◌, arith}
+use Rattle.std.specs.Prelude.{Contains, IfOk, is_none}
 use Rattle.simplex_types.specs.declared.types.messages.Subject.{Subject}
 use Rattle.simplex_types.specs.declared.types.window.Terms.{Terms}
 use Rattle.simplex_voter.specs.Facts.{Elect}
-use Rattle.laws_safety.specs.ObservedTraces.{floor_in}
+use Rattle.simplex_record.specs.declared.record.start.Start.{Start}
+use Rattle.laws_safety.specs.ObservedTraces.{floor_in, StartsAs}
 use Rattle.laws_safety.specs.Traces.{Accepts}
-use Rattle.laws_safety.proofs.lists.Splits.{Contains-cases, only_one}
+use Rattle.laws_safety.proofs.lists.Splits.{only_one}
+use Rattle.engine_outbox.specs.Continuity.{has_failed}
+use Rattle.engine_outbox.specs.Journals.{empty_journal}
+use Rattle.simplex_engine.specs.declared.engine.Engine.{Engine}
 use Rattle.simplex_engine.specs.declared.input.Input.{Input}
 use Rattle.simplex_engine.specs.declared.input.Input.TheVariants as input
-use Rattle.laws_hosts.specs.EngineCalls.{EngineCall, Handled, Polled}
-use Rattle.laws_hosts.specs.Processes.{Process, AreProcesses}
+use Rattle.laws_hosts.specs.EngineCalls.{Handled}
+use Rattle.laws_hosts.specs.HostInstances.{process_without_calls, lone_host}
+use Rattle.laws_hosts.specs.Processes.{Process, EngineBegins, AreProcesses}
 use Rattle.laws_hosts.specs.HostNetworks.{Host, Honest, IsHonestHost, IsHostNetwork}
 use Rattle.laws_hosts.proofs.CallTraces.{none_in}
 
@@ -24,20 +29,6 @@ module _ {S L D K G C : Type 0} where
   pub record PassesNothing (process : Process S L D K G C) : Type 0 where
     pub calls : (passed : Input S D K G C) → Contains process.calls (Handled passed) → ⊥
     pub genesis : floor_in process.start.floor ≡ []
-
-  -- of two
-  pub both : (first second : Process S L D K G C) → PassesNothing first → PassesNothing second → (p : Process S L D K G C) → Contains (first ∷ second ∷ []) p → PassesNothing p
-  both first second one other p has = elim (Contains-cases first (second ∷ []) p has) [
-    | inl same ↦ subst PassesNothing same one
-    | inr rest ↦ subst PassesNothing (only_one second p rest) other
-  ]
-
-module _ {S D K G C : Type 0} where
-  only_polled : (call : EngineCall S D K G C) (passed : Input S D K G C) → call ≡ Handled passed → (outs : _) → call ≡ Polled outs → ⊥
-  only_polled call passed one outs other = absurd (cc)
-
-  pub none_polled : (outs : _) (passed : Input S D K G C) → Contains (Polled outs ∷ []) (Handled passed) → ⊥
-  none_polled outs passed has = only_polled (Polled outs) passed (only_one (Polled outs) (Handled passed) has) outs refl
 
 module _ {S L D K G C : Type 0} (same : D → D → Bool) (elect : Elect L) (bytes_of : C → List ℕ) (is_signature : K → Subject D → G → Type 0)
     (keys_of : S → List K) (me : S → Option ℕ) (terms : L → Terms) (term_length : ℕ) where
@@ -64,3 +55,26 @@ module _ {S L D K G C : Type 0} (same : D → D → Bool) (elect : Elect L) (byt
           let same_processes : processes ≡ others = cc in
           subst (IsHonestHost same elect bytes_of is_signature keys_of me terms term_length 0 (Honest processes ∷ [])) same_processes (host 0 refl)
       honest (suc k) others at = absurd (cc)
+
+  -- also a host that has begun an engine and made no call
+  pub begun_alone : {E : Type 0} (start : Start S L D K G C) (result : Result (Engine S L D K G C) E) → length (keys_of start.settings.scheme) ≡ 1
+      → floor_in start.floor ≡ [] → IfOk result (EngineBegins same elect bytes_of keys_of me terms empty_journal start)
+      → IfOk result (λ engine. StartsAs me terms term_length 0 start → has_failed engine.core ≡ false
+      → IsHostNetwork same elect bytes_of is_signature keys_of me terms term_length (lone_host start engine))
+  begun_alone start (Ok engine) one genesis begins = λ starts lives.
+      lone (process_without_calls start engine ∷ []) some_process (
+        (record {
+          starts = starts;
+          members_are = one;
+          begins = begins;
+          runs = refl;
+          alive = not_first engine.core.failed (is_none engine.core.member.facts.life) lives;
+          carries_out = inl ([], refl);
+        }),
+        tt,
+      ) (λ p has. subst PassesNothing (only_one (process_without_calls start engine) p has)
+      (record { calls = λ passed among. none_in (Handled passed) among; genesis = genesis }))
+    where
+      some_process : process_without_calls start engine ∷ [] ≢ []
+      some_process is = cc
+  begun_alone start (Err error) one genesis begins = tt

@@ -21,13 +21,14 @@ outputs_of [] = []
 outputs_of (Handled _ ∷ rest) = outputs_of rest
 outputs_of (Polled outs ∷ rest) = outs ++ outputs_of rest
 
-module _ {S L D K G C : Type 0} (same : D → D → Bool) (elect : Elect L) (bytes_of : C → List ℕ) (is_signature : K → Subject D → G → Type 0)
-    (keys_of : S → List K) where
+module _ {S L D K G C : Type 0} (same : D → D → Bool) (elect : Elect L) (bytes_of : C → List ℕ)
+    (is_signature : K → Subject D → G → Type 0) (keys_of : S → List K) where
   -- an engine before and after `handle`: its clauses `continues`, `votes` and `backed`
   pub record IsHandled (passed : Input S D K G C) (old new : Engine S L D K G C) : Type 0 where
     pub continues : Continues same elect bytes_of is_signature (subject_in bytes_of passed) old.core new.core
     pub votes : TakesVotes (votes_of_input passed) old.batcher new.batcher
-    pub backed : IsBackedInput same elect bytes_of is_signature (length (keys_of old.batcher.scheme)) passed old.batcher old.core new.core
+    pub backed : IsBackedInput same elect bytes_of is_signature (length (keys_of old.batcher.scheme)) passed old.batcher
+        old.core new.core
 
   -- an engine before and after `poll`: its clauses `traced` and `votes`
   pub record IsPolled (outs : List (Output S D Stored K G C)) (old new : Engine S L D K G C) : Type 0 where
@@ -42,4 +43,5 @@ module _ {S L D K G C : Type 0} (same : D → D → Bool) (elect : Elect L) (byt
   -- an engine before and after these calls, one after another
   abbrev pub AreEngineCalls : List (EngineCall S D K G C) → Engine S L D K G C → Engine S L D K G C → Type 0
   AreEngineCalls [] first last = last ≡ first
-  AreEngineCalls (call ∷ rest) first last = (next : Engine S L D K G C) × IsEngineCall call first next × AreEngineCalls rest next last
+  AreEngineCalls (call ∷ rest) first last =
+      (next : Engine S L D K G C) × IsEngineCall call first next × AreEngineCalls rest next last

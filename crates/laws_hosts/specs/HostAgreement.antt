@@ -21,11 +21,12 @@ module _ {S L D K G C : Type 0} (hosts : List (Host S L D K G C)) where
   abbrev pub NotarizedChain : List (Proposal D) → Type 0
   NotarizedChain [] = Unit {0}
   NotarizedChain (p ∷ []) = IsCertifiable hosts (subject.Notarize p)
-  NotarizedChain (p ∷ q ∷ rest) = IsCertifiable hosts (subject.Notarize p) × (p.parent ≡ q.round.view) × NotarizedChain (q ∷ rest)
+  NotarizedChain (p ∷ q ∷ rest) =
+      IsCertifiable hosts (subject.Notarize p) × (p.parent ≡ q.round.view) × NotarizedChain (q ∷ rest)
 
   -- a chain from above the view of such a proposal down to that view or below it holds the proposal
   abbrev pub ChainsHoldFinals : Type 0
   ChainsHoldFinals =
       (final high low : Proposal D) (chain : List (Proposal D)) → IsReportedFinal final → NotarizedChain chain
-      → Contains chain high → Contains chain low → final.round.view < high.round.view → low.round.view ≤ final.round.view
-      → Contains chain final
+      → Contains chain high → Contains chain low → final.round.view < high.round.view
+      → low.round.view ≤ final.round.view → Contains chain final

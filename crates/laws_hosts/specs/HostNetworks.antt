@@ -37,17 +37,19 @@ module _ {S L D K G C : Type 0} where
   abbrev pub MayHaveSent : Subject D → ℕ → Host S L D K G C → Type 0
   MayHaveSent subject i Faulty = Unit {0}
   MayHaveSent subject i (Honest processes) =
-      (signature : G) × Contains (carried_by processes) (output.Vote (record { subject = subject; signer = i; signature = signature }))
+      (signature : G)
+      × Contains (carried_by processes) (output.Vote (record { subject = subject; signer = i; signature = signature }))
 
   -- this is true of n - f hosts: a certificate on the subject may exist
   abbrev pub IsCertifiable : List (Host S L D K G C) → Subject D → Type 0
   IsCertifiable hosts subject = AtLeastFrom 0 (quorum (length hosts)) (MayHaveSent subject) hosts
 
-module _ {S L D K G C : Type 0} (same : D → D → Bool) (elect : Elect L) (bytes_of : C → List ℕ) (is_signature : K → Subject D → G → Type 0)
-    (keys_of : S → List K) (me : S → Option ℕ) (terms : L → Terms) where
+module _ {S L D K G C : Type 0} (same : D → D → Bool) (elect : Elect L) (bytes_of : C → List ℕ)
+    (is_signature : K → Subject D → G → Type 0) (keys_of : S → List K) (me : S → Option ℕ) (terms : L → Terms) where
   -- member `i` has run these processes: at least one; each vote that it passed to an engine was carried out by its signer's host, unless
   -- that is faulty; and each certificate that it passed, or that was the floor of an engine, may exist
-  pub record IsHonestHost (term_length i : ℕ) (hosts : List (Host S L D K G C)) (processes : List (Process S L D K G C)) : Type 0 where
+  pub record IsHonestHost (term_length i : ℕ) (hosts : List (Host S L D K G C)) (processes : List (Process S L D K G C))
+      : Type 0 where
     pub some : processes ≢ []
     pub runs : AreProcesses same elect bytes_of is_signature keys_of me terms term_length i (length hosts) [] processes
     pub votes : (process : Process S L D K G C) (vote : Vote D G) (host : Host S L D K G C)
@@ -57,7 +59,8 @@ module _ {S L D K G C : Type 0} (same : D → D → Bool) (elect : Elect L) (byt
         → Contains processes process → Contains process.calls (Handled (input.Certificate certificate))
         → IsCertifiable hosts (certificate_subject (certificate_facts bytes_of certificate))
     pub floors : (process : Process S L D K G C) (subject : Subject D)
-        → Contains processes process → Contains (floor_in process.start.floor) (Accepts subject) → IsCertifiable hosts subject
+        → Contains processes process → Contains (floor_in process.start.floor) (Accepts subject)
+        → IsCertifiable hosts subject
 
   -- few hosts are faulty, and the others are honest
   pub record IsHostNetwork (term_length : ℕ) (hosts : List (Host S L D K G C)) : Type 0 where
@@ -67,4 +70,5 @@ module _ {S L D K G C : Type 0} (same : D → D → Bool) (elect : Elect L) (byt
 
   -- of each such network, in terms of whatever length
   abbrev pub OfEachHostNetwork : (List (Host S L D K G C) → Type 0) → Type 0
-  OfEachHostNetwork Holds = (term_length : ℕ) (hosts : List (Host S L D K G C)) → IsHostNetwork term_length hosts → Holds hosts
+  OfEachHostNetwork Holds =
+      (term_length : ℕ) (hosts : List (Host S L D K G C)) → IsHostNetwork term_length hosts → Holds hosts

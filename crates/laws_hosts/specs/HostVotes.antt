@@ -12,13 +12,14 @@ use Rattle.engine_outbox.specs.declared.output.Output.TheVariants as output
 use Rattle.laws_hosts.specs.Processes.{Process, carried_by, AreProcesses}
 
 -- the votes that were carried out are among all that one member accepted and signed, and that keeps the voting rules
-pub record VotesKeepRules {S D K G C : Type 0} (term_length : ℕ) (carried : List (Output S D Stored K G C)) : Type 0 where
+pub record VotesKeepRules {S D K G C : Type 0} (term_length : ℕ) (carried : List (Output S D Stored K G C))
+    : Type 0 where
   pub all : List (TraceEvent D)
   pub lawful : IsLawful term_length all
   pub votes : (vote : Vote D G) → Contains carried (output.Vote vote) → Contains all (Signs vote.signer vote.subject)
 
-module _ {S L D K G C : Type 0} (same : D → D → Bool) (elect : Elect L) (bytes_of : C → List ℕ) (is_signature : K → Subject D → G → Type 0)
-    (keys_of : S → List K) (me : S → Option ℕ) (terms : L → Terms) where
+module _ {S L D K G C : Type 0} (same : D → D → Bool) (elect : Elect L) (bytes_of : C → List ℕ)
+    (is_signature : K → Subject D → G → Type 0) (keys_of : S → List K) (me : S → Option ℕ) (terms : L → Terms) where
   -- so are those of each host, whatever it passed to its engines
   abbrev pub EachHostKeepsRules : Type 0
   EachHostKeepsRules =

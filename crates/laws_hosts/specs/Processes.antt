@@ -33,27 +33,31 @@ abbrev pub carried_by : {S L D K G C : Type 0} → List (Process S L D K G C) �
 carried_by [] = []
 carried_by (process ∷ rest) = process.carried ++ carried_by rest
 
-module _ {S L D K G C : Type 0} (same : D → D → Bool) (elect : Elect L) (bytes_of : C → List ℕ) (keys_of : S → List K) (me : S → Option ℕ)
-    (terms : L → Terms) where
+module _ {S L D K G C : Type 0} (same : D → D → Bool) (elect : Elect L) (bytes_of : C → List ℕ)
+    (keys_of : S → List K) (me : S → Option ℕ) (terms : L → Terms) where
   -- the member of an engine begins by `start` if nothing was stored (its clauses `begins` and `votes`), and by `resume` from what was stored
   -- otherwise (its clauses `continues` and `votes`)
-  abbrev pub MemberBegins : Option Stored → List (Artifact S D K G C) → Start S L D K G C → SignedMember K L D G → Type 0
+  abbrev pub MemberBegins : Option Stored → List (Artifact S D K G C) → Start S L D K G C → SignedMember K L D G
+      → Type 0
   MemberBegins None entries start member = HasStarted same elect me terms start member.facts × (member.votes ≡ [])
   MemberBegins (Some stored) entries start member =
-      HasContinued same elect me terms stored (entries_of bytes_of entries) start member.facts × (member.votes ≡ votes_of entries)
+      HasContinued same elect me terms stored (entries_of bytes_of entries) start member.facts
+      × (member.votes ≡ votes_of entries)
 
   -- an engine begins from a journal: besides, the clauses `traced` and `begun` of both calls
-  pub record EngineBegins (journal : Journal S D Stored K G C) (start : Start S L D K G C) (engine : Engine S L D K G C) : Type 0 where
+  pub record EngineBegins (journal : Journal S D Stored K G C) (start : Start S L D K G C) (engine : Engine S L D K G C)
+      : Type 0 where
     pub member : MemberBegins journal.beside journal.entries start engine.core.member
     pub traced : BeginsTraced same elect bytes_of engine.core.member engine.core
     pub votes : AreGiven [] engine.batcher
     pub keys : keys_of engine.batcher.scheme ≡ keys_of start.settings.scheme
 
-module _ {S L D K G C : Type 0} (same : D → D → Bool) (elect : Elect L) (bytes_of : C → List ℕ) (is_signature : K → Subject D → G → Type 0)
-    (keys_of : S → List K) (me : S → Option ℕ) (terms : L → Terms) where
+module _ {S L D K G C : Type 0} (same : D → D → Bool) (elect : Elect L) (bytes_of : C → List ℕ)
+    (is_signature : K → Subject D → G → Type 0) (keys_of : S → List K) (me : S → Option ℕ) (terms : L → Terms) where
   -- what a process of member `i` of so many members did, in terms of this length: its engine began from the journal, the calls did not make
   -- it fail, and the host carried out the first outputs, perhaps with a part of the `Store` after them
-  pub record IsProcess (term_length i members : ℕ) (journal : Journal S D Stored K G C) (process : Process S L D K G C) : Type 0 where
+  pub record IsProcess (term_length i members : ℕ) (journal : Journal S D Stored K G C) (process : Process S L D K G C)
+      : Type 0 where
     pub starts : StartsAs me terms term_length i process.start
     pub members_are : length (keys_of process.start.settings.scheme) ≡ members
     pub begins : EngineBegins same elect bytes_of keys_of me terms journal process.start process.first
@@ -65,4 +69,5 @@ module _ {S L D K G C : Type 0} (same : D → D → Bool) (elect : Elect L) (byt
   abbrev pub AreProcesses : ℕ → ℕ → ℕ → List (Output S D Stored K G C) → List (Process S L D K G C) → Type 0
   AreProcesses term_length i members before [] = Unit {0}
   AreProcesses term_length i members before (process ∷ rest) =
-      IsProcess term_length i members (journal_of before) process × AreProcesses term_length i members (before ++ process.carried) rest
+      IsProcess term_length i members (journal_of before) process
+      × AreProcesses term_length i members (before ++ process.carried) rest

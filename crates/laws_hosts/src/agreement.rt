@@ -12,9 +12,10 @@ use simplex_types::types::{Digest, Elector, Scheme};
 /// A network of n hosts, at most f = (n - 1) / 3 of them faulty, or else fewer than n - 2f. A faulty host may send anything. Each honest
 /// host runs processes, one after another (`IsHonestHost`):
 ///
-/// - A process runs one engine. It begins by `Engine::start` if the journal is empty, and by `Engine::resume` from the journal otherwise.
-///   The outputs that the host carried out before, in all its processes, have written the journal.
-/// - The host makes any calls of `Engine::handle` and `Engine::poll`. It stops no later than a call after which the engine has failed.
+/// - A process runs one engine. It begins by `Engine::start` if nothing was stored, and by `Engine::resume` from the journal otherwise. The
+///   outputs that the host carried out before, in all its processes, have written the journal.
+/// - The host makes any calls of `Engine::handle` and `Engine::poll`: these are followed up to the first call after which the engine has
+///   failed, without that call.
 /// - It carries outputs out in order. It may stop after any of them, or within a `Store`.
 /// - It passes a vote of a member whose host is honest only if that host carried out `Output::Vote` with that member's vote on this subject.
 /// - It passes a certificate, or begins at a floor, only if n - f hosts are faulty or carried out their vote on its subject.
@@ -27,8 +28,10 @@ use simplex_types::types::{Digest, Elector, Scheme};
 /// - `chains_hold`: a chain of notarized proposals, each naming the next one's view as its parent, that holds one above the view of such a
 ///   proposal and one at or below it holds that proposal. A proposal is notarized if n - f hosts are faulty or carried out their vote.
 pub fn hosts_agree<S: Scheme<D>, L: Elector<S>, D: Digest>()
-    ensures one_final { OfEachHostNetwork D.eq L.elect S.certificate_bytes S.IsSignature S.participants S.me L.terms OneFinalOfEachView }
-    ensures chains_hold { OfEachHostNetwork D.eq L.elect S.certificate_bytes S.IsSignature S.participants S.me L.terms ChainsHoldFinals }
+    ensures one_final { OfEachHostNetwork D.eq L.elect S.certificate_bytes S.IsSignature S.participants S.me L.terms
+        OneFinalOfEachView }
+    ensures chains_hold { OfEachHostNetwork D.eq L.elect S.certificate_bytes S.IsSignature S.participants S.me L.terms
+        ChainsHoldFinals }
 {
     agreement::<S, L, D>();
 }

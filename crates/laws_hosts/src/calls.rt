@@ -27,7 +27,8 @@ pub fn start_engine<S: Assembly<D>, L: Elector<S>, D: Digest>(
     options: Options,
 ) -> Result<Engine<S, L, D>, StartError>
     requires { L.members start.settings.elector ≡ length (S.participants start.settings.scheme) }
-    ensures { IfOk result (EngineBegins D.eq L.elect S.certificate_bytes S.participants S.me L.terms empty_journal start) }
+    ensures { IfOk result (EngineBegins D.eq L.elect S.certificate_bytes S.participants S.me L.terms
+        empty_journal start) }
 {
     Engine::start(alloc, start, options)
 }
@@ -63,7 +64,8 @@ pub fn handle<S: Assembly<D>, L: Elector<S>, D: Digest>(
     input: Input<S, D>,
     now: u64,
 ) -> Result<bool, Fault>
-    ensures { IsEngineCall D.eq L.elect S.certificate_bytes S.IsSignature S.participants (Handled input) engine.old engine.new }
+    ensures { IsEngineCall D.eq L.elect S.certificate_bytes S.IsSignature S.participants (Handled input)
+        engine.old engine.new }
 {
     engine.handle(input, now)
 }
@@ -77,7 +79,8 @@ pub fn poll<S: Assembly<D>, L: Elector<S>, D: Digest>(
     engine: &mut Engine<S, L, D>,
     now: u64,
 ) -> Result<Option<Output<S, D, Stored>>, Fault>
-    ensures { IsEngineCall D.eq L.elect S.certificate_bytes S.IsSignature S.participants (Polled (returned_outputs result)) engine.old engine.new }
+    ensures { IsEngineCall D.eq L.elect S.certificate_bytes S.IsSignature S.participants
+        (Polled (returned_outputs result)) engine.old engine.new }
 {
     engine.poll(now)
 }
