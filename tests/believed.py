@@ -41,6 +41,7 @@ STATEMENTS = [
         [
             ("laws_hosts", "HostNetworks", "OfEachHostNetwork"),
             ("laws_hosts", "HostAgreement", "OneFinalOfEachView"),
+            ("laws_hosts", "HostAgreement", "FinalsUncovered"),
             ("laws_hosts", "HostAgreement", "ChainsHoldFinals"),
         ],
         [("laws_hosts", "EngineCalls", "IsEngineCall"), ("laws_hosts", "Processes", "EngineBegins")],

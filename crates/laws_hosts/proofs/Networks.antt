@@ -9,7 +9,7 @@ use Rattle.simplex_types.specs.declared.types.messages.Subject.{Subject}
 use Rattle.simplex_types.specs.declared.types.messages.Subject.TheVariants as subject
 use Rattle.simplex_types.specs.declared.types.window.Terms.{Terms}
 use Rattle.simplex_voter.specs.Facts.{Elect}
-use Rattle.laws_safety.specs.Agreement.{OneProposal, Chain, ChainHoldsFinalized}
+use Rattle.laws_safety.specs.Agreement.{OneProposal, FinalizedUncovered, Chain, ChainHoldsFinalized}
 use Rattle.laws_safety.specs.Executions.{Execution, trace_of, IsExecution}
 use Rattle.laws_safety.specs.Replicas.{Replica, FewFaulty, is_faulty, faults, max_faults, quorum, AtLeastFrom, MayHaveSigned, Backed, IsNetworkOf, OfEachNetwork}
 use Rattle.laws_safety.specs.Replicas as replica
@@ -20,7 +20,7 @@ use Rattle.engine_outbox.specs.declared.output.Output.TheVariants as output
 use Rattle.simplex_engine.specs.CertificateVotes.{HasQuorum}
 use Rattle.laws_hosts.specs.Processes.{Process, carried_by}
 use Rattle.laws_hosts.specs.HostNetworks.{Host, Faulty, Honest, is_faulty_host, FewFaultyHosts, MayHaveSent, IsCertifiable, IsHonestHost, IsHostNetwork, OfEachHostNetwork}
-use Rattle.laws_hosts.specs.HostAgreement.{IsReportedFinal, OneFinalOfEachView, NotarizedChain, ChainsHoldFinals}
+use Rattle.laws_hosts.specs.HostAgreement.{IsReportedFinal, OneFinalOfEachView, FinalsUncovered, NotarizedChain, ChainsHoldFinals}
 use Rattle.laws_hosts.proofs.CallTraces.{none_in, QuorumsAreGood}
 use Rattle.laws_hosts.proofs.Counting.{at_least, ArePairs, paired, same_length, pair_at, as_many, same_count}
 use Rattle.laws_hosts.proofs.Hosts.{HasRun, all_processed}
@@ -136,6 +136,9 @@ module _ {S L D K G C : Type 0} (same : D → D → Bool) (elect : Elect L) (byt
   pub one_final : OneProposal members_are → OneFinalOfEachView hosts
   one_final agree p q has_p has_q = agree p q (inr (finalized p has_p)) (inr (finalized q has_q))
 
+  pub uncovered : FinalizedUncovered members_are term_length → FinalsUncovered hosts term_length
+  uncovered agree final round has may = agree final round (finalized final has) (backed (subject.Nullify round) may)
+
   chain : (ps : List (Proposal D)) → NotarizedChain hosts ps → Chain members_are ps
   chain [] is = tt
   chain (p ∷ []) is = backed (subject.Notarize p) is
@@ -147,14 +150,21 @@ module _ {S L D K G C : Type 0} (same : D → D → Bool) (elect : Elect L) (byt
 module _ {S L D K G C : Type 0} (same : D → D → Bool) (elect : Elect L) (bytes_of : C → List ℕ) (is_signature : K → Subject D → G → Type 0)
     (keys_of : S → List K) (me : S → Option ℕ) (terms : L → Terms) where
   pub each_one_final : OfEachNetwork K same elect (λ term_length. OneProposal)
-      → OfEachHostNetwork {C = C} same elect bytes_of is_signature keys_of me terms OneFinalOfEachView
+      → OfEachHostNetwork {C = C} same elect bytes_of is_signature keys_of me terms (λ term_length. OneFinalOfEachView)
   each_one_final agree term_length hosts network =
       one_final same elect bytes_of is_signature keys_of me terms term_length hosts network
       (agree term_length (members_are same elect bytes_of is_signature keys_of me terms term_length hosts network)
       (is_network same elect bytes_of is_signature keys_of me terms term_length hosts network))
 
+  pub each_uncovered : OfEachNetwork K same elect (λ term_length network. FinalizedUncovered network term_length)
+      → OfEachHostNetwork {C = C} same elect bytes_of is_signature keys_of me terms (λ term_length hosts. FinalsUncovered hosts term_length)
+  each_uncovered agree term_length hosts network =
+      uncovered same elect bytes_of is_signature keys_of me terms term_length hosts network
+      (agree term_length (members_are same elect bytes_of is_signature keys_of me terms term_length hosts network)
+      (is_network same elect bytes_of is_signature keys_of me terms term_length hosts network))
+
   pub each_chain_holds : OfEachNetwork K same elect (λ term_length. ChainHoldsFinalized)
-      → OfEachHostNetwork {C = C} same elect bytes_of is_signature keys_of me terms ChainsHoldFinals
+      → OfEachHostNetwork {C = C} same elect bytes_of is_signature keys_of me terms (λ term_length. ChainsHoldFinals)
   each_chain_holds agree term_length hosts network =
       chains_hold same elect bytes_of is_signature keys_of me terms term_length hosts network
       (agree term_length (members_are same elect bytes_of is_signature keys_of me terms term_length hosts network)

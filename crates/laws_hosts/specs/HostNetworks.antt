@@ -69,6 +69,6 @@ module _ {S L D K G C : Type 0} (same : D → D → Bool) (elect : Elect L) (byt
         → IsHonestHost term_length i hosts processes
 
   -- of each such network, in terms of whatever length
-  abbrev pub OfEachHostNetwork : (List (Host S L D K G C) → Type 0) → Type 0
+  abbrev pub OfEachHostNetwork : (ℕ → List (Host S L D K G C) → Type 0) → Type 0
   OfEachHostNetwork Holds =
-      (term_length : ℕ) (hosts : List (Host S L D K G C)) → IsHostNetwork term_length hosts → Holds hosts
+      (term_length : ℕ) (hosts : List (Host S L D K G C)) → IsHostNetwork term_length hosts → Holds term_length hosts

@@ -1,7 +1,7 @@
 //! Agreement of the hosts of a network, and the votes of each. A function does nothing: its contract is the law.
 
 ghost use Rattle.laws_hosts.specs.HostNetworks.{OfEachHostNetwork};
-ghost use Rattle.laws_hosts.specs.HostAgreement.{OneFinalOfEachView, ChainsHoldFinals};
+ghost use Rattle.laws_hosts.specs.HostAgreement.{OneFinalOfEachView, FinalsUncovered, ChainsHoldFinals};
 ghost use Rattle.laws_hosts.specs.HostVotes.{EachHostKeepsRules};
 
 use laws_safety::laws::agreement;
@@ -25,13 +25,17 @@ use simplex_types::types::{Digest, Elector, Scheme};
 /// The claims are of all proposals that honest hosts carried out as `Output::Finalized`:
 ///
 /// - `one_final`: those of one view are one proposal.
+/// - `finals_uncovered`: no nullification covers the view of such a proposal. One exists only if n - f hosts are faulty or carried out their
+///   vote for it.
 /// - `chains_hold`: a chain of notarized proposals, each naming the next one's view as its parent, that holds one above the view of such a
 ///   proposal and one at or below it holds that proposal. A proposal is notarized if n - f hosts are faulty or carried out their vote.
 pub fn hosts_agree<S: Scheme<D>, L: Elector<S>, D: Digest>()
     ensures one_final { OfEachHostNetwork D.eq L.elect S.certificate_bytes S.IsSignature S.participants S.me L.terms
-        OneFinalOfEachView }
+        (λ term_length. OneFinalOfEachView) }
+    ensures finals_uncovered { OfEachHostNetwork D.eq L.elect S.certificate_bytes S.IsSignature S.participants S.me L.terms
+        (λ term_length hosts. FinalsUncovered hosts term_length) }
     ensures chains_hold { OfEachHostNetwork D.eq L.elect S.certificate_bytes S.IsSignature S.participants S.me L.terms
-        ChainsHoldFinals }
+        (λ term_length. ChainsHoldFinals) }
 {
     agreement::<S, L, D>();
 }
