@@ -7,7 +7,7 @@ use crate::flat::FlatOptions;
 use crate::held::HeldEngine;
 use ffi_member::flat::FlatSettings;
 use ffi_member::resolver_calls::{NotReplayed, number_of_not_replayed};
-use ffi_member::resumption::{NotResumed, resumption};
+use ffi_member::resumption::{NotResumed, read_resumption};
 use ffi_member::settings::{SettingsError, start_of};
 use ffi_member::statuses::number_of_not_resumed;
 use ffi_member::view_types::FlatStored;
@@ -88,7 +88,7 @@ impl HeldEngine {
         if options.retry == 0 {
             return Err(EngineNotStarted::FetchRetryZero);
         }
-        let from = match resumption(alloc, flat, leaders, certificate, now, stored, journal) {
+        let from = match read_resumption(alloc, flat, leaders, certificate, now, stored, journal) {
             Ok(from) => from,
             Err(error) => return Err(EngineNotStarted::Member(error)),
         };

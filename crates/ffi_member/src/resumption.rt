@@ -48,7 +48,7 @@ impl Held {
         ensures refused { IfErr result
             (IsNotResumedBy flat.now leaders.now certificate.now now stored.now journal.now) }
     {
-        let from = resumption(alloc, flat, leaders, certificate, now, stored, journal)?;
+        let from = read_resumption(alloc, flat, leaders, certificate, now, stored, journal)?;
         match Member::resume(alloc, from.start, from.stored, from.entries) {
             Ok(member) => Ok(Held::new(alloc, member)),
             Err(refusal) => match refusal.error {
@@ -104,7 +104,7 @@ pub struct Resumption {
 }
 
 /// Returns the input of a resume, from flat settings and the bytes of a journal, which has all entries that were counted.
-pub fn resumption(
+pub fn read_resumption(
     alloc: Global,
     flat: &FlatSettings,
     leaders: &[u32],
