@@ -30,7 +30,7 @@ from refusals import USAGE
 SAMPLE = "crates/tests_member/src/member/sample.rt"
 PACKAGE = "bindings/rust/src/lib.rs"
 DRAWN = "skipped-by-one"
-LEAST = {"lines with replies": 2500, "wrong bodies": 15, "must-fail edits": 310}
+LEAST = {"lines with replies": 2500, "wrong bodies": 15, "must-fail edits": 319}
 
 
 def text_of(path):

@@ -28,7 +28,7 @@ from lib.beside import Gate
 from lib.floors import lacking
 from lib.program import ROOT, last_change
 
-LEAST = {"edits": 310}
+LEAST = {"edits": 319}
 REFUSED_BY_THE_KIT = re.compile(r"must-fail (\S+/\S+)\.edit: refused, as it must be(?!.*only because a proof file names)")
 TRIED_BY_THE_GATE = (
     "simplex_voter/never_votes_to_notarize",

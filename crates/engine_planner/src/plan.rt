@@ -163,6 +163,13 @@ impl<S: CertificateScheme, D: Digest> Plan<S, D> {
         self.ignored
     }
 
+    /// Returns the moment of the next timeout.
+    pub fn timeout(&self) -> u64
+        ensures { result ≡ self.now.timeout }
+    {
+        self.timeout
+    }
+
     /// Returns the moment at which something is due, if no input comes before.
     pub fn wake(&self) -> u64
         ensures { IsWake self.now.repair.fetches.wanted.items self.now.timeout result }

@@ -30,6 +30,7 @@ use Rattle.engine_outbox.specs.RecordReach.{IsShort}
 use Rattle.engine_planner.specs.PlannedWork.{AreAmong, constants_of}
 use Rattle.engine_planner.specs.PlanStates.{IsIdle}
 use Rattle.simplex_engine.specs.AtRest.{IsEngineAtRest}
+use Rattle.simplex_engine.specs.Timeouts.{WaitsForTimeout}
 use Rattle.simplex_engine.specs.BuildBounds.{BuildsAhead, BuildsNear}
 use Rattle.simplex_engine.specs.MemberViews.{TracksViews, StaysStoredEarly}
 use Rattle.simplex_engine.specs.Failures.{IsFailure}
@@ -196,7 +197,9 @@ HoldsRecord given held =
 -- or a lone member waits for the block's view; if no stored vote was above those that are taken, each stored vote is a member's, and of a
 -- view whose votes are taken
 pub record IsAtRest (now : ℕ) (old new : HostEngine) : Type 0 where
-  pub settled : IsEngineAtRest same_host_payload host_leader certificate_bytes new.core
+  pub settled : IsEngineAtRest same_host_payload host_leader certificate_bytes now new
+  -- the member's next timeout, asked for last, lies after the moment and is waited for
+  pub timed : WaitsForTimeout same_host_payload host_leader now new
   pub idle : IsIdle now new.plan
   pub ahead : BuildsAhead new.core new.plan
   pub lowest : HoldsFromKept new.core new.batcher

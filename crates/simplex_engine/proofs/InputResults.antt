@@ -300,5 +300,5 @@ module _ {S L D K G C : Type 0} (same : D → D → Bool) (elect : Elect L) (byt
         acted = taken.acted;
         due_work = record { stays = λ work told. (let is = taken.due_work.stays work told in record { verified = is.verified; certified = is.certified; built = is.built }); works = taken.due_work.works; near = taken.due_work.near; seen = taken.due_work.seen; early = taken.due_work.early; constants = taken.due_work.constants };
         ignored = ap one_more taken.ignored;
-        provenance = record { steps = taken.provenance.steps; heard = taken.provenance.heard; by_steps = taken.provenance.by_steps };
+        provenance = record { steps = taken.provenance.steps; heard = taken.provenance.heard; by_steps = taken.provenance.by_steps; works = taken.provenance.works };
       })

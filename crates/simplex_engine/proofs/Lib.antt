@@ -1,10 +1,12 @@
 mod Tests
+mod Timeouts
 mod CertificateVotes
 mod OwnSteps
 mod Bounds
 mod BuildBounds
 mod ApplicationWork
 mod Requests
+mod ReplyWork
 mod Provenance
 mod Tells
 mod InputResults

@@ -74,11 +74,12 @@ use Rattle.engine_planner.proofs.PlannedWork.{among_all, among_both, among_furth
 use Rattle.simplex_engine.specs.declared.engine.Engine.{Engine}
 use Rattle.simplex_engine.specs.declared.input.Input.{Input}
 use Rattle.simplex_engine.specs.declared.input.Input.TheVariants as input
+use Rattle.simplex_engine.specs.ApplicationWork.{work_ahead}
 use Rattle.simplex_engine.specs.InputEffects.{verification_of}
 use Rattle.simplex_engine.specs.Admission.{stores_early, IsStoredEarly}
 use Rattle.simplex_engine.specs.EngineStart.{HasStartedWith}
 use Rattle.simplex_engine.proofs.Tests.{not_or, or_none, or_nothing}
-use Rattle.simplex_engine.specs.Provenance.{pending_causes, forgettable, input_causes, evidence, step_causes, received_in, of_counted, evidence_against, is_verdict, IsCallCaused, IsOnOffer, IsStepCaused, IsCaused, IsCausedBy, IsCausedWith, is_final, IsCausedWithoutInput, HasNoMissingCertificate}
+use Rattle.simplex_engine.specs.Provenance.{pending_causes, forgettable, input_causes, evidence, step_causes, received_in, of_counted, evidence_against, is_verdict, IsCallCaused, IsOnOffer, IsStepCaused, IsCaused, IsCausedBy, IsCausedWith, is_final, IsCausedWithoutInput, HasNoMissingCertificate, work_by_reply, work_by_steps}
 
 module _ {S L D K G C : Type 0} (now : ℕ) {causes more : List (Cause S D K G C)} (among : AreAmong causes more) (m : MemberFacts K L D) where
   -- more causes a step
@@ -171,6 +172,14 @@ heard_further bytes bytes_of ((Restarts restart, reply) ∷ rest) more = heard_f
 abbrev over_since : {S L D K G C : Type 0} → (D → List ℕ) → (C → List ℕ) → (FetchKind → ℕ → Bool) → Engine S L D K G C → Plan S D K G C → List (StepFacts K L D × Reply S D K G C) → FetchKind → ℕ → Bool
 over_since bytes bytes_of held end plan steps kind view = held kind view || (is_final end.core.member.facts view || ended_by plan.repair.resolver.state (received_in bytes bytes_of steps) kind view)
 
+-- the work that they ask for
+works_further : {S L D K G C : Type 0} (steps more : List (StepFacts K L D × Reply S D K G C)) → work_by_steps (steps ++ more) ≡ work_by_steps steps ++ work_by_steps more
+works_further [] more = refl
+works_further ((Calls call, reply) ∷ rest) more =
+    ap (λ works. work_by_reply reply call ++ works) (works_further rest more) ∙ sym (append_assoc (work_by_reply reply call) (work_by_steps rest) (work_by_steps more))
+works_further ((Prunes, reply) ∷ rest) more = works_further rest more
+works_further ((Restarts restart, reply) ∷ rest) more = works_further rest more
+
 module _ {S L D K G C : Type 0} {same : D → D → Bool} {elect : Elect L} {bytes : D → List ℕ} {bytes_of : C → List ℕ} {now : ℕ} where
   -- steps after others, which begin with what these leave
   comes_joined : {came : List (Cause S D K G C)} {out : List (Work S D K G C)} {held holds : FetchKind → ℕ → Bool} {a c : Engine S L D K G C} (b : Engine S L D K G C) (mid : List (Cause S D K G C))
@@ -179,11 +188,13 @@ module _ {S L D K G C : Type 0} {same : D → D → Bool} {elect : Elect L} {byt
       → ((kind : FetchKind) (view : ℕ) → holds kind view ≡ false → held kind view ≡ false) → WhileAlive HasRisen b.core.member.facts.life c.core.member.facts.life
       → AreMade b.plan.repair.resolver (received_in bytes bytes_of more) c.plan.repair.resolver
       → IsCausedBy same elect bytes_of now (asks c.plan) (over_since bytes bytes_of holds c b.plan more) more mid (λ kind view. asks b.plan kind view || false) b.core.member.facts (of_works out ++ pending_causes c) c.core.member.facts
+      → AreAmong (work_by_steps steps) (work_ahead b) → AreAmong (work_ahead b) (out ++ work_ahead c) → AreAmong (work_by_steps more) (out ++ work_ahead c)
       → IsCaused same elect bytes bytes_of now came out holds a c
-  comes_joined {came = came} {out = out} {held = held} {holds = holds} {a = a} {c = c} b mid steps more first_heard first within risen second_heard second = record {
+  comes_joined {came = came} {out = out} {held = held} {holds = holds} {a = a} {c = c} b mid steps more first_heard first within risen second_heard second first_works works second_works = record {
     steps = steps ++ more;
     heard = both.1;
     by_steps = both.0;
+    works = among_further (among_all (works_further steps more)) (among_each (among_further first_works works) second_works);
   }
     where
       heard : List (StepFacts K L D × Reply S D K G C) → List Call
@@ -222,14 +233,16 @@ module _ {S L D K G C : Type 0} {same : D → D → Bool} {elect : Elect L} {byt
 
   pub comes_then : {came : List (Cause S D K G C)} {out : List (Work S D K G C)} {held holds : FetchKind → ℕ → Bool} {a b c : Engine S L D K G C}
       → IsCaused same elect bytes bytes_of now came [] held a b → ((kind : FetchKind) (view : ℕ) → holds kind view ≡ false → held kind view ≡ false)
-      → WhileAlive HasRisen b.core.member.facts.life c.core.member.facts.life → IsCaused same elect bytes bytes_of now [] out holds b c → IsCaused same elect bytes bytes_of now came out holds a c
-  comes_then {held = held} {holds = holds} {b = b} first within risen second =
-      comes_joined {held = held} {holds = holds} b (pending_causes b) first.steps second.steps first.heard first.by_steps within risen second.heard second.by_steps
+      → WhileAlive HasRisen b.core.member.facts.life c.core.member.facts.life → AreAmong (work_ahead b) (out ++ work_ahead c)
+      → IsCaused same elect bytes bytes_of now [] out holds b c → IsCaused same elect bytes bytes_of now came out holds a c
+  comes_then {held = held} {holds = holds} {b = b} first within risen works second =
+      comes_joined {held = held} {holds = holds} b (pending_causes b) first.steps second.steps first.heard first.by_steps within risen second.heard second.by_steps first.works works second.works
 
   pub comes_on : {came : List (Cause S D K G C)} {out : List (Work S D K G C)} {holds : FetchKind → ℕ → Bool} {a b c : Engine S L D K G C}
-      → IsCausedWith same elect bytes bytes_of now came a b → WhileAlive HasRisen b.core.member.facts.life c.core.member.facts.life → IsCaused same elect bytes bytes_of now [] out holds b c
+      → IsCausedWith same elect bytes bytes_of now came a b → WhileAlive HasRisen b.core.member.facts.life c.core.member.facts.life → AreAmong (work_ahead b) (out ++ work_ahead c)
+      → IsCaused same elect bytes bytes_of now [] out holds b c
       → IsCaused same elect bytes bytes_of now came out holds a c
-  comes_on first risen second = comes_then first (λ kind view un. refl) risen second
+  comes_on first risen works second = comes_then first (λ kind view un. refl) risen works second
 
   -- the member is the same
   pub comes_same : {came : List (Cause S D K G C)} {out : List (Work S D K G C)} {held : FetchKind → ℕ → Bool} {a b : Engine S L D K G C} → b.core.member.facts ≡ a.core.member.facts
@@ -244,6 +257,7 @@ module _ {S L D K G C : Type 0} {same : D → D → Bool} {elect : Elect L} {byt
       λ kind view it un. keeps.still kind view it
           (regrouped (held kind view) (is_final b.core.member.facts view) (ended_by a.plan.repair.resolver.state [] kind view) un),
     );
+    works = among_none _;
   }
 
   -- and the plan
@@ -255,11 +269,12 @@ module _ {S L D K G C : Type 0} {same : D → D → Bool} {elect : Elect L} {byt
   pub comes_called : {came : List (Cause S D K G C)} {a b : Engine S L D K G C} (asked : CallFacts D) (answer : Reply S D K G C) → HasNoMissingCertificate came
       → IsCallCaused now (came ++ pending_causes a) a.core.member.facts asked → IsCall same elect a.core.member.facts asked (told bytes_of answer) b.core.member.facts
       → AreAmong (pending_causes b) ((came ++ pending_causes a) ++ reply_causes now answer asked) → KeepsFetching (reply_causes now answer asked) (λ kind view. is_final b.core.member.facts view) (received_by bytes bytes_of answer asked) a.plan b.plan
-      → IsCausedWith same elect bytes bytes_of now came a b
-  comes_called {came = came} {a = a} {b = b} asked answer none meant called among keeps = record {
+      → AreAmong (work_by_reply answer asked) (work_ahead b) → IsCausedWith same elect bytes bytes_of now came a b
+  comes_called {came = came} {a = a} {b = b} asked answer none meant called among keeps works = record {
     steps = (Calls asked, answer) ∷ [];
     heard = alone.told;
     by_steps = (meant, b.core.member.facts, called, (among, refl, λ kind view it un. alone.still kind view (without kind view it) un));
+    works = among_each works (among_none (work_ahead b));
   }
     where
       -- nothing else is received
@@ -287,6 +302,7 @@ module _ {S L D K G C : Type 0} {same : D → D → Bool} {elect : Elect L} {byt
         λ kind view it un. ap (λ (p : Plan S D K G C). asks p kind view) plan ∙ or_nothing (asks a.plan kind view) (or_nothing (asks a.plan kind view || false) it),
       ),
     );
+    works = among_none _;
   }
 
   -- of more
@@ -299,6 +315,7 @@ module _ {S L D K G C : Type 0} {same : D → D → Bool} {elect : Elect L} {byt
         (with_missing_certificate (asks a.plan) more) a.core.member.facts b.core.member.facts (among_both among (among_still (pending_causes a)))
         (λ kind view it un. or_left (asks a.plan kind view) (list_any (is_missing_certificate kind view) came)
         (or_nothing (asks a.plan kind view) (sym (ap (λ t. asks a.plan kind view || t) (none kind view)) ∙ it))) (λ kind view un. un) is.by_steps;
+    works = is.works;
   }
     where
       over_by : List Call → FetchKind → ℕ → Bool
@@ -306,9 +323,10 @@ module _ {S L D K G C : Type 0} {same : D → D → Bool} {elect : Elect L} {byt
 
   -- what comes in between is as if it had come in before
   pub comes_later : {came : List (Cause S D K G C)} {out : List (Work S D K G C)} {holds : FetchKind → ℕ → Bool} {a b c : Engine S L D K G C} → HasNoMissingCertificate came
-      → IsCausedWithoutInput same elect bytes bytes_of now a b → WhileAlive HasRisen b.core.member.facts.life c.core.member.facts.life → IsCaused same elect bytes bytes_of now came out holds b c
+      → IsCausedWithoutInput same elect bytes bytes_of now a b → WhileAlive HasRisen b.core.member.facts.life c.core.member.facts.life → AreAmong (work_ahead b) (out ++ work_ahead c)
+      → IsCaused same elect bytes bytes_of now came out holds b c
       → IsCaused same elect bytes bytes_of now came out holds a c
-  comes_later {came = came} {out = out} {holds = holds} {a = a} {b = b} {c = c} none first risen second =
+  comes_later {came = came} {out = out} {holds = holds} {a = a} {b = b} {c = c} none first risen works second =
       let wider = comes_wider (among_none came) none first in
       comes_joined {held = λ kind view. false} {holds = holds} b (came ++ pending_causes b) wider.steps second.steps wider.heard
       (left_more same elect bytes_of now (asks b.plan) wider.steps (over_since bytes bytes_of (λ kind view. false) b a.plan wider.steps) (came ++ pending_causes a) came (pending_causes b) (with_missing_certificate (asks a.plan) came) a.core.member.facts b.core.member.facts
@@ -316,6 +334,7 @@ module _ {S L D K G C : Type 0} {same : D → D → Bool} {elect : Elect L} {byt
       (by_more same elect bytes_of now (asks c.plan) second.steps (over_since bytes bytes_of holds c b.plan second.steps) (over_since bytes bytes_of holds c b.plan second.steps) (came ++ pending_causes b) (came ++ pending_causes b) (of_works out ++ pending_causes c)
       (with_missing_certificate (asks b.plan) came) (λ kind view. asks b.plan kind view || false) b.core.member.facts c.core.member.facts (among_still (came ++ pending_causes b))
       (λ kind view it un. or_left (asks b.plan kind view) (list_any (is_missing_certificate kind view) came) (or_nothing (asks b.plan kind view) it)) (λ kind view un. un) second.by_steps)
+      wider.works works second.works
 
   -- before it nothing was done
   pub comes_before : {came : List (Cause S D K G C)} {out : List (Work S D K G C)} {held : FetchKind → ℕ → Bool} {a mid b : Engine S L D K G C} → mid.core.member.facts ≡ a.core.member.facts → mid.plan ≡ a.plan
@@ -328,6 +347,7 @@ module _ {S L D K G C : Type 0} {same : D → D → Bool} {elect : Elect L} {byt
         (by_more same elect bytes_of now (asks b.plan) is.steps (over_by mid.plan) (over_by a.plan) (came ++ pending_causes mid) (came ++ pending_causes a) (of_works out ++ pending_causes b) (with_missing_certificate (asks mid.plan) came)
         (with_missing_certificate (asks a.plan) came) mid.core.member.facts b.core.member.facts (among_both (among_still came) among) (λ kind view it un. ap (λ (p : Plan S D K G C). with_missing_certificate (asks p) came kind view) plan ∙ it)
         (λ kind view un. ap (λ (p : Plan S D K G C). over_by p kind view) plan ∙ un) is.by_steps);
+    works = is.works;
   }
     where
       over_by : Plan S D K G C → FetchKind → ℕ → Bool
@@ -345,6 +365,7 @@ module _ {S L D K G C : Type 0} {same : D → D → Bool} {elect : Elect L} {byt
         (with_missing_certificate (asks mid.plan) (of_step front)) (λ kind view. asks a.plan kind view || false) mid.core.member.facts b.core.member.facts among
         (λ kind view it un. from_step kind view front (or_cases (list_any (is_resolve kind view) (front ∷ [])) (asks mid.plan kind view) (asks_as.1 kind view (or_nothing (asks a.plan kind view) it))))
         (λ kind view un. ap (λ (r : LawfulResolverFacts). is_final b.core.member.facts view || ended_by r.state (received_in bytes bytes_of is.steps) kind view) asks_as.0 ∙ un) is.by_steps);
+    works = is.works;
   }
     where
       over_by : LawfulResolverFacts → FetchKind → ℕ → Bool

@@ -3,17 +3,17 @@ use Rattle.std.specs.Prelude.{◌≡◌, ℕ, Bool, List, [], ◌∷◌, Option,
 use Rattle.simplex_voter.specs.Facts.{Elect}
 use Rattle.simplex_member.specs.declared.member.journal.Stored.{Stored}
 use Rattle.simplex_engine.specs.declared.engine.Engine.{Engine}
-use Rattle.engine_outbox.specs.declared.journaled.Journaled.{Journaled}
 use Rattle.engine_outbox.specs.declared.output.Output.{Output}
 use Rattle.engine_outbox.specs.Continuity.{IsWhole}
 use Rattle.simplex_engine.specs.NothingDue.{HasNothingNew}
 
--- nothing is queued, all of the record was returned to be stored, and the member has nothing new
+-- nothing is queued, all of the record was returned to be stored, and the member has nothing new at this moment
 pub record IsEngineAtRest {S L D K G C : Type 0} (same : D → D → Bool) (elect : Elect L) (bytes_of : C → List ℕ)
-    (member : Journaled S L D K G C) : Type 0 where
-  pub idle : member.outbox.queue.items ≡ []
-  pub whole : IsWhole bytes_of member
-  pub quiet : HasNothingNew same elect member.member.facts
+    (now : ℕ) (engine : Engine S L D K G C)
+    : Type 0 where
+  pub idle : engine.core.outbox.queue.items ≡ []
+  pub whole : IsWhole bytes_of engine.core
+  pub quiet : HasNothingNew same elect now engine.plan.timeout engine.core.member.facts
 
 -- of these outputs the first one is returned, and the others stay queued; nothing else changes
 abbrev pub ReturnsFirst : {S L D K G C E : Type 0} → List (Output S D Stored K G C)

@@ -1,7 +1,9 @@
 pub mod Inputs
 pub mod MemberViews
 pub mod BuildBounds
+pub mod Timeouts
 pub mod NothingDue
+pub mod Steps
 pub mod MissingCertificates
 pub mod FetchHeights
 pub mod AtRest

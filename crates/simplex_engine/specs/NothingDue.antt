@@ -2,14 +2,14 @@
 use Rattle.std.specs.Prelude.{◌≡◌, ◌≤◌, ℕ, Bool, true, false, List, [], ◌∷◌, Some, None}
 use Rattle.simplex_voter.specs.Facts.{StateFacts, Elect}
 use Rattle.simplex_voter.specs.DueVotes.{is_due}
-use Rattle.simplex_voter.specs.declared.voter.verify.Verify.TheVariants.{Wait, Resolve}
-use Rattle.simplex_member.specs.Calls.{CallFacts, TryVerify, TryPropose, CertifyCandidates, ReplyFacts, Standing, Requested, Candidates}
+use Rattle.simplex_voter.specs.declared.voter.verify.Verify.TheVariants.{Wait}
+use Rattle.simplex_member.specs.Calls.{CallFacts, TryVerify, TryPropose, CertifyCandidates, Prune, ReplyFacts, Standing, Requested, Candidates}
 use Rattle.simplex_member.specs.MemberFacts.{MemberFacts, IsCall}
+use Rattle.simplex_engine.specs.Timeouts.{IsTimed}
 
--- a reply with no proposal to verify, no block to build and no proposal to certify; a certificate may be missing for one
+-- a reply with no proposal to verify, no missing certificate for one, no block to build and no proposal to certify
 abbrev pub is_nothing : {K D : Type 0} → ReplyFacts K D → Bool
 is_nothing (Standing Wait) = true
-is_nothing (Standing (Resolve _ _ _ _)) = true
 is_nothing (Requested None) = true
 is_nothing (Candidates [] _) = true
 is_nothing _ = false
@@ -38,8 +38,18 @@ module _ {K L D : Type 0} (same : D → D → Bool) (elect : Elect L) where
     pub alive : member.life ≡ Some state
     pub nothing_due : (view : ℕ) → state.finalized ≤ view → is_due same elect state view ≡ false
 
-  -- the same; and its last calls were those for work of the application, and none had anything new
-  pub record HasNothingNew (now : MemberFacts K L D) : Type 0 where
+  -- asked for work for the application, the member has none; then it drops the views below those that it retains; then, asked at this moment
+  -- for its next timeout, it names one that is awaited
+  pub record IsQuiet (now timeout : ℕ) (before after : MemberFacts K L D) : Type 0 where
+    pub between : MemberFacts K L D
+    pub asked : ReturnNothing before for_work between
+    pub dropped : ReplyFacts K D
+    pub left : MemberFacts K L D
+    pub drops : IsCall same elect between Prune dropped left
+    pub timed : IsTimed same elect now timeout left after
+
+  -- its last calls were these, and it has nothing due
+  pub record HasNothingNew (now timeout : ℕ) (member : MemberFacts K L D) : Type 0 where
     pub before : MemberFacts K L D
-    pub asked : ReturnNothing before for_work now
-    pub own : HasNothingDue now
+    pub quiet : IsQuiet now timeout before member
+    pub own : HasNothingDue member

@@ -1,5 +1,5 @@
 -- Provenance: every call, output and stored item of an engine is caused by an input or by a reply of its member.
-use Rattle.std.specs.Prelude.{◌≡◌, ◌⊎◌, ℕ, nat_le, Bool, true, false, ◌||◌, List, [], ◌∷◌, ◌++◌, option_map, option_to_list}
+use Rattle.std.specs.Prelude.{◌≡◌, ◌⊎◌, ℕ, nat_le, Bool, true, false, ◌||◌, List, [], ◌∷◌, ◌++◌, option_map, option_to_list, map, Some}
 use Rattle.std.specs.List.{list_any}
 use Rattle.std.specs.Option.{option_map_or}
 use Rattle.simplex_types.specs.Certificates.{CertificateFacts, certificate_facts}
@@ -9,11 +9,13 @@ use Rattle.simplex_types.specs.declared.types.messages.Proposal.{Proposal}
 use Rattle.simplex_resolver.specs.Steps.{Call}
 use Rattle.simplex_voter.specs.Facts.{Elect}
 use Rattle.simplex_voter.specs.Windows.{min_active}
-use Rattle.simplex_member.specs.Calls.{CallFacts, Certified, SetProposal, told}
+use Rattle.simplex_member.specs.Calls.{CallFacts, AddNotarization, AddNullification, AddFinalization, Certified, SetProposal, told}
 use Rattle.simplex_member.specs.MemberFacts.{MemberFacts}
 use Rattle.simplex_member.specs.OutstandingWork.{is_offered}
 use Rattle.simplex_member.specs.Runs.{StepFacts, Calls, Prunes, Restarts, IsStep}
 use Rattle.simplex_member.specs.declared.member.calls.Reply.{Reply}
+use Rattle.simplex_member.specs.declared.member.calls.Reply.TheVariants as reply
+use Rattle.simplex_voter.specs.declared.voter.verify.Verify.TheVariants as verify
 use Rattle.engine_votes.specs.StoredVotes.{held, kind_of}
 use Rattle.engine_votes.specs.Polls.{ballot_of}
 use Rattle.engine_votes.specs.declared.batcher.Batcher.{Batcher}
@@ -30,12 +32,14 @@ use Rattle.engine_outbox.specs.CertificateCalls.{certificate_call}
 use Rattle.engine_outbox.specs.Outputs.{work_in}
 use Rattle.engine_outbox.specs.declared.output.Work.{Work}
 use Rattle.engine_outbox.specs.declared.output.Work.TheVariants.{Equivocated, Forget}
+use Rattle.engine_outbox.specs.declared.output.Work.TheVariants as work
 use Rattle.engine_planner.specs.declared.task.Task.{Task}
 use Rattle.engine_planner.specs.declared.task.Task.TheVariants as task
 use Rattle.engine_planner.specs.Causes.{Cause, WorkItem, Arrival, Quorum, Message, reply_causes, of_task, of_works, planned_causes}
 use Rattle.engine_planner.specs.FetchRequests.{asks, ended_by, received_by, is_missing_certificate, with_missing_certificate, AreMade, IsStill}
 use Rattle.engine_planner.specs.PlannedWork.{AreAmong}
 use Rattle.engine_planner.specs.Tasks.{call_of}
+use Rattle.simplex_engine.specs.ApplicationWork.{work_ahead}
 use Rattle.simplex_engine.specs.InputEffects.{verification_of}
 use Rattle.simplex_engine.specs.Admission.{admits_proposal, is_so}
 
@@ -133,6 +137,28 @@ received_in bytes bytes_of ((Calls call, reply) ∷ rest) =
     received_by bytes bytes_of reply call ++ received_in bytes bytes_of rest
 received_in bytes bytes_of (_ ∷ rest) = received_in bytes bytes_of rest
 
+module _ {S D K G C : Type 0} where
+  -- evidence that the leader signed two proposals, where it came up by this certificate
+  abbrev pub evidence_in : CallFacts D → K → List (Work S D K G C)
+  evidence_in (AddNotarization c) leader = work.ProposedTwice c.proposal.round.view leader ∷ []
+  evidence_in (AddNullification c _) leader = work.ProposedTwice c.round.view leader ∷ []
+  evidence_in (AddFinalization c _) leader = work.ProposedTwice c.proposal.round.view leader ∷ []
+  evidence_in _ leader = []
+
+  -- the work that a reply asks the host for: to verify or certify proposals, to send a certificate to all, to store evidence
+  abbrev pub work_by_reply : Reply S D K G C → CallFacts D → List (Work S D K G C)
+  work_by_reply (reply.Work (verify.Ready context proposal)) asked = work.Verify context proposal ∷ []
+  work_by_reply (reply.Candidates proposals _) asked = map work.Certify proposals.items
+  work_by_reply (reply.Certificate (Some certificate)) asked = work.Broadcast certificate ∷ []
+  work_by_reply (reply.Added _ (Some leader)) asked = evidence_in asked leader
+  work_by_reply _ asked = []
+
+-- the work that the replies to steps ask for, in order
+abbrev pub work_by_steps : {S L D K G C : Type 0} → List (StepFacts K L D × Reply S D K G C) → List (Work S D K G C)
+work_by_steps [] = []
+work_by_steps ((Calls call, reply) ∷ rest) = work_by_reply reply call ++ work_by_steps rest
+work_by_steps (_ ∷ rest) = work_by_steps rest
+
 module _ {S L D K G C : Type 0} (same : D → D → Bool) (elect : Elect L) (bytes_of : C → List ℕ) (now : ℕ) where
   -- from a member with this at hand to another with that, by these steps and their replies, in order. What is at hand, with what the
   -- replies before it bring, causes each step, and also what is pending at the end. Each certificate that was asked for, or that a reply
@@ -152,7 +178,8 @@ module _ {S L D K G C : Type 0} (same : D → D → Bool) (elect : Elect L) (byt
 module _ {S L D K G C : Type 0} (same : D → D → Bool) (elect : Elect L) (bytes : D → List ℕ)
     (bytes_of : C → List ℕ) (now : ℕ) where
   -- the same for an engine, where this came in besides, this work was returned, and these certificates need not be asked for: those of
-  -- views up to the last finalized one, and those that the resolver ends by what it receives, which is what the replies say
+  -- views up to the last finalized one, and those that the resolver ends by what it receives, which is what the replies say. All work that
+  -- the replies ask for is returned, queued or planned
   pub record IsCaused (came : List (Cause S D K G C)) (out : List (Work S D K G C)) (held : FetchKind → ℕ → Bool)
       (old new : Engine S L D K G C)
       : Type 0 where
@@ -164,6 +191,7 @@ module _ {S L D K G C : Type 0} (same : D → D → Bool) (elect : Elect L) (byt
         || ended_by old.plan.repair.resolver.state (received_in bytes bytes_of steps) kind view))
         steps (came ++ pending_causes old) (with_missing_certificate (asks old.plan) came) old.core.member.facts
         (of_works out ++ pending_causes new) new.core.member.facts
+    pub works : AreAmong (work_by_steps steps) (out ++ work_ahead new)
 
   -- the same where nothing is returned, and each certificate is to be asked for
   abbrev pub IsCausedWith : List (Cause S D K G C) → Engine S L D K G C → Engine S L D K G C → Type 0

@@ -61,6 +61,8 @@ impl<S: Assembly<D>, L: Elector<S>, D: Digest> Engine<S, L, D> {
     ghost use Rattle.engine_outbox.specs.HostStops.{EachStopIsLawful};
     ghost use Rattle.engine_outbox.specs.declared.output.Output.TheVariants as output;
     ghost use Rattle.simplex_engine.specs.AtRest.{IsEngineAtRest, ReturnsFirst};
+    ghost use Rattle.simplex_engine.specs.Timeouts.{fetches_of, timeout_of, WaitsForTimeout};
+    ghost use Rattle.laws_safety.specs.LifetimeLaws.{CurrentTimesOut};
     ghost use Rattle.engine_planner.specs.PlannedWork.{constants_of, AreAmong};
     ghost use Rattle.engine_planner.specs.PlanStates.{IsIdle, IsWake};
     ghost use Rattle.simplex_engine.specs.Inputs.{subject_in, returned_outputs};
@@ -178,6 +180,8 @@ impl<S: Assembly<D>, L: Elector<S>, D: Digest> Engine<S, L, D> {
     ///
     /// - `none`: the whole record was returned to be stored. From the last finalized view on, the member has cast each vote that its rule
     ///   allows, and each certificate was returned. The last time it was asked, the member had no work for the application.
+    /// - `timed`: asked for its next timeout at this moment, after all other calls, the member named one after the moment, and `timeout`
+    ///   returns it: no timeout is due.
     /// - `idle`: no step is queued, the timeout was asked for, and no fetch is due.
     /// - `waiting`: each proposal to verify or certify and each block to build was returned, except where a lone member waits for the view.
     /// - `ahead`: each block to build is of the current view and was asked for, or is of a later view.
@@ -197,7 +201,8 @@ impl<S: Assembly<D>, L: Elector<S>, D: Digest> Engine<S, L, D> {
         ensures traced { EmitsOn D.eq L.elect S.certificate_bytes S.IsSignature None (returned_outputs result)
             self.old.core self.new.core }
         ensures told { ReportsNoMore (returned_outputs result) self.old.core.outbox self.new.core.outbox }
-        ensures none { IfOk result (λ out. IsNone out → IsEngineAtRest D.eq L.elect S.certificate_bytes self.new.core) }
+        ensures none { IfOk result (λ out. IsNone out → IsEngineAtRest D.eq L.elect S.certificate_bytes now self.new) }
+        ensures timed { IfOk result (λ out. IsNone out → WaitsForTimeout D.eq L.elect now self.new) }
         ensures idle { IfOk result (λ out. IsNone out → IsIdle now self.new.plan) }
         ensures ahead { IfOk result (λ out. IsNone out → BuildsAhead self.new.core self.new.plan) }
         ensures short { (given : _) → IsJournaled S.certificate_bytes given self.old.core
@@ -247,7 +252,8 @@ impl<S: Assembly<D>, L: Elector<S>, D: Digest> Engine<S, L, D> {
         ensures traced { EmitsOn D.eq L.elect S.certificate_bytes S.IsSignature None (returned_outputs result)
             self.old.core self.new.core }
         ensures told { ReportsNoMore (returned_outputs result) self.old.core.outbox self.new.core.outbox }
-        ensures none { IfOk result (λ out. IsNone out → IsEngineAtRest D.eq L.elect S.certificate_bytes self.new.core) }
+        ensures none { IfOk result (λ out. IsNone out → IsEngineAtRest D.eq L.elect S.certificate_bytes now self.new) }
+        ensures timed { IfOk result (λ out. IsNone out → WaitsForTimeout D.eq L.elect now self.new) }
         ensures idle { IfOk result (λ out. IsNone out → IsIdle now self.new.plan) }
         ensures ahead { IfOk result (λ out. IsNone out → BuildsAhead self.new.core self.new.plan) }
         ensures short { (given : _) → IsJournaled S.certificate_bytes given self.old.core
@@ -293,9 +299,17 @@ impl<S: Assembly<D>, L: Elector<S>, D: Digest> Engine<S, L, D> {
         self.core.has_failed()
     }
 
-    /// Returns the moment, in milliseconds, at which to call `poll` if no input comes before.
+    /// Returns the moment of the member's next timeout, in milliseconds, as the member named it when `poll` asked last.
+    pub fn timeout(&self) -> u64
+        ensures { result ≡ timeout_of self.now }
+    {
+        self.plan.timeout()
+    }
+
+    /// Returns the moment, in milliseconds, at which to call `poll` if no input comes before: that of `timeout`, or the earliest one of
+    /// `fetches`, whichever is earlier.
     pub fn wake(&self) -> u64
-        ensures { IsWake self.now.plan.repair.fetches.wanted.items self.now.plan.timeout result }
+        ensures { IsWake (fetches_of self.now).wanted.items (timeout_of self.now) result }
     {
         self.plan.wake()
     }
@@ -309,7 +323,7 @@ impl<S: Assembly<D>, L: Elector<S>, D: Digest> Engine<S, L, D> {
 
     /// Returns the outstanding fetches.
     pub fn fetches(&self) -> &Fetches
-        ensures { result.now ≡ self.now.plan.repair.fetches }
+        ensures { result.now ≡ fetches_of self.now }
     {
         self.plan.fetches()
     }
@@ -353,6 +367,7 @@ impl<S: Assembly<D>, L: Elector<S>, D: Digest> Engine<S, L, D> {
     /// - `lawful`: the member keeps the voting rules over all its lifetimes.
     /// - `ran`: a network of `agreement` may have it as member `i`.
     /// - `once`: the record holds each entry once: at most seven of a view.
+    /// - `times_out`: the member's current view has a timeout, and lies above the last finalized one.
     pub fn keeps_the_laws(&self)
         ensures behind { (given : _) → IsJournaled S.certificate_bytes given self.now.core → AreBehind [] given }
         ensures stored { (given : _) → IsJournaled S.certificate_bytes given self.now.core
@@ -384,6 +399,8 @@ impl<S: Assembly<D>, L: Elector<S>, D: Digest> Engine<S, L, D> {
         ensures ran { OfEachHistory D.eq L.elect self.now.core.member.facts (MayBeHistoryOf S.PublicKey D.eq L.elect) }
         ensures once { OfEachHistory D.eq L.elect self.now.core.member.facts
             (λ term_length i all. HoldsEachEntryOnce self.now.core.member.facts) }
+        ensures times_out { OfEachHistory D.eq L.elect self.now.core.member.facts
+            (λ term_length i all. IfSome self.now.core.member.facts.life CurrentTimesOut) }
     {
         self.core.keeps_the_laws();
     }

@@ -4,7 +4,8 @@
 ghost use Rattle.std.specs.Prelude.{◌≡◌, ℕ, [], ◌∷◌, ◌++◌, None, IfOk, OnOk, IsNone, IsTrue, not};
 ghost use Rattle.simplex_member.specs.Calls.{told};
 ghost use Rattle.engine_planner.specs.Tasks.{call_of};
-ghost use Rattle.simplex_engine.specs.NothingDue.{is_nothing, for_work};
+ghost use Rattle.simplex_engine.specs.NothingDue.{is_nothing};
+ghost use Rattle.simplex_engine.specs.Timeouts.{is_later};
 ghost use Rattle.engine_outbox.specs.Refusals.{is_lasting, says_nothing};
 
 use super::Engine;
@@ -19,7 +20,9 @@ use simplex_voter::voter::Verify;
 impl<S: Assembly<D>, L: Elector<S>, D: Digest> Engine<S, L, D> {
     ghost use Rattle.engine_outbox.specs.Continuity.{Continues};
     ghost use Rattle.simplex_engine.specs.OwnSteps.{ContinuesWithoutInput};
-    ghost use Rattle.simplex_engine.specs.NothingDue.{ReturnsNothing, ReturnNothing, HasNothingDue};
+    ghost use Rattle.simplex_engine.specs.NothingDue.{ReturnsNothing, HasNothingDue, IsQuiet};
+    ghost use Rattle.simplex_engine.specs.Timeouts.{IsTimed};
+    ghost use Rattle.simplex_engine.specs.Steps.{HasSeenViews, IsFetched, IsReplyFollowed, IsTaskDone};
     ghost use Rattle.simplex_engine.specs.InputEffects.{HasDoneTask};
     ghost use Rattle.simplex_engine.specs.Provenance.{pending_causes, is_final, IsCausedWithoutInput, IsCausedWith, HasNoMissingCertificate, IsCallCaused};
     ghost use Rattle.simplex_engine.specs.ApplicationWork.{KeepsApplicationWork};
@@ -28,11 +31,13 @@ impl<S: Assembly<D>, L: Elector<S>, D: Digest> Engine<S, L, D> {
     ghost use Rattle.engine_planner.specs.PlannedWork.{AreAmong, KeepsPlanned, KeepsPlannedThen, PlansAnswerThen};
     ghost use Rattle.simplex_engine.specs.MemberViews.{TracksViews};
 
-    /// Asks the member for work for the application. Returns whether there is none.
+    /// Asks the member for work for the application, then to drop the views below those that it retains, and then for its next timeout: a
+    /// proposal that turns out to be invalid times its view out at once. Returns whether there is no work and the timeout lies after the
+    /// moment.
     pub(super) fn ask_for_work(&mut self, now: u64) -> Result<bool, Fault>
         ensures alone { ContinuesWithoutInput D.eq L.elect S.certificate_bytes S.IsSignature self.old self.new }
-        ensures nothing { IfOk result (λ nothing. IsTrue nothing
-            → ReturnNothing D.eq L.elect self.old.core.member.facts for_work self.new.core.member.facts) }
+        ensures quiet { IfOk result (λ quiet. IsTrue quiet
+            → IsQuiet D.eq L.elect now self.new.plan.timeout self.old.core.member.facts self.new.core.member.facts) }
         ensures due_work { OnOk result (KeepsApplicationWork self.old self.new) }
         ensures provenance { OnOk result
             (IsCausedWithoutInput D.eq L.elect D.bytes S.certificate_bytes now self.old self.new) }
@@ -40,7 +45,24 @@ impl<S: Assembly<D>, L: Elector<S>, D: Digest> Engine<S, L, D> {
         let mut has_none = self.ask_for(Task::Verify, now)?;
         has_none &= self.ask_for(Task::Propose, now)?;
         has_none &= self.ask_for(Task::Candidates, now)?;
+        self.ask(Task::Prune, now)?;
+        has_none &= self.ask_timeout(now)?;
         Ok(has_none)
+    }
+
+    /// Asks the member for its next timeout, and follows the reply. Returns whether it names none up to the moment.
+    fn ask_timeout(&mut self, now: u64) -> Result<bool, Fault>
+        ensures alone { ContinuesWithoutInput D.eq L.elect S.certificate_bytes S.IsSignature self.old self.new }
+        ensures timed { IfOk result (λ is_later. IsTrue is_later
+            → IsTimed D.eq L.elect now self.new.plan.timeout self.old.core.member.facts self.new.core.member.facts) }
+        ensures due_work { OnOk result (KeepsApplicationWork self.old self.new) }
+        ensures provenance { OnOk result
+            (IsCausedWithoutInput D.eq L.elect D.bytes S.certificate_bytes now self.old self.new) }
+    {
+        let reply = self.core.call(Task::Timeout.call(now));
+        let is_later = is_later(&reply, now);
+        self.follow(Task::Timeout, reply, now)?;
+        Ok(is_later)
     }
 
     /// Plans to ask for the votes and the certificates of the lowest view where one is due. Returns whether none is due.
@@ -97,6 +119,7 @@ impl<S: Assembly<D>, L: Elector<S>, D: Digest> Engine<S, L, D> {
         ensures batcher { self.new.batcher ≡ self.old.batcher }
         ensures acted { IfOk result
             (HasDoneTask D.eq L.elect task now self.old.core.member.facts self.new.core.member.facts) }
+        ensures done { OnOk result (IsTaskDone D.eq L.elect D.bytes S.certificate_bytes now task self.old self.new) }
         ensures due_work { OnOk result (KeepsApplicationWork self.old self.new) }
         ensures provenance { OnOk result ((came : _) → HasNoMissingCertificate came
             → IsCallCaused now (came ++ pending_causes self.old) self.old.core.member.facts (call_of task now)
@@ -111,6 +134,8 @@ impl<S: Assembly<D>, L: Elector<S>, D: Digest> Engine<S, L, D> {
         ensures core { self.new.core ≡ self.old.core }
         ensures batcher { self.new.batcher ≡ self.old.batcher }
         ensures of_use { IfOk result (λ is_of_use. is_of_use ≡ not (says_nothing (told S.certificate_bytes reply))) }
+        ensures followed { OnOk result
+            (IsReplyFollowed D.bytes S.certificate_bytes now task reply self.old.plan self.new.plan) }
         ensures planned { OnOk result
             (PlansAnswerThen task (told S.certificate_bytes reply) self.old.plan self.new.plan) }
         ensures seen { OnOk result (TracksViews self.new.core.member.facts self.new.plan) }
@@ -131,6 +156,7 @@ impl<S: Assembly<D>, L: Elector<S>, D: Digest> Engine<S, L, D> {
     pub(super) fn update_views(&mut self) -> Result<(), Fault>
         ensures core { self.new.core ≡ self.old.core }
         ensures batcher { self.new.batcher ≡ self.old.batcher }
+        ensures sees { OnOk result (HasSeenViews self.old.plan self.new.plan) }
         ensures planned { OnOk result (KeepsPlannedThen self.old.plan self.new.plan) }
         ensures seen { OnOk result (TracksViews self.new.core.member.facts self.new.plan) }
         ensures causes { OnOk result (AreAmong (planned_causes self.new.plan) (planned_causes self.old.plan)) }
@@ -158,6 +184,7 @@ impl<S: Assembly<D>, L: Elector<S>, D: Digest> Engine<S, L, D> {
     ) -> Result<(), Fault>
         ensures core { self.new.core ≡ self.old.core }
         ensures batcher { self.new.batcher ≡ self.old.batcher }
+        ensures fetched { OnOk result (IsFetched now kind view self.old.plan self.new.plan) }
         ensures planned { KeepsPlanned self.old.plan self.new.plan }
         ensures causes { AreAmong (planned_causes self.new.plan)
             (planned_causes self.old.plan ++ MissingCertificate kind view ∷ []) }
@@ -178,18 +205,29 @@ impl<S: Assembly<D>, L: Elector<S>, D: Digest> Engine<S, L, D> {
     }
 }
 
-/// Returns whether a reply has nothing new. A missing certificate is not new: it is being fetched already, or is from now on.
+/// Returns whether a reply has no work. One that names a missing certificate has some, even if that is fetched already: the member names it
+/// once, and then continues with the next view.
 fn is_nothing<S: CertificateScheme, D: Digest>(reply: &Reply<S, D>) -> bool
     ensures { result ≡ is_nothing (told S.certificate_bytes reply.now) }
 {
     match reply {
         Reply::Work(verify) => match verify {
-            Verify::Wait | Verify::Resolve { .. } => true,
-            Verify::Ready(_, _) => false,
+            Verify::Wait => true,
+            Verify::Resolve { .. } | Verify::Ready(_, _) => false,
         },
         Reply::Request(request) => request.is_none(),
         Reply::Candidates(proposals, _) => proposals.is_empty(),
         _ => false,
+    }
+}
+
+/// Returns whether a reply names no timeout up to a moment.
+fn is_later<S: CertificateScheme, D: Digest>(reply: &Reply<S, D>, now: u64) -> bool
+    ensures { result ≡ is_later now (told S.certificate_bytes reply.now) }
+{
+    match reply {
+        Reply::Timeout(moment, _) => now < *moment,
+        _ => true,
     }
 }
 

@@ -26,6 +26,7 @@ impl<S: Assembly<D>, L: Elector<S>, D: Digest> Engine<S, L, D> {
     ghost use Rattle.simplex_engine.specs.InputEffects.{HasDoneTask, IsBlockTaken};
     ghost use Rattle.simplex_engine.specs.Provenance.{IsCausedWith};
     ghost use Rattle.simplex_engine.specs.ApplicationWork.{KeepsApplicationWork};
+    ghost use Rattle.simplex_engine.specs.Steps.{IsOffered};
     ghost use Rattle.engine_planner.specs.Causes.{Arrival, Message};
     ghost use Rattle.simplex_engine.specs.Admission.{is_so, ignoring, IsStoredEarly};
 
@@ -77,6 +78,9 @@ impl<S: Assembly<D>, L: Elector<S>, D: Digest> Engine<S, L, D> {
             → IfOk result
             (HasDoneTask D.eq L.elect (SetProposal proposal.round.view proposal) now self.old.core.member.facts
             self.new.core.member.facts) }
+        ensures offered { OnOk result (IsOffered D.eq L.elect D.bytes S.certificate_bytes now
+            (is_so (λ x. admits_proposal x from proposal.round) self.old.core.member.facts) from proposal
+            self.old self.new) }
         ensures due_work { OnOk result (KeepsApplicationWork self.old self.new) }
         ensures provenance { OnOk result
             (IsCausedWith D.eq L.elect D.bytes S.certificate_bytes now (Arrival from proposal ∷ []) self.old self.new) }

@@ -22,7 +22,9 @@ impl<S: Assembly<D>, L: Elector<S>, D: Digest> Engine<S, L, D> {
     ghost use Rattle.simplex_engine.specs.MissingCertificates.{FetchesItsMissing};
     ghost use Rattle.simplex_engine.specs.Provenance.{held_by, is_final, IsCausedWithoutInput, IsCausedWithPruning, IsCausedWith};
     ghost use Rattle.simplex_engine.specs.ApplicationWork.{KeepsApplicationWork, KeepsTaken};
+    ghost use Rattle.simplex_engine.specs.Steps.{IsNextTaken, IsStepTaken, IsTaskTaken};
     ghost use Rattle.engine_planner.specs.FetchRequests.{KeepsFetching};
+    ghost use Rattle.engine_planner.specs.declared.plan.Step.TheVariants as planned;
     ghost use Rattle.engine_planner.specs.Causes.{of_step, of_task, of_work, planned_causes};
     ghost use Rattle.engine_planner.specs.PlannedWork.{work_planned, AreAmong, KeepsPlanned};
     ghost use Rattle.simplex_voter.specs.Windows.{min_active};
@@ -30,7 +32,8 @@ impl<S: Assembly<D>, L: Elector<S>, D: Digest> Engine<S, L, D> {
 
     /// Takes all steps that are due, until the member has nothing new, and queues the new entries of the record.
     ///
-    /// - `quiet`: the member has cast its votes and returned its certificates; asked last for work, it had none.
+    /// - `quiet`: the member has cast its votes and returned its certificates. Asked last for work, it had none; asked then for its next
+    ///   timeout, it named one after the moment, for which the engine waits.
     /// - `idle`, `ahead`: nothing is due at the moment, and no block is to be built of a past view.
     /// - `short`: a pruning would drop no more views of the record than it retains, or the record has few entries.
     /// - `lowest`, `lacking`: no stored vote is of a view below the lowest retained one, and exactly the missing certificates are asked
@@ -40,7 +43,7 @@ impl<S: Assembly<D>, L: Elector<S>, D: Digest> Engine<S, L, D> {
     pub(super) fn work(&mut self, now: u64) -> Result<(), Fault>
         ensures alone { ContinuesWithPruning D.eq L.elect S.certificate_bytes S.IsSignature self.old self.new }
         ensures whole { OnOk result (IsWhole S.certificate_bytes self.new.core) }
-        ensures quiet { OnOk result (HasNothingNew D.eq L.elect self.new.core.member.facts) }
+        ensures quiet { OnOk result (HasNothingNew D.eq L.elect now self.new.plan.timeout self.new.core.member.facts) }
         ensures idle { OnOk result (IsIdle now self.new.plan) }
         ensures ahead { OnOk result (BuildsAhead self.new.core self.new.plan) }
         ensures short { (given : _) → IsJournaled S.certificate_bytes given self.old.core
@@ -59,7 +62,7 @@ impl<S: Assembly<D>, L: Elector<S>, D: Digest> Engine<S, L, D> {
     fn finish(&mut self, now: u64) -> Result<(), Fault>
         ensures alone { ContinuesWithPruning D.eq L.elect S.certificate_bytes S.IsSignature self.old self.new }
         ensures whole { OnOk result (IsWhole S.certificate_bytes self.new.core) }
-        ensures quiet { OnOk result (HasNothingNew D.eq L.elect self.new.core.member.facts) }
+        ensures quiet { OnOk result (HasNothingNew D.eq L.elect now self.new.plan.timeout self.new.core.member.facts) }
         ensures idle { OnOk result (IsIdle now self.new.plan) }
         ensures ahead { OnOk result (BuildsAhead self.new.core self.new.plan) }
         ensures short { (given : _) → IsJournaled S.certificate_bytes given self.old.core
@@ -78,7 +81,7 @@ impl<S: Assembly<D>, L: Elector<S>, D: Digest> Engine<S, L, D> {
     /// Takes all steps, and prunes the record if that drops more of its views than it retains, until neither is left to do.
     fn run_to_short(&mut self, now: u64) -> Result<(), Fault>
         ensures alone { ContinuesWithoutInput D.eq L.elect S.certificate_bytes S.IsSignature self.old self.new }
-        ensures quiet { OnOk result (HasNothingNew D.eq L.elect self.new.core.member.facts) }
+        ensures quiet { OnOk result (HasNothingNew D.eq L.elect now self.new.plan.timeout self.new.core.member.facts) }
         ensures idle { OnOk result (IsIdle now self.new.plan) }
         ensures ahead { OnOk result (BuildsAhead self.new.core self.new.plan) }
         ensures short { (given : _) → IsJournaled S.certificate_bytes given self.old.core
@@ -119,6 +122,7 @@ impl<S: Assembly<D>, L: Elector<S>, D: Digest> Engine<S, L, D> {
         ensures member { self.new.core.member ≡ self.old.core.member }
         ensures idle { (now : ℕ) → IsIdle now self.old.plan → IsIdle now self.new.plan }
         ensures builds { self.new.plan.builds.buildings.items ≡ self.old.plan.builds.buildings.items }
+        ensures timeout { OnOk result (self.new.plan.timeout ≡ self.old.plan.timeout) }
         ensures whole { OnOk result (IsWhole S.certificate_bytes self.new.core) }
         ensures lowest { OnOk result (HoldsFromKept self.new.core self.new.batcher) }
         ensures lacking { OnOk result (FetchesItsMissing self.new.core self.new.plan.repair) }
@@ -134,7 +138,7 @@ impl<S: Assembly<D>, L: Elector<S>, D: Digest> Engine<S, L, D> {
     /// Takes steps until none is due and the member has nothing new.
     fn run_all(&mut self, now: u64) -> Result<(), Fault>
         ensures alone { ContinuesWithoutInput D.eq L.elect S.certificate_bytes S.IsSignature self.old self.new }
-        ensures quiet { OnOk result (HasNothingNew D.eq L.elect self.new.core.member.facts) }
+        ensures quiet { OnOk result (HasNothingNew D.eq L.elect now self.new.plan.timeout self.new.core.member.facts) }
         ensures idle { OnOk result (IsIdle now self.new.plan) }
         ensures ahead { OnOk result (BuildsAhead self.new.core self.new.plan) }
         ensures due_work { OnOk result (KeepsApplicationWork self.old self.new) }
@@ -149,11 +153,12 @@ impl<S: Assembly<D>, L: Elector<S>, D: Digest> Engine<S, L, D> {
         Err(Fault::Failed)
     }
 
-    /// Takes steps until none is due, then asks once for work, blocks and votes. Returns whether that brought nothing new.
+    /// Takes steps until none is due, then asks once for work, blocks, the timeout and votes. Returns whether that brought nothing new.
     fn run_and_ask(&mut self, now: u64) -> Result<bool, Fault>
         ensures alone { ContinuesWithoutInput D.eq L.elect S.certificate_bytes S.IsSignature self.old self.new }
         ensures quiet { IfOk result
-            (λ settled. IsTrue settled → HasNothingNew D.eq L.elect self.new.core.member.facts) }
+            (λ settled. IsTrue settled
+            → HasNothingNew D.eq L.elect now self.new.plan.timeout self.new.core.member.facts) }
         ensures idle { IfOk result (λ settled. IsTrue settled → IsIdle now self.new.plan) }
         ensures ahead { IfOk result (λ settled. IsTrue settled → BuildsAhead self.new.core self.new.plan) }
         ensures due_work { OnOk result (KeepsApplicationWork self.old self.new) }
@@ -199,7 +204,10 @@ impl<S: Assembly<D>, L: Elector<S>, D: Digest> Engine<S, L, D> {
     }
 
     /// Takes the next step, if one is due. Returns whether one was.
+    ///
+    /// - `done`: the plan's next step is taken.
     fn step(&mut self, now: u64) -> Result<bool, Fault>
+        ensures done { OnOk result (IsNextTaken D.eq L.elect D.bytes S.certificate_bytes now self.old self.new) }
         ensures alone { ContinuesWithoutInput D.eq L.elect S.certificate_bytes S.IsSignature self.old self.new }
         ensures due_work { OnOk result (KeepsApplicationWork self.old self.new) }
         ensures provenance { OnOk result
@@ -212,7 +220,10 @@ impl<S: Assembly<D>, L: Elector<S>, D: Digest> Engine<S, L, D> {
     }
 
     /// Takes a step.
+    ///
+    /// - `done`: nothing of the step is dropped (`IsStepTaken`).
     fn take_step(&mut self, step: Step<S, D>, now: u64) -> Result<bool, Fault>
+        ensures done { OnOk result (IsStepTaken D.eq L.elect D.bytes S.certificate_bytes now step self.old self.new) }
         ensures alone { ContinuesWithoutInput D.eq L.elect S.certificate_bytes S.IsSignature self.old self.new }
         ensures due_work { OnOk result (KeepsTaken (work_planned (step ∷ [])) self.old self.new) }
         ensures provenance { OnOk result
@@ -229,6 +240,8 @@ impl<S: Assembly<D>, L: Elector<S>, D: Digest> Engine<S, L, D> {
 
     /// Makes a planned call of the member. No verdict is planned; one would be ignored, since its offer may be closed by now.
     fn ask_planned(&mut self, task: Task<D>, now: u64) -> Result<bool, Fault>
+        ensures done { OnOk result
+            (IsTaskTaken D.eq L.elect D.bytes S.certificate_bytes now (is_verdict task) task self.old self.new) }
         ensures continues { Continues D.eq L.elect S.certificate_bytes S.IsSignature None self.old.core self.new.core }
         ensures batcher { self.new.batcher ≡ self.old.batcher }
         ensures due_work { OnOk result (KeepsApplicationWork self.old self.new) }
@@ -243,6 +256,8 @@ impl<S: Assembly<D>, L: Elector<S>, D: Digest> Engine<S, L, D> {
 
     /// Sends the newest vote to nullify once more, if it is one of the view.
     fn repeat(&mut self, view: View) -> Result<bool, Fault>
+        ensures done { OnOk result ((now : ℕ)
+            → IsStepTaken D.eq L.elect D.bytes S.certificate_bytes now (planned.Repeat view) self.old self.new) }
         ensures alone { ContinuesWithoutInput D.eq L.elect S.certificate_bytes S.IsSignature self.old self.new }
         ensures due_work { OnOk result (KeepsApplicationWork self.old self.new) }
         ensures provenance { OnOk result
@@ -254,6 +269,8 @@ impl<S: Assembly<D>, L: Elector<S>, D: Digest> Engine<S, L, D> {
 
     /// Queues work to be carried out.
     fn push(&mut self, work: Work<S, D>) -> Result<bool, Fault>
+        ensures done { OnOk result ((now : ℕ)
+            → IsStepTaken D.eq L.elect D.bytes S.certificate_bytes now (planned.Push work) self.old self.new) }
         ensures alone { ContinuesWithoutInput D.eq L.elect S.certificate_bytes S.IsSignature self.old self.new }
         ensures due_work { OnOk result (KeepsTaken (work ∷ []) self.old self.new) }
         ensures provenance { OnOk result
@@ -269,6 +286,7 @@ impl<S: Assembly<D>, L: Elector<S>, D: Digest> Engine<S, L, D> {
         ensures member { self.new.core.member ≡ self.old.core.member }
         ensures idle { (now : ℕ) → IsIdle now self.old.plan → IsIdle now self.new.plan }
         ensures builds { self.new.plan.builds.buildings.items ≡ self.old.plan.builds.buildings.items }
+        ensures timeout { OnOk result (self.new.plan.timeout ≡ self.old.plan.timeout) }
         ensures lowest { OnOk result (HoldsFromKept self.new.core self.new.batcher) }
         ensures lacking { OnOk result (FetchesItsMissing self.new.core self.new.plan.repair) }
         ensures due_work { OnOk result (KeepsApplicationWork self.old self.new) }
@@ -298,6 +316,7 @@ impl<S: Assembly<D>, L: Elector<S>, D: Digest> Engine<S, L, D> {
         ensures batcher { self.new.batcher ≡ self.old.batcher }
         ensures idle { (now : ℕ) → IsIdle now self.old.plan → IsIdle now self.new.plan }
         ensures builds { self.new.plan.builds.buildings.items ≡ self.old.plan.builds.buildings.items }
+        ensures timeout { OnOk result (self.new.plan.timeout ≡ self.old.plan.timeout) }
         ensures lacking { OnOk result (FetchesItsMissing self.new.core self.new.plan.repair) }
         ensures planned { KeepsPlanned self.old.plan self.new.plan }
         ensures causes { AreAmong (planned_causes self.new.plan) (planned_causes self.old.plan) }

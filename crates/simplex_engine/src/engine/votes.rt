@@ -25,8 +25,8 @@ impl<S: Assembly<D>, L: Elector<S>, D: Digest> Engine<S, L, D> {
     ghost use Rattle.engine_votes.specs.Subjects.{subject_round};
     ghost use Rattle.simplex_engine.specs.InputEffects.{IsSubmitted, IsCountFollowed};
     ghost use Rattle.simplex_engine.specs.InputResults.{IsInputTaken};
-    ghost use Rattle.simplex_engine.specs.Provenance.{is_final, of_counted, IsCausedWith};
-    ghost use Rattle.simplex_engine.specs.ApplicationWork.{KeepsApplicationWork};
+    ghost use Rattle.simplex_engine.specs.Provenance.{is_final, of_counted, work_by_reply, IsCausedWith};
+    ghost use Rattle.simplex_engine.specs.ApplicationWork.{work_ahead, KeepsApplicationWork};
     ghost use Rattle.engine_outbox.specs.CertificateCalls.{certificate_call};
     ghost use Rattle.engine_planner.specs.FetchRequests.{received_by, is_plain, KeepsFetching};
     ghost use Rattle.engine_planner.specs.Causes.{reply_causes, planned_causes, Quorum};
@@ -159,6 +159,8 @@ impl<S: Assembly<D>, L: Elector<S>, D: Digest> Engine<S, L, D> {
             (planned_causes self.old.plan
             ++ reply_causes now reply.now
             (certificate_call (certificate_facts S.certificate_bytes certificate.now) now))) }
+        ensures works { IsTrue (is_plain reply.now) → OnOk result (AreAmong (work_by_reply reply.now
+            (certificate_call (certificate_facts S.certificate_bytes certificate.now) now)) (work_ahead self.new)) }
         ensures asks { IsTrue (is_plain reply.now) → OnOk result (KeepsFetching (reply_causes now reply.now
             (certificate_call (certificate_facts S.certificate_bytes certificate.now) now))
             (λ kind view. is_final self.new.core.member.facts view)

@@ -90,6 +90,7 @@ returns-in-Ok-None c =
             record { status_is = told.status; nothing = told.nothing.0; last = c.requires.last },
             record {
               settled = (rw none at c.in-Ok-None.ensures.none) refl;
+              timed = (rw none at c.in-Ok-None.ensures.timed) refl;
               idle = (rw none at c.in-Ok-None.ensures.idle) refl;
               lowest = (rw none at c.in-Ok-None.ensures.lowest) refl;
               lacking = (rw none at c.in-Ok-None.ensures.lacking) refl;

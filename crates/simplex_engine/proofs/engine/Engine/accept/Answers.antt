@@ -15,6 +15,7 @@ use Rattle.engine_planner.proofs.Causes.{among_last}
 use Rattle.engine_planner.proofs.PlannedWork.{among_more}
 use Rattle.simplex_engine.specs.Provenance.{pending_causes}
 use Rattle.simplex_engine.proofs.Provenance.{comes_called, comes_still, hand_asked, handed_plain}
+use Rattle.simplex_engine.proofs.ReplyWork.{on_ok_all}
 use Rattle.simplex_engine.proofs.engine.Engine.accept.Goals as goal
 
 pub returns-in_err-reply-clause-continues : goal.returns-in_err-reply-clause-continues
@@ -78,8 +79,8 @@ returns-clause-provenance g c =
     let answered =
     handed_as same elect c.args.self.now.core.member.facts (told bytes_of c.in_ok-reply.reply) c.args.now c.in_ok-copy.ensures.same c.follow_certificate.ensures.core c.in_ok-reply.ensures.answered
     in
-    on_ok_both c.follow_certificate.result c.follow_certificate.ensures.causes
-    (c.follow_certificate.ensures.asks (handed_plain same elect bytes_of c.args.self.now.core.member.facts c.follow_certificate.new.self.core.member.facts c.args.now handed c.in_ok-reply.reply answered))
-    (λ causes asks. comes_called (certificate_call handed c.args.now) c.in_ok-reply.reply (λ kind view. refl) (inr (inr (handed, refl, among_more came (pending_causes c.args.self.now)))) answered
+    let plain = handed_plain same elect bytes_of c.args.self.now.core.member.facts c.follow_certificate.new.self.core.member.facts c.args.now handed c.in_ok-reply.reply answered in
+    on_ok_all c.follow_certificate.result c.follow_certificate.ensures.causes (c.follow_certificate.ensures.asks plain) (c.follow_certificate.ensures.works plain)
+    (λ causes asks works. comes_called (certificate_call handed c.args.now) c.in_ok-reply.reply (λ kind view. refl) (inr (inr (handed, refl, among_more came (pending_causes c.args.self.now)))) answered
     (hand_asked c.args.self.now c.follow_certificate.new.self came (reply_causes c.args.now c.in_ok-reply.reply (certificate_call handed c.args.now))
-    (ap (λ core. work_in core.outbox.queue.items) c.follow_certificate.ensures.core ∙ c.submit.ensures.no_work) causes) asks)
+    (ap (λ core. work_in core.outbox.queue.items) c.follow_certificate.ensures.core ∙ c.submit.ensures.no_work) causes) asks works)

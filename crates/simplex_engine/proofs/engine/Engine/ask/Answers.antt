@@ -6,10 +6,11 @@ use Rattle.simplex_member.specs.MemberFacts.{IsCall}
 use Rattle.engine_outbox.specs.Continuity.{Continues}
 use Rattle.engine_planner.specs.Tasks.{call_of}
 use Rattle.simplex_engine.proofs.Tells.{tells_called}
-use Rattle.engine_planner.proofs.PlanStates.{on_ok_both}
+use Rattle.engine_planner.proofs.PlanStates.{on_ok, on_ok_both}
 use Rattle.engine_outbox.specs.Outputs.{work_in}
 use Rattle.engine_planner.specs.Causes.{reply_causes}
 use Rattle.simplex_engine.proofs.Provenance.{comes_called, hand_asked}
+use Rattle.simplex_engine.proofs.ReplyWork.{on_ok_all, planned_ahead, planned_reply}
 use Rattle.simplex_engine.proofs.engine.Engine.ask.Goals as goal
 
 pub returns : goal.returns
@@ -30,9 +31,11 @@ returns g c =
         answered = answered;
         told = of_use;
       }) c.follow.ensures.of_use;
+      done = on_ok c.follow.result c.follow.ensures.followed (λ followed. record { reply = c.call-reply.result; answered = answered; followed = followed });
       due_work = on_ok_both c.follow.result c.follow.ensures.seen c.follow.ensures.planned
           (tells_called c.args.self.now c.follow.new.self c.args.task c.args.now answer answered goes);
-      provenance = on_ok_both c.follow.result c.follow.ensures.causes c.follow.ensures.asks (λ causes asks came none meant. comes_called (call_of c.args.task c.args.now) c.call-reply.result none meant answered
+      provenance = on_ok_all c.follow.result c.follow.ensures.causes c.follow.ensures.asks c.follow.ensures.followed (λ causes asks followed came none meant. comes_called (call_of c.args.task c.args.now) c.call-reply.result none meant answered
           (hand_asked c.args.self.now c.follow.new.self came (reply_causes c.args.now c.call-reply.result (call_of c.args.task c.args.now))
-          (ap (λ core. work_in core.outbox.queue.items) c.follow.ensures.core ∙ ap (λ outbox. work_in outbox.queue.items) c.call-reply.ensures.outbox) causes) asks);
+          (ap (λ core. work_in core.outbox.queue.items) c.follow.ensures.core ∙ ap (λ outbox. work_in outbox.queue.items) c.call-reply.ensures.outbox) causes) asks
+          (planned_ahead c.follow.new.self (planned_reply g.D.Digest.bytes bytes_of c.args.now c.args.task c.call-reply.result followed.seen c.follow.new.self.plan followed.followed)));
     }

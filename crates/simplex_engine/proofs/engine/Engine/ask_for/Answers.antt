@@ -10,6 +10,7 @@ use Rattle.simplex_engine.proofs.Tells.{tells_called}
 use Rattle.engine_outbox.specs.Outputs.{work_in}
 use Rattle.engine_planner.specs.Causes.{reply_causes}
 use Rattle.simplex_engine.proofs.Provenance.{comes_called, hand_asked}
+use Rattle.simplex_engine.proofs.ReplyWork.{planned_ahead, planned_reply}
 use Rattle.simplex_engine.proofs.engine.Engine.ask_for.Goals as goal
 
 pub returns-in_err-follow-clause-alone : goal.returns-in_err-follow-clause-alone
@@ -37,5 +38,7 @@ returns g c =
       due_work = tells_called c.args.self.now c.follow.new.self c.args.task c.args.now answer answered goes c.in_ok-follow.ensures.seen c.in_ok-follow.ensures.planned;
       provenance = λ came none meant. comes_called (call_of c.args.task c.args.now) c.call-reply.result none meant answered
           (hand_asked c.args.self.now c.follow.new.self came (reply_causes c.args.now c.call-reply.result (call_of c.args.task c.args.now))
-          (ap (λ core. work_in core.outbox.queue.items) c.follow.ensures.core ∙ ap (λ outbox. work_in outbox.queue.items) c.call-reply.ensures.outbox) c.in_ok-follow.ensures.causes) c.in_ok-follow.ensures.asks;
+          (ap (λ core. work_in core.outbox.queue.items) c.follow.ensures.core ∙ ap (λ outbox. work_in outbox.queue.items) c.call-reply.ensures.outbox) c.in_ok-follow.ensures.causes) c.in_ok-follow.ensures.asks
+          (planned_ahead c.follow.new.self (planned_reply g.D.Digest.bytes bytes_of c.args.now c.args.task c.call-reply.result c.in_ok-follow.ensures.followed.seen c.follow.new.self.plan
+          c.in_ok-follow.ensures.followed.followed));
     }

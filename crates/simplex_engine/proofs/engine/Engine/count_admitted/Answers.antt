@@ -38,4 +38,4 @@ returns-in-Ok g c =
     let it = comes_wider (counted_of g.D.PartialEq.eq (g.S.Assembly.IsMadeOf engine.batcher.scheme) g.S.CertificateScheme.certificate_bytes
     (length (g.S.CertificateScheme.participants engine.batcher.scheme)) engine.batcher c.count.new.self c.args.vote c.in-Ok.counted c.in-Ok.ensures.counted)
     (vote_lacks_none g.S.CertificateScheme.certificate_bytes engine.batcher c.args.vote) provenance in
-    record { steps = it.steps; heard = it.heard; by_steps = it.by_steps }))
+    record { steps = it.steps; heard = it.heard; by_steps = it.by_steps; works = it.works }))

@@ -3,6 +3,7 @@ use Rattle.std.proofs.Common.{ap, [], ◌||◌, true, subst}
 use Rattle.engine_planner.proofs.PlannedWork.{among_still, plans_let_go, keeps_still}
 use Rattle.engine_planner.specs.Causes.{planned_causes}
 use Rattle.simplex_engine.proofs.Provenance.{lets_go}
+use Rattle.simplex_engine.proofs.Tells.{on_any}
 use Rattle.std.specs.Option.{option_map_or}
 use Rattle.std.specs.Prelude.{nat_le, OnOk}
 use Rattle.engine_fetches.specs.OutstandingFetches.{holds}
@@ -15,6 +16,9 @@ returns-in-Some-clause-planned g c = plans_let_go _ _ c.args.self.now.plan c.dro
 
 pub returns-in-Some-clause-builds : goal.returns-in-Some-clause-builds
 returns-in-Some-clause-builds g c = ap (λ plan. plan.builds.buildings.items) c.drop_served.ensures.same
+
+pub returns-in-Some-clause-timeout : goal.returns-in-Some-clause-timeout
+returns-in-Some-clause-timeout g c = on_any c.drop_served.result (ap (λ plan. plan.timeout) c.drop_served.ensures.same)
 
 pub returns-in-None-clause-planned : goal.returns-in-None-clause-planned
 returns-in-None-clause-planned g c = keeps_still

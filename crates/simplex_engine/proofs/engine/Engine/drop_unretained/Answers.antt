@@ -55,6 +55,7 @@ returns g c =
       member = ap (λ core. core.member) c.drop_final_fetches.ensures.core ∙ c.report_forgotten.ensures.member;
       idle = λ now idle. c.drop_final_fetches.ensures.idle now (subst (IsIdle now) (sym c.report_forgotten.ensures.plan) idle);
       builds = c.drop_final_fetches.ensures.builds ∙ ap (λ plan. plan.builds.buildings.items) c.report_forgotten.ensures.plan;
+      timeout = on_ok c.drop_final_fetches.result c.drop_final_fetches.ensures.timeout (λ same. same ∙ ap (λ plan. plan.timeout) c.report_forgotten.ensures.plan);
       lowest = on_ok c.drop_final_fetches.result c.drop_final_fetches.ensures.lacking
           (λ _. subst (λ now. IfSome now.member.facts.life (λ x. HoldsFrom (min_active x) c.drop_final_fetches.new.self.batcher)) (sym c.drop_final_fetches.ensures.core)
           (subst (λ batcher. IfSome core.member.facts.life (λ x. HoldsFrom (min_active x) batcher)) (sym c.drop_final_fetches.ensures.batcher)
@@ -70,7 +71,9 @@ returns g c =
           (forgets_lowest c.args.self.now.core.member.facts c.in_ok-lowest.lowest c.in_ok-lowest.ensures.alive
           ∙ ap (λ m. forgettable m.facts) (sym (ap (λ core. core.member) c.drop_final_fetches.ensures.core ∙ c.report_forgotten.ensures.member)))
           (comes_on (c.in_ok-report_forgotten.ensures.provenance now)
-          (risen_facts (ap (λ core. core.member.facts) c.drop_final_fetches.ensures.core)) (comes_same (ap (λ core. core.member.facts) c.drop_final_fetches.ensures.core)
+          (risen_facts (ap (λ core. core.member.facts) c.drop_final_fetches.ensures.core))
+          (tells_planned (record (c.report_forgotten.new.self) { batcher = c.forget.new.self }) c.drop_final_fetches.new.self c.drop_final_fetches.ensures.core
+          c.drop_final_fetches.ensures.planned).works (comes_same (ap (λ core. core.member.facts) c.drop_final_fetches.ensures.core)
           (hand_alone (record (c.report_forgotten.new.self) { batcher = c.forget.new.self }) c.drop_final_fetches.new.self (ap (λ core. work_in core.outbox.queue.items) c.drop_final_fetches.ensures.core)
           c.drop_final_fetches.ensures.causes) asks)));
     }

@@ -18,7 +18,8 @@ pub returns : goal.returns
 returns g c = record {
   alone = forgets_further c.run_to_short.ensures.alone c.settle.ensures.alone;
   whole = c.in_ok-settle.ensures.whole;
-  quiet = subst (λ m. HasNothingNew g.D.PartialEq.eq g.L.Elector.elect m.facts) (sym c.settle.ensures.member) c.in_ok-run_to_short.ensures.quiet;
+  quiet = subst (λ timeout. HasNothingNew g.D.PartialEq.eq g.L.Elector.elect c.args.now timeout c.settle.new.self.core.member.facts) (sym c.in_ok-settle.ensures.timeout)
+      (subst (λ m. HasNothingNew g.D.PartialEq.eq g.L.Elector.elect c.args.now c.run_to_short.new.self.plan.timeout m.facts) (sym c.settle.ensures.member) c.in_ok-run_to_short.ensures.quiet);
   idle = c.settle.ensures.idle c.args.now c.in_ok-run_to_short.ensures.idle;
   ahead = ahead_still c.run_to_short.new.self c.settle.new.self c.settle.ensures.member c.settle.ensures.builds c.in_ok-run_to_short.ensures.ahead;
   short = λ given kept. short_still c.run_to_short.new.self c.settle.new.self (ap (λ (constants : Constants). constants.options) c.in_ok-settle.ensures.due_work.constants)
@@ -26,5 +27,5 @@ returns g c = record {
   lowest = c.in_ok-settle.ensures.lowest;
   lacking = c.in_ok-settle.ensures.lacking;
   due_work = tells_further c.in_ok-run_to_short.ensures.due_work c.in_ok-settle.ensures.due_work;
-  provenance = comes_later (forgets_no_lack _ _ _ c.settle.new.self.core.member.facts) c.in_ok-run_to_short.ensures.provenance c.in_ok-settle.ensures.due_work.risen (c.in_ok-settle.ensures.provenance c.args.now);
+  provenance = comes_later (forgets_no_lack _ _ _ c.settle.new.self.core.member.facts) c.in_ok-run_to_short.ensures.provenance c.in_ok-settle.ensures.due_work.risen c.in_ok-settle.ensures.due_work.works (c.in_ok-settle.ensures.provenance c.args.now);
 }

@@ -31,6 +31,7 @@ returns g c =
       core = c.update_views.ensures.core;
       batcher = c.update_views.ensures.batcher;
       of_use = ap not c.says_nothing-is_of_use.ensures;
+      followed = record { seen = c.update_views.new.self.plan; sees = c.in_ok-update_views.ensures.sees; followed = c.in_ok-follow.ensures.followed };
       planned = plans_seen c.args.self.now.plan c.update_views.new.self.plan c.follow.new.self c.args.task (told bytes_of c.args.reply) c.in_ok-update_views.ensures.planned follows;
       seen = come_same c.update_views.new.self (record (c.update_views.new.self) { plan = c.follow.new.self }) refl follows.reached c.in_ok-update_views.ensures.seen;
       causes = among_further

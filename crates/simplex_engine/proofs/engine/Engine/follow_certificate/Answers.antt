@@ -6,6 +6,7 @@ use Rattle.simplex_engine.proofs.CertificateVotes.{takes_same}
 use Rattle.simplex_engine.proofs.BuildBounds.{come_same}
 use Rattle.engine_planner.proofs.Giving.{certificate_on}
 use Rattle.simplex_engine.proofs.Provenance.{fails}
+use Rattle.simplex_engine.proofs.ReplyWork.{planned_ahead, planned_certificate}
 use Rattle.engine_planner.proofs.StillAsking.{asks_over, asks_then, certificate_asks}
 use Rattle.simplex_engine.specs.Provenance.{is_final}
 use Rattle.simplex_engine.proofs.engine.Engine.follow_certificate.Goals as goal
@@ -46,3 +47,12 @@ returns-clause-votes g c = takes_same c.update_views.ensures.batcher
 
 pub returns-in_err-follow_certificate-clause-votes : goal.returns-in_err-follow_certificate-clause-votes
 returns-in_err-follow_certificate-clause-votes g c = takes_same c.update_views.ensures.batcher
+
+pub returns-clause-works : goal.returns-clause-works
+returns-clause-works g c plain =
+    planned_ahead (record (c.update_views.new.self) { plan = c.follow_certificate.new.self })
+    (planned_certificate g.D.Digest.bytes g.S.CertificateScheme.certificate_bytes c.args.now c.args.certificate.now c.args.reply.now c.update_views.new.self.plan c.follow_certificate.new.self plain
+    c.in_ok-follow_certificate.ensures.followed)
+
+pub returns-in_err-follow_certificate-clause-works : goal.returns-in_err-follow_certificate-clause-works
+returns-in_err-follow_certificate-clause-works g c plain = fails _ _ c.from_residual-in_err-follow_certificate.result c.from_residual-in_err-follow_certificate.ensures.1

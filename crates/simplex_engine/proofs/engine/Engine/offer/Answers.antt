@@ -4,6 +4,7 @@ use Rattle.std.proofs.lemmas.Bool.{cond_both, false≢true}
 use Rattle.std.specs.Prelude.{IfOk}
 use Rattle.engine_planner.specs.declared.task.Task.TheVariants.{SetProposal}
 use Rattle.simplex_engine.specs.InputEffects.{HasDoneTask}
+use Rattle.simplex_engine.specs.Steps.{IsOffered, IsTaskDone}
 use Rattle.engine_outbox.specs.Continuity.{Continues}
 use Rattle.engine_outbox.proofs.Continuity.{stays}
 use Rattle.engine_planner.specs.PlannedWork.{AreAmong}
@@ -27,6 +28,9 @@ returns-then-admits_proposal g c = record {
   unadmitted = λ no. absurd (false≢true (sym no ∙ sym c.admits_proposal.ensures ∙ c.if-admits_proposal.true));
   acted = λ _. subst (λ view. IfOk c.ask.result (HasDoneTask g.D.PartialEq.eq g.L.Elector.elect (SetProposal view c.args.proposal) c.args.now
       c.args.self.now.core.member.facts c.ask.new.self.core.member.facts)) c.view.ensures c.ask.ensures.acted;
+  offered = on_ok c.ask.result c.ask.ensures.done (λ done.
+      subst (λ is. IsOffered g.D.PartialEq.eq g.L.Elector.elect g.D.Digest.bytes g.S.CertificateScheme.certificate_bytes c.args.now is c.args.from c.args.proposal c.args.self.now c.ask.new.self) (sym (sym c.admits_proposal.ensures ∙ c.if-admits_proposal.true))
+      (subst (λ view. IsTaskDone g.D.PartialEq.eq g.L.Elector.elect g.D.Digest.bytes g.S.CertificateScheme.certificate_bytes c.args.now (SetProposal view c.args.proposal) c.args.self.now c.ask.new.self) c.view.ensures done));
   due_work = c.ask.ensures.due_work;
   provenance = on_ok c.ask.result c.ask.ensures.provenance (λ provenance. provenance (Arrival c.args.from c.args.proposal ∷ []) (λ kind view. refl) (inr (inl (
     c.args.from,
@@ -56,6 +60,8 @@ returns g c =
       batcher = ap (λ engine. engine.batcher) c.store_early.ensures.same;
       unadmitted = λ _. (refl, c.in_ok-store_early.ensures.kept);
       acted = λ is. absurd (false≢true (sym c.if-admits_proposal.false ∙ c.admits_proposal.ensures ∙ is));
+      offered = subst (λ is. IsOffered g.D.PartialEq.eq g.L.Elector.elect g.D.Digest.bytes g.S.CertificateScheme.certificate_bytes c.args.now is c.args.from c.args.proposal c.args.self.now c.store_early.new.self)
+          (sym (sym c.admits_proposal.ensures ∙ c.if-admits_proposal.false)) c.in_ok-store_early.ensures.kept;
       due_work = tells_planned c.args.self.now c.store_early.new.self (ap (λ engine. engine.core) c.store_early.ensures.same)
           (plans_kept c.args.self.now.plan c.store_early.new.self.plan (ap (λ engine. engine.plan) c.store_early.ensures.same) kept);
       provenance = comes_same (ap (λ engine. engine.core.member.facts) c.store_early.ensures.same)

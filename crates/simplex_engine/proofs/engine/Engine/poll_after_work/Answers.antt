@@ -40,8 +40,11 @@ returns-in-Ok-clause-none g c = λ none. record {
   idle = c.next.ensures.none none;
   whole = subst (λ m. length m.facts.entries ≤ c.next.new.self.stored) (sym c.next.ensures.same.0)
       (subst (λ count. length c.work.new.self.core.member.facts.entries ≤ count) (sym c.next.ensures.same.1) c.in-Ok.ensures.whole);
-  quiet = subst (λ m. HasNothingNew g.D.PartialEq.eq g.L.Elector.elect m.facts) (sym c.next.ensures.same.0) c.in-Ok.ensures.quiet;
+  quiet = subst (λ m. HasNothingNew g.D.PartialEq.eq g.L.Elector.elect c.args.now c.work.new.self.plan.timeout m.facts) (sym c.next.ensures.same.0) c.in-Ok.ensures.quiet;
 }
+
+pub returns-in-Ok-clause-timed : goal.returns-in-Ok-clause-timed
+returns-in-Ok-clause-timed g c = λ none. let quiet = (returns-in-Ok-clause-none g c none).quiet.quiet in (quiet.left, quiet.timed)
 
 pub returns-in-Ok-clause-idle : goal.returns-in-Ok-clause-idle
 returns-in-Ok-clause-idle g c = λ none. c.in-Ok.ensures.idle
@@ -129,7 +132,8 @@ returns-in-Ok-clause-provenance g c =
     comes_then (subst (λ came. IsCaused g.D.PartialEq.eq g.L.Elector.elect g.D.Digest.bytes g.S.CertificateScheme.certificate_bytes c.args.now came [] (held_by c.work.new.self) c.args.self.now c.work.new.self)
     (ap (λ m. forgettable m.facts) (sym c.next.ensures.same.0)) c.in-Ok.ensures.provenance)
     (λ kind view un. subst (λ m. option_map_or (λ x. holds repair.resolver.open_fetches x kind view) m.facts.life true ≡ false) c.next.ensures.same.0 un)
-    (risen_facts (ap (λ m. m.facts) c.next.ensures.same.0)) (comes_still (ap (λ m. m.facts) c.next.ensures.same.0) refl (λ kind view. refl)
+    (risen_facts (ap (λ m. m.facts) c.next.ensures.same.0))
+    (works_given c.work.new.self (record (c.work.new.self) { core = c.next.new.self }) (option_to_list c.next.result) refl c.next.ensures.front) (comes_still (ap (λ m. m.facts) c.next.ensures.same.0) refl (λ kind view. refl)
     (hand_given c.work.new.self (record (c.work.new.self) { core = c.next.new.self }) (option_to_list c.next.result) c.next.ensures.front refl))
 
 pub returns-in-Ok-clause-traced : goal.returns-in-Ok-clause-traced

@@ -11,6 +11,7 @@ pub returns : goal.returns
 returns g c = record {
   alone = record { continues = c.push.ensures.continues; batcher = refl };
   due_work = tells_pushed c.args.self.now (record c.args.self.now { core = c.push.new.self }) c.args.work c.push.ensures.member refl c.in_ok-push.ensures.queued;
+  done = λ now. c.in_ok-push.ensures.queued;
   provenance = λ now. comes_still (ap (λ m. m.facts) c.push.ensures.member) refl (work_lacks_none c.args.work)
       (hand_pushed c.args.self.now (record c.args.self.now { core = c.push.new.self }) c.args.work c.in_ok-push.ensures.queued refl);
 }

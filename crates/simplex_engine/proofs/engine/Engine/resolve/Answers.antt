@@ -11,6 +11,9 @@ returns-clause-planned g c = plans_opened _ _ c.args.self.now.plan c.resolve.new
 pub returns-in_err-resolve-clause-planned : goal.returns-in_err-resolve-clause-planned
 returns-in_err-resolve-clause-planned g c = plans_opened _ _ c.args.self.now.plan c.resolve.new.self c.resolve.result c.resolve.ensures.same c.resolve.ensures.opened c.resolve.ensures.refused
 
+pub returns-clause-fetched : goal.returns-clause-fetched
+returns-clause-fetched g c = (_, c.in_ok-resolve.ensures.opened.fetches_now)
+
 pub returns-clause-causes : goal.returns-clause-causes
 returns-clause-causes g c = resolved c.resolve.result _ _ _ _ c.args.self.now.plan c.resolve.new.self c.resolve.ensures.same c.resolve.ensures.opened c.resolve.ensures.refused
 

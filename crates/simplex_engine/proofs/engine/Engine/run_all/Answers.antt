@@ -17,7 +17,7 @@ returns-then-branch g c = record {
   idle = c.in_ok-run_and_ask.ensures.idle c.if-branch.true;
   ahead = c.in_ok-run_and_ask.ensures.ahead c.if-branch.true;
   due_work = tells_further c.loop.invariant.due_work c.in_ok-run_and_ask.ensures.due_work;
-  provenance = comes_on c.loop.invariant.provenance c.in_ok-run_and_ask.ensures.due_work.risen c.in_ok-run_and_ask.ensures.provenance;
+  provenance = comes_on c.loop.invariant.provenance c.in_ok-run_and_ask.ensures.due_work.risen c.in_ok-run_and_ask.ensures.due_work.works c.in_ok-run_and_ask.ensures.provenance;
 }
 
 pub loop-init : goal.loop-init
@@ -27,7 +27,7 @@ pub loop-preserved : goal.loop-preserved
 loop-preserved g c = record {
   alone = alone_further c.loop.invariant.alone c.run_and_ask.ensures.alone;
   due_work = tells_further c.loop.invariant.due_work c.in_ok-run_and_ask.ensures.due_work;
-  provenance = comes_on c.loop.invariant.provenance c.in_ok-run_and_ask.ensures.due_work.risen c.in_ok-run_and_ask.ensures.provenance;
+  provenance = comes_on c.loop.invariant.provenance c.in_ok-run_and_ask.ensures.due_work.risen c.in_ok-run_and_ask.ensures.due_work.works c.in_ok-run_and_ask.ensures.provenance;
 }
 
 pub returns : goal.returns

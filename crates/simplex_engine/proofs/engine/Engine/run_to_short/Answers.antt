@@ -26,12 +26,13 @@ returns-then-branch g c =
     let is = c.store_and_measure.ensures in
     record {
       alone = alone_further c.loop.invariant.alone (alone_further c.run_all.ensures.alone is.alone);
-      quiet = subst (λ m. HasNothingNew g.D.PartialEq.eq g.L.Elector.elect m.facts) (sym is.member) c.in_ok-run_all.ensures.quiet;
+      quiet = subst (λ plan. HasNothingNew g.D.PartialEq.eq g.L.Elector.elect c.args.now plan.timeout c.store_and_measure.new.self.core.member.facts) (sym is.plan)
+          (subst (λ m. HasNothingNew g.D.PartialEq.eq g.L.Elector.elect c.args.now c.run_all.new.self.plan.timeout m.facts) (sym is.member) c.in_ok-run_all.ensures.quiet);
       idle = subst (IsIdle c.args.now) (sym is.plan) c.in_ok-run_all.ensures.idle;
       ahead = subst (BuildsAhead c.store_and_measure.new.self.core) (sym is.plan) (ahead_still c.run_all.new.self (record (c.run_all.new.self) { core = c.store_and_measure.new.self.core }) is.member refl c.in_ok-run_all.ensures.ahead);
       short = λ given kept. c.in_ok-store_and_measure.ensures.short given (c.run_all.ensures.alone.continues.kept given (c.loop.invariant.alone.continues.kept given kept)) c.if-branch.true;
       due_work = tells_further c.loop.invariant.due_work (tells_further c.in_ok-run_all.ensures.due_work c.in_ok-store_and_measure.ensures.due_work);
-      provenance = comes_on (comes_on c.loop.invariant.provenance c.in_ok-run_all.ensures.due_work.risen c.in_ok-run_all.ensures.provenance) c.in_ok-store_and_measure.ensures.due_work.risen
+      provenance = comes_on (comes_on c.loop.invariant.provenance c.in_ok-run_all.ensures.due_work.risen c.in_ok-run_all.ensures.due_work.works c.in_ok-run_all.ensures.provenance) c.in_ok-store_and_measure.ensures.due_work.risen c.in_ok-store_and_measure.ensures.due_work.works
           (c.in_ok-store_and_measure.ensures.provenance c.args.now);
     }
 
@@ -44,8 +45,8 @@ loop-preserved g c = record {
   due_work = tells_further c.loop.invariant.due_work
       (tells_further c.in_ok-run_all.ensures.due_work (tells_further c.in_ok-store_and_measure.ensures.due_work c.in_ok-prune_record.ensures.due_work));
   provenance = comes_on
-      (comes_on (comes_on c.loop.invariant.provenance c.in_ok-run_all.ensures.due_work.risen c.in_ok-run_all.ensures.provenance) c.in_ok-store_and_measure.ensures.due_work.risen
-      (c.in_ok-store_and_measure.ensures.provenance c.args.now)) c.in_ok-prune_record.ensures.due_work.risen c.in_ok-prune_record.ensures.provenance;
+      (comes_on (comes_on c.loop.invariant.provenance c.in_ok-run_all.ensures.due_work.risen c.in_ok-run_all.ensures.due_work.works c.in_ok-run_all.ensures.provenance) c.in_ok-store_and_measure.ensures.due_work.risen c.in_ok-store_and_measure.ensures.due_work.works
+      (c.in_ok-store_and_measure.ensures.provenance c.args.now)) c.in_ok-prune_record.ensures.due_work.risen c.in_ok-prune_record.ensures.due_work.works c.in_ok-prune_record.ensures.provenance;
 }
 
 pub returns : goal.returns

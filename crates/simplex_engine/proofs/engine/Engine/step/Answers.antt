@@ -1,6 +1,7 @@
 -- That the step which is next is taken.
-use Rattle.std.proofs.Common.{◌++◌, [], false, refl, subst}
+use Rattle.std.proofs.Common.{◌++◌, [], Some, None, false, refl, subst}
 use Rattle.std.specs.Prelude.{option_to_list}
+use Rattle.engine_planner.specs.StepSelection.{HasTaken}
 use Rattle.engine_planner.specs.PlannedWork.{AreAmong, IsPlanned, beside_of, work_planned}
 use Rattle.engine_planner.proofs.StepSelection.{taken_keeps}
 use Rattle.engine_outbox.proofs.Continuity.{stays}
@@ -17,6 +18,12 @@ returns-in_err-step-clause-alone g c = record { continues = stays c.args.self.no
 
 pub returns-in-Some : goal.returns-in-Some
 returns-in-Some g c = record {
+  done = on_ok c.take_step.result c.take_step.ensures.done (λ done. record {
+    next = Some c.in-Some.step;
+    left = c.next.new.self;
+    is_next = subst (λ next. HasTaken c.args.now next c.args.self.now.plan c.next.new.self) c.in-Some.is c.in_ok-step.ensures;
+    taken = done;
+  });
   alone = record { continues = c.take_step.ensures.alone.continues; batcher = c.take_step.ensures.alone.batcher };
   due_work = tells_taken c.take_step.result c.in-Some.step c.args.self.now (record c.args.self.now { plan = c.next.new.self }) c.take_step.new.self refl
       (subst (λ taken. IsPlanned [] (λ view. false) (work_planned c.args.self.now.plan.steps.items) (beside_of c.args.self.now.plan)
@@ -32,6 +39,12 @@ returns-in-Some g c = record {
 
 pub returns-in-None : goal.returns-in-None
 returns-in-None g c = record {
+  done = record {
+    next = None;
+    left = c.next.new.self;
+    is_next = subst (λ next. HasTaken c.args.now next c.args.self.now.plan c.next.new.self) c.in-None.is c.in_ok-step.ensures;
+    taken = refl;
+  };
   alone = record { continues = stays c.args.self.now.core; batcher = refl };
   due_work = tells_planned c.args.self.now (record c.args.self.now { plan = c.next.new.self }) refl
       (subst (λ taken. IsPlanned [] (λ view. false) (work_planned c.args.self.now.plan.steps.items) (beside_of c.args.self.now.plan)

@@ -9,7 +9,7 @@ use Rattle.engine_planner.proofs.StillAsking.{seen_asks}
 use Rattle.simplex_engine.proofs.engine.Engine.update_views.Goals as goal
 
 pub returns-in_default : goal.returns-in_default
-returns-in_default g c = record { core = refl; batcher = refl; planned = tt; seen = tt; causes = tt; asks = tt }
+returns-in_default g c = record { core = refl; batcher = refl; sees = tt; planned = tt; seen = tt; causes = tt; asks = tt }
 
 pub returns : goal.returns
 returns g c =
@@ -17,6 +17,7 @@ returns g c =
     record {
       core = refl;
       batcher = refl;
+      sees = (_, c.in_ok-update_views.ensures);
       planned = seen_keeps _ c.args.self.now.plan c.update_views.new.self c.in_ok-update_views.ensures;
       seen = subst (λ life. IfSome life (λ x. (c.update_views.new.self.views.current ≡ x.current) × (c.update_views.new.self.views.last_finalized ≡ x.finalized))) c.in-Some.ensures.life
           (ap (λ v. v.current) views ∙ c.current_view.ensures, ap (λ v. v.last_finalized) views ∙ c.last_finalized.ensures);

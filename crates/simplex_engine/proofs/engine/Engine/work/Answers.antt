@@ -29,5 +29,5 @@ returns g c = record {
       (comes_same refl (hand_alone c.args.self.now (record c.args.self.now { plan = c.begin.new.self }) refl (among_all (ap planned_causes c.begin.ensures)))
       (keeps_asking (λ kind view. is_final c.args.self.now.core.member.facts view) (ap (λ plan. plan.repair.resolver) c.begin.ensures)
       (λ kind view asked un. ap (λ plan. asks plan kind view) c.begin.ensures ∙ asked)))
-      due_work.risen provenance);
+      due_work.risen due_work.works provenance);
 }
